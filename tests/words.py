@@ -4,7 +4,8 @@
     tests/words.py [PAGE ..]    by default README.md, the pages of docs/ and the comments of the crates' code
 
 A page or a comment may hold none of them, except in code, links and outputs. Where there are still some, their number is
-below. Ends with 1 where there are more, where a page of docs/ has more words than it may, or all of them have.
+below. Ends with 1 where there are more, where a page of docs/ has more words than it may, or all of them have, or where
+the documentation of a function doesn't begin with a verb.
 """
 
 from __future__ import annotations
@@ -30,6 +31,8 @@ LEFT: dict[str, int] = {}
 MOST, MOST_OF_PAGE = 30_000, 4_000
 LONG_PAGES = ("READING.md",)
 UNSEEN = re.compile(r"<!-- .*? -->")
+FUNCTION = re.compile(r"\s*(?:pub(?:\([a-z]+\))? )?(?:(?:const|final|unsafe) )*(?:extern \"C\" )?fn (\w+)")
+VERB = re.compile(r"[A-Z][a-z]+s\b")
 EXCEPTIONS = (
     re.compile(r"`[^`]*`"),  # names of code
     re.compile(r"\]\([^)]*\)"),  # links
@@ -64,6 +67,21 @@ def found_in(path: Path) -> list[str]:
     return found
 
 
+def without_verb(path: Path) -> list[str]:
+    """Returns each function whose documentation begins with another word than a verb."""
+    found, first = [], ""
+    for number, line in enumerate(path.read_text(encoding="utf-8").splitlines(), 1):
+        text = line.strip()
+        function = FUNCTION.match(line)
+        if text.startswith("///"):
+            first = first or text[3:].strip()
+        elif function and first and not VERB.match(first):
+            found.append(f"{path.relative_to(TOP)}:{number}: {function.group(1)}: begin with a verb, as in Returns ..")
+        if not text.startswith(("//", "#[")):
+            first = ""
+    return found
+
+
 def too_many(name: str, found: list[str]) -> bool:
     """Says where there are more than were left. Returns whether there are."""
     left = LEFT.get(name, 0)
@@ -86,6 +104,7 @@ def main() -> int:
     wrong = [too_many(str(it.relative_to(TOP)), found_in(it)) for it in given or pages()]
     if not given:
         wrong.append(too_many("crates", [line for it in comments() for line in found_in(it)]))
+        wrong.append(too_many("functions", [line for it in comments() for line in without_verb(it)]))
         wrong.append(too_long())
     print(f"{len(wrong)} places, {sum(wrong)} with words that came back")
     return 1 if any(wrong) else 0

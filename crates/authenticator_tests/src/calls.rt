@@ -12,7 +12,7 @@ const ASSERT: &[u8] = b"\x02\xa3\x01\x6bexample.com\x02\x58\x20\
     \x22\x22\x22\x22\x22\x22\x22\x22\x22\x22\x22\x22\x22\x22\x22\x22\
     \x03\x81\xa2\x62id\x41\x09\x64type\x6apublic-key";
 
-/// The list has 23 bytes, and the five of its second key are read once more.
+/// Checks a list of 23 bytes: the five of its second key are read once more.
 #[test]
 fn a_list_is_walked(rt: HostRuntime) {
     let mut is_walked = false;

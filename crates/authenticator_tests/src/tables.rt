@@ -10,7 +10,7 @@ const A: [u8; 32] = [0xAA; 32];
 
 const B: [u8; 32] = [0xAB; 32];
 
-/// A discoverable row of user 01.
+/// Returns a discoverable row of user 01.
 pub(crate) fn made(id: [u8; 32]) -> Row {
     let mut row = Row {
         rp: RP,
@@ -23,7 +23,7 @@ pub(crate) fn made(id: [u8; 32]) -> Row {
     row
 }
 
-/// A row is put, its counter is raised, and another row of the user takes its place.
+/// Checks that a row is put, its counter is raised, and another row of the user takes its place.
 fn each_call<T: Table<2>>(rt: &impl Abort, table: &mut T) {
     table.clear();
     table.put(made(A));

@@ -1,6 +1,5 @@
 -- Each answer of a turn is the one that what happened before it names.
-use Rattle.std.proofs.Common.{◌≡◌, ℕ, List, [], ◌∷◌, map, take, flat_map, option_to_list, filter, not, ◌&&◌, ◌||◌, Bool, true, false, cond, None, is_some, refl, sym, ap, arith}
-use Rattle.std.proofs.lemmas.Bool.Decides.{nat_tests}
+use Rattle.std.proofs.Common.{rules, ◌≡◌, ℕ, List, [], ◌∷◌, map, take, flat_map, option_to_list, filter, not, ◌&&◌, ◌||◌, Bool, true, false, cond, is_some, refl, sym, ap, arith}
 use Rattle.std.proofs.lemmas.Slice.Eq.{bytes_eq-Decides}
 use Rattle.std.proofs.lemmas.Grind.{flat_map-append}
 use Rattle.std.specs.List.{find, list_any}
@@ -18,14 +17,16 @@ use Rattle.authn_core.proofs.Histories.{all_left, none_later}
 -- ---- rows
 
 -- the rows with later marks, and with one mark more
-rows_later : (start : List Row) (later h : List Mark) → rows_among start later h ≡ flat_map (left later) (rows_of start h)
+rows_later : (start : List Row) (later h : List Mark) →
+    rows_among start later h ≡ flat_map (left later) (rows_of start h)
 unfolding rows_among
 rows_later start later [] = ap (flat_map (left later)) (sym (none_later start))
-rows_later start later (m ∷ past) = rw (rows_later start (m ∷ []) past, rows_later start (m ∷ later) past) (grind (arith, flat_map-append, all_left, none_later))
+rows_later start later (m ∷ past) = rw (rows_later start (m ∷ []) past, rows_later start (m ∷ later) past)
+    (grind (arith, flat_map-append, all_left, none_later))
 
 pub rows_marked : (start : List Row) (m : Mark) (h : List Mark) → rows_of start (m ∷ h) ≡ marked m (rows_of start h)
 unfolding rows_among
-rows_marked start m h = rw (rows_later start (m ∷ []) h) (grind (arith, none_later))
+rows_marked start m h = rw (rows_later start (m ∷ []) h) (grind arith)
 
 -- ---- tests of rows
 
@@ -47,7 +48,8 @@ none_named : (rp : List ℕ) (rows : List Row) → is_excluded rows rp [] ≡ fa
 none_named rp [] = refl
 none_named rp (r ∷ rows) = grind (arith, none_named rp rows)
 
-pub excluded_named : (rp : List ℕ) (rows : List Row) (ids : List (List ℕ)) → names_one rp rows ids ≡ is_excluded rows rp ids
+pub excluded_named : (rp : List ℕ) (rows : List Row) (ids : List (List ℕ)) →
+    names_one rp rows ids ≡ is_excluded rows rp ids
 excluded_named rp rows [] = sym (none_named rp rows)
 excluded_named rp rows (id ∷ ids) = rw (named_first rp id ids rows, excluded_named rp rows ids) refl
 
@@ -58,9 +60,9 @@ replaced_found rp user false rows = any_false rows
 replaced_found rp user true [] = refl
 replaced_found rp user true (r ∷ rows) = grind (arith, replaced_found rp user true rows)
 
-pub full_fits : (room : ℕ) (m : Making) (rows : List Row)
-    → fits room m rows ≡ not (is_full room rows m.rp m.user m.discoverable)
-full_fits room m rows = rw (replaced_found m.rp m.user m.discoverable rows) (grind (arith, nat_tests))
+pub full_fits : (capacity : ℕ) (m : Making) (rows : List Row)
+    → fits capacity m rows ≡ not (is_full capacity rows m.rp m.user m.discoverable)
+full_fits capacity m rows = rw (replaced_found m.rp m.user m.discoverable rows) (grind arith)
 
 -- ---- who signs
 
@@ -70,18 +72,12 @@ named_one : (rp id : List ℕ) (rows : List Row)
 named_one rp id [] = refl
 named_one rp id (r ∷ rows) = grind (arith, bytes_eq-Decides, named_one rp id rows)
 
-named_none : (rp id : List ℕ) (rows : List Row) → find (is_named rp id) rows ≡ None
-    → list_any (λ r. bytes_eq r.rp rp && bytes_eq r.id id) rows ≡ false
-named_none rp id [] e = refl
-named_none rp id (r ∷ rows) e = grind (arith, named_none rp id rows)
-
 first_named : (rp : List ℕ) (rows : List Row) (ids : List (List ℕ))
     → map (λ (r : Row). r.id) (option_to_list (find_named rp rows ids))
     ≡ take 1 (filter (λ id. list_any (λ r. bytes_eq r.rp rp && bytes_eq r.id id) rows) ids)
 first_named rp rows [] = refl
-first_named rp rows (id ∷ ids) = grind (arith, named_one rp id rows, named_none rp id rows, first_named rp rows ids)
+first_named rp rows (id ∷ ids) = grind (arith, named_one rp id rows, first_named rp rows ids)
 
 pub signers_apply : (rows : List Row) (rp : List ℕ) (given : Bool) (allow : List (List ℕ))
     → map (λ (r : Row). r.id) (applicable rows rp given allow) ≡ signers rows rp given allow
-signers_apply rows rp false allow = refl
-signers_apply rows rp true allow = first_named rp rows allow
+signers_apply rows rp given allow = search (rules, arith, first_named)

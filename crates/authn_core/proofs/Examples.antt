@@ -10,7 +10,7 @@ use Rattle.authn_core.specs.GetAssertion.{applicable, begins, told}
 use Rattle.authn_core.specs.Turn.{turn}
 
 abbrev pub setup : Setup
-setup = record { aaguid = replicate 16 0; began = 0; room = 2 }
+setup = record { aaguid = replicate 16 0; began = 0; capacity = 2 }
 
 abbrev pub row : (id : ℕ) → (counter : ℕ) → Row
 row id counter = record { rp = replicate 32 7; id = replicate 32 id; x = []; y = []; user = record { items = id ∷ [] }; discoverable = true; counter = counter; name = [] }

@@ -1,20 +1,16 @@
 -- The rows and the texts to sign after a history. A turn changes the rows as its mark says, and marks one after another
--- leave what the filters name. A text to sign that a turn adds is what is to be signed, and holds a greater counter than
+-- leave what the filters name. A text to sign that a turn adds is what is to be signed, and holds a greater counter
+-- than
 -- all before it by the same row.
-use Rattle.std.proofs.Common.{◌≡◌, ℕ, ◌+◌, ◌≤◌, List, [], ◌∷◌, ◌++◌, length, flat_map, filter, true, false, cond, Option, Some, None, option_to_list, is_some, Result, Ok, refl, ap, subst, arith}
-use Rattle.std.proofs.lemmas.Bool.Decides.{nat_tests}
+use Rattle.std.proofs.Common.{rules, ◌≡◌, ℕ, ◌+◌, ◌≤◌, List, [], ◌∷◌, ◌++◌, length, flat_map, filter, true, false, cond, Option, Some, None, option_to_list, is_some, Result, refl, ap, subst, arith}
 use Rattle.std.proofs.lemmas.Grind.{flat_map-append}
 use Rattle.std.proofs.lemmas.Slice.Eq.{bytes_eq-Decides}
 use Rattle.std.specs.List.{AllByRecursion, find, list_any}
 use Rattle.cred_table.specs.declared.row.Row.{Row}
 use Rattle.cred_table.specs.Rows.{Lawful, has_id, same_id, no_two, raised, stored, counter_of}
 use Rattle.cred_table.proofs.Basics.{same_bytes}
-use Rattle.ctap_message.specs.Asked.{Asked, GetAssertion}
-use Rattle.ctap_message.specs.Members.{has_entries}
-use Rattle.ctap_message.specs.Descriptors.{ids_of}
-use Rattle.ctap_message.specs.Requests.{read_of}
-use Rattle.sha2.specs.Sha256.{sha256}
-use Rattle.authn_core.specs.State.{Setup, SignsAssert, Job, State, Event, Request}
+use Rattle.ctap_message.specs.Asked.{Asked}
+use Rattle.authn_core.specs.State.{Setup, SignsAssert, ChannelTask, State, Event}
 use Rattle.authn_core.specs.Turn.{CoreState, core_after, requested, turn}
 use Rattle.authn_core.specs.Ready.{Ready, PendingReady}
 use Rattle.authn_core.specs.Marks.{Mark, mark, marked, made_replaces, is_raised, stays, left, rows_among, Step, Comes, Orderly, Text, core_at, marks, makes_id, makings, raised_by, signs_by, text_of, texts, same_text, all_differ}
@@ -43,7 +39,7 @@ mark_makes new [] = refl
 mark_makes new (r ∷ rows) = grind (arith, mark_makes new rows)
 
 -- what is ignored leaves the work
-pub raises_none : (w : Option Job) → raised_by w w ≡ None
+pub raises_none : (w : Option ChannelTask) → raised_by w w ≡ None
 raises_none w = grind (arith, same_bytes)
 
 -- Every turn does to the rows what its mark says.
@@ -72,7 +68,7 @@ one_left m later r = grind (arith, left_counted)
 pub all_left : (m : Mark) (later : List Mark) (rows : List Row)
     → flat_map (left (m ∷ later)) rows ≡ flat_map (left later) (flat_map (left (m ∷ [])) rows)
 all_left m later [] = refl
-all_left m later (r ∷ rows) = grind (arith, one_left, flat_map-append, all_left m later rows)
+all_left m later (r ∷ rows) = grind (arith, one_left, all_left m later rows)
 
 -- no later marks leave all
 pub none_later : (rows : List Row) → flat_map (left []) rows ≡ rows
@@ -86,15 +82,11 @@ pub rows_left : (start : CoreState) (h : List Step) (later : List Mark) → Orde
     → flat_map (left later) (core_at start h).state.rows ≡ rows_among start.state.rows later (marks start h)
 unfolding core_at marks Orderly rows_among
 rows_left start [] later o = refl
-rows_left start (x ∷ past) later o =
-    let k = core_at start past in
-    let e = turn_marked k.setup k.state x.at x.event o.0 in
-    let m = mark k.state.work x.event (core_after k x.at x.event).state.work in
-    rw e (grind (arith, flat_map-append, all_left, rows_left start past (m ∷ later) o.1))
+rows_left start (x ∷ past) later o = grind (arith, all_left, flat_map-append, turn_marked, rows_left start past)
 
 -- ---- what text a turn adds
 
-abbrev pub signed_of : Option Job → List ℕ
+abbrev pub signed_of : Option ChannelTask → List ℕ
 signed_of None = []
 signed_of (Some w) = elim w.task as (λ k. List ℕ) [ SignsAssert a n d ↦ d | k ↦ [] ]
 
@@ -113,16 +105,14 @@ Adds h before now (Some t) = IsAdded h before.rows now t
 
 requested_adds : (h : List Mark) (u : Setup) (s : State) (t cid : ℕ) (read : Result Asked ℕ)
     → PendingReady s.rows s.pending
-    → let x = (requested u s.rows s.pending t cid read).state in Adds h (record s { work = None }) x (text_of h (raised_by None x.work) x.work)
-requested_adds h u s t cid (Ok (GetAssertion hash rp_id allow up)) p =
-    grind (arith, applicable_there s.rows (sha256 rp_id) (has_entries allow) (ids_of allow))
-requested_adds h u s t cid read p = grind arith
+    → let x = (requested u s.rows s.pending t cid read).state in
+    Adds h (record s { work = None }) x (text_of h (raised_by None x.work) x.work)
+requested_adds h u s t cid read p = search (rules, arith, applicable_there)
 
-pub turn_adds : (h : List Mark) (u : Setup) (s : State) (t : ℕ) (e : Event) → Comes s.work e → Ready u.room s
+pub turn_adds : (h : List Mark) (u : Setup) (s : State) (t : ℕ) (e : Event) → Comes s.work e → Ready u.capacity s
     → let x = (turn u s t e).state in Adds h s x (text_of h (raised_by s.work x.work) x.work)
 unfolding turn
-turn_adds h u s t (Request cid bytes) c r = rw c (requested_adds h u s t cid (read_of bytes) r.pending)
-turn_adds h u s t e c r = grind (arith, raises_none)
+turn_adds h u s t e c r = grind (arith, raises_none, requested_adds)
 
 -- ---- what the counters are above
 
@@ -146,41 +136,38 @@ bounded_more : (h : List Mark) (rows : List Row) (m : Mark) (t : Text) → Bound
 bounded_more h rows m t b = grind (arith, above_marked)
 
 new_above : (h : List Mark) (rows : List Row) (id : List ℕ) (ts : List Text) → is_some (find (has_id id) rows) ≡ true
-    → AllByRecursion (Bounded h rows) ts → above_all (record { id = id; making = makings id h; counter = counter_of id rows + 1 }) ts ≡ true
+    → AllByRecursion (Bounded h rows) ts →
+    above_all (record { id = id; making = makings id h; counter = counter_of id rows + 1 }) ts ≡ true
 new_above h rows id [] e b = refl
 new_above h rows id (t ∷ ts) e b =
     let counters = found (λ r. has_id t.id r ≡ true → t.counter ≤ r.counter) (has_id id) rows in
-    grind (arith, nat_tests, bytes_eq-Decides, counters, new_above h rows id ts e b.1)
+    grind (arith, bytes_eq-Decides, new_above h rows id ts e b.1)
 
 -- ---- what holds of the texts of every history
 
 -- `work` is that of the start.
-pub record Tells (work : Option Job) (h : List Mark) (s : State) (ts : List Text) : Type 0 where
+pub record Tells (work : Option ChannelTask) (h : List Mark) (s : State) (ts : List Text) : Type 0 where
   pub bounded : AllByRecursion (Bounded h s.rows) ts
   pub rise : all_rise ts ≡ true
   pub newest : work ≡ None → (id : List ℕ) → signs_by id s.work ≡ true → IsNewest ts s
 
 text_is : (h : List Mark) (rows : List Row) (s : State) (t : Text) → IsAdded h rows s t → IsTextOf t s
-text_is h rows s t a = record { signed = signed_of s.work; needed = a.needed; counter = grind (arith, same_bytes, find_raised) }
+text_is h rows s t a = grind (arith, find_raised, same_bytes)
 
-tells_more : (work : Option Job) (h : List Mark) (s x : State) (m : Mark) (o : Option Text) (ts : List Text)
+tells_more : (work : Option ChannelTask) (h : List Mark) (s x : State) (m : Mark) (o : Option Text) (ts : List Text)
     → x.rows ≡ marked m s.rows → no_two same_id x.rows ≡ true → Adds h s x o → Tells work h s ts
     → Tells work (m ∷ h) x (option_to_list o ++ ts)
-tells_more work h s x m None ts e d a b = record {
-  bounded = all_along _ _ ts (λ t q. rw e (bounded_more h s.rows m t q)) b.bounded;
-  rise = b.rise;
-  newest = λ n id w. let f = a id w in rw f (b.newest n id (rw f at w));
-}
+tells_more work h s x m None ts e d a b = grind (arith, all_along, bounded_more)
 tells_more work h s x m (Some t) ts e d a b = record {
   bounded =
-      let above = all_along _ _ x.rows (λ r f k. grind (arith, bytes_eq-Decides, same_bytes, find_raised)) (all_found x.rows d) in
+      let above = all_along _ _ x.rows (λ r f k. grind (arith, bytes_eq-Decides, find_raised)) (all_found x.rows d) in
       (record { earlier = grind arith; above = λ _. above }, all_along _ _ ts (λ t q. rw e (bounded_more h s.rows m t q)) b.bounded);
   rise = grind (arith, new_above h s.rows t.id ts a.there b.bounded);
   newest = λ _ _ _. record { text = t; past = ts; first = refl; told = text_is h s.rows x t a };
 }
 
-pub history_tells : (start : CoreState) (h : List Step) → Ready start.setup.room start.state
-    → Lawful start.setup.room start.state.rows
+pub history_tells : (start : CoreState) (h : List Step) → Ready start.setup.capacity start.state
+    → Lawful start.setup.capacity start.state.rows
     → Orderly start h → Tells start.state.work (marks start h) (core_at start h).state (texts start h)
 unfolding core_at marks texts Orderly
 history_tells start [] r l o = record { bounded = tt; rise = refl; newest = λ n id w. grind arith }
@@ -188,12 +175,13 @@ history_tells start (x ∷ past) r l o =
     let k = core_at start past in
     tells_more start.state.work (marks start past) k.state (core_after k x.at x.event).state _ _ (texts start past)
     (turn_marked k.setup k.state x.at x.event o.0) (core_sound start (x ∷ past) r l).lawful.distinct
-    (turn_adds (marks start past) k.setup k.state x.at x.event o.0 (core_sound start past r l).ready) (history_tells start past r l o.1)
+    (turn_adds (marks start past) k.setup k.state x.at x.event o.0 (core_sound start past r l).ready)
+    (history_tells start past r l o.1)
 
 -- texts that rise differ
 none_same : (t : Text) (ts : List Text) → above_all t ts ≡ true → list_any (same_text t) ts ≡ false
 none_same t [] h = refl
-none_same t (x ∷ ts) h = grind (arith, nat_tests, none_same t ts)
+none_same t (x ∷ ts) h = grind (arith, none_same t ts)
 
 pub rise_differ : (ts : List Text) → all_rise ts ≡ true → all_differ ts ≡ true
 rise_differ [] h = refl

@@ -1,23 +1,23 @@
 -- Each turn, over every history, answers what happened names.
-use Rattle.std.proofs.Common.{◌≡◌, if◌then◌else◌, ℕ, List, [], ◌∷◌, map, Bool, true, false, Option, Some, None, option_map, Result, Ok, Err, refl, sym, ◌∙◌, arith}
+use Rattle.std.proofs.Common.{rules, ◌≡◌, ℕ, List, [], ◌∷◌, true, false, Option, None, option_map, Result, refl, sym, arith}
 use Rattle.std.specs.Option.{option_or}
 use Rattle.cred_table.specs.declared.row.Row.{Row}
 use Rattle.cred_table.specs.Rows.{Lawful, same_id, no_two}
-use Rattle.ctap_message.specs.Asked.{Asked, GetAssertion, GetNextAssertion}
+use Rattle.ctap_message.specs.Asked.{Asked}
 use Rattle.ctap_message.specs.Requests.{read_of}
-use Rattle.authn_core.specs.State.{Asserting, Job, State, Event, Request, PresenceIs, KeyIs, SignatureIs, Cancel, Drop, Answer, Answered, Waits, Ignored, Turned, status, waits}
-use Rattle.authn_core.specs.Turn.{Start, first_state, requested, replied, reply_turn, turn}
+use Rattle.authn_core.specs.State.{ChannelTask, State, Event, Request, PresenceIs, KeyIs, SignatureIs, Cancel, Drop, Answer, Answered, Waits, Turned, status, waits}
+use Rattle.authn_core.specs.Turn.{Start, first_state, requested, reply_turn, turn}
 use Rattle.authn_core.specs.Marks.{Mark, marked, rows_among, Step, Comes, Orderly, core_at}
 use Rattle.authn_core.specs.Ready.{WorkReady}
 use Rattle.authn_core.specs.Views.{as_work}
 use Rattle.authn_core.specs.Exchanges.{waiting_in, Exchange, Unanswered, asked_on, rows_after, unanswered, waits_after}
-use Rattle.authn_core.specs.Assertions.{Series, may_go_on, continues, is_signed, signed_in, series, begins_series, assertion_for}
-use Rattle.authn_core.specs.Answers.{status_alone, is_processed, to_assertion, to_request, asked_assertion, made_in, resets_in, to_any_reply, raised_for, answer_to, did, exchange, exchanges}
+use Rattle.authn_core.specs.Assertions.{Series, continues, series, begins_series}
+use Rattle.authn_core.specs.Answers.{to_request, asked_assertion, made_in, resets_in, to_any_reply, raised_for, answer_to, did, exchange, exchanges}
 use Rattle.authn_core.proofs.Answering.{rows_marked}
 use Rattle.authn_core.proofs.Histories.{none_later, mark_keeps}
 use Rattle.authn_core.proofs.Readiness.{core_sound}
-use Rattle.authn_core.proofs.Told.{WorkTold, reply_answers, made_same, reply_rows, StillTold, reply_waits, PendingTold, reply_goes}
-use Rattle.authn_core.proofs.Served.{assertion_of_read, asked_read, BeginsTold, series_begun, next_goes_on, since_too, ends, request_served}
+use Rattle.authn_core.proofs.Told.{WorkTold, reply_answers, made_same, reply_rows, reply_waits, PendingTold, reply_goes}
+use Rattle.authn_core.proofs.Served.{assertion_of_read, asked_read, BeginsTold, series_begun, next_goes_on, since_too, request_served}
 
 -- ---- replies, where there is work or none
 
@@ -25,21 +25,16 @@ abbrev pub reply_did : Start → Option Unanswered → Event → Answer → Mark
 reply_did start o e answer =
     record { made = made_in o e; raises = raised_for (asked_assertion start o) answer; resets = resets_in o e }
 
-pub any_reply_answers : (start : Start) (past : List Exchange) (s : State) (at : ℕ) (w : Option Job) (o : Option Unanswered) (e : Event)
+pub any_reply_answers : (start : Start) (past : List Exchange) (s : State) (at : ℕ) (w : Option ChannelTask)
+    (o : Option Unanswered) (e : Event)
     → s.rows ≡ rows_after start past → WorkTold start s.rows w o
     → (reply_turn (first_state start).setup s at w e).answer ≡ to_any_reply start past o e
-any_reply_answers start past s at w None e r h = rw h refl
-any_reply_answers start past s at None (Some u) e r h = absurd h
-any_reply_answers start past s at (Some job) (Some u) e r h =
-    rw (← r) (reply_answers start s at job.cid job.task u.asked u.took (assertion_for start u.before u.asked) e h.2)
+any_reply_answers start past s at w o e r h = search (rules, arith, reply_answers)
 
-pub any_reply_rows : (start : Start) (s : State) (at : ℕ) (w : Option Job) (o : Option Unanswered) (e : Event)
+pub any_reply_rows : (start : Start) (s : State) (at : ℕ) (w : Option ChannelTask) (o : Option Unanswered) (e : Event)
     → WorkTold start s.rows w o → let t = reply_turn (first_state start).setup s at w e in
     t.state.rows ≡ marked (reply_did start o e t.answer) s.rows
-any_reply_rows start s at w None e h = rw h (sym (mark_keeps s.rows))
-any_reply_rows start s at None (Some u) e h = absurd h
-any_reply_rows start s at (Some job) (Some u) e h =
-    rw (made_same u e) (reply_rows start s at job.cid job.task u.asked u.took (assertion_for start u.before u.asked) e h.2)
+any_reply_rows start s at w o e h = grind (arith, made_same, mark_keeps, reply_rows)
 
 -- a reply is not a request
 abbrev pub IsReply : Event → Type 0
@@ -48,50 +43,26 @@ IsReply (KeyIs key) = Unit {0}
 IsReply (SignatureIs sig) = Unit {0}
 IsReply e = ⊥
 
-pub still_waits : (start : Start) (past : List Exchange) (rows : List Row) (w : Option Job) (cid waits : ℕ) (u : Unanswered) (e : Event) (answer : Answer)
-    → IsReply e → cid ≡ u.cid → waits ≡ u.status → StillTold rows w cid waits u.asked u.took (assertion_for start u.before u.asked) e answer
-    → WorkTold start rows w (waits_after e answer past (Some u))
-still_waits start past rows w cid waits u e answer i c v h = grind arith
-
-pub any_reply_waits : (start : Start) (past : List Exchange) (s : State) (at : ℕ) (w : Option Job) (o : Option Unanswered) (e : Event)
-    → IsReply e → s.work ≡ w → WorkReady start.room s.rows w → WorkTold start s.rows w o
+pub any_reply_waits : (start : Start) (past : List Exchange) (s : State) (at : ℕ) (w : Option ChannelTask)
+    (o : Option Unanswered) (e : Event)
+    → IsReply e → s.work ≡ w → WorkReady start.capacity s.rows w → WorkTold start s.rows w o
     → let t = reply_turn (first_state start).setup s at w e in
     WorkTold start t.state.rows t.state.work (waits_after e t.answer past o)
-any_reply_waits start past s at w None e i k r h = rw h (grind arith)
-any_reply_waits start past s at None (Some u) e i k r h = absurd h
-any_reply_waits start past s at (Some job) (Some u) e i k r h =
-    let t = replied (first_state start).setup s at job.cid job.task e in
-    still_waits start past t.state.rows t.state.work job.cid (status job.task) u e t.answer i h.0 h.1
-    (reply_waits start s at job.cid job.task u.asked u.took (assertion_for start u.before u.asked) e h.2 k r)
+any_reply_waits start past s at w o e i k r h = grind (arith, reply_waits)
 
-pub none_begun : (e : Event) (answer : Answer) (past : List Exchange) → IsReply e → begins_series e answer past ≡ None
-none_begun e answer past i = grind arith
-
-pub ignored_goes : (e : Event) → IsReply e → continues e Ignored ≡ true
-ignored_goes e i = grind arith
-
-pub ignored_signs : (e : Event) → is_signed e Ignored ≡ false
-ignored_signs e = grind arith
-
-pub none_pending : (start : Start) (s : State) (at : ℕ) (w : Option Job) (e : Event) → s.pending ≡ None
-    → (reply_turn (first_state start).setup s at w e).state.pending ≡ None
-none_pending start s at w e p = grind arith
-
-pub reply_since : (start : Start) (s : State) (at : ℕ) (w : Option Job) (o : Option Series) (e : Event) (m : Mark)
+pub reply_since : (start : Start) (s : State) (at : ℕ) (w : Option ChannelTask) (o : Option Series) (e : Event) (m : Mark)
     → IsReply e → s.work ≡ w → PendingTold start s o
     → let t = reply_turn (first_state start).setup s at w e in
     PendingTold start t.state (since_too (record { at = at; event = e; answer = t.answer; did = m }) o)
-reply_since start s at w None e m i k p = none_pending start s at w e p
-reply_since start s at None (Some x) e m i k p = rw (ignored_goes e i, ignored_signs e) p
-reply_since start s at (Some job) (Some x) e m i k p =
-    reply_goes start s at job.cid job.task e _ x.cid x.hash x.rp x.presence _ (signed_in x) m k p
+reply_since start s at w o e m i k p = grind (arith, reply_goes)
 
-pub any_reply_goes : (start : Start) (past : List Exchange) (s : State) (at : ℕ) (w : Option Job) (o : Option Series) (e : Event) (m : Mark)
+pub any_reply_goes : (start : Start) (past : List Exchange) (s : State) (at : ℕ) (w : Option ChannelTask) (o : Option Series)
+    (e : Event) (m : Mark)
     → IsReply e → s.work ≡ w → PendingTold start s o
     → let t = reply_turn (first_state start).setup s at w e in
-    PendingTold start t.state (option_or (begins_series e t.answer past) (since_too (record { at = at; event = e; answer = t.answer; did = m }) o))
-any_reply_goes start past s at w o e m i k p =
-    rw (none_begun e (reply_turn (first_state start).setup s at w e).answer past i) (reply_since start s at w o e m i k p)
+    PendingTold start t.state (option_or (begins_series e t.answer past)
+    (since_too (record { at = at; event = e; answer = t.answer; did = m }) o))
+any_reply_goes start past s at w o e m i k p = grind (arith, reply_since)
 
 -- ---- turns
 
@@ -100,31 +71,16 @@ pub record Kept (start : Start) (past : List Exchange) (at : ℕ) (e : Event) (t
   pub answer : t.answer ≡ answer_to start past at e
   pub rows : t.state.rows ≡ marked (did start past e t.answer) (rows_after start past)
   pub work : WorkTold start t.state.rows t.state.work (waits_after e t.answer past (unanswered past))
-  pub pending : PendingTold start t.state (option_or (begins_series e t.answer past) (since_too (record { at = at; event = e; answer = t.answer; did = did start past e t.answer }) (series past)))
+  pub pending : PendingTold start t.state (option_or (begins_series e t.answer past)
+      (since_too (record { at = at; event = e; answer = t.answer; did = did start past e t.answer }) (series past)))
 
 pub reply_kept : (start : Start) (past : List Exchange) (s : State) (at : ℕ) (e : Event) → IsReply e
-    → s.rows ≡ rows_after start past → WorkTold start s.rows s.work (unanswered past) → PendingTold start s (series past)
-    → WorkReady start.room s.rows s.work → Kept start past at e (reply_turn (first_state start).setup s at s.work e)
+    → s.rows ≡ rows_after start past → WorkTold start s.rows s.work (unanswered past) →
+    PendingTold start s (series past)
+    → WorkReady start.capacity s.rows s.work → Kept start past at e (reply_turn (first_state start).setup s at s.work e)
 unfolding answer_to
-reply_kept start past s at (PresenceIs reply) i r w p k = record {
-  answer = any_reply_answers start past s at s.work (unanswered past) (PresenceIs reply) r w;
-  rows = rw (← r) (any_reply_rows start s at s.work (unanswered past) (PresenceIs reply) w);
-  work = any_reply_waits start past s at s.work (unanswered past) (PresenceIs reply) i refl k w;
-  pending = any_reply_goes start past s at s.work (series past) (PresenceIs reply) _ i refl p;
-}
-reply_kept start past s at (KeyIs key) i r w p k = record {
-  answer = any_reply_answers start past s at s.work (unanswered past) (KeyIs key) r w;
-  rows = rw (← r) (any_reply_rows start s at s.work (unanswered past) (KeyIs key) w);
-  work = any_reply_waits start past s at s.work (unanswered past) (KeyIs key) i refl k w;
-  pending = any_reply_goes start past s at s.work (series past) (KeyIs key) _ i refl p;
-}
-reply_kept start past s at (SignatureIs sig) i r w p k = record {
-  answer = any_reply_answers start past s at s.work (unanswered past) (SignatureIs sig) r w;
-  rows = rw (← r) (any_reply_rows start s at s.work (unanswered past) (SignatureIs sig) w);
-  work = any_reply_waits start past s at s.work (unanswered past) (SignatureIs sig) i refl k w;
-  pending = any_reply_goes start past s at s.work (series past) (SignatureIs sig) _ i refl p;
-}
-reply_kept start past s at e i r w p k = absurd i
+reply_kept start past s at e i r w p k =
+    grind (arith, any_reply_answers, any_reply_goes, any_reply_rows, any_reply_waits)
 
 -- a request is answered, or waits
 abbrev pub IsTaken : Answer → Type 0
@@ -132,20 +88,8 @@ IsTaken (Answered bytes) = Unit {0}
 IsTaken (Waits status) = Unit {0}
 IsTaken answer = ⊥
 
-pub assertion_taken : (rows : List Row) (none waiting : Answer) (a : Option Asserting) → IsTaken none → IsTaken waiting
-    → IsTaken (to_assertion rows none waiting a)
-assertion_taken rows none waiting a n w = grind arith
-
-pub request_taken : (start : Start) (past : List Exchange) (at cid : ℕ) (read : Result Asked ℕ) → IsTaken (to_request start past at cid read)
-request_taken start past at cid (Ok (GetAssertion hash rp_id allow true)) =
-    assertion_taken (rows_after start past) _ _ (assertion_for start past (GetAssertion hash rp_id allow true)) tt tt
-request_taken start past at cid (Ok (GetAssertion hash rp_id allow false)) =
-    assertion_taken (rows_after start past) _ _ (assertion_for start past (GetAssertion hash rp_id allow false)) tt tt
-request_taken start past at cid (Ok GetNextAssertion) = next_taken (may_go_on at cid (series past))
-  where
-    next_taken : (b : Bool) → IsTaken (if b then to_assertion (rows_after start past) (status_alone 0x30) is_processed (assertion_for start past GetNextAssertion) else status_alone 0x30)
-    next_taken true = assertion_taken (rows_after start past) _ _ (assertion_for start past GetNextAssertion) tt tt
-    next_taken false = tt
+pub request_taken : (start : Start) (past : List Exchange) (at cid : ℕ) (read : Result Asked ℕ) →
+    IsTaken (to_request start past at cid read)
 request_taken start past at cid read = grind arith
 
 pub made_none : (o : Option Unanswered) (cid : ℕ) (bytes : List ℕ) → made_in o (Request cid bytes) ≡ None
@@ -154,21 +98,10 @@ made_none o cid bytes = grind arith
 pub resets_none : (o : Option Unanswered) (cid : ℕ) (bytes : List ℕ) → resets_in o (Request cid bytes) ≡ false
 resets_none o cid bytes = grind arith
 
-pub read_told : (start : Start) (past : List Exchange) (rows : List Row) (w : Option Job) (cid waits : ℕ) (read : Result Asked ℕ)
-    → BeginsTold rows w cid read (assertion_of_read start past read) (Waits waits) → WorkTold start rows w (asked_on cid waits past read)
-read_told start past rows w cid waits (Ok asked) h = h
-read_told start past rows w cid waits (Err code) h = h
-
-pub ended_told : (rows : List Row) (w : Option Job) (cid : ℕ) (read : Result Asked ℕ) (a : Option Asserting) (bytes : List ℕ)
-    → BeginsTold rows w cid read a (Answered bytes) → w ≡ None
-ended_told rows w cid (Ok asked) a bytes h = h
-ended_told rows w cid (Err code) a bytes h = h
-
-pub begins_so : (start : Start) (past : List Exchange) (rows : List Row) (w : Option Job) (cid : ℕ) (bytes : List ℕ) (o : Option Unanswered) (answer : Answer)
+pub begins_so : (start : Start) (past : List Exchange) (rows : List Row) (w : Option ChannelTask) (cid : ℕ) (bytes : List ℕ)
+    (o : Option Unanswered) (answer : Answer)
     → IsTaken answer → BeginsTold rows w cid (read_of bytes) (assertion_of_read start past (read_of bytes)) answer
     → WorkTold start rows w (waits_after (Request cid bytes) answer past o)
-begins_so start past rows w cid bytes o (Waits now) i h = read_told start past rows w cid now (read_of bytes) h
-begins_so start past rows w cid bytes o (Answered sent) i h = ended_told rows w cid (read_of bytes) _ sent h
 begins_so start past rows w cid bytes o answer i h = grind arith
 
 pub goes_so : (cid : ℕ) (bytes : List ℕ) (answer : Answer) → IsTaken answer
@@ -181,7 +114,8 @@ begun_so cid bytes answer past = grind arith
 
 pub request_kept : (start : Start) (past : List Exchange) (s : State) (at cid : ℕ) (bytes : List ℕ) → s.work ≡ None
     → s.rows ≡ rows_after start past → PendingTold start s (series past) → no_two same_id s.rows ≡ true
-    → Kept start past at (Request cid bytes) (requested (first_state start).setup s.rows s.pending at cid (read_of bytes))
+    → Kept start past at (Request cid bytes) (requested (first_state start).setup s.rows s.pending at cid
+    (read_of bytes))
 unfolding answer_to
 request_kept start past s at cid bytes w r p d =
     let t = requested (first_state start).setup s.rows s.pending at cid (read_of bytes) in
@@ -201,35 +135,15 @@ request_kept start past s at cid bytes w r p d =
           (goes_so cid bytes t.answer i));
     }
 
--- what ends work does nothing to the rows
-abbrev pub IsEnd : Event → Type 0
-IsEnd Cancel = Unit {0}
-IsEnd Drop = Unit {0}
-IsEnd e = ⊥
-
-pub made_at_end : (o : Option Unanswered) (e : Event) → IsEnd e → made_in o e ≡ None
-made_at_end o e i = grind arith
-
-pub resets_at_end : (o : Option Unanswered) (e : Event) → IsEnd e → resets_in o e ≡ false
-resets_at_end o e i = grind arith
-
 pub turn_kept : (start : Start) (past : List Exchange) (s : State) (at : ℕ) (e : Event) → Comes s.work e
-    → s.rows ≡ rows_after start past → WorkTold start s.rows s.work (unanswered past) → PendingTold start s (series past)
-    → WorkReady start.room s.rows s.work → no_two same_id s.rows ≡ true → Kept start past at e (turn (first_state start).setup s at e)
+    → s.rows ≡ rows_after start past → WorkTold start s.rows s.work (unanswered past) →
+    PendingTold start s (series past)
+    → WorkReady start.capacity s.rows s.work → no_two same_id s.rows ≡ true →
+    Kept start past at e (turn (first_state start).setup s at e)
 unfolding turn answer_to
 turn_kept start past s at (Request cid bytes) c r w p k d = request_kept start past s at cid bytes c r p d
-turn_kept start past s at Cancel c r w p k d = record {
-  answer = refl;
-  rows = rw (made_at_end (unanswered past) Cancel tt, resets_at_end (unanswered past) Cancel tt) (r ∙ sym (mark_keeps (rows_after start past)));
-  work = refl;
-  pending = ends start _ _ (series past) refl refl;
-}
-turn_kept start past s at Drop c r w p k d = record {
-  answer = refl;
-  rows = rw (made_at_end (unanswered past) Drop tt, resets_at_end (unanswered past) Drop tt) (r ∙ sym (mark_keeps (rows_after start past)));
-  work = refl;
-  pending = ends start _ _ (series past) refl refl;
-}
+turn_kept start past s at Cancel c r w p k d = grind (arith, mark_keeps)
+turn_kept start past s at Drop c r w p k d = grind (arith, mark_keeps)
 turn_kept start past s at (PresenceIs reply) c r w p k d = reply_kept start past s at (PresenceIs reply) tt r w p k
 turn_kept start past s at (KeyIs key) c r w p k d = reply_kept start past s at (KeyIs key) tt r w p k
 turn_kept start past s at (SignatureIs sig) c r w p k d = reply_kept start past s at (SignatureIs sig) tt r w p k
@@ -249,30 +163,28 @@ no_rows start = sym (none_later start.rows)
 pub one_told : (start : Start) (past : List Exchange) (at : ℕ) (e : Event) (t : Turned) → Kept start past at e t
     → Told start t.state (exchange start past at e ∷ past)
 unfolding unanswered series
-one_told start past at e t k = record {
-  rows = rw (rows_marked start.rows (exchange start past at e).did (map (λ x. x.did) past)) (rw k.answer at k.rows);
-  work = rw k.answer at k.work;
-  pending = rw k.answer at k.pending;
-}
+one_told start past at e t k = search (rules, arith, rows_marked)
 
-pub turn_at : (start : Start) (h : List Step) (x : Step) → Lawful start.room start.rows → Orderly (first_state start) (x ∷ h)
+pub turn_at : (start : Start) (h : List Step) (x : Step) → Lawful start.capacity start.rows →
+    Orderly (first_state start) (x ∷ h)
     → Told start (core_at (first_state start) h).state (exchanges start h)
-    → Kept start (exchanges start h) x.at x.event (turn (core_at (first_state start) h).setup (core_at (first_state start) h).state x.at x.event)
+    → Kept start (exchanges start h) x.at x.event (turn (core_at (first_state start) h).setup
+    (core_at (first_state start) h).state x.at x.event)
 unfolding Orderly
 turn_at start h x l o g =
     let c = core_at (first_state start) h in
     let s = core_sound (first_state start) h (record { pending = tt; work = tt }) l in
-    rw s.setup (turn_kept start (exchanges start h) c.state x.at x.event o.0 g.rows g.work g.pending (rw s.setup at s.ready.work) s.lawful.distinct)
+    rw s.setup (turn_kept start (exchanges start h) c.state x.at x.event o.0 g.rows g.work g.pending
+    (rw s.setup at s.ready.work) s.lawful.distinct)
 
-pub told_at : (start : Start) (h : List Step) → Lawful start.room start.rows → Orderly (first_state start) h
+pub told_at : (start : Start) (h : List Step) → Lawful start.capacity start.rows → Orderly (first_state start) h
     → Told start (core_at (first_state start) h).state (exchanges start h)
 unfolding core_at exchanges Orderly unanswered series
 told_at start [] l o = record { rows = no_rows start; work = refl; pending = refl }
-told_at start (x ∷ past) l o =
-    one_told start (exchanges start past) x.at x.event _ (turn_at start past x l o (told_at start past l o.1))
+told_at start (x ∷ past) l o = grind (arith, one_told, turn_at, told_at start past l)
 
 -- what waits, to the transport
-pub waits_told : (start : Start) (past : List Exchange) (s : State) (o : Option Unanswered) → WorkTold start s.rows s.work o
+pub waits_told : (start : Start) (past : List Exchange) (s : State) (o : Option Unanswered) →
+    WorkTold start s.rows s.work o
     → option_map as_work s.work ≡ waiting_in o
-waits_told start past s None h = rw h refl
-waits_told start past s (Some u) h = grind arith
+waits_told start past s o h = search (rules, arith)

@@ -1,6 +1,5 @@
 -- Turns keep a state ready and its rows lawful, and no more is pending than there is room for.
-use Rattle.std.proofs.Common.{◌≡◌, ℕ, ◌+◌, ◌≤◌, List, [], ◌∷◌, ◌++◌, append-nil, append_assoc, length, filter, reverse, Bool, true, false, cond, Option, Some, None, IfSome, option_map, is_some, Result, Ok, refl, arith}
-use Rattle.std.proofs.lemmas.Bool.Decides.{nat_tests}
+use Rattle.std.proofs.Common.{rules, ◌≡◌, ℕ, ◌+◌, ◌≤◌, List, [], ◌∷◌, ◌++◌, append-nil, length, filter, reverse, Bool, true, false, cond, Option, Some, None, IfSome, option_map, is_some, Result, Ok, refl, arith}
 use Rattle.std.proofs.lemmas.Grind.{common_steps}
 use Rattle.std.proofs.lemmas.List.{length-map, length-reverse}
 use Rattle.std.proofs.lemmas.Slice.Eq.{bytes_eq-Decides}
@@ -42,7 +41,8 @@ listed_all : (P : List ℕ → Type 0) (rp : List ℕ) (rows past : List Row)
     → AllByRecursion (λ r. bytes_eq r.rp rp ≡ true → P r.id) rows
     → AllByRecursion P (ids past) → AllByRecursion P (ids (reverse (filter (is_listed rp) rows) ++ past))
 listed_all P rp [] past h a = a
-listed_all P rp (r ∷ rows) past h a = grind (arith, common_steps, append_assoc, listed_all P rp rows past h.1, listed_all P rp rows (r ∷ past) h.1)
+listed_all P rp (r ∷ rows) past h a =
+    grind (arith, common_steps, listed_all P rp rows past h.1, listed_all P rp rows (r ∷ past) h.1)
 
 -- What holds of each row of the RP holds of those that may sign.
 pub applicable_all : (P : List ℕ → Type 0) (rows : List Row) (rp : List ℕ) (given : Bool) (allow : List (List ℕ))
@@ -59,7 +59,8 @@ all_there (r ∷ rows) = (grind (arith, same_bytes), all_along _ _ rows (λ x e.
 
 pub applicable_there : (rows : List Row) (rp : List ℕ) (given : Bool) (allow : List (List ℕ))
     → AllThere rows (ids (applicable rows rp given allow))
-applicable_there rows rp given allow = applicable_all _ rows rp given allow (all_along _ _ rows (λ r h _. h) (all_there rows))
+applicable_there rows rp given allow = applicable_all _ rows rp given allow
+    (all_along _ _ rows (λ r h _. h) (all_there rows))
 
 -- in rows that stand apart, no later row has the id
 apart : (id : List ℕ) (x : Row) (rows : List Row) → has_id id x ≡ true → list_any (same_id x) rows ≡ false
@@ -71,11 +72,12 @@ apart id x (s ∷ rows) e h = grind (arith, bytes_eq-Decides, apart id x rows)
 pub all_found : (rows : List Row) → no_two same_id rows ≡ true
     → AllByRecursion (λ r. find (has_id r.id) rows ≡ Some r) rows
 all_found [] d = tt
-all_found (x ∷ rows) d = (grind (arith, same_bytes), all_along _ _ rows (λ r e. grind (arith, apart)) (all_found rows (grind arith)))
+all_found (x ∷ rows) d = grind (arith, all_along, apart, same_bytes, all_found rows)
 
 -- Raising raises the one counter, and changes nothing else.
 pub find_raised : (q id : List ℕ) (rows : List Row)
-    → find (has_id q) (raised id rows) ≡ option_map (λ r. cond (bytes_eq q id) (record r { counter = r.counter + 1 }) r) (find (has_id q) rows)
+    → find (has_id q) (raised id rows) ≡ option_map (λ r. cond (bytes_eq q id) (record r { counter = r.counter + 1 }) r)
+    (find (has_id q) rows)
 find_raised q id [] = refl
 find_raised q id (r ∷ rows) = grind (arith, bytes_eq-Decides, find_raised q id rows)
 
@@ -83,59 +85,58 @@ find_raised q id (r ∷ rows) = grind (arith, bytes_eq-Decides, find_raised q id
 
 pub pending_raised : (id : List ℕ) (rows : List Row) (p : Option Waiting) → PendingReady rows p
     → PendingReady (raised id rows) p
-pending_raised id rows None h = tt
-pending_raised id rows (Some w) h = all_along _ _ w.ids (λ q e. grind (arith, find_raised)) h
+pending_raised id rows p h = grind (arith, all_along, find_raised)
 
 -- What holds of the rows after each change of them holds after a turn.
-rows_case : (P : List Row → Type 0) (u : Setup) (s : State) (t : ℕ) (e : Event) → WorkReady u.room s.rows s.work
+rows_case : (P : List Row → Type 0) (u : Setup) (s : State) (t : ℕ) (e : Event) → WorkReady u.capacity s.rows s.work
     → P s.rows → P []
-    → ((id : List ℕ) → P (raised id s.rows)) → ((m : Making) (key : NewKey) → (fits u.room m s.rows ≡ true)
+    → ((id : List ℕ) → P (raised id s.rows)) → ((m : Making) (key : NewKey) → (fits u.capacity m s.rows ≡ true)
     × (is_some (find (has_id key.id) s.rows) ≡ false) → P (stored (new_row m key) s.rows)) → P (turn u s t e).state.rows
 unfolding turn
 rows_case P u s t e w h none raise make = grind arith
 
-turn_lawful : (u : Setup) (s : State) (t : ℕ) (e : Event) → Ready u.room s → Lawful u.room s.rows
-    → Lawful u.room (turn u s t e).state.rows
+turn_lawful : (u : Setup) (s : State) (t : ℕ) (e : Event) → Ready u.capacity s → Lawful u.capacity s.rows
+    → Lawful u.capacity (turn u s t e).state.rows
 turn_lawful u s t e r h =
-    rows_case (Lawful u.room) u s t e r.work h (record { distinct = refl; one_each = refl; few = omega arith }) (λ id. Lawful-raised u.room id _ h)
-    (λ m key f. Lawful-stored u.room (new_row m key) s.rows h (grind arith) (grind (arith, nat_tests, one_replaced)))
+    rows_case (Lawful u.capacity) u s t e r.work h (record { distinct = refl; one_each = refl; few = omega arith })
+    (λ id. Lawful-raised u.capacity id _ h)
+    (λ m key f. Lawful-stored u.capacity (new_row m key) s.rows h (grind arith) (grind (arith, one_replaced)))
 
 requested_keeps : (u : Setup) (rows : List Row) (p : Option Waiting) (t cid : ℕ) (read : Result Asked ℕ)
     → PendingReady rows p
     → let x = (requested u rows p t cid read).state in
-    Ready u.room x × (length rows ≤ u.room → pending_count p ≤ u.room → pending_count x.pending ≤ u.room)
+    Ready u.capacity x × (length rows ≤ u.capacity → pending_count p ≤ u.capacity → pending_count x.pending ≤ u.capacity)
 requested_keeps u rows p t cid (Ok (GetAssertion hash rp_id allow up)) h =
     let all = applicable_there rows (sha256 rp_id) (has_entries allow) (ids_of allow) in
-    let few : length rows ≤ u.room → length (ids (applicable rows (sha256 rp_id) (has_entries allow) (ids_of allow))) ≤ u.room + 1
+    let few : length rows ≤ u.capacity →
+    length (ids (applicable rows (sha256 rp_id) (has_entries allow) (ids_of allow))) ≤ u.capacity + 1
     = λ l. grind (arith, length-map, length-reverse, length-filter) in
-    (grind (arith, nat_tests, find_raised, pending_raised, all), λ l _. grind (arith, few l))
-requested_keeps u rows p t cid read h = (grind (arith, nat_tests, find_raised, pending_raised), λ l f. grind arith)
+    (grind (arith, find_raised, pending_raised), λ l _. grind arith)
+requested_keeps u rows p t cid read h = (grind (arith, find_raised, pending_raised), λ l f. grind arith)
 
-pub turn_keeps : (u : Setup) (s : State) (t : ℕ) (e : Event) → Ready u.room s
-    → let x = (turn u s t e).state in Ready u.room x
-    × (Lawful u.room s.rows → Lawful u.room x.rows × (pending_count s.pending ≤ u.room → pending_count x.pending ≤ u.room))
+pub turn_keeps : (u : Setup) (s : State) (t : ℕ) (e : Event) → Ready u.capacity s
+    → let x = (turn u s t e).state in Ready u.capacity x
+    × (Lawful u.capacity s.rows → Lawful u.capacity x.rows × (pending_count s.pending ≤ u.capacity →
+    pending_count x.pending ≤ u.capacity))
 unfolding turn
 turn_keeps u s t (Request cid bytes) h =
     let r = requested_keeps u s.rows s.pending t cid (read_of bytes) h.pending in
     (r.0, λ l. (turn_lawful u s t (Request cid bytes) h l, λ f. r.1 l.few f))
-turn_keeps u s t reply h = (grind (arith, find_raised, pending_raised), λ l. (turn_lawful u s t reply h l, λ f. grind arith))
+turn_keeps u s t reply h =
+    (grind (arith, find_raised, pending_raised), λ l. (turn_lawful u s t reply h l, λ f. grind arith))
 
 -- ---- histories
 
 -- what holds of the authenticator after every history
 pub record Sound (start k : CoreState) : Type 0 where
   pub setup : k.setup ≡ start.setup
-  pub ready : Ready k.setup.room k.state
-  pub lawful : Lawful k.setup.room k.state.rows
-  pub few : pending_count start.state.pending ≤ start.setup.room → pending_count k.state.pending ≤ k.setup.room
+  pub ready : Ready k.setup.capacity k.state
+  pub lawful : Lawful k.setup.capacity k.state.rows
+  pub few : pending_count start.state.pending ≤ start.setup.capacity → pending_count k.state.pending ≤ k.setup.capacity
 
-pub core_sound : (start : CoreState) (h : List Step) → Ready start.setup.room start.state
-    → Lawful start.setup.room start.state.rows
+pub core_sound : (start : CoreState) (h : List Step) → Ready start.setup.capacity start.state
+    → Lawful start.setup.capacity start.state.rows
     → Sound start (core_at start h)
 unfolding core_at
 core_sound start [] r l = record { setup = refl; ready = r; lawful = l; few = λ f. f }
-core_sound start (x ∷ past) r l =
-    let k = core_at start past in
-    let s = core_sound start past r l in
-    let n = turn_keeps k.setup k.state x.at x.event s.ready in
-    record { setup = s.setup; ready = n.0; lawful = (n.1 s.lawful).0; few = λ f. (n.1 s.lawful).1 (s.few f) }
+core_sound start (x ∷ past) r l = search (rules, arith, turn_keeps, core_sound start past r l)

@@ -1,18 +1,17 @@
 -- Each answer to a request is the one that what happened names, and what waits and is pending is then as it says.
-use Rattle.std.proofs.Common.{◌≡◌, ◌==◌, nat_le, nat_lt, if◌then◌else◌, ℕ, zero, suc, ◌+◌, List, [], ◌∷◌, drop, slice_get, length, Bool, true, false, ◌&&◌, cond, Option, Some, None, option_map, Result, Ok, Err, refl, sym, ap, ◌∙◌, arith}
-use Rattle.std.proofs.lemmas.Bool.Decides.{nat_tests}
+use Rattle.std.proofs.Common.{rules, ◌≡◌, ◌==◌, nat_le, if◌then◌else◌, ℕ, zero, suc, ◌+◌, List, [], ◌∷◌, drop, slice_get, length, Bool, true, false, ◌&&◌, cond, Option, Some, None, option_map, Result, Ok, Err, refl, sym, ap, ◌∙◌, arith}
 use Rattle.std.proofs.lemmas.Slice.Eq.{bytes_eq-Decides}
-use Rattle.std.specs.List.{find, list_all}
+use Rattle.std.specs.List.{find}
 use Rattle.std.specs.Option.{option_or}
 use Rattle.cred_table.specs.declared.row.Row.{Row}
-use Rattle.cred_table.specs.Rows.{has_id, same_id, no_two, counter_of}
+use Rattle.cred_table.specs.Rows.{has_id, same_id, no_two}
 use Rattle.cred_table.specs.Waiting.{pending_of}
 use Rattle.cred_table.proofs.Basics.{same_bytes}
 use Rattle.ctap_message.specs.Asked.{Asked, MakeCredential, GetAssertion, GetInfo, Reset, GetNextAssertion, Selection}
 use Rattle.ctap_message.specs.Members.{has_entries}
 use Rattle.ctap_message.specs.Descriptors.{ids_of}
-use Rattle.authn_core.specs.State.{Asserting, AsksAssert, Job, State, Answer, Answered, Waits, Ignored, Nothing, Turned, status, waits, signs, refuses}
-use Rattle.authn_core.specs.GetAssertion.{MOST, NEXT_LIMIT, begins, row_signs, next_begins}
+use Rattle.authn_core.specs.State.{Asserting, AsksAssert, ChannelTask, State, Answer, Waits, Turned, status, waits, signs, refuses}
+use Rattle.authn_core.specs.GetAssertion.{begins, row_signs, next_begins}
 use Rattle.sha2.specs.Sha256.{sha256}
 use Rattle.authn_core.specs.Turn.{Start, first_state, requested}
 use Rattle.authn_core.specs.Marks.{marked}
@@ -34,56 +33,58 @@ assertion_of_read start past (Err code) = None
 
 pub asked_read : (start : Start) (past : List Exchange) (cid status : ℕ) (read : Result Asked ℕ)
     → asked_assertion start (asked_on cid status past read) ≡ assertion_of_read start past read
-asked_read start past cid status (Ok asked) = refl
-asked_read start past cid status (Err code) = refl
+asked_read start past cid status read = search (rules, arith)
 
 -- what waits after a request with this answer
-abbrev pub BeginsTold : List Row → Option Job → (cid : ℕ) → Result Asked ℕ → Option Asserting → Answer → Type 0
+abbrev pub BeginsTold : List Row → Option ChannelTask → (cid : ℕ) → Result Asked ℕ → Option Asserting → Answer → Type 0
 BeginsTold rows work cid (Ok asked) a (Waits now) = JobTold rows work cid now asked [] a
 BeginsTold rows work cid read a answer = work ≡ None
 
 pub begins_answers : (rows : List Row) (at cid : ℕ) (hash rp : List ℕ) (presence given : Bool) (ids : List (List ℕ))
     → (begins rows at cid hash rp presence given ids).answer
-    ≡ to_assertion rows (status_alone 0x2e) (cond presence waits_for_user is_processed) (first_signs hash rp presence (number_of given (length ids)) (slice_get ids 0))
-begins_answers rows at cid hash rp presence given [] = refl
-begins_answers rows at cid hash rp presence given (id ∷ ids) = grind (arith, nat_tests)
+    ≡ to_assertion rows (status_alone 0x2e) (cond presence waits_for_user is_processed)
+    (first_signs hash rp presence (number_of given (length ids)) (slice_get ids 0))
+begins_answers rows at cid hash rp presence given ids = grind arith
 
 pub begins_rows : (rows : List Row) (at cid : ℕ) (hash rp : List ℕ) (presence given : Bool) (ids : List (List ℕ))
     → let t = begins rows at cid hash rp presence given ids in
-    t.state.rows ≡ marked (record { made = None; raises = raised_for (first_signs hash rp presence (number_of given (length ids)) (slice_get ids 0)) t.answer; resets = false }) rows
-begins_rows rows at cid hash rp presence given [] = sym (mark_keeps rows)
-begins_rows rows at cid hash rp presence given (id ∷ ids) = grind (arith, mark_keeps, mark_raises)
+    t.state.rows ≡ marked
+    (record { made = None; raises = raised_for (first_signs hash rp presence (number_of given (length ids)) (slice_get ids 0)) t.answer; resets = false }) rows
+begins_rows rows at cid hash rp presence given ids = grind (arith, mark_keeps, mark_raises)
 
 -- what is asked is an assertion, with presence or without
 abbrev pub AsksWith : Bool → Asked → Type 0
 AsksWith presence (GetAssertion hash rp_id allow up) = up ≡ presence
 AsksWith presence asked = ⊥
 
-pub begins_waits : (rows : List Row) (at cid : ℕ) (asked : Asked) (hash rp : List ℕ) (presence given : Bool) (ids : List (List ℕ))
+pub begins_waits : (rows : List Row) (at cid : ℕ) (asked : Asked) (hash rp : List ℕ) (presence given : Bool)
+    (ids : List (List ℕ))
     → AsksWith presence asked → AllThere rows ids → let t = begins rows at cid hash rp presence given ids in
-    BeginsTold t.state.rows t.state.work cid (Ok asked) (first_signs hash rp presence (number_of given (length ids)) (slice_get ids 0)) t.answer
-begins_waits rows at cid asked hash rp presence given [] k h = grind arith
-begins_waits rows at cid asked hash rp presence given (id ∷ ids) k h = grind (arith, nat_tests, find_raised, same_bytes)
+    BeginsTold t.state.rows t.state.work cid (Ok asked) (first_signs hash rp presence (number_of given (length ids))
+    (slice_get ids 0)) t.answer
+begins_waits rows at cid asked hash rp presence given ids k h = grind (arith, find_raised, same_bytes)
 
 -- ---- getNextAssertion
 
-pub next_answers : (rows : List Row) (at on cid moment : ℕ) (hash rp : List ℕ) (presence : Bool) (ids : List (List ℕ)) → AllOf rp rows ids
+pub next_answers : (rows : List Row) (at on cid moment : ℕ) (hash rp : List ℕ) (presence : Bool) (ids : List (List ℕ)) →
+    AllOf rp rows ids
     → (next_begins rows (pending_of on hash presence moment ids) at cid).answer
-    ≡ cond (on == cid && nat_le at (moment + 30000)) (to_assertion rows (status_alone 0x30) is_processed (first_signs hash rp presence None (slice_get ids 0))) (status_alone 0x30)
-next_answers rows at on cid moment hash rp presence [] h = grind arith
-next_answers rows at on cid moment hash rp presence (id ∷ ids) h = grind (arith, nat_tests)
+    ≡ cond (on == cid && nat_le at (moment + 30000)) (to_assertion rows (status_alone 0x30) is_processed
+    (first_signs hash rp presence None (slice_get ids 0))) (status_alone 0x30)
+next_answers rows at on cid moment hash rp presence ids h = grind arith
 
 pub next_rows : (rows : List Row) (at on cid moment : ℕ) (hash rp : List ℕ) (presence : Bool) (ids : List (List ℕ))
     → let t = next_begins rows (pending_of on hash presence moment ids) at cid in
-    t.state.rows ≡ marked (record { made = None; raises = raised_for (first_signs hash rp presence None (slice_get ids 0)) t.answer; resets = false }) rows
-next_rows rows at on cid moment hash rp presence [] = sym (mark_keeps rows)
-next_rows rows at on cid moment hash rp presence (id ∷ ids) = grind (arith, mark_keeps, mark_raises)
+    t.state.rows ≡ marked
+    (record { made = None; raises = raised_for (first_signs hash rp presence None (slice_get ids 0)) t.answer; resets = false }) rows
+next_rows rows at on cid moment hash rp presence ids = grind (arith, mark_keeps, mark_raises)
 
-pub next_waits : (rows : List Row) (at on cid moment : ℕ) (hash rp : List ℕ) (presence : Bool) (ids : List (List ℕ)) → AllOf rp rows ids
+pub next_waits : (rows : List Row) (at on cid moment : ℕ) (hash rp : List ℕ) (presence : Bool) (ids : List (List ℕ)) →
+    AllOf rp rows ids
     → let t = next_begins rows (pending_of on hash presence moment ids) at cid in
-    BeginsTold t.state.rows t.state.work cid (Ok GetNextAssertion) (first_signs hash rp presence None (slice_get ids 0)) t.answer
-next_waits rows at on cid moment hash rp presence [] h = refl
-next_waits rows at on cid moment hash rp presence (id ∷ ids) h = grind (arith, nat_tests, find_raised, same_bytes)
+    BeginsTold t.state.rows t.state.work cid (Ok GetNextAssertion) (first_signs hash rp presence None (slice_get ids 0))
+    t.answer
+next_waits rows at on cid moment hash rp presence ids h = grind (arith, find_raised, same_bytes)
 
 pub nth_drop : {X : Type 0} (n : ℕ) (xs : List X) → slice_get xs n ≡ slice_get (drop n xs) 0
 nth_drop zero xs = refl
@@ -110,59 +111,57 @@ next_goes_on read answer = false
 abbrev pub since_too : Exchange → Option Series → Option Series
 since_too y o = option_map (λ (x : Series). record x { since = y ∷ x.since }) o
 
-pub ends : (start : Start) (s : State) (y : Exchange) (o : Option Series) → continues y.event y.answer ≡ false → s.pending ≡ None
-    → PendingTold start s (since_too y o)
-ends start s y None g p = p
-ends start s y (Some x) g p = rw g p
-
 -- A request was served: its answer, what was done to the rows, what waits, and what is pending.
-pub record Served (start : Start) (past : List Exchange) (before : List Row) (at cid : ℕ) (read : Result Asked ℕ) (t : Turned) : Type 0 where
+pub record Served (start : Start) (past : List Exchange) (before : List Row) (at cid : ℕ) (read : Result Asked ℕ)
+    (t : Turned) : Type 0 where
   pub answer : t.answer ≡ to_request start past at cid read
-  pub rows : t.state.rows ≡ marked (record { made = None; raises = raised_for (assertion_of_read start past read) t.answer; resets = false }) before
+  pub rows : t.state.rows ≡ marked
+      (record { made = None; raises = raised_for (assertion_of_read start past read) t.answer; resets = false }) before
   pub work : BeginsTold t.state.rows t.state.work cid read (assertion_of_read start past read) t.answer
-  pub pending : (y : Exchange) → is_signed y.event y.answer ≡ false → continues y.event y.answer ≡ next_goes_on read t.answer
+  pub pending : (y : Exchange) → is_signed y.event y.answer ≡ false →
+      continues y.event y.answer ≡ next_goes_on read t.answer
       → PendingTold start t.state (option_or (series_begun cid past read t.answer) (since_too y (series past)))
 
 abbrev pub GoesIfBegun : (cid : ℕ) (hash rp : List ℕ) (presence : Bool) (ids : List (List ℕ)) → State → Answer → Type 0
 GoesIfBegun cid hash rp presence ids s (Waits status) = Going cid hash rp presence ids [] s
 GoesIfBegun cid hash rp presence ids s answer = s.pending ≡ None
 
-pub begins_if : (b up : Bool) (rows : List Row) (at cid : ℕ) (hash rp : List ℕ) (presence : Bool) (a : Asserting) (id : List ℕ) (ids : List (List ℕ)) → AllOf rp rows ids
+pub begins_if : (b up : Bool) (rows : List Row) (at cid : ℕ) (hash rp : List ℕ) (presence : Bool) (a : Asserting)
+    (id : List ℕ) (ids : List (List ℕ)) → AllOf rp rows ids
     → let p = pending_of cid hash presence at ids in
-    let t = if b then (if up then waits rows p cid (AsksAssert a) else signs rows p cid a) else refuses rows None 0x15 in
+    let t = if b then (if up then waits rows p cid (AsksAssert a) else signs rows p cid a) else refuses rows None 0x15
+    in
     GoesIfBegun cid hash rp presence (id ∷ ids) t.state t.answer
 begins_if false up rows at cid hash rp presence a id ids h = refl
-begins_if true true rows at cid hash rp presence a id ids h = record { moment = at; ids = refl; each = h; latest = tt; work = refl }
+begins_if true true rows at cid hash rp presence a id ids h = search (rules, arith)
 begins_if true false rows at cid hash rp presence a id ids h =
     record { moment = at; ids = refl; each = all_raised rp a.id rows ids h; latest = tt; work = refl }
 
-pub begins_goes : (rows : List Row) (at cid : ℕ) (hash rp : List ℕ) (presence given : Bool) (ids : List (List ℕ)) → AllOf rp rows ids
+pub begins_goes : (rows : List Row) (at cid : ℕ) (hash rp : List ℕ) (presence given : Bool) (ids : List (List ℕ)) →
+    AllOf rp rows ids
     → let t = begins rows at cid hash rp presence given ids in GoesIfBegun cid hash rp presence ids t.state t.answer
 begins_goes rows at cid hash rp presence given [] h = refl
-begins_goes rows at cid hash rp presence given (id ∷ ids) h =
-    begins_if (nat_lt (counter_of id rows) MOST) presence rows at cid hash rp presence _ id ids h.1
+begins_goes rows at cid hash rp presence given (id ∷ ids) h = search (rules, arith, begins_if)
 
 abbrev pub waits_on : Answer → Bool
 waits_on (Waits status) = true
 waits_on answer = false
 
-pub begun_pending : (start : Start) (s : State) (y : Exchange) (o : Option Series) (answer : Answer) (x : Series) → x.since ≡ []
+pub begun_pending : (start : Start) (s : State) (y : Exchange) (o : Option Series) (answer : Answer) (x : Series) →
+    x.since ≡ []
     → (waits_on answer ≡ false → continues y.event y.answer ≡ false)
     → GoesIfBegun x.cid x.hash x.rp x.presence (signers (rows_after start x.before) x.rp x.given x.allow) s answer
     → PendingTold start s (option_or (where_taken answer (Some x)) (since_too y o))
-begun_pending start s y o (Waits status) x e g h = rw e h
-begun_pending start s y o (Answered bytes) x e g h = ends start s y o (g refl) h
-begun_pending start s y o Ignored x e g h = ends start s y o (g refl) h
-begun_pending start s y o Nothing x e g h = ends start s y o (g refl) h
+begun_pending start s y o answer x e g h = grind arith
 
 pub stops : (read : Result Asked ℕ) (answer : Answer) → waits_on answer ≡ false → next_goes_on read answer ≡ false
 stops read answer h = grind arith
 
 -- ---- what a getNextAssertion leaves pending
 
-abbrev pub IsAsserting : Option Job → Type 0
+abbrev pub IsAsserting : Option ChannelTask → Type 0
 IsAsserting None = ⊥
-IsAsserting (Some job) = is_assertion job.task ≡ true
+IsAsserting (Some work) = is_assertion work.task ≡ true
 
 -- the ids that follow, where one is signed for, else nothing
 abbrev pub NextLeft : Bool → (on : ℕ) (hash rp : List ℕ) (presence : Bool) (moment : ℕ) → List (List ℕ) → State → Type 0
@@ -170,50 +169,47 @@ NextLeft true on hash rp presence moment ids s =
     (s.pending ≡ pending_of on hash presence moment ids) × AllOf rp s.rows ids × IsAsserting s.work
 NextLeft false on hash rp presence moment ids s = s.pending ≡ None
 
-pub row_if : (b : Bool) (rows : List Row) (on cid moment : ℕ) (hash rp : List ℕ) (presence : Bool) (a : Asserting) (ids : List (List ℕ)) → AllOf rp rows ids
+pub row_if : (b : Bool) (rows : List Row) (on cid moment : ℕ) (hash rp : List ℕ) (presence : Bool) (a : Asserting)
+    (ids : List (List ℕ)) → AllOf rp rows ids
     → let t = if b then signs rows (pending_of on hash presence moment ids) cid a else refuses rows None 0x15 in
     NextLeft (waits_on t.answer) on hash rp presence moment ids t.state
 row_if true rows on cid moment hash rp presence a ids h = (refl, all_raised rp a.id rows ids h, refl)
 row_if false rows on cid moment hash rp presence a ids h = refl
 
-pub row_left : (o : Option Row) (rows : List Row) (on cid moment : ℕ) (hash rp : List ℕ) (presence : Bool) (id : List ℕ) (ids : List (List ℕ)) → AllOf rp rows ids
+pub row_left : (o : Option Row) (rows : List Row) (on cid moment : ℕ) (hash rp : List ℕ) (presence : Bool) (id : List ℕ)
+    (ids : List (List ℕ)) → AllOf rp rows ids
     → let t = row_signs rows (pending_of on hash presence moment ids) cid hash presence id o in
     NextLeft (waits_on t.answer) on hash rp presence moment ids t.state
 row_left None rows on cid moment hash rp presence id ids h = refl
-row_left (Some row) rows on cid moment hash rp presence id ids h =
-    row_if (nat_lt (counter_of id rows) MOST) rows on cid moment hash rp presence _ ids h
+row_left (Some row) rows on cid moment hash rp presence id ids h = search (rules, arith, row_if)
 
-pub next_if : (b : Bool) (rows : List Row) (on cid moment : ℕ) (hash rp : List ℕ) (presence : Bool) (id : List ℕ) (ids : List (List ℕ)) → AllOf rp rows ids
-    → let t = if b then row_signs rows (pending_of on hash presence moment ids) cid hash presence id (find (has_id id) rows) else refuses rows None 0x30 in
+pub next_if : (b : Bool) (rows : List Row) (on cid moment : ℕ) (hash rp : List ℕ) (presence : Bool) (id : List ℕ)
+    (ids : List (List ℕ)) → AllOf rp rows ids
+    → let t = if b then row_signs rows (pending_of on hash presence moment ids) cid hash presence id
+    (find (has_id id) rows) else refuses rows None 0x30 in
     NextLeft (waits_on t.answer) on hash rp presence moment ids t.state
-next_if true rows on cid moment hash rp presence id ids h =
-    row_left (find (has_id id) rows) rows on cid moment hash rp presence id ids h
-next_if false rows on cid moment hash rp presence id ids h = refl
+next_if b rows on cid moment hash rp presence id ids h = search (rules, arith, row_left)
 
-pub next_left : (rows : List Row) (at on cid moment : ℕ) (hash rp : List ℕ) (presence : Bool) (ids : List (List ℕ)) → AllOf rp rows ids
+pub next_left : (rows : List Row) (at on cid moment : ℕ) (hash rp : List ℕ) (presence : Bool) (ids : List (List ℕ)) →
+    AllOf rp rows ids
     → let t = next_begins rows (pending_of on hash presence moment ids) at cid in
     NextLeft (waits_on t.answer) on hash rp presence moment (drop 1 ids) t.state
-next_left rows at on cid moment hash rp presence [] h = refl
-next_left rows at on cid moment hash rp presence (id ∷ ids) h =
-    next_if ((on == cid) && nat_le at (moment + NEXT_LIMIT)) rows on cid moment hash rp presence id ids h.1
+next_left rows at on cid moment hash rp presence ids h = search (rules, arith, next_if)
 
 pub one_more : (n b w : ℕ) (all : List (List ℕ)) → b ≡ 1 → w ≡ 0 → drop (n + b) all ≡ drop 1 (drop (n + w) all)
-one_more n b w all e z =
-    let k : n + b ≡ suc (n + w) = omega arith in ap (λ v. drop v all) k ∙ drop_one (n + w) all
+one_more n b w all e z = search (rules, arith, drop_one)
 
-pub busy_one : (w : Option Job) → IsAsserting w → busy w ≡ 1
-busy_one None h = absurd h
-busy_one (Some job) h = refl
+pub busy_one : (w : Option ChannelTask) → IsAsserting w → busy w ≡ 1
+busy_one w h = search (rules, arith)
 
-pub asserts_so : (w : Option Job) → IsAsserting w → Asserts w
-asserts_so None h = absurd h
-asserts_so (Some job) h = h
+pub asserts_so : (w : Option ChannelTask) → IsAsserting w → Asserts w
+asserts_so w h = search (rules, arith)
 
-pub latest_so : (w : Option Job) (moment : ℕ) (done : List Exchange) → IsAsserting w → IsLatest w moment done
-latest_so None moment done h = absurd h
-latest_so (Some job) moment done h = tt
+pub latest_so : (w : Option ChannelTask) (moment : ℕ) (done : List Exchange) → IsAsserting w → IsLatest w moment done
+latest_so w moment done h = search (rules, arith)
 
-pub left_goes : (b : Bool) (on : ℕ) (hash rp : List ℕ) (presence : Bool) (moment : ℕ) (all : List (List ℕ)) (done : List Exchange) (w : Option Job) (s : State)
+pub left_goes : (b : Bool) (on : ℕ) (hash rp : List ℕ) (presence : Bool) (moment : ℕ) (all : List (List ℕ))
+    (done : List Exchange) (w : Option ChannelTask) (s : State)
     → w ≡ None → NextLeft b on hash rp presence moment (drop 1 (drop (length done + busy w) all)) s
     → GoingOrNot (b && true) on hash rp presence all done s
 left_goes true on hash rp presence moment all done w s e h =
@@ -227,9 +223,11 @@ left_goes true on hash rp presence moment all done w s e h =
     }
 left_goes false on hash rp presence moment all done w s e h = h
 
-pub going_next : (b : Bool) (s : State) (at on cid : ℕ) (hash rp : List ℕ) (presence : Bool) (all : List (List ℕ)) (done : List Exchange)
+pub going_next : (b : Bool) (s : State) (at on cid : ℕ) (hash rp : List ℕ) (presence : Bool) (all : List (List ℕ))
+    (done : List Exchange)
     → s.work ≡ None → GoingOrNot b on hash rp presence all done s
-    → let t = next_begins s.rows s.pending at cid in GoingOrNot (waits_on t.answer && b) on hash rp presence all done t.state
+    → let t = next_begins s.rows s.pending at cid in
+    GoingOrNot (waits_on t.answer && b) on hash rp presence all done t.state
 going_next true s at on cid hash rp presence all done w g =
     let t = next_begins s.rows s.pending at cid in
     left_goes (waits_on t.answer) on hash rp presence g.moment all done s.work t.state w
@@ -240,16 +238,12 @@ pub next_pending : (start : Start) (s : State) (at cid : ℕ) (y : Exchange) (o 
     → is_signed y.event y.answer ≡ false
     → let t = next_begins s.rows s.pending at cid in continues y.event y.answer ≡ waits_on t.answer
     → PendingTold start s o → PendingTold start t.state (since_too y o)
-next_pending start s at cid y None w n g p = rw p refl
-next_pending start s at cid y (Some x) w n g p =
-    rw (n, g) (going_next (list_all (λ y. continues y.event y.answer) x.since) s at x.cid cid x.hash x.rp x.presence
-    (signers (rows_after start x.before) x.rp x.given x.allow) (signed_in x) w p)
+next_pending start s at cid y o w n g p = search (rules, arith, going_next)
 
 -- the next assertion of a series is the first of the ids that are left
-pub time_of : (w : Option Job) (moment : ℕ) (done : List Exchange) (at : ℕ) → w ≡ None → IsLatest w moment done
+pub time_of : (w : Option ChannelTask) (moment : ℕ) (done : List Exchange) (at : ℕ) → w ≡ None → IsLatest w moment done
     → nat_le at (moment + 30000) ≡ is_in_time at done
-time_of w moment [] at e h = grind arith
-time_of w moment (x ∷ older) at e h = grind arith
+time_of w moment done at e h = search (rules, arith)
 
 pub none_taken : (answer : Answer) → where_taken answer None ≡ None
 none_taken answer = grind arith
@@ -257,11 +251,13 @@ none_taken answer = grind arith
 pub next_waits_on : (answer : Answer) → next_goes_on (Ok GetNextAssertion) answer ≡ waits_on answer
 next_waits_on answer = grind arith
 
-pub next_of_going : (start : Start) (s : State) (at cid : ℕ) (b : Bool) (on : ℕ) (hash rp : List ℕ) (presence : Bool) (all : List (List ℕ)) (done : List Exchange)
+pub next_of_going : (start : Start) (s : State) (at cid : ℕ) (b : Bool) (on : ℕ) (hash rp : List ℕ) (presence : Bool)
+    (all : List (List ℕ)) (done : List Exchange)
     → s.work ≡ None → GoingOrNot b on hash rp presence all done s
     → let t = next_begins s.rows s.pending at cid in
     let a = first_signs hash rp presence None (slice_get all (length done)) in
-    (t.answer ≡ cond (b && ((on == cid) && is_in_time at done)) (to_assertion s.rows (status_alone 0x30) is_processed a) (status_alone 0x30))
+    (t.answer ≡ cond (b && ((on == cid) && is_in_time at done)) (to_assertion s.rows (status_alone 0x30) is_processed a)
+    (status_alone 0x30))
     × (t.state.rows ≡ marked (record { made = None; raises = raised_for a t.answer; resets = false }) s.rows)
     × BeginsTold t.state.rows t.state.work cid (Ok GetNextAssertion) a t.answer
 next_of_going start s at cid false on hash rp presence all done w g = rw g (refl, sym (mark_keeps s.rows), refl)
@@ -270,40 +266,34 @@ next_of_going start s at cid true on hash rp presence all done w g =
     let d = ap (λ k. drop k all) n in
     let f = nth_drop (length done) all ∙ ap (λ v. slice_get v 0) (sym d) in
     rw (g.ids, f) (
-      rw (← time_of s.work g.moment done at w g.latest) (next_answers s.rows at on cid g.moment hash rp presence _ g.each),
+      rw (← time_of s.work g.moment done at w g.latest)
+          (next_answers s.rows at on cid g.moment hash rp presence _ g.each),
       next_rows s.rows at on cid g.moment hash rp presence _,
       next_waits s.rows at on cid g.moment hash rp presence _ g.each,
     )
 
-pub next_served : (start : Start) (past : List Exchange) (s : State) (at cid : ℕ) (o : Option Series) → s.work ≡ None → PendingTold start s o
+pub next_served : (start : Start) (past : List Exchange) (s : State) (at cid : ℕ) (o : Option Series) → s.work ≡ None →
+    PendingTold start s o
     → let t = next_begins s.rows s.pending at cid in
-    (t.answer ≡ cond (may_go_on at cid o) (to_assertion s.rows (status_alone 0x30) is_processed (next_signs_in start o)) (status_alone 0x30))
-    × (t.state.rows ≡ marked (record { made = None; raises = raised_for (next_signs_in start o) t.answer; resets = false }) s.rows)
+    (t.answer ≡ cond (may_go_on at cid o) (to_assertion s.rows (status_alone 0x30) is_processed (next_signs_in start o))
+    (status_alone 0x30))
+    × (t.state.rows ≡ marked
+    (record { made = None; raises = raised_for (next_signs_in start o) t.answer; resets = false }) s.rows)
     × BeginsTold t.state.rows t.state.work cid (Ok GetNextAssertion) (next_signs_in start o) t.answer
 next_served start past s at cid None w p = rw p (refl, sym (mark_keeps s.rows), refl)
-next_served start past s at cid (Some x) w p = next_of_going start s at cid _ x.cid x.hash x.rp x.presence _ (signed_in x) w p
+next_served start past s at cid (Some x) w p = next_of_going start s at cid _ x.cid x.hash x.rp x.presence _
+    (signed_in x) w p
 
-pub request_served : (start : Start) (past : List Exchange) (s : State) (at cid : ℕ) (read : Result Asked ℕ) → s.work ≡ None
+pub request_served : (start : Start) (past : List Exchange) (s : State) (at cid : ℕ) (read : Result Asked ℕ) →
+    s.work ≡ None
     → s.rows ≡ rows_after start past → PendingTold start s (series past) → no_two same_id s.rows ≡ true
     → Served start past s.rows at cid read (requested (first_state start).setup s.rows s.pending at cid read)
-request_served start past s at cid (Err code) w r p d =
-    record { answer = refl; rows = sym (mark_keeps s.rows); work = refl; pending = λ y n g. ends start _ y (series past) g refl }
-request_served start past s at cid (Ok GetInfo) w r p d =
-    record { answer = refl; rows = sym (mark_keeps s.rows); work = refl; pending = λ y n g. ends start _ y (series past) g refl }
-request_served start past s at cid (Ok Selection) w r p d =
-    record { answer = refl; rows = sym (mark_keeps s.rows); work = (refl, refl, refl); pending = λ y n g. ends start _ y (series past) g refl }
-request_served start past s at cid (Ok Reset) w r p d = record {
-  answer = grind (arith, nat_tests);
-  rows = grind (arith, mark_keeps);
-  work = grind (arith, nat_tests);
-  pending = λ y n g. grind (arith, nat_tests, ends);
-}
-request_served start past s at cid (Ok (MakeCredential hash rp_id user_id user_name discoverable exclude)) w r p d = record {
-  answer = refl;
-  rows = sym (mark_keeps s.rows);
-  work = (refl, refl, (refl, refl, refl));
-  pending = λ y n g. ends start _ y (series past) g refl;
-}
+request_served start past s at cid (Err code) w r p d = grind (arith, mark_keeps)
+request_served start past s at cid (Ok GetInfo) w r p d = grind (arith, mark_keeps)
+request_served start past s at cid (Ok Selection) w r p d = grind (arith, mark_keeps)
+request_served start past s at cid (Ok Reset) w r p d = grind (arith, mark_keeps)
+request_served start past s at cid (Ok (MakeCredential hash rp_id user_id user_name discoverable exclude)) w r p d =
+    grind (arith, mark_keeps)
 request_served start past s at cid (Ok (GetAssertion hash rp_id allow presence)) w r p d =
     let rp = sha256 rp_id in let given = has_entries allow in
     let same = signers_apply s.rows rp given (ids_of allow) in
@@ -313,9 +303,11 @@ request_served start past s at cid (Ok (GetAssertion hash rp_id allow presence))
     record {
       answer = rw (← r, same) (begins_answers s.rows at cid hash rp presence given _);
       rows = rw (← r, same) (begins_rows s.rows at cid hash rp presence given _);
-      work = rw (← r, same) (begins_waits s.rows at cid (GetAssertion hash rp_id allow presence) hash rp presence given _ refl (rw same at there));
+      work = rw (← r, same) (begins_waits s.rows at cid (GetAssertion hash rp_id allow presence) hash rp presence given
+          _ refl (rw same at there));
       pending = λ y n g.
-          let t = requested (first_state start).setup s.rows s.pending at cid (Ok (GetAssertion hash rp_id allow presence)) in
+          let t = requested (first_state start).setup s.rows s.pending at cid
+          (Ok (GetAssertion hash rp_id allow presence)) in
           let x : Series = record {
             cid = cid;
             hash = hash;
@@ -326,9 +318,11 @@ request_served start past s at cid (Ok (GetAssertion hash rp_id allow presence))
             before = past;
             since = [];
           } in
-          let goes : GoesIfBegun cid hash rp presence (signers (rows_after start past) rp given (ids_of allow)) t.state t.answer
+          let goes : GoesIfBegun cid hash rp presence (signers (rows_after start past) rp given (ids_of allow)) t.state
+          t.answer
           = rw (← r, same) (begins_goes s.rows at cid hash rp presence given _ (rw same at all)) in
-          begun_pending start t.state y (series past) t.answer x refl (λ k. g ∙ stops (Ok (GetAssertion hash rp_id allow presence)) t.answer k) goes;
+          begun_pending start t.state y (series past) t.answer x refl (λ k. g
+          ∙ stops (Ok (GetAssertion hash rp_id allow presence)) t.answer k) goes;
     }
 request_served start past s at cid (Ok GetNextAssertion) w r p d =
     let n = next_served start past s at cid (series past) w p in
@@ -338,5 +332,6 @@ request_served start past s at cid (Ok GetNextAssertion) w r p d =
       work = n.2;
       pending = λ y k g.
           rw (none_taken (next_begins s.rows s.pending at cid).answer)
-          (next_pending start s at cid y (series past) w k (g ∙ next_waits_on (next_begins s.rows s.pending at cid).answer) p);
+          (next_pending start s at cid y (series past) w k (g
+          ∙ next_waits_on (next_begins s.rows s.pending at cid).answer) p);
     }

@@ -1,4 +1,5 @@
 -- Every turn keeps what is to be signed that of the newest request, and a signature is answered with what was signed.
+use Rattle.std.proofs.lemmas.Bool.Decides.{nat_tests}
 use Rattle.std.proofs.Common.{◌≡◌, ℕ, List, [], ◌∷◌, Bool, true, Option, Some, None, Result, Ok, refl, arith}
 use Rattle.std.proofs.lemmas.Slice.Eq.{bytes_eq-Decides}
 use Rattle.std.specs.List.{find}
@@ -10,10 +11,9 @@ use Rattle.fido_authdata.specs.AuthData.{assertion_bytes}
 use Rattle.ctap_message.specs.Asked.{Asked, MakeCredential, GetAssertion}
 use Rattle.ctap_message.specs.Members.{has_entries}
 use Rattle.ctap_message.specs.Descriptors.{ids_of}
-use Rattle.ctap_message.specs.Requests.{read_of}
 use Rattle.authn_core.specs.declared.replies.NewKey.{NewKey}
 use Rattle.sha2.specs.Sha256.{sha256}
-use Rattle.authn_core.specs.State.{Setup, Task, SignsMake, SignsAssert, Job, State, Event, Request, SignatureIs}
+use Rattle.authn_core.specs.State.{Setup, Task, SignsMake, SignsAssert, ChannelTask, State, Event, SignatureIs}
 use Rattle.authn_core.specs.MakeCredential.{new_row}
 use Rattle.authn_core.specs.GetAssertion.{begins, user_in}
 use Rattle.authn_core.specs.Turn.{Start, first_state, requested, replied, reply_turn, turn}
@@ -26,14 +26,14 @@ use Rattle.authn_core.proofs.Readiness.{all_along, applicable_all, all_found, co
 
 pending_raised : (asked : Option Asked) (id : List ℕ) (rows : List Row) (p : Option Waiting) → PendingFor asked rows p
     → PendingFor asked (raised id rows) p
-pending_raised asked id rows None h = tt
-pending_raised asked id rows (Some w) h = (h.0, h.1, all_along _ _ w.ids (λ q e. grind (arith, find_raised)) h.2)
+pending_raised asked id rows p h = grind (arith, all_along, find_raised)
 
-begins_signs : (aaguid : List ℕ) (h : Heard) (rows : List Row) (t cid : ℕ) (hash rp : List ℕ) (up given : Bool) (l : List (List ℕ))
+begins_signs : (aaguid : List ℕ) (h : Heard) (rows : List Row) (t cid : ℕ) (hash rp : List ℕ) (up given : Bool)
+    (l : List (List ℕ))
     → assertion_asked h.asked ≡ Some (record { rp = rp; presence = up; hash = hash }) → AllOf rp rows l
     → Signs aaguid h (begins rows t cid hash rp up given l).state
-begins_signs aaguid h rows t cid hash rp up given [] c a = grind arith
-begins_signs aaguid h rows t cid hash rp up given (id ∷ others) c a = grind (arith, find_raised, same_bytes, pending_raised)
+begins_signs aaguid h rows t cid hash rp up given l c a =
+    grind (arith, nat_tests, find_raised, pending_raised, same_bytes)
 
 requested_signs : (u : Setup) (h : Heard) (rows : List Row) (p : Option Waiting) (t cid : ℕ) (read : Result Asked ℕ)
     → no_two same_id rows ≡ true → PendingFor h.asked rows p → IsGranted h.granted p
@@ -46,36 +46,41 @@ requested_signs u h rows p t cid (Ok (GetAssertion hash rp_id allow up)) d f k =
 requested_signs u h rows p t cid read d f k = grind (arith, find_raised, same_bytes, pending_raised)
 
 -- Every turn keeps the invariant, where a request comes only while no work waits.
-pub turn_signs : (u : Setup) (s : State) (t : ℕ) (e : Event) (h : Heard) → Comes s.work e → Lawful u.room s.rows
+pub turn_signs : (u : Setup) (s : State) (t : ℕ) (e : Event) (h : Heard) → Comes s.work e → Lawful u.capacity s.rows
     → Signs u.aaguid h s → Signs u.aaguid (hears e h) (turn u s t e).state
 unfolding turn
-turn_signs u s t (Request cid bytes) h c l g = requested_signs u h s.rows s.pending t cid (read_of bytes) l.distinct g.pending (grind arith)
-turn_signs u s t e h c l g = grind (arith, find_raised, same_bytes, pending_raised)
+turn_signs u s t e h c l g = grind (arith, find_raised, pending_raised, requested_signs, same_bytes)
 
 -- ---- histories
 
-pub signs_at : (start : Start) (h : List Step) → Lawful start.room start.rows → Orderly (first_state start) h
+pub signs_at : (start : Start) (h : List Step) → Lawful start.capacity start.rows → Orderly (first_state start) h
     → Signs start.aaguid (heard h) (core_at (first_state start) h).state
 unfolding core_at heard Orderly
 signs_at start [] l o = record { pending = tt; granted = tt; work = tt }
 signs_at start (x ∷ past) l o =
     let k = core_at (first_state start) past in
     let s = core_sound (first_state start) past (record { pending = tt; work = tt }) l in
-    rw s.setup (turn_signs (first_state start).setup k.state x.at x.event (heard past) o.0 (rw s.setup at s.lawful) (signs_at start past l o.1))
+    rw s.setup (turn_signs (first_state start).setup k.state x.at x.event (heard past) o.0 (rw s.setup at s.lawful)
+    (signs_at start past l o.1))
 
 -- A signature is answered with what was to be signed, by what was asked and what waits.
-task_answers : (u : Setup) (s : State) (t : ℕ) (asked : Option Asked) (granted : Bool) (keys : List NewKey) (cid : ℕ) (k : Task)
+task_answers : (u : Setup) (s : State) (t : ℕ) (asked : Option Asked) (granted : Bool) (keys : List NewKey) (cid : ℕ)
+    (k : Task)
     (id signed sig : List ℕ) → TaskSigns u.aaguid (record { asked = asked; granted = granted; keys = keys }) s.rows k
     → needs (Some (record { cid = cid; task = k })) ≡ sign id signed
-    → IsSigned u.aaguid (Some (record { cid = cid; task = k })) id signed sig (replied u s t cid k (SignatureIs (Some sig))).answer asked
+    → IsSigned u.aaguid (Some (record { cid = cid; task = k })) id signed sig
+    (replied u s t cid k (SignatureIs (Some sig))).answer asked
 task_answers u s t (Some (GetAssertion hash rp_id allow up)) granted keys cid (SignsAssert a n d) id signed sig w e =
     (assertion_bytes a.rp a.presence n, user_in (find (has_id a.id) s.rows), a.number, grind arith, grind arith)
-task_answers u s t (Some (MakeCredential hash rp_id user_id user_name discoverable exclude)) granted keys cid (SignsMake m key d) id signed sig w e =
+task_answers u s t (Some (MakeCredential hash rp_id user_id user_name discoverable exclude)) granted keys cid
+    (SignsMake m key d) id signed sig w e =
     (new_row m key, refl, grind arith, refl, grind arith)
 task_answers u s t asked granted keys cid k id signed sig w e = grind arith
 
-pub work_answers : (u : Setup) (s : State) (t : ℕ) (h : Heard) (v : Option Job) (id signed sig : List ℕ)
+pub work_answers : (u : Setup) (s : State) (t : ℕ) (h : Heard) (v : Option ChannelTask) (id signed sig : List ℕ)
     → WorkSigns u.aaguid h s.rows v
-    → needs v ≡ sign id signed → IsSigned u.aaguid v id signed sig (reply_turn u s t v (SignatureIs (Some sig))).answer h.asked
+    → needs v ≡ sign id signed → IsSigned u.aaguid v id signed sig (reply_turn u s t v (SignatureIs (Some sig))).answer
+    h.asked
 work_answers u s t h None id signed sig w e = cc
-work_answers u s t h (Some v) id signed sig w e = task_answers u s t h.asked h.granted h.keys v.cid v.task id signed sig w e
+work_answers u s t h (Some v) id signed sig w e = task_answers u s t h.asked h.granted h.keys v.cid v.task id signed sig
+    w e

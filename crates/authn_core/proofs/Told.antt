@@ -1,15 +1,15 @@
 -- What a state holds is what happened before it, and a reply keeps it so: each answer to a reply is the one that what
 -- happened names.
-use Rattle.std.proofs.Common.{◌≡◌, ℕ, suc, ◌+◌, List, [], ◌∷◌, drop, length, Bool, true, false, ◌&&◌, cond, Option, Some, None, refl, ap, arith}
+use Rattle.std.proofs.Common.{◌≡◌, ℕ, ◌+◌, List, [], ◌∷◌, drop, length, Bool, true, false, ◌&&◌, cond, Option, Some, None, refl, arith}
 use Rattle.std.specs.List.{list_all}
 use Rattle.cred_table.specs.declared.row.Row.{Row}
 use Rattle.cred_table.specs.Rows.{counter_of, raised}
-use Rattle.cred_table.specs.Waiting.{pending_of, stamped}
+use Rattle.cred_table.specs.Waiting.{pending_of}
 use Rattle.cred_table.proofs.Basics.{same_bytes}
 use Rattle.ctap_message.specs.Asked.{Asked, MakeCredential, GetAssertion, Reset, GetNextAssertion, Selection}
 use Rattle.ctap_message.specs.Descriptors.{ids_of}
 use Rattle.authn_core.specs.declared.replies.Presence.TheVariants.{Granted}
-use Rattle.authn_core.specs.State.{Asserting, Task, Resets, Selects, AsksMake, WantsKey, SignsMake, AsksAssert, SignsAssert, Job, State, Event, PresenceIs, KeyIs, SignatureIs, Answer, Waits, Ignored, status, waits}
+use Rattle.authn_core.specs.State.{Asserting, Task, Resets, Selects, AsksMake, WantsKey, SignsMake, AsksAssert, SignsAssert, ChannelTask, State, Event, PresenceIs, KeyIs, SignatureIs, Answer, Waits, Ignored, status, waits}
 use Rattle.authn_core.specs.MakeCredential.{making, names_one}
 use Rattle.authn_core.specs.Turn.{Start, first_state, replied}
 use Rattle.authn_core.specs.Marks.{Mark, marked}
@@ -32,7 +32,8 @@ TaskTold rows (AsksMake m excluded) (MakeCredential hash rp_id user_id user_name
     (a ≡ None) × (m ≡ making hash rp_id user_id user_name rk) × (excluded ≡ names_one m.rp rows (ids_of exclude))
 TaskTold rows (WantsKey m) (MakeCredential hash rp_id user_id user_name rk exclude) (PresenceIs reply ∷ []) a =
     (a ≡ None) × (m ≡ making hash rp_id user_id user_name rk)
-TaskTold rows (SignsMake m key signed) (MakeCredential hash rp_id user_id user_name rk exclude) (KeyIs (Some k) ∷ took) a =
+TaskTold rows (SignsMake m key signed) (MakeCredential hash rp_id user_id user_name rk exclude)
+    (KeyIs (Some k) ∷ took) a =
     (a ≡ None) × (m ≡ making hash rp_id user_id user_name rk) × (key ≡ k)
 TaskTold rows (AsksAssert x) (GetAssertion hash rp_id allow true) [] a = a ≡ Some x
 TaskTold rows (SignsAssert x counter signed) (GetAssertion hash rp_id allow false) [] a =
@@ -42,18 +43,20 @@ TaskTold rows (SignsAssert x counter signed) (GetAssertion hash rp_id allow up) 
 TaskTold rows (SignsAssert x counter signed) GetNextAssertion [] a = (a ≡ Some x) × (counter ≡ counter_of x.id rows)
 TaskTold rows task asked took a = ⊥
 
-abbrev pub JobTold : List Row → Option Job → (cid waits : ℕ) → Asked → (took : List Event) → Option Asserting → Type 0
+abbrev pub JobTold : List Row → Option ChannelTask → (cid waits : ℕ) → Asked → (took : List Event) → Option Asserting → Type 0
 JobTold rows None cid waits asked took a = ⊥
-JobTold rows (Some job) cid waits asked took a =
-    (job.cid ≡ cid) × (status job.task ≡ waits) × TaskTold rows job.task asked took a
+JobTold rows (Some work) cid waits asked took a =
+    (work.cid ≡ cid) × (status work.task ≡ waits) × TaskTold rows work.task asked took a
 
-abbrev pub WorkTold : Start → List Row → Option Job → Option Unanswered → Type 0
+abbrev pub WorkTold : Start → List Row → Option ChannelTask → Option Unanswered → Type 0
 WorkTold start rows work None = work ≡ None
-WorkTold start rows work (Some u) = JobTold rows work u.cid u.status u.asked u.took (assertion_for start u.before u.asked)
+WorkTold start rows work (Some u) = JobTold rows work u.cid u.status u.asked u.took
+    (assertion_for start u.before u.asked)
 
 -- ---- replies
 
-pub reply_answers : (start : Start) (s : State) (at cid : ℕ) (task : Task) (asked : Asked) (took : List Event) (a : Option Asserting) (e : Event)
+pub reply_answers : (start : Start) (s : State) (at cid : ℕ) (task : Task) (asked : Asked) (took : List Event)
+    (a : Option Asserting) (e : Event)
     → TaskTold s.rows task asked took a
     → (replied (first_state start).setup s at cid task e).answer ≡ to_reply start s.rows a asked took e
 reply_answers start s at cid task asked took a e h = grind (arith, excluded_named, full_fits, any_find)
@@ -65,32 +68,39 @@ made_by_reply asked took reply = None
 pub made_same : (u : Unanswered) (e : Event) → made_in (Some u) e ≡ made_by_reply u.asked u.took e
 made_same u e = grind arith
 
-pub reply_rows : (start : Start) (s : State) (at cid : ℕ) (task : Task) (asked : Asked) (took : List Event) (a : Option Asserting) (e : Event)
+pub reply_rows : (start : Start) (s : State) (at cid : ℕ) (task : Task) (asked : Asked) (took : List Event)
+    (a : Option Asserting) (e : Event)
     → TaskTold s.rows task asked took a
     → let t = replied (first_state start).setup s at cid task e in
-    t.state.rows ≡ marked (record { made = made_by_reply asked took e; raises = raised_for a t.answer; resets = resets_for asked e }) s.rows
+    t.state.rows ≡ marked
+    (record { made = made_by_reply asked took e; raises = raised_for a t.answer; resets = resets_for asked e })
+    s.rows
 reply_rows start s at cid task asked took a e h = grind (arith, mark_keeps, mark_resets, mark_raises, mark_makes)
 
 -- what waits after a reply with this answer
-abbrev pub StillTold : List Row → Option Job → (cid waits : ℕ) → Asked → (took : List Event) → Option Asserting → Event → Answer → Type 0
+abbrev pub StillTold : List Row → Option ChannelTask → (cid waits : ℕ) → Asked → (took : List Event) → Option Asserting →
+    Event → Answer → Type 0
 StillTold rows work cid waits asked took a e (Waits now) = JobTold rows work cid now asked (e ∷ took) a
 StillTold rows work cid waits asked took a e Ignored = JobTold rows work cid waits asked took a
 StillTold rows work cid waits asked took a e answer = work ≡ None
 
-pub reply_waits : (start : Start) (s : State) (at cid : ℕ) (task : Task) (asked : Asked) (took : List Event) (a : Option Asserting) (e : Event)
-    → TaskTold s.rows task asked took a → s.work ≡ Some (record { cid = cid; task = task }) → TaskReady start.room s.rows task
-    → let t = replied (first_state start).setup s at cid task e in StillTold t.state.rows t.state.work cid (status task) asked took a e t.answer
+pub reply_waits : (start : Start) (s : State) (at cid : ℕ) (task : Task) (asked : Asked) (took : List Event)
+    (a : Option Asserting) (e : Event)
+    → TaskTold s.rows task asked took a → s.work ≡ Some (record { cid = cid; task = task }) →
+    TaskReady start.capacity s.rows task
+    → let t = replied (first_state start).setup s at cid task e in
+    StillTold t.state.rows t.state.work cid (status task) asked took a e t.answer
 reply_waits start s at cid task asked took a e h w r = grind (arith, find_raised, same_bytes)
 
 -- ---- what is pending
 
-abbrev pub busy : Option Job → ℕ
+abbrev pub busy : Option ChannelTask → ℕ
 busy None = 0
-busy (Some job) = 1
+busy (Some work) = 1
 
 -- the time runs from the latest assertion
-abbrev pub IsLatest : Option Job → (moment : ℕ) → List Exchange → Type 0
-IsLatest (Some job) moment done = Unit {0}
+abbrev pub IsLatest : Option ChannelTask → (moment : ℕ) → List Exchange → Type 0
+IsLatest (Some work) moment done = Unit {0}
 IsLatest None moment [] = ⊥
 IsLatest None moment (x ∷ older) = moment ≡ x.at
 
@@ -99,12 +109,13 @@ is_assertion (AsksAssert a) = true
 is_assertion (SignsAssert a counter signed) = true
 is_assertion task = false
 
-abbrev pub Asserts : Option Job → Type 0
+abbrev pub Asserts : Option ChannelTask → Type 0
 Asserts None = Unit {0}
-Asserts (Some job) = is_assertion job.task ≡ true
+Asserts (Some work) = is_assertion work.task ≡ true
 
 -- of the ids, those are pending that follow the answered ones and the one that is waited for
-pub record Going (cid : ℕ) (hash rp : List ℕ) (presence : Bool) (all : List (List ℕ)) (done : List Exchange) (s : State) : Type 0 where
+pub record Going (cid : ℕ) (hash rp : List ℕ) (presence : Bool) (all : List (List ℕ)) (done : List Exchange)
+    (s : State) : Type 0 where
   pub moment : ℕ
   pub ids : s.pending ≡ pending_of cid hash presence moment (drop (length done + busy s.work) all)
   pub each : AllOf rp s.rows (drop (length done + busy s.work) all)
@@ -118,23 +129,22 @@ GoingOrNot false cid hash rp presence all done s = s.pending ≡ None
 
 abbrev pub PendingTold : Start → State → Option Series → Type 0
 PendingTold start s None = s.pending ≡ None
-PendingTold start s (Some x) = GoingOrNot (list_all (λ y. continues y.event y.answer) x.since) x.cid x.hash x.rp x.presence
+PendingTold start s (Some x) = GoingOrNot (list_all (λ y. continues y.event y.answer) x.since) x.cid x.hash x.rp
+    x.presence
     (signers (rows_after start x.before) x.rp x.given x.allow) (signed_in x) s
 
-pub stamped_pending : (cid : ℕ) (hash : List ℕ) (presence : Bool) (moment at : ℕ) (ids : List (List ℕ))
-    → stamped at (pending_of cid hash presence moment ids) ≡ pending_of cid hash presence at ids
-stamped_pending cid hash presence moment at [] = refl
-stamped_pending cid hash presence moment at (id ∷ ids) = refl
-
-pub all_raised : (rp id : List ℕ) (rows : List Row) (ids : List (List ℕ)) → AllOf rp rows ids → AllOf rp (raised id rows) ids
+pub all_raised : (rp id : List ℕ) (rows : List Row) (ids : List (List ℕ)) → AllOf rp rows ids →
+    AllOf rp (raised id rows) ids
 all_raised rp id rows ids h = all_along _ _ ids (λ q e. grind (arith, find_raised)) h
 
-pub reply_goes : (start : Start) (s : State) (at on : ℕ) (task : Task) (e : Event) (b : Bool) (cid : ℕ) (hash rp : List ℕ) (presence : Bool)
+pub reply_goes : (start : Start) (s : State) (at on : ℕ) (task : Task) (e : Event) (b : Bool) (cid : ℕ)
+    (hash rp : List ℕ) (presence : Bool)
     (all : List (List ℕ)) (done : List Exchange) (m : Mark)
     → s.work ≡ Some (record { cid = on; task = task }) → GoingOrNot b cid hash rp presence all done s
     → let t = replied (first_state start).setup s at on task e in
     let x : Exchange = record { at = at; event = e; answer = t.answer; did = m } in
-    GoingOrNot (continues e t.answer && b) cid hash rp presence all (cond (is_signed e t.answer) (x ∷ done) done) t.state
+    GoingOrNot (continues e t.answer && b) cid hash rp presence all (cond (is_signed e t.answer) (x ∷ done) done)
+    t.state
 reply_goes start s at on task e false cid hash rp presence all done m w g = grind arith
 reply_goes start s at on (AsksAssert a) (PresenceIs Granted) true cid hash rp presence all done m w g =
     let d : drop (length done + 1) all ≡ drop (length done + busy s.work) all = rw w refl in
@@ -145,14 +155,6 @@ reply_goes start s at on (AsksAssert a) (PresenceIs Granted) true cid hash rp pr
       latest = tt;
       work = refl;
     }
-reply_goes start s at on (SignsAssert a counter signed) (SignatureIs (Some sig)) true cid hash rp presence all done m w g =
-    let n : suc (length done) + 0 ≡ length done + busy s.work = rw w (omega arith) in
-    let d : drop (suc (length done) + 0) all ≡ drop (length done + busy s.work) all = ap (λ k. drop k all) n in
-    record {
-      moment = at;
-      ids = rw d (rw g.ids (stamped_pending cid hash presence g.moment at _));
-      each = rw d g.each;
-      latest = refl;
-      work = tt;
-    }
-reply_goes start s at on task e true cid hash rp presence all done m w g = grind (arith, stamped_pending)
+reply_goes start s at on (SignsAssert a counter signed) (SignatureIs (Some sig)) true cid hash rp presence all done m w
+    g = grind arith
+reply_goes start s at on task e true cid hash rp presence all done m w g = grind arith

@@ -50,9 +50,9 @@ abbrev pub is_excluded : List Row → (rp : List ℕ) → (exclude : List (List 
 is_excluded rows rp exclude = list_any (λ r. bytes_eq r.rp rp && list_any (bytes_eq r.id) exclude) rows
 
 -- There is no capacity for another, and none is replaced.
-abbrev pub is_full : (room : ℕ) → List Row → (rp user : List ℕ) (discoverable : Bool) → Bool
-is_full room rows rp user discoverable =
-    nat_le room (length rows) && not (list_any (takes_place rp user discoverable) rows)
+abbrev pub is_full : (capacity : ℕ) → List Row → (rp user : List ℕ) (discoverable : Bool) → Bool
+is_full capacity rows rp user discoverable =
+    nat_le capacity (length rows) && not (list_any (takes_place rp user discoverable) rows)
 
 abbrev pub is_granted : Presence → Bool
 is_granted Granted = true
@@ -130,7 +130,7 @@ to_reply start rows a Reset [] (PresenceIs reply) = to_consent reply
 to_reply start rows a Selection [] (PresenceIs reply) = to_consent reply
 to_reply start rows a (MakeCredential hash rp_id user_id user_name discoverable exclude) [] (PresenceIs reply) =
     let rp = sha256 rp_id in
-    to_presence (is_excluded rows rp (ids_of exclude)) (is_full start.room rows rp user_id discoverable) reply
+    to_presence (is_excluded rows rp (ids_of exclude)) (is_full start.capacity rows rp user_id discoverable) reply
 to_reply start rows a (MakeCredential hash rp_id user_id user_name discoverable exclude) (PresenceIs reply ∷ []) (KeyIs key) =
     to_key rows key
 to_reply start rows a (MakeCredential hash rp_id user_id user_name discoverable exclude) (KeyIs (Some key) ∷ took) (SignatureIs sig) =

@@ -29,15 +29,15 @@ abbrev pub make_begins : List Row → (cid : ℕ) → Making → (exclude : List
 make_begins rows cid m exclude = waits rows None cid (AsksMake m (names_one m.rp rows exclude))
 
 -- There is capacity, or a row is replaced.
-abbrev pub fits : (room : ℕ) → Making → List Row → Bool
-fits room m rows = nat_lt (length rows) room || (m.discoverable && is_some (find (is_user m.rp m.user) rows))
+abbrev pub fits : (capacity : ℕ) → Making → List Row → Bool
+fits capacity m rows = nat_lt (length rows) capacity || (m.discoverable && is_some (find (is_user m.rp m.user) rows))
 
 -- An excluded credential is refused after any reply.
 abbrev pub make_asked : ℕ → List Row → Option Waiting → (cid : ℕ) → Making → (excluded : Bool) → Presence → Turned
-make_asked room rows pending cid m true reply = refuses rows pending 0x19  -- CREDENTIAL_EXCLUDED
-make_asked room rows pending cid m false Granted =
-    if fits room m rows then waits rows pending cid (WantsKey m) else refuses rows pending 0x28  -- KEY_STORE_FULL
-make_asked room rows pending cid m false reply = refuses rows pending 0x27  -- OPERATION_DENIED
+make_asked capacity rows pending cid m true reply = refuses rows pending 0x19  -- CREDENTIAL_EXCLUDED
+make_asked capacity rows pending cid m false Granted =
+    if fits capacity m rows then waits rows pending cid (WantsKey m) else refuses rows pending 0x28  -- KEY_STORE_FULL
+make_asked capacity rows pending cid m false reply = refuses rows pending 0x27  -- OPERATION_DENIED
 
 -- A new id goes on to the signature (WebAuthn Level 2, section 8.2).
 abbrev pub key_wanted : (aaguid : List ℕ) → List Row → Option Waiting → (cid : ℕ) → Making → Option NewKey → Turned

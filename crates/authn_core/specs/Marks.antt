@@ -7,7 +7,7 @@ use Rattle.cred_table.specs.declared.row.Row.{Row}
 use Rattle.cred_table.specs.Rows.{has_id}
 use Rattle.authn_core.specs.declared.replies.Presence.TheVariants.{Granted}
 use Rattle.authn_core.specs.MakeCredential.{new_row}
-use Rattle.authn_core.specs.State.{Task, Resets, SignsMake, SignsAssert, Job, Event, Request, PresenceIs, SignatureIs}
+use Rattle.authn_core.specs.State.{Task, Resets, SignsMake, SignsAssert, ChannelTask, Event, Request, PresenceIs, SignatureIs}
 use Rattle.authn_core.specs.Turn.{CoreState, core_after}
 
 -- what an input does to the rows: it makes one, it raises one's counter, or it is a granted reset
@@ -67,29 +67,29 @@ task_signs_by id (SignsAssert a counter signed) = bytes_eq a.id id
 task_signs_by id task = false
 
 -- whether an assertion's signature by the id is waited for
-abbrev pub signs_by : List ℕ → Option Job → Bool
+abbrev pub signs_by : List ℕ → Option ChannelTask → Bool
 signs_by id None = false
 signs_by id (Some w) = task_signs_by id w.task
 
-abbrev pub task_raises : Option Job → Task → Option (List ℕ)
+abbrev pub task_raises : Option ChannelTask → Task → Option (List ℕ)
 task_raises before (SignsAssert a counter signed) = if signs_by a.id before then None else Some a.id
 task_raises before task = None
 
 -- What an input does to the rows, read of the work before it and after it.
-abbrev pub made_by : Option Job → Event → Option Row
+abbrev pub made_by : Option ChannelTask → Event → Option Row
 made_by (Some w) (SignatureIs (Some sig)) = row_made w.task
 made_by work e = None
 
-abbrev pub is_reset : Option Job → Event → Bool
+abbrev pub is_reset : Option ChannelTask → Event → Bool
 is_reset (Some w) (PresenceIs Granted) = task_resets w.task
 is_reset work e = false
 
 -- an id is raised where its assertion's signature is waited for after the input, and not before it
-abbrev pub raised_by : Option Job → Option Job → Option (List ℕ)
+abbrev pub raised_by : Option ChannelTask → Option ChannelTask → Option (List ℕ)
 raised_by before None = None
 raised_by before (Some w) = task_raises before w.task
 
-abbrev pub mark : Option Job → Event → Option Job → Mark
+abbrev pub mark : Option ChannelTask → Event → Option ChannelTask → Mark
 mark before e now = record { made = made_by before e; raises = raised_by before now; resets = is_reset before e }
 
 -- A history of events with their moments, newest first.
@@ -107,7 +107,7 @@ marks start (x ∷ past) =
     mark (core_at start past).state.work x.event (core_at start (x ∷ past)).state.work ∷ marks start past
 
 -- a request comes only where no work waits
-abbrev pub Comes : Option Job → Event → Type 0
+abbrev pub Comes : Option ChannelTask → Event → Type 0
 Comes work (Request cid bytes) = work ≡ None
 Comes work e = Unit {0}
 
@@ -135,7 +135,7 @@ makes_id id m = row_has_id id m.made
 abbrev pub makings : List ℕ → List Mark → ℕ
 makings id h = length (filter (λ m. makes_id id m) h)
 
-abbrev pub text_of : List Mark → Option (List ℕ) → Option Job → Option Text
+abbrev pub text_of : List Mark → Option (List ℕ) → Option ChannelTask → Option Text
 text_of past (Some id) (Some w) = Some (record { id = id; making = makings id past; counter = task_counter w.task })
 text_of past r w = None
 

@@ -5,19 +5,19 @@ use Rattle.cred_table.specs.declared.row.Row.{Row}
 use Rattle.cred_table.specs.Rows.{has_id, counter_of}
 use Rattle.cred_table.specs.Waiting.{Waiting, pending_of}
 use Rattle.fido_authdata.specs.AuthData.{assertion_bytes, created_bytes}
-use Rattle.authn_core.specs.State.{Task, WantsKey, SignsMake, AsksAssert, SignsAssert, Job, State}
+use Rattle.authn_core.specs.State.{Task, WantsKey, SignsMake, AsksAssert, SignsAssert, ChannelTask, State}
 use Rattle.authn_core.specs.MakeCredential.{fits}
 
-abbrev pub TaskReady : (room : ℕ) → List Row → Task → Type 0
-TaskReady room rows (WantsKey m) = fits room m rows ≡ true
-TaskReady room rows (SignsMake m k signed) = (fits room m rows ≡ true) × (is_some (find (has_id k.id) rows) ≡ false)
-TaskReady room rows (AsksAssert a) = (is_some (find (has_id a.id) rows) ≡ true) × (counter_of a.id rows < 2 ^ 32 - 1)
-TaskReady room rows (SignsAssert a counter signed) = is_some (find (has_id a.id) rows) ≡ true
-TaskReady room rows task = Unit {0}
+abbrev pub TaskReady : (capacity : ℕ) → List Row → Task → Type 0
+TaskReady capacity rows (WantsKey m) = fits capacity m rows ≡ true
+TaskReady capacity rows (SignsMake m k signed) = (fits capacity m rows ≡ true) × (is_some (find (has_id k.id) rows) ≡ false)
+TaskReady capacity rows (AsksAssert a) = (is_some (find (has_id a.id) rows) ≡ true) × (counter_of a.id rows < 2 ^ 32 - 1)
+TaskReady capacity rows (SignsAssert a counter signed) = is_some (find (has_id a.id) rows) ≡ true
+TaskReady capacity rows task = Unit {0}
 
-abbrev pub WorkReady : (room : ℕ) → List Row → Option Job → Type 0
-WorkReady room rows None = Unit {0}
-WorkReady room rows (Some job) = TaskReady room rows job.task
+abbrev pub WorkReady : (capacity : ℕ) → List Row → Option ChannelTask → Type 0
+WorkReady capacity rows None = Unit {0}
+WorkReady capacity rows (Some work) = TaskReady capacity rows work.task
 
 -- What waits for a signature signs just the authenticator data that its answer will have, and the hash after it.
 pub record Joins (signed front hash : List ℕ) (n : ℕ) : Type 0 where
@@ -29,9 +29,9 @@ SignsItsAnswer aaguid (SignsMake m k signed) = Joins signed (created_bytes m.rp 
 SignsItsAnswer aaguid (SignsAssert a counter signed) = Joins signed (assertion_bytes a.rp a.presence counter) a.hash 37
 SignsItsAnswer aaguid task = Unit {0}
 
-abbrev pub WorkSignsItsAnswer : (aaguid : List ℕ) → Option Job → Type 0
+abbrev pub WorkSignsItsAnswer : (aaguid : List ℕ) → Option ChannelTask → Type 0
 WorkSignsItsAnswer aaguid None = Unit {0}
-WorkSignsItsAnswer aaguid (Some job) = SignsItsAnswer aaguid job.task
+WorkSignsItsAnswer aaguid (Some work) = SignsItsAnswer aaguid work.task
 
 -- all ids name rows
 abbrev pub AllThere : List Row → List (List ℕ) → Type 0
@@ -48,6 +48,6 @@ pub record IsPendingAlone (p : Option Waiting) (cid : ℕ) (hash : List ℕ) (pr
   pub few : count < 2 ^ 16
 
 -- a state that turns lead to: every pending id has a row, and the work can go on
-pub record Ready (room : ℕ) (s : State) : Type 0 where
+pub record Ready (capacity : ℕ) (s : State) : Type 0 where
   pub pending : PendingReady s.rows s.pending
-  pub work : WorkReady room s.rows s.work
+  pub work : WorkReady capacity s.rows s.work

@@ -13,7 +13,7 @@ use Rattle.authn_core.specs.declared.replies.Presence.TheVariants.{Granted}
 use Rattle.authn_core.specs.declared.replies.NewKey.{NewKey}
 use Rattle.sha2.specs.Sha256.{sha256}
 use Rattle.authn_core.specs.Marks.{Step, made_by}
-use Rattle.authn_core.specs.State.{Making, Asserting, Task, AsksMake, WantsKey, SignsMake, AsksAssert, SignsAssert, Job, State, Event, Request, PresenceIs, KeyIs, SignatureIs, Answer, Answered}
+use Rattle.authn_core.specs.State.{Making, Asserting, Task, AsksMake, WantsKey, SignsMake, AsksAssert, SignsAssert, ChannelTask, State, Event, Request, PresenceIs, KeyIs, SignatureIs, Answer, Answered}
 use Rattle.authn_core.specs.Views.{Needed, sign}
 
 -- ---- what came
@@ -70,7 +70,7 @@ IsNeeded aaguid h rows n = Unit {0}
 
 -- The signature is answered with the credential's id, and with authenticator data that are, followed by the request's
 -- hash, just the bytes that were to be signed. Those of a new credential are of the row that is made.
-abbrev pub IsSigned : (aaguid : List ℕ) → Option Job → (id signed sig : List ℕ) → Answer → Option Asked → Type 0
+abbrev pub IsSigned : (aaguid : List ℕ) → Option ChannelTask → (id signed sig : List ℕ) → Answer → Option Asked → Type 0
 IsSigned aaguid work id signed sig answer (Some (GetAssertion hash rp_id allow presence)) =
     (data_signed : List ℕ) × (user : Option (List ℕ)) × (number : Option ℕ)
     × (answer ≡ Answered (assertion_answer id data_signed sig user number)) × (data_signed ++ hash ≡ signed)
@@ -114,9 +114,9 @@ TaskSigns aaguid h rows (SignsAssert a counter signed) = AssertsFor h.asked rows
     × (signed ≡ assertion_bytes a.rp a.presence counter ++ a.hash) × (a.presence ≡ true → h.granted ≡ true)
 TaskSigns aaguid h rows task = Unit {0}
 
-abbrev pub WorkSigns : (aaguid : List ℕ) → Heard → List Row → Option Job → Type 0
+abbrev pub WorkSigns : (aaguid : List ℕ) → Heard → List Row → Option ChannelTask → Type 0
 WorkSigns aaguid h rows None = Unit {0}
-WorkSigns aaguid h rows (Some job) = TaskSigns aaguid h rows job.task
+WorkSigns aaguid h rows (Some work) = TaskSigns aaguid h rows work.task
 
 -- all ids name rows of the RP
 abbrev pub AllOf : (rp : List ℕ) → List Row → List (List ℕ) → Type 0
@@ -136,9 +136,9 @@ abbrev pub TaskGranted : (granted : Bool) → Option Waiting → Task → Type 0
 TaskGranted granted p (AsksAssert a) = Unit {0}
 TaskGranted granted p task = IsGranted granted p
 
-abbrev pub WorkGranted : (granted : Bool) → Option Waiting → Option Job → Type 0
+abbrev pub WorkGranted : (granted : Bool) → Option Waiting → Option ChannelTask → Type 0
 WorkGranted granted p None = IsGranted granted p
-WorkGranted granted p (Some job) = TaskGranted granted p job.task
+WorkGranted granted p (Some work) = TaskGranted granted p work.task
 
 -- The work and the pending assertions are for the newest request, and what is to be signed is of it.
 pub record Signs (aaguid : List ℕ) (h : Heard) (s : State) : Type 0 where

@@ -11,7 +11,7 @@ use Rattle.authn_core.specs.declared.replies.NewKey.{NewKey}
 pub record Setup : Type 0 where
   pub aaguid : List ℕ
   pub began : ℕ
-  pub room : ℕ
+  pub capacity : ℕ
 
 -- `hash` is of the client data, `rp` of the RP id.
 pub record Making : Type 0 where
@@ -40,7 +40,7 @@ pub data Task : Type 0 where
   SignsAssert : Asserting → (counter : ℕ) → (signed : List ℕ) → Task
 
 -- Waiting work, and the channel that asked.
-pub record Job : Type 0 where
+pub record ChannelTask : Type 0 where
   pub cid : ℕ
   pub task : Task
 
@@ -48,7 +48,7 @@ pub record Job : Type 0 where
 pub record State : Type 0 where
   pub rows : List Row
   pub pending : Option Waiting
-  pub work : Option Job
+  pub work : Option ChannelTask
 
 -- None is a refusal. A drop isn't answered.
 pub data Event : Type 0 where
@@ -92,8 +92,8 @@ refuses rows pending code = answers rows pending (code ∷ [])
 -- Work begins or goes on.
 abbrev pub waits : List Row → Option Waiting → (cid : ℕ) → Task → Turned
 waits rows pending cid task =
-    let job : Job = record { cid = cid; task = task } in
-    record { state = record { rows = rows; pending = pending; work = Some job }; answer = Waits (status task) }
+    let work : ChannelTask = record { cid = cid; task = task } in
+    record { state = record { rows = rows; pending = pending; work = Some work }; answer = Waits (status task) }
 
 -- Nothing changes.
 abbrev pub ignores : State → Turned

@@ -8,7 +8,7 @@ use Rattle.ctap_message.specs.Members.{has_entries}
 use Rattle.ctap_message.specs.Descriptors.{ids_of}
 use Rattle.ctap_message.specs.Requests.{read_of}
 use Rattle.sha2.specs.Sha256.{sha256}
-use Rattle.authn_core.specs.State.{Setup, Task, Resets, Selects, AsksMake, WantsKey, SignsMake, AsksAssert, SignsAssert, Job, State, Event, Request, PresenceIs, KeyIs, SignatureIs, Cancel, Drop, Answer, Nothing, Turned, status, answers, refuses, waits, ignores}
+use Rattle.authn_core.specs.State.{Setup, Task, Resets, Selects, AsksMake, WantsKey, SignsMake, AsksAssert, SignsAssert, ChannelTask, State, Event, Request, PresenceIs, KeyIs, SignatureIs, Cancel, Drop, Answer, Nothing, Turned, status, answers, refuses, waits, ignores}
 use Rattle.authn_core.specs.Asking.{reset_begins, asked_alone}
 use Rattle.authn_core.specs.MakeCredential.{making, names_one, make_asked, key_wanted, make_signed}
 use Rattle.authn_core.specs.GetAssertion.{applicable, begins, assert_asked, assert_signed, next_begins}
@@ -31,7 +31,7 @@ requested u rows pending now cid (Ok GetNextAssertion) = next_begins rows pendin
 abbrev pub replied : Setup → State → (now cid : ℕ) → Task → Event → Turned
 replied u s now cid Resets (PresenceIs reply) = asked_alone (refuses [] None 0x00) s.rows s.pending reply
 replied u s now cid Selects (PresenceIs reply) = asked_alone (refuses s.rows s.pending 0x00) s.rows s.pending reply
-replied u s now cid (AsksMake m excluded) (PresenceIs reply) = make_asked u.room s.rows s.pending cid m excluded reply
+replied u s now cid (AsksMake m excluded) (PresenceIs reply) = make_asked u.capacity s.rows s.pending cid m excluded reply
 replied u s now cid (WantsKey m) (KeyIs key) = key_wanted u.aaguid s.rows s.pending cid m key
 replied u s now cid (SignsMake m key signed) (SignatureIs sig) = make_signed u.aaguid s.rows s.pending m key sig
 replied u s now cid (AsksAssert a) (PresenceIs reply) = assert_asked s.rows s.pending cid a reply
@@ -39,9 +39,9 @@ replied u s now cid (SignsAssert a counter signed) (SignatureIs sig) = assert_si
 replied u s now cid task other = ignores s
 
 -- A reply without work is ignored.
-abbrev pub reply_turn : Setup → State → (now : ℕ) → Option Job → Event → Turned
+abbrev pub reply_turn : Setup → State → (now : ℕ) → Option ChannelTask → Event → Turned
 reply_turn u s now None reply = ignores s
-reply_turn u s now (Some job) reply = replied u s now job.cid job.task reply
+reply_turn u s now (Some work) reply = replied u s now work.cid work.task reply
 
 -- the turn of an event at a moment
 unfoldable pub turn : Setup → State → (now : ℕ) → Event → Turned
@@ -61,13 +61,13 @@ pub record CoreState : Type 0 where
 pub record Start : Type 0 where
   pub aaguid : List ℕ
   pub moment : ℕ
-  pub room : ℕ
+  pub capacity : ℕ
   pub rows : List Row
 
 -- It begins with nothing pending and no work.
 abbrev pub first_state : Start → CoreState
 first_state start = record {
-  setup = record { aaguid = start.aaguid; began = start.moment; room = start.room };
+  setup = record { aaguid = start.aaguid; began = start.moment; capacity = start.capacity };
   state = record { rows = start.rows; pending = None; work = None };
 }
 
@@ -86,7 +86,7 @@ pub record Work : Type 0 where
 
 -- an authenticator's waiting work
 abbrev pub waiting : CoreState → Option Work
-waiting core = option_map (λ job. record { cid = job.cid; status = status job.task }) core.state.work
+waiting core = option_map (λ work. record { cid = work.cid; status = status work.task }) core.state.work
 
 -- the channel of waiting work
 abbrev pub working : CoreState → Option ℕ

@@ -15,8 +15,8 @@ use Rattle.authn_core.specs.declared.task.Making.{Making as MakingKept}
 use Rattle.authn_core.specs.declared.task.Asserting.{Asserting as AssertingKept}
 use Rattle.authn_core.specs.declared.task.Task.{Task as TaskKept}
 use Rattle.authn_core.specs.declared.task.Task.TheVariants as kept
-use Rattle.authn_core.specs.declared.task.Job.{Job as JobKept}
-use Rattle.authn_core.specs.State.{Making, Asserting, Task, Resets, Selects, AsksMake, WantsKey, SignsMake, AsksAssert, SignsAssert, Job, Event, Request, PresenceIs, KeyIs, SignatureIs, Cancel, Drop, Answer, Answered, Waits, Ignored, Nothing, Turned, status}
+use Rattle.authn_core.specs.declared.task.ChannelTask.{ChannelTask as ChannelTaskKept}
+use Rattle.authn_core.specs.State.{Making, Asserting, Task, Resets, Selects, AsksMake, WantsKey, SignsMake, AsksAssert, SignsAssert, ChannelTask, Event, Request, PresenceIs, KeyIs, SignatureIs, Cancel, Drop, Answer, Answered, Waits, Ignored, Nothing, Turned, status}
 
 -- the status of waiting work, as the byte that a KEEPALIVE carries
 abbrev pub status_number : KeepaliveStatus → ℕ
@@ -39,12 +39,12 @@ task_of (kept.SignsMake m k signed) = SignsMake (making_of m) k signed.items
 task_of (kept.AsksAssert a) = AsksAssert (asserting_of a)
 task_of (kept.SignsAssert a counter signed) = SignsAssert (asserting_of a) counter signed.items
 
-abbrev pub job_of : JobKept → Job
-job_of w = record { cid = w.cid; task = task_of w.task }
+abbrev pub channel_task : ChannelTaskKept → ChannelTask
+channel_task w = record { cid = w.cid; task = task_of w.task }
 
 -- waiting work as the transport sees it
-abbrev pub as_work : Job → Work
-as_work job = record { cid = job.cid; status = status job.task }
+abbrev pub as_work : ChannelTask → Work
+as_work work = record { cid = work.cid; status = status work.task }
 
 abbrev pub work_of : WaitingWork → Work
 work_of w = record { cid = w.cid; status = status_number w.status }
@@ -112,9 +112,9 @@ task_needs (WantsKey m) = key
 task_needs (SignsMake m k signed) = sign k.id signed
 task_needs (SignsAssert a counter signed) = sign a.id signed
 
-abbrev pub needs : Option Job → Needed
+abbrev pub needs : Option ChannelTask → Needed
 needs None = nothing
-needs (Some job) = task_needs job.task
+needs (Some work) = task_needs work.task
 
 abbrev pub needed : Need → Needed
 needed need.None = nothing
@@ -135,11 +135,11 @@ is_sign (sign id signed) = true
 is_sign n = false
 
 -- which reply the waiting work needs
-abbrev pub wants_presence : Option Job → Bool
+abbrev pub wants_presence : Option ChannelTask → Bool
 wants_presence work = is_presence (needs work)
 
-abbrev pub wants_key : Option Job → Bool
+abbrev pub wants_key : Option ChannelTask → Bool
 wants_key work = is_key (needs work)
 
-abbrev pub wants_signature : Option Job → Bool
+abbrev pub wants_signature : Option ChannelTask → Bool
 wants_signature work = is_sign (needs work)

@@ -11,7 +11,7 @@ ghost use Rattle.authn_core.specs.Views.{IsTurn, answer_of, first_held, event_of
 
 use crate::event::Event;
 use crate::replies::{NewKey, Presence, Signature};
-use crate::task::{Job, Task};
+use crate::task::{ChannelTask, Task};
 use crate::work::{KeepaliveStatus, Work};
 use arrayvec::ArrayVec;
 use cred_table::{Pending, SnapshotFault, Table, load};
@@ -50,21 +50,21 @@ pub enum Need<'a> {
 }
 
 impl Need<'_> {
-    /// Whether the reply of a test of user presence is needed.
+    /// Returns whether the reply of a test of user presence is needed.
     pub fn is_presence(&self) -> bool
         ensures { result ≡ is_presence (needed self.now) }
     {
         matches!(self, Need::Presence)
     }
 
-    /// Whether a new key pair is needed.
+    /// Returns whether a new key pair is needed.
     pub fn is_key(&self) -> bool
         ensures { result ≡ is_key (needed self.now) }
     {
         matches!(self, Need::Key)
     }
 
-    /// Whether a signature is needed.
+    /// Returns whether a signature is needed.
     pub fn is_sign(&self) -> bool
         ensures { result ≡ is_sign (needed self.now) }
     {
@@ -100,7 +100,7 @@ pub struct Core<T: Table<C>, const C: usize> {
     pub(crate) last_steps: u64,
     pub(crate) table: T,
     pub(crate) pending: Pending<C>,
-    pub(crate) work: Option<Job>,
+    pub(crate) work: Option<ChannelTask>,
     /// The ids of the rows that may sign the last getAssertion. They stay here, since a new list would be cleared whole.
     pub(crate) applicable: ArrayVec<[u8; 32], C>,
 }
@@ -110,27 +110,28 @@ impl<T: Table<C>, const C: usize> Model for Core<T, C> {
     ghost use Rattle.std.specs.Prelude.{◌≤◌, option_map};
     ghost use Rattle.authn_core.specs.Turn.{Held};
     ghost use Rattle.authn_core.specs.Ready.{Ready, WorkSignsItsAnswer};
-    ghost use Rattle.authn_core.specs.Views.{job_of};
+    ghost use Rattle.authn_core.specs.Views.{channel_task};
 
     ghost Value = { Held };
 
     ghost view = { λ s. record {
       core = record {
-        setup = record { aaguid = s.config.aaguid; began = s.began; room = C };
-        state = record { rows = T.rows s.table; pending = s.pending; work = option_map job_of s.work };
+        setup = record { aaguid = s.config.aaguid; began = s.began; capacity = C };
+        state = record { rows = T.rows s.table; pending = s.pending; work = option_map channel_task s.work };
       };
       latest = s.latest;
       last_steps = s.last_steps;
     } };
 
-    ghost invariant = { λ s. (s.began ≤ s.latest) × Ready C (record { rows = T.rows s.table; pending = s.pending; work = option_map job_of s.work })
-        × WorkSignsItsAnswer s.config.aaguid (option_map job_of s.work) };
+    ghost invariant = { λ s. (s.began ≤ s.latest) × Ready C (record { rows = T.rows s.table; pending = s.pending; work = option_map channel_task s.work })
+        × WorkSignsItsAnswer s.config.aaguid (option_map channel_task s.work) };
 }
 
 impl<T: Table<C>, const C: usize> Core<T, C> {
-    /// An authenticator that begins at the moment `start`, in milliseconds, with these rows and no waiting work.
+    /// Returns an authenticator that begins at the moment `start`, in milliseconds, with these rows and no waiting
+    /// work.
     pub fn new(config: Config, table: T, start: u64) -> Self
-        ensures { result ≡ first_held (record { aaguid = config.aaguid; moment = start; room = C; rows = T.rows table }) }
+        ensures { result ≡ first_held (record { aaguid = config.aaguid; moment = start; capacity = C; rows = T.rows table }) }
     {
         Core {
             config,
@@ -149,7 +150,7 @@ impl<T: Table<C>, const C: usize> Core<T, C> {
     pub fn load(&mut self, config: Config, snapshot: &[u8], start: u64) -> Result<(), SnapshotFault>
         ensures { MatchResult result
             (λ _. (rows : List AnyRow) × Loads C snapshot.now (Ok tt) rows
-            × (self.new ≡ first_held (record { aaguid = config.aaguid; moment = start; room = C; rows = rows })))
+            × (self.new ≡ first_held (record { aaguid = config.aaguid; moment = start; capacity = C; rows = rows })))
             (λ fault. Refuses C snapshot.now fault × (self.new ≡ self.old)) }
     {
         load(snapshot, &mut self.table)?;
@@ -162,36 +163,36 @@ impl<T: Table<C>, const C: usize> Core<T, C> {
         Ok(())
     }
 
-    /// The turn of a request that came at `at` on the channel `cid`: `message` is its command byte and what follows.
-    /// Work that waits ends with no answer of its own.
+    /// Takes the turn of a request that came at `at` on the channel `cid`: `message` is its command byte and what
+    /// follows. Work that waits ends with no answer of its own.
     pub fn request(&mut self, at: u64, cid: u32, message: &[u8]) -> Turn
         ensures { IsTurn self.old self.new (answer_of result) at (Asks cid message.now) }
     {
         self.take(at, &Event::Request { cid, message })
     }
 
-    /// The turn of the reply of a test of user presence.
+    /// Takes the turn of the reply of a test of user presence.
     pub fn presence(&mut self, at: u64, reply: Presence) -> Turn
         ensures { IsTurn self.old self.new (answer_of result) at (PresenceIs reply) }
     {
         self.take(at, &Event::Presence(reply))
     }
 
-    /// The turn of a new key; `None` refuses one.
+    /// Takes the turn of a new key; `None` refuses one.
     pub fn key(&mut self, at: u64, key: Option<NewKey>) -> Turn
         ensures { IsTurn self.old self.new (answer_of result) at (KeyIs key) }
     {
         self.take(at, &Event::Key(&key))
     }
 
-    /// The turn of a signature; `None` refuses one.
+    /// Takes the turn of a signature; `None` refuses one.
     pub fn signature(&mut self, at: u64, signature: Option<Signature>) -> Turn
         ensures { IsTurn self.old self.new (answer_of result) at (SignatureIs signature) }
     {
         self.take(at, &Event::Signature(&signature))
     }
 
-    /// The turn of a CANCEL of the waiting work, the same at every moment.
+    /// Takes the turn of a CANCEL of the waiting work, the same at every moment.
     pub fn cancel(&mut self) -> Turn
         ensures { IsTurn self.old self.new (answer_of result) 0 Cancel }
     {
@@ -230,12 +231,12 @@ impl<T: Table<C>, const C: usize> Core<T, C> {
         }
     }
 
-    /// What the waiting work needs, nothing where none waits. At most 196 bytes are to sign.
+    /// Returns what the waiting work needs, nothing where none waits. At most 196 bytes are to sign.
     pub fn need(&self) -> Need<'_>
         ensures value { needed result ≡ needs self.now.core.state.work }
         ensures sized { IsNeed (needed result) }
     {
-        let Some(Job { task, .. }) = &self.work else {
+        let Some(ChannelTask { task, .. }) = &self.work else {
             return Need::None;
         };
         match task {
@@ -248,11 +249,11 @@ impl<T: Table<C>, const C: usize> Core<T, C> {
         }
     }
 
-    /// The work that waits.
+    /// Returns the work that waits.
     pub fn work(&self) -> Option<Work>
         ensures { waiting self.now.core ≡ option_map work_of result }
     {
-        let Some(Job { cid, task }) = &self.work else {
+        let Some(ChannelTask { cid, task }) = &self.work else {
             return None;
         };
         Some(Work {
@@ -261,14 +262,14 @@ impl<T: Table<C>, const C: usize> Core<T, C> {
         })
     }
 
-    /// The table.
+    /// Returns the table.
     pub fn table(&self) -> &T
         ensures { T.rows result.now ≡ self.now.core.state.rows }
     {
         &self.table
     }
 
-    /// The number of credentials, at most `C`.
+    /// Returns the number of credentials, at most `C`.
     pub fn credentials(&self) -> usize
         ensures value { result ≡ length self.now.core.state.rows }
         ensures few { (result ≤ C) × (C ≤ 256) }
@@ -276,7 +277,7 @@ impl<T: Table<C>, const C: usize> Core<T, C> {
         self.table.len()
     }
 
-    /// The number of pending assertions.
+    /// Returns the number of pending assertions.
     pub fn pending(&self) -> usize
         ensures value { result ≡ pending_count self.now.core.state.pending }
         ensures few { result ≤ C }
@@ -284,7 +285,7 @@ impl<T: Table<C>, const C: usize> Core<T, C> {
         self.pending.len()
     }
 
-    /// The steps that reading the last request took, 0 before one.
+    /// Returns the steps that reading the last request took, 0 before one.
     pub fn last_steps(&self) -> u64
         ensures { result ≡ self.now.last_steps }
     {

@@ -56,7 +56,7 @@ impl Task {
 
 /// Waiting work, with the channel that asked.
 #[derive(Drop)]
-pub(crate) struct Job {
+pub(crate) struct ChannelTask {
     pub(crate) cid: u32,
     pub(crate) task: Task,
 }

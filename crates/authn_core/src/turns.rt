@@ -9,7 +9,7 @@ ghost use Rattle.authn_core.specs.Views.{Takes, event_of, task_of};
 
 use crate::authenticator::{Core, Turn};
 use crate::event::Event;
-use crate::task::{Job, Task};
+use crate::task::{ChannelTask, Task};
 use cred_table::Table;
 use ctap_message::{Request, Status, write_status};
 
@@ -50,13 +50,13 @@ impl<T: Table<C>, const C: usize> Core<T, C> {
 
     /// Lets work begin or go on.
     pub(crate) fn wait(&mut self, cid: u32, task: Task) -> Turn
-        requires ready { TaskReady self.old.core.setup.room self.old.core.state.rows (task_of task) }
+        requires ready { TaskReady self.old.core.setup.capacity self.old.core.state.rows (task_of task) }
         requires signs { SignsItsAnswer self.old.core.setup.aaguid (task_of task) }
         ensures { Takes self.old self.new result (waits self.old.core.state.rows self.old.core.state.pending cid
             (task_of task)) }
     {
         let status = task.status();
-        self.work = Some(Job { cid, task });
+        self.work = Some(ChannelTask { cid, task });
         Turn::Waits(status)
     }
 
@@ -65,7 +65,7 @@ impl<T: Table<C>, const C: usize> Core<T, C> {
         ensures { Takes self.old self.new result (reply_turn self.old.core.setup self.old.core.state self.old.latest
             self.old.core.state.work (event_of reply.now)) }
     {
-        let Some(Job { cid, task }) = self.work.take() else {
+        let Some(ChannelTask { cid, task }) = self.work.take() else {
             return Turn::Ignored;
         };
         match (task, reply) {
@@ -81,7 +81,7 @@ impl<T: Table<C>, const C: usize> Core<T, C> {
             (Task::SignsAssert(a, counter, signed), Event::Signature(signature)) =>
                 self.assert_signature(a, counter, &signed, signature),
             (task, _) => {
-                self.work = Some(Job { cid, task });
+                self.work = Some(ChannelTask { cid, task });
                 Turn::Ignored
             }
         }

@@ -13,7 +13,7 @@ pub enum KeepaliveStatus {
 }
 
 impl KeepaliveStatus {
-    /// The status as the byte that a KEEPALIVE carries.
+    /// Returns the status as the byte that a KEEPALIVE carries.
     pub fn number(self) -> u8
         ensures { result ≡ status_number self }
     {

@@ -85,7 +85,7 @@ const UTF8: [Row<'static>; 10] = [
     (b"\x64\xf4\x90\x80\x80", Some((0, Kind::NotUtf8)), 5),
 ];
 
-/// The place and the kind of the fault, if there is one.
+/// Returns the place and the kind of the fault, if there is one.
 fn fault_of(outcome: Result<(), Fault>) -> Option<(usize, Kind)> {
     match outcome {
         Ok(()) => None,
@@ -111,8 +111,8 @@ fn checks_rows(rt: HostRuntime) {
     }
 }
 
-/// An array of 6,999 items and a byte string as the 7,000th, and one byte more. Without that one they fill the longest
-/// message of CTAPHID, less its command byte.
+/// Checks an array of 6,999 items and a byte string as the 7,000th, and one byte more. Without that one they fill the
+/// longest message of CTAPHID, less its command byte.
 pub(crate) fn long_text() -> [u8; 7609] {
     let mut bytes = [0u8; 7609];
     bytes[..3].copy_from_slice(b"\x99\x1b\x58");
@@ -135,7 +135,7 @@ fn checks_long_text(rt: HostRuntime) {
     }
 }
 
-/// Of `[[1], true]` and a byte after it, the item is passed whole, and nothing else may follow.
+/// Checks that of `[[1], true]` and a byte after it the item is passed whole, and nothing else may follow.
 #[test]
 fn a_cursor_tells(rt: HostRuntime) {
     let mut cursor = Cursor::new(b"\x82\x81\x01\xf5\x00");

@@ -27,7 +27,7 @@ fn decodes_and_encodes(rt: HostRuntime) -> Result<(), Fail> {
     assert_both_ways(&rt, rt.alloc(), SAMPLE)
 }
 
-/// The longest message of CTAPHID, less its command byte: an array of 6,999 integers and a byte string.
+/// Returns the longest message of CTAPHID, less its command byte: an array of 6,999 integers and a byte string.
 #[test]
 fn takes_the_longest_text(rt: HostRuntime) -> Result<(), Fail> {
     let long = long_text();
@@ -89,7 +89,7 @@ impl Sample {
     }
 }
 
-/// `{1: null, second: null}`, where the second key is true if it isn't an integer.
+/// Returns `{1: null, second: null}`, where the second key is true if it isn't an integer.
 fn pair_of(alloc: Global, second: Option<i128>) -> Result<Value, AllocError> {
     let second = second.map_or(Value::Bool(true), Value::Int);
     let mut pairs = Vec::new(alloc);
@@ -143,7 +143,7 @@ fn encodes_or_refuses(rt: HostRuntime) -> Result<(), Fail> {
     Ok(())
 }
 
-/// An array of 1,000 arrays of one map each.
+/// Returns an array of 1,000 arrays of one map each.
 #[test]
 fn takes_many_siblings(rt: HostRuntime) -> Result<(), Fail> {
     let mut bytes = [0u8; 4003];

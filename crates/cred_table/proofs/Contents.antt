@@ -1,5 +1,5 @@
 -- From what was read of a canonical text to the snapshot that it is.
-use Rattle.std.proofs.Common.{◌≡◌, ℕ, ◌+◌, ◌<◌, ◌≤◌, ◌^◌, Bool, true, false, List, [], ◌∷◌, ◌++◌, length, None, Result, Ok, Err, refl, arith, sym, ap, subst, ◌∙◌, append_assoc}
+use Rattle.std.proofs.Common.{rules, ◌≡◌, ℕ, ◌+◌, ◌<◌, ◌≤◌, ◌^◌, Bool, List, [], ◌∷◌, ◌++◌, length, None, Result, Ok, Err, refl, arith, sym, ap, subst, ◌∙◌, append_assoc}
 use Rattle.std.specs.Prelude.{pos}
 use Rattle.std.proofs.lemmas.List.{append-nil}
 use Rattle.std.specs.List.{AllByRecursion}
@@ -24,10 +24,9 @@ pub record Apart : Type 0 where
   pub items : NoItemBeginsAnother
 
 -- of one text only one tree stands at the front
-pub trees_same : (none : NoneBeginsAnother) (t u : Tree) (x y : List ℕ) → IsLawful t → IsLawful u → text t ++ x ≡ text u ++ y → (t ≡ u) × (x ≡ y)
-trees_same none t u x y p q e =
-    let same = none t u (text t) (text u) x y (record { lawful = p; spelled = refl }) (record { lawful = q; spelled = refl }) e in
-    (same.0, same.2)
+pub trees_same : (none : NoneBeginsAnother) (t u : Tree) (x y : List ℕ) → IsLawful t → IsLawful u →
+    text t ++ x ≡ text u ++ y → (t ≡ u) × (x ≡ y)
+trees_same none t u x y p q e = search (rules, arith)
 
 -- ---- trees by their heads
 
@@ -38,12 +37,16 @@ record IsArray (n : ℕ) (t : Tree) (x rest : List ℕ) : Type 0 where
   number : count items ≡ n
   spelled : texts items ++ x ≡ rest
 
-opened_array : (apart : Apart) → (n : ℕ) (t : Tree) (x rest : List ℕ) → n < 2 ^ 64 → IsLawful t → text t ++ x ≡ head 4 n ++ rest → IsArray n t x rest
-opened_array apart n (Plain s) x rest fits lawful e = let no = (apart.items 4 (One s) (OpensArray n) x rest lawful (omega arith, fits) e).0 in cc
+opened_array : (apart : Apart) → (n : ℕ) (t : Tree) (x rest : List ℕ) → n < 2 ^ 64 → IsLawful t →
+    text t ++ x ≡ head 4 n ++ rest → IsArray n t x rest
+opened_array apart n (Plain s) x rest fits lawful e = let no =
+    (apart.items 4 (One s) (OpensArray n) x rest lawful (omega arith, fits) e).0 in cc
 opened_array apart n (Map ps) x rest fits lawful e =
-    let no = (apart.items 4 (OpensMap (count_pairs ps)) (OpensArray n) (pair_texts ps ++ x) rest (omega arith, lawful.0) (omega arith, fits) (sym (append_assoc (head 5 (count_pairs ps)) (pair_texts ps) x) ∙ e)).0 in cc
+    let no = (apart.items 4 (OpensMap (count_pairs ps)) (OpensArray n) (pair_texts ps ++ x) rest (omega arith, lawful.0)
+    (omega arith, fits) (sym (append_assoc (head 5 (count_pairs ps)) (pair_texts ps) x) ∙ e)).0 in cc
 opened_array apart n (Array ts) x rest fits lawful e =
-    let same = apart.items 4 (OpensArray (count ts)) (OpensArray n) (texts ts ++ x) rest (omega arith, lawful.0) (omega arith, fits) (sym (append_assoc (head 4 (count ts)) (texts ts) x) ∙ e) in
+    let same = apart.items 4 (OpensArray (count ts)) (OpensArray n) (texts ts ++ x) rest (omega arith, lawful.0)
+    (omega arith, fits) (sym (append_assoc (head 4 (count ts)) (texts ts) x) ∙ e) in
     record { items = ts; is = refl; lawful = lawful.1; number = counts (count ts) n same.0; spelled = same.1 }
   where
     counts : (a b : ℕ) → OpensArray a ≡ OpensArray b → a ≡ b
@@ -56,12 +59,16 @@ record IsMap (n : ℕ) (t : Tree) (x rest : List ℕ) : Type 0 where
   number : count_pairs pairs ≡ n
   spelled : pair_texts pairs ++ x ≡ rest
 
-opened_map : (apart : Apart) → (n : ℕ) (t : Tree) (x rest : List ℕ) → n < 2 ^ 64 → IsLawful t → text t ++ x ≡ head 5 n ++ rest → IsMap n t x rest
-opened_map apart n (Plain s) x rest fits lawful e = let no = (apart.items 4 (One s) (OpensMap n) x rest lawful (omega arith, fits) e).0 in cc
+opened_map : (apart : Apart) → (n : ℕ) (t : Tree) (x rest : List ℕ) → n < 2 ^ 64 → IsLawful t →
+    text t ++ x ≡ head 5 n ++ rest → IsMap n t x rest
+opened_map apart n (Plain s) x rest fits lawful e = let no =
+    (apart.items 4 (One s) (OpensMap n) x rest lawful (omega arith, fits) e).0 in cc
 opened_map apart n (Array ts) x rest fits lawful e =
-    let no = (apart.items 4 (OpensArray (count ts)) (OpensMap n) (texts ts ++ x) rest (omega arith, lawful.0) (omega arith, fits) (sym (append_assoc (head 4 (count ts)) (texts ts) x) ∙ e)).0 in cc
+    let no = (apart.items 4 (OpensArray (count ts)) (OpensMap n) (texts ts ++ x) rest (omega arith, lawful.0)
+    (omega arith, fits) (sym (append_assoc (head 4 (count ts)) (texts ts) x) ∙ e)).0 in cc
 opened_map apart n (Map ps) x rest fits lawful e =
-    let same = apart.items 4 (OpensMap (count_pairs ps)) (OpensMap n) (pair_texts ps ++ x) rest (omega arith, lawful.0) (omega arith, fits) (sym (append_assoc (head 5 (count_pairs ps)) (pair_texts ps) x) ∙ e) in
+    let same = apart.items 4 (OpensMap (count_pairs ps)) (OpensMap n) (pair_texts ps ++ x) rest (omega arith, lawful.0)
+    (omega arith, fits) (sym (append_assoc (head 5 (count_pairs ps)) (pair_texts ps) x) ∙ e) in
     record { pairs = ps; is = refl; lawful = lawful.2; number = counts (count_pairs ps) n same.0; spelled = same.1 }
   where
     counts : (a b : ℕ) → OpensMap a ≡ OpensMap b → a ≡ b
@@ -84,34 +91,43 @@ record TwoPairs (named : Bool) (n : ℕ) (ps : Pairs) (rest : List ℕ) : Type 0
   spelled : rest ≡ texts entries
 
 version_fits : (named : Bool) → version named < 2 ^ 64
-version_fits true = omega arith
-version_fits false = omega arith
+version_fits named = search (rules, arith)
 
-two_pairs : (apart : Apart) → (named : Bool) (n : ℕ) (ps : Pairs) (rest : List ℕ) → n < 2 ^ 64 → count_pairs ps ≡ 2 → AreLawfulPairs ps →
-    pair_texts ps ≡ scalar_text (Int (pos 1)) ++ (scalar_text (Int (pos (version named))) ++ (scalar_text (Int (pos 2)) ++ (head 4 n ++ rest))) → TwoPairs named n ps rest
+two_pairs : (apart : Apart) → (named : Bool) (n : ℕ) (ps : Pairs) (rest : List ℕ) → n < 2 ^ 64 → count_pairs ps ≡ 2 →
+    AreLawfulPairs ps →
+    pair_texts ps ≡ scalar_text (Int (pos 1)) ++ (scalar_text (Int (pos (version named))) ++
+    (scalar_text (Int (pos 2)) ++ (head 4 n ++ rest))) → TwoPairs named n ps rest
 two_pairs apart named n no_pairs rest fits two lawful e = absurd (omega arith)
 two_pairs apart named n (pair k v no_pairs) rest fits two lawful e = absurd (omega arith)
 two_pairs apart named n (pair k v (pair j w (pair l u ps))) rest fits two lawful e = absurd (omega arith)
 two_pairs apart named n (pair k v (pair j w no_pairs)) rest fits two lawful e =
-    let first = trees_same apart.trees k (number 1) (text v ++ (text j ++ (text w ++ []))) (text (number (version named)) ++ (text (number 2) ++ (head 4 n ++ rest))) lawful.0 (omega arith) e in
-    let second = trees_same apart.trees v (number (version named)) (text j ++ (text w ++ [])) (text (number 2) ++ (head 4 n ++ rest)) lawful.1 (version_fits named) first.1 in
-    let third = trees_same apart.trees j (number 2) (text w ++ []) (head 4 n ++ rest) lawful.2.0 (omega arith) second.1 in
+    let first = trees_same apart.trees k (number 1) (text v ++ (text j ++ (text w ++ [])))
+    (text (number (version named)) ++ (text (number 2) ++ (head 4 n ++ rest))) lawful.0 (omega arith) e in
+    let second = trees_same apart.trees v (number (version named)) (text j ++ (text w ++ []))
+    (text (number 2) ++ (head 4 n ++ rest)) lawful.1 (version_fits named) first.1 in
+    let third = trees_same apart.trees j (number 2) (text w ++ []) (head 4 n ++ rest) lawful.2.0
+    (omega arith) second.1 in
     let h = opened_array apart n w [] rest fits lawful.2.1 third.1 in
     record {
       entries = h.items;
-      is = ap (λ x. pair x v (pair j w no_pairs)) first.0 ∙ ap (λ x. pair (number 1) x (pair j w no_pairs)) second.0 ∙ ap (λ x. pair (number 1) (number (version named)) (pair x w no_pairs)) third.0
+      is = ap (λ x. pair x v (pair j w no_pairs)) first.0 ∙ ap (λ x. pair (number 1) x (pair j w no_pairs)) second.0
+          ∙ ap (λ x. pair (number 1) (number (version named)) (pair x w no_pairs)) third.0
           ∙ ap (λ x. pair (number 1) (number (version named)) (pair (number 2) x no_pairs)) h.is;
       lawful = h.lawful;
       number = h.number;
       spelled = sym h.spelled ∙ append-nil (texts h.items);
     }
 
-has_entries : (apart : Apart) → (named : Bool) (n : ℕ) (t : Tree) (b rest : List ℕ) → n < 2 ^ 64 → IsCanonical t b → b ≡ heads_text (named, n) ++ rest → HasEntries named n b rest
+has_entries : (apart : Apart) → (named : Bool) (n : ℕ) (t : Tree) (b rest : List ℕ) → n < 2 ^ 64 → IsCanonical t b →
+    b ≡ heads_text (named, n) ++ rest → HasEntries named n b rest
 has_entries apart named n t b rest fits is e =
-    let inner = scalar_text (Int (pos 1)) ++ (scalar_text (Int (pos (version named))) ++ (scalar_text (Int (pos 2)) ++ (head 4 n ++ rest))) in
+    let inner = scalar_text (Int (pos 1)) ++ (scalar_text (Int (pos (version named))) ++
+    (scalar_text (Int (pos 2)) ++ (head 4 n ++ rest))) in
     let front : heads_text (named, n) ++ rest ≡ head 5 2 ++ inner = simp append_assoc refl in
-    let m = opened_map apart 2 t [] inner (omega arith) is.enc.lawful (append-nil (text t) ∙ sym is.enc.spelled ∙ e ∙ front) in
-    let p = two_pairs apart named n m.pairs rest fits m.number m.lawful (sym (append-nil (pair_texts m.pairs)) ∙ m.spelled) in
+    let m = opened_map apart 2 t [] inner (omega arith) is.enc.lawful (append-nil (text t) ∙ sym is.enc.spelled ∙ e
+    ∙ front) in
+    let p = two_pairs apart named n m.pairs rest fits m.number m.lawful (sym (append-nil (pair_texts m.pairs))
+    ∙ m.spelled) in
     record {
       entries = p.entries;
       holds = subst (λ x. IsCanonical x b) (map_is m.is p.is) is;
@@ -125,12 +141,15 @@ has_entries apart named n t b rest fits is e =
 
 -- ---- what the text of a snapshot begins with
 
-pub heads_of : (named : Bool) (entries : Trees) → text (snapshot_of named entries) ≡ heads_text (named, count entries) ++ texts entries
+pub heads_of : (named : Bool) (entries : Trees) →
+    text (snapshot_of named entries) ≡ heads_text (named, count entries) ++ texts entries
 heads_of named entries = simp (append_assoc, append-nil) refl
 
-pub no_heads : (room : ℕ) (b : List ℕ) (c new : Reading) → c ≡ record { bytes = b; place = 0; steps = 0 } → Reads IsHeads heads_text c new None → Refuses room b NotSnapshot
-no_heads room b c new e r named entries holds =
-    let there : rest_of c ≡ heads_text (named, count entries) ++ texts entries = ap rest_of e ∙ holds.enc.spelled ∙ heads_of named entries in
+pub no_heads : (capacity : ℕ) (b : List ℕ) (c new : Reading) → c ≡ record { bytes = b; place = 0; steps = 0 } →
+    Reads IsHeads heads_text c new None → Refuses capacity b NotSnapshot
+no_heads capacity b c new e r named entries holds =
+    let there : rest_of c ≡ heads_text (named, count entries) ++ texts entries = ap rest_of e ∙ holds.enc.spelled
+    ∙ heads_of named entries in
     let no = (r.found (named, count entries) (texts entries) holds.enc.lawful.2.2.1.0 there).0 in
     cc
 
@@ -142,11 +161,14 @@ record Behind (named : Bool) (rows : List Row) (entries : Trees) (rest : List �
   lawful : AreLawful others
   spelled : rest ≡ texts others
 
-after_rows : (apart : Apart) → (named : Bool) (rows : List Row) (entries : Trees) (rest : List ℕ) → AllByRecursion (IsRow named) rows → AreLawful entries → length rows ≤ count entries → texts entries ≡ rows_text named rows ++ rest → Behind named rows entries rest
-after_rows apart named [] entries rest typed lawful few e = record { others = entries; is = refl; lawful = lawful; spelled = sym e }
+after_rows : (apart : Apart) → (named : Bool) (rows : List Row) (entries : Trees) (rest : List ℕ) →
+    AllByRecursion (IsRow named) rows → AreLawful entries → length rows ≤ count entries →
+    texts entries ≡ rows_text named rows ++ rest → Behind named rows entries rest
+after_rows apart named [] entries rest typed lawful few e = search (rules, arith)
 after_rows apart named (row ∷ rows) no_trees rest typed lawful few e = absurd (omega arith)
 after_rows apart named (row ∷ rows) (tree t ts) rest typed lawful few e =
-    let same = trees_same apart.trees t (row_tree named row) (texts ts) (rows_text named rows ++ rest) lawful.0 (row_lawful named row typed.0) (e ∙ append_assoc (row_text named row) (rows_text named rows) rest) in
+    let same = trees_same apart.trees t (row_tree named row) (texts ts) (rows_text named rows ++ rest) lawful.0
+    (row_lawful named row typed.0) (e ∙ append_assoc (row_text named row) (rows_text named rows) rest) in
     let b = after_rows apart named rows ts rest typed.1 lawful.1 (omega arith) same.1 in
     record {
       others = b.others;
@@ -155,7 +177,8 @@ after_rows apart named (row ∷ rows) (tree t ts) rest typed lawful few e =
       spelled = b.spelled;
     }
 
-pub count_then : (named : Bool) (rows : List Row) (entries : Trees) → count (rows_then named rows entries) ≡ length rows + count entries
+pub count_then : (named : Bool) (rows : List Row) (entries : Trees) →
+    count (rows_then named rows entries) ≡ length rows + count entries
 count_then named [] entries = omega arith
 count_then named (row ∷ rows) entries = omega (arith, count_then named rows entries)
 
@@ -172,9 +195,11 @@ one_left : (ts : Trees) → 0 < count ts → OneLeft ts
 one_left no_trees lt = absurd (omega arith)
 one_left (tree t ts) lt = record { entry = t; after = ts; is = refl }
 
-all_load : (apart : Apart) → (named : Bool) (room n : ℕ) (b : List ℕ) (a c : Reading) (rows : List Row) → Lawful room rows → HasEntries named n b (rest_of a) → TakesRows named n a c rows → IsSnapshot named room rows b
-all_load apart named room n b a c rows lawful h k =
-    let d = after_rows apart named rows h.entries (rest_of c) k.typed h.lawful (omega (arith, h.number, k.number)) (sym h.spelled ∙ k.spelled) in
+all_load : (apart : Apart) → (named : Bool) (capacity n : ℕ) (b : List ℕ) (a c : Reading) (rows : List Row) →
+    Lawful capacity rows → HasEntries named n b (rest_of a) → TakesRows named n a c rows → IsSnapshot named capacity rows b
+all_load apart named capacity n b a c rows lawful h k =
+    let d = after_rows apart named rows h.entries (rest_of c) k.typed h.lawful (omega (arith, h.number, k.number))
+    (sym h.spelled ∙ k.spelled) in
     let none = none_left d.others (omega (arith, ap count d.is, count_then named rows d.others, h.number, k.number)) in
     record {
       typed = k.typed;
@@ -182,10 +207,13 @@ all_load apart named room n b a c rows lawful h k =
       canonical = subst (λ x. Holds named x b) (d.is ∙ ap (rows_then named rows) none) h.holds;
     }
 
-broken_at : (apart : Apart) → (named : Bool) (room n place : ℕ) (b : List ℕ) (a : Reading) → HasEntries named n b (rest_of a) → n ≤ room → BreaksOff named room n place a → Refuses room b (RowBroken place)
-broken_at apart named room n place b a h few k =
-    let d = after_rows apart named k.rows h.entries (rest_of k.between) k.takes.typed h.lawful (omega (arith, h.number, k.takes.number, k.fewer)) (sym h.spelled ∙ k.takes.spelled) in
-    let l = one_left d.others (omega (arith, ap count d.is, count_then named k.rows d.others, h.number, k.takes.number, k.fewer)) in (
+broken_at : (apart : Apart) → (named : Bool) (capacity n place : ℕ) (b : List ℕ) (a : Reading) →
+    HasEntries named n b (rest_of a) → n ≤ capacity → BreaksOff named capacity n place a → Refuses capacity b (RowBroken place)
+broken_at apart named capacity n place b a h few k =
+    let d = after_rows apart named k.rows h.entries (rest_of k.between) k.takes.typed h.lawful
+    (omega (arith, h.number, k.takes.number, k.fewer)) (sym h.spelled ∙ k.takes.spelled) in
+    let l = one_left d.others
+    (omega (arith, ap count d.is, count_then named k.rows d.others, h.number, k.takes.number, k.fewer)) in (
       named,
       h.entries,
       h.holds,
@@ -198,19 +226,26 @@ broken_at apart named room n place b a h few k =
         place_is = k.takes.number;
         typed = k.takes.typed;
         lawful = k.lawful;
-        broken = λ row is e. k.none row (texts l.after) is (d.spelled ∙ ap texts l.is ∙ ap (λ x. text x ++ texts l.after) e);
+        broken = λ row is e. k.none row (texts l.after) is (d.spelled ∙ ap texts l.is
+            ∙ ap (λ x. text x ++ texts l.after) e);
       },
     )
 
 -- the entries were read, all or up to a broken one
-pub rows_load : (apart : Apart) → (named : Bool) (room n : ℕ) (t : Tree) (b : List ℕ) (a c : Reading) (rows : List Row) (r : Result (Unit {0}) SnapshotFault) →
-    n < 2 ^ 64 → n ≤ room → IsCanonical t b → b ≡ heads_text (named, n) ++ rest_of a → Lawful room rows → ReadsRows named room n a c rows r → Loads room b r rows
-rows_load apart named room n t b a c rows (Ok u) fits few is e lawful k = (named, all_load apart named room n b a c rows lawful (has_entries apart named n t b (rest_of a) fits is e) k)
-rows_load apart named room n t b a c rows (Err (RowBroken place)) fits few is e lawful k = broken_at apart named room n place b a (has_entries apart named n t b (rest_of a) fits is e) few k
-rows_load apart named room n t b a c rows (Err NotSnapshot) fits few is e lawful k = absurd k
-rows_load apart named room n t b a c rows (Err TooMany) fits few is e lawful k = absurd k
-rows_load apart named room n t b a c rows (Err Memory) fits few is e lawful k = absurd k
+pub rows_load : (apart : Apart) → (named : Bool) (capacity n : ℕ) (t : Tree) (b : List ℕ) (a c : Reading) (rows : List Row)
+    (r : Result (Unit {0}) SnapshotFault) →
+    n < 2 ^ 64 → n ≤ capacity → IsCanonical t b → b ≡ heads_text (named, n) ++ rest_of a → Lawful capacity rows →
+    ReadsRows named capacity n a c rows r → Loads capacity b r rows
+rows_load apart named capacity n t b a c rows (Ok u) fits few is e lawful k =
+    (named, all_load apart named capacity n b a c rows lawful (has_entries apart named n t b (rest_of a) fits is e) k)
+rows_load apart named capacity n t b a c rows (Err (RowBroken place)) fits few is e lawful k =
+    broken_at apart named capacity n place b a (has_entries apart named n t b (rest_of a) fits is e) few k
+rows_load apart named capacity n t b a c rows (Err NotSnapshot) fits few is e lawful k = absurd k
+rows_load apart named capacity n t b a c rows (Err TooMany) fits few is e lawful k = absurd k
+rows_load apart named capacity n t b a c rows (Err Memory) fits few is e lawful k = absurd k
 
 -- there are too many
-pub too_many : (apart : Apart) → (named : Bool) (room n : ℕ) (t : Tree) (b rest : List ℕ) → n < 2 ^ 64 → room < n → IsCanonical t b → b ≡ heads_text (named, n) ++ rest → Refuses room b TooMany
-too_many apart named room n t b rest fits many is e = let h = has_entries apart named n t b rest fits is e in (named, h.entries, h.holds, omega (arith, h.number))
+pub too_many : (apart : Apart) → (named : Bool) (capacity n : ℕ) (t : Tree) (b rest : List ℕ) → n < 2 ^ 64 → capacity < n →
+    IsCanonical t b → b ≡ heads_text (named, n) ++ rest → Refuses capacity b TooMany
+too_many apart named capacity n t b rest fits many is e = let h = has_entries apart named n t b rest fits is e in
+    (named, h.entries, h.holds, omega (arith, h.number))

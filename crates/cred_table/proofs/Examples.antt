@@ -19,11 +19,11 @@ after : Bool → List Row
 unfolding made
 after discoverable = made 0xAB 2 0 discoverable ∷ made 0xAC 1 0 true ∷ []
 
-same_user_is : option_map (λ (row : Row). row.id) (find (is_user rp (1 ∷ [])) (rows true)) ≡ Some (replicate 32 0xAA)
+same_user_is : option_map (λ (row : Row). row.id) (find (is_user rp (0x01 ∷ [])) (rows true)) ≡ Some (replicate 32 0xAA)
 unfolding rp made rows
 same_user_is = refl
 
-hidden_user_is : find (is_user rp (2 ∷ [])) (rows false) ≡ None
+hidden_user_is : find (is_user rp (0x02 ∷ [])) (rows false) ≡ None
 unfolding rp made rows
 hidden_user_is = refl
 

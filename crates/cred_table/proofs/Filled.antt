@@ -1,63 +1,36 @@
 -- A table whose slots are all free.
-use Rattle.std.proofs.Common.{◌≡◌, ℕ, zero, suc, ◌+◌, ◌<◌, ◌≤◌, List, [], length, replicate, Bool, true, false, ◌||◌, Option, Some, None, refl, sym, ◌∙◌, subst, arith, nat_lt, nat_eq, get_or, ◌∷◌, ◌&&◌, not, ap, ◌++◌, map, reverse, cond, set}
+use Rattle.std.proofs.lemmas.Grind.{common_steps}
+use Rattle.std.proofs.Common.{rules, ◌≡◌, ℕ, zero, suc, ◌+◌, ◌<◌, ◌≤◌, List, [], length, replicate, Bool, true, false, ◌||◌, Option, Some, None, refl, sym, ◌∙◌, subst, arith, nat_lt, nat_eq, get_or, ◌∷◌, ◌&&◌, not, ap, ◌++◌, map, reverse, cond, set}
 use Rattle.std.specs.List.{range_with_len}
-use Rattle.std.proofs.lemmas.Bool.Decides.{nat_tests}
 use Rattle.std.proofs.lemmas.List.FromFn.{length-range_with_len}
 use Rattle.cred_table.specs.declared.slot.Slot.{Slot}
 use Rattle.cred_table.specs.declared.slot.Along.TheVariants.{Next, Newer, Older}
 use Rattle.cred_table.specs.declared.chains.Chains.{Chains}
 use Rattle.cred_table.specs.Slots.{links, slot_at, has, next_free, chain, is_chain, distinct, led_slots, begun, within, bucket, link_of, raised_slot}
 use Rattle.cred_table.specs.Linked.{Linked, age, free_slots, id_slots, head, row_at, rows_in, raised_at}
-use Rattle.cred_table.proofs.Chain.{Leads, eq_test, ne_test, lt_is, lt_test, link_at, length-links, closed, Leads-once, eq_is, chain_step, slot_read, Holds, opened, Leads-first, Leads-set, Leads-push, Leads-distinct, EndsWith, led, links-set, links-led, links-led_other, length-led, row-set_same, row-set_other, row-led, map_same, age_is, ends_newest, has-push, has-reverse}
+use Rattle.cred_table.proofs.Chain.{Leads, lt_is, link_at, length-links, closed, Leads-once, eq_is, chain_step, slot_read, Holds, opened, Leads-first, Leads-set, Leads-push, Leads-distinct, EndsWith, led, links-set, links-led_other, length-led, row-set_same, row-set_other, row-led, map_same, age_is, ends_newest, has-push, has-reverse}
 use Rattle.std.proofs.lemmas.Bool.{and_parts, and_from, not-true}
-use Rattle.std.proofs.lemmas.List.{length-set, length-append, get_or-set_same, get_or-set_other, reverse-append, map-append, set-get_or}
+use Rattle.std.proofs.lemmas.List.{length-set, length-append, reverse-append, map-append, set-get_or}
 use Rattle.std.proofs.Math.Bool.{or-true}
 use Rattle.cred_table.specs.declared.row.Row.{Row}
 use Rattle.cred_table.specs.declared.slot.Along.{Along}
-use Rattle.cred_table.proofs.Unlinked.{eq_turned}
-
-next_last : (room k : ℕ) → k + 1 ≡ room → next_free room k ≡ None
-next_last room k h = let f : nat_lt (k + 1) room ≡ false = grind (arith, nat_tests) in rw f refl
-
-next_more : (room k : ℕ) → k + 1 < room → next_free room k ≡ Some (k + 1)
-next_more room k h = rw (lt_is (k + 1) room h) refl
 
 -- the free chain leads through all slots
-leads_on : (slots : List Slot) → ((k : ℕ) → k < length slots → (slot_at slots k).next ≡ next_free (length slots) k) → (m k : ℕ) → k + suc m ≡ length slots → Leads (links Next slots) (Some k) (range_with_len k (suc m)) None
-leads_on slots h zero k e =
-    let l = length-links Next slots in
-    let there : k < length slots = omega arith in
-    (refl, omega arith, link_at Next slots k there ∙ (h k there ∙ next_last (length slots) k (omega arith)))
-leads_on slots h (suc m) k e =
-    let l = length-links Next slots in
-    let there : k < length slots = omega arith in
-    let next = link_at Next slots k there ∙ (h k there ∙ next_more (length slots) k (omega arith)) in
-    (refl, omega arith, subst (λ (o : Option ℕ). Leads (links Next slots) o (range_with_len (k + 1) (suc m)) None) (sym next) (leads_on slots h m (k + 1) (omega arith)))
+leads_on : (slots : List Slot) → ((k : ℕ) → k < length slots → (slot_at slots k).next ≡ next_free (length slots) k) →
+    (m k : ℕ) → k + suc m ≡ length slots → Leads (links Next slots) (Some k) (range_with_len k (suc m)) None
+leads_on slots h zero k e = grind (arith, length-links, link_at)
+leads_on slots h (suc m) k e = grind (arith, link_at, leads_on slots h m (k + 1))
 
 range_within : (i m k : ℕ) → has k (range_with_len i m) ≡ true → (i ≤ k) × (k < i + m)
 range_within i zero k h = cc
-range_within i (suc m) k h = go (λ e. range_within (i + 1) m k e) (nat_eq k i) refl h
-  where
-    go : (has k (range_with_len (i + 1) m) ≡ true → (i + 1 ≤ k) × (k < (i + 1) + m)) → (b : Bool) → nat_eq k i ≡ b → (b || has k (range_with_len (i + 1) m)) ≡ true → (i ≤ k) × (k < i + suc m)
-    go ih true e f = let s = eq_test k i e in (omega arith, omega arith)
-    go ih false e f = let r = ih f in (omega arith, omega arith)
+range_within i (suc m) k h = grind (arith, range_within (i + 1) m k)
 
 range_has : (i m k : ℕ) → i ≤ k → k < i + m → has k (range_with_len i m) ≡ true
 range_has i zero k l h = absurd (omega arith)
-range_has i (suc m) k l h = go (λ e. range_has (i + 1) m k e (omega arith)) (nat_eq k i) refl
-  where
-    go : (i + 1 ≤ k → has k (range_with_len (i + 1) m) ≡ true) → (b : Bool) → nat_eq k i ≡ b → (b || has k (range_with_len (i + 1) m)) ≡ true
-    go ih true e = refl
-    go ih false e = let n = ne_test k i e in ih (omega arith)
+range_has i (suc m) k l h = grind (arith, range_has (i + 1) m k)
 
 range_test : (m k : ℕ) → has k (range_with_len 0 m) ≡ nat_lt k m
-range_test m k = go (has k (range_with_len 0 m)) (nat_lt k m) refl refl
-  where
-    go : (a b : Bool) → has k (range_with_len 0 m) ≡ a → nat_lt k m ≡ b → a ≡ b
-    go true true e f = refl
-    go false false e f = refl
-    go true false e f = let r = range_within 0 m k e in let g = lt_is k m (omega arith) in cc
-    go false true e f = let l = lt_test k m f in let g = range_has 0 m k (omega arith) (omega arith) in cc
+range_test m k = grind (arith, range_has, range_within)
 
 abbrev none : Option ℕ
 none = None
@@ -67,7 +40,8 @@ none_at zero b = refl
 none_at (suc n) zero = refl
 none_at (suc n) (suc b) = none_at n b
 
-pub new : {C : ℕ} (slots : List Slot) → 1 ≤ length slots → ((k : ℕ) → k < length slots → (slot_at slots k).next ≡ next_free (length slots) k) →
+pub new : {C : ℕ} (slots : List Slot) → 1 ≤ length slots →
+    ((k : ℕ) → k < length slots → (slot_at slots k).next ≡ next_free (length slots) k) →
     Linked {C = C} [] (record { slots = slots; heads = replicate 32 None; free = Some 0; oldest = None; newest = None })
 new {C = C} slots some h = closed [] chains [] (range_with_len 0 (length slots)) (λ b. []) (record {
   aged = refl;
@@ -85,12 +59,12 @@ new {C = C} slots some h = closed [] chains [] (range_with_len 0 (length slots))
     chains = record { slots = slots; heads = replicate 32 None; free = Some 0; oldest = None; newest = None }
 
     all : (n : ℕ) → n ≡ length slots → 1 ≤ n → Leads (links Next slots) (Some 0) (range_with_len 0 n) None
-    all zero e l = absurd (omega arith)
-    all (suc m) e l = leads_on slots h m 0 (omega arith)
+    all n e l = grind (arith, common_steps, leads_on)
 
 -- A slot is taken out of the free chain.
 
-taken : {C : ℕ} (chains : Chains C) (k : ℕ) (held rest : List ℕ) (ids : ℕ → List ℕ) (next : Option ℕ) → Holds [] chains held (k ∷ rest) ids → next ≡ (slot_at chains.slots k).next →
+taken : {C : ℕ} (chains : Chains C) (k : ℕ) (held rest : List ℕ) (ids : ℕ → List ℕ) (next : Option ℕ) →
+    Holds [] chains held (k ∷ rest) ids → next ≡ (slot_at chains.slots k).next →
     Holds (k ∷ []) (record chains { free = next }) held rest ids
 taken chains k held rest ids next h n = record {
   aged = h.aged;
@@ -114,40 +88,41 @@ taken chains k held rest ids next h n = record {
     away = and_parts (not (has k held)) (nat_lt k (length chains.slots)) (sym (h.in_free k) ∙ rw (eq_is k k refl) refl)
 
     go : (j : ℕ) (b : Bool) → nat_eq j k ≡ b → has j rest ≡ (not (b || has j held) && nat_lt j (length chains.slots))
-    go j true e = rw (eq_test j k e) (Leads-once (links Next chains.slots) chains.free k rest h.freed)
-    go j false e = let f = h.in_free j in rw e at f
+    go j b e = grind (arith, Leads-once)
 
     inside : (j : ℕ) (b : Bool) → nat_eq j k ≡ b → (b || has j held) ≡ true → j < length chains.slots
-    inside j true e i = rw (eq_test j k e) there
-    inside j false e i = h.inside j i
+    inside j b e i = grind arith
 
-pub take_free : {C : ℕ} (chains : Chains C) (k place : ℕ) (slot : Slot) → Linked [] chains → chains.free ≡ Some k → place ≡ k → Linked (k ∷ []) (record chains { free = (get_or chains.slots place slot).next })
+pub take_free : {C : ℕ} (chains : Chains C) (k place : ℕ) (slot : Slot) → Linked [] chains → chains.free ≡ Some k →
+    place ≡ k → Linked (k ∷ []) (record chains { free = (get_or chains.slots place slot).next })
 take_free chains k place slot l f p =
     let to = links Next chains.slots in
     let step = chain_step to k (subst (λ (o : Option ℕ). (is_chain to o ≡ true)) f l.freed) in
     let rest = chain to (get_or to k None) in
     let next = (get_or chains.slots place slot).next in
     let long = length-links Next chains.slots in
-    let read : next ≡ (slot_at chains.slots k).next = ap (λ (s : Slot). s.next) (slot_read chains.slots k place slot (omega arith) p) in
+    let read : next ≡ (slot_at chains.slots k).next = ap (λ (s : Slot). s.next)
+    (slot_read chains.slots k place slot (omega arith) p) in
     let spare : free_slots chains ≡ k ∷ rest = ap (chain to) f ∙ step.2 in
-    let h = subst (λ (ks : List ℕ). Holds [] chains (age chains) ks (λ b. id_slots b chains)) spare (opened [] chains l) in
-    closed (k ∷ []) (record chains { free = next }) (age chains) rest (λ b. id_slots b chains) (taken chains k (age chains) rest (λ b. id_slots b chains) next h read)
+    let h = subst (λ (ks : List ℕ). Holds [] chains (age chains) ks (λ b. id_slots b chains)) spare
+    (opened [] chains l) in
+    closed (k ∷ []) (record chains { free = next }) (age chains) rest (λ b. id_slots b chains)
+    (taken chains k (age chains) rest (λ b. id_slots b chains) next h read)
 
 -- A row is put into a slot that is away.
 
 -- The slot before the new one is there.
-pub within_newest : (slots : List Slot) (k : ℕ) (slot : Slot) (held : List ℕ) (newest : Option ℕ) → EndsWith held newest → ((j : ℕ) → has j held ≡ true → j < length slots) → within newest (set slots k slot) ≡ true
+pub within_newest : (slots : List Slot) (k : ℕ) (slot : Slot) (held : List ℕ) (newest : Option ℕ) →
+    EndsWith held newest → ((j : ℕ) → has j held ≡ true → j < length slots) → within newest (set slots k slot) ≡ true
 within_newest slots k slot held None e i = refl
-within_newest slots k slot held (Some p) e i =
-    let there : has p held ≡ true = ap (has p) e.1 ∙ (has-push p e.0 p ∙ rw (eq_is p p refl) refl) in
-    let l = i p there in
-    let long = length-set slots k slot in
-    lt_is p (length (set slots k slot)) (omega arith)
+within_newest slots k slot held (Some p) e i = search (rules, arith, eq_is, has-push, length-set, lt_is, e.1, e.0)
 
 -- The table after it.
 abbrev pub filled : {C : ℕ} → Chains C → ℕ → Row → Chains C
 filled chains k row = record {
-  slots = led_slots Newer chains.newest (Some k) (set chains.slots k (record { row = row; next = head (bucket row.id) chains; newer = None; older = chains.newest }));
+  slots = led_slots Newer chains.newest (Some k)
+      (set chains.slots k (record
+      { row = row; next = head (bucket row.id) chains; newer = None; older = chains.newest }));
   heads = set chains.heads (bucket row.id) (Some k);
   free = chains.free;
   oldest = begun chains.newest (Some k) chains.oldest;
@@ -158,15 +133,23 @@ filled chains k row = record {
 abbrev joined : (k b : ℕ) → (ℕ → List ℕ) → ℕ → List ℕ
 joined k b ids c = cond (nat_eq c b) (k ∷ ids c) (ids c)
 
-holds : {C : ℕ} (chains : Chains C) (k : ℕ) (row : Row) (held spare : List ℕ) (ids : ℕ → List ℕ) → Holds (k ∷ []) chains held spare ids → bucket row.id < length chains.heads →
-    Holds [] (filled chains k row) (held ++ k ∷ []) spare (joined k (bucket row.id) ids) × ((j : ℕ) → has j held ≡ true → row_at (filled chains k row).slots j ≡ row_at chains.slots j) × (row_at (filled chains k row).slots k ≡ row)
+holds : {C : ℕ} (chains : Chains C) (k : ℕ) (row : Row) (held spare : List ℕ) (ids : ℕ → List ℕ) →
+    Holds (k ∷ []) chains held spare ids → bucket row.id < length chains.heads →
+    Holds [] (filled chains k row) (held ++ k ∷ []) spare (joined k (bucket row.id) ids)
+    × ((j : ℕ) → has j held ≡ true → row_at (filled chains k row).slots j ≡ row_at chains.slots j)
+    × (row_at (filled chains k row).slots k ≡ row)
 holds {C = C} chains k row held spare ids h bound = (
   record {
-    aged = subst (λ (to : List (Option ℕ)). Leads to (begun chains.newest (Some k) chains.oldest) (held ++ k ∷ []) None) (sym newers) (Leads-push newer chains.oldest held chains.newest k h.aged last out there_newer);
+    aged = subst (λ (to : List (Option ℕ)). Leads to (begun chains.newest (Some k) chains.oldest) (held ++ k ∷ []) None)
+        (sym newers) (Leads-push newer chains.oldest held chains.newest k h.aged last out there_newer);
     back = subst (λ (to : List (Option ℕ)). Leads to (Some k) (reverse (held ++ k ∷ [])) None) (sym olders)
-        (subst (λ (ks : List ℕ). Leads (set older k chains.newest) (Some k) ks None) (sym (reverse-append held (k ∷ []))) (Leads-first older chains.newest None (reverse held) k (has-reverse k held ∙ out) there_older h.back));
-    freed = subst (λ (to : List (Option ℕ)). Leads to chains.free spare None) (sym nexts) (Leads-set next chains.free None spare k (head b chains) not_spare h.freed);
-    found = λ c. subst (λ (to : List (Option ℕ)). Leads to (head c after) (joined k b ids c) None) (sym nexts) (found c (nat_eq c b) refl);
+        (subst (λ (ks : List ℕ). Leads (set older k chains.newest) (Some k) ks None)
+        (sym (reverse-append held (k ∷ []))) (Leads-first older chains.newest None (reverse held) k
+        (has-reverse k held ∙ out) there_older h.back));
+    freed = subst (λ (to : List (Option ℕ)). Leads to chains.free spare None) (sym nexts)
+        (Leads-set next chains.free None spare k (head b chains) not_spare h.freed);
+    found = λ c. subst (λ (to : List (Option ℕ)). Leads to (head c after) (joined k b ids c) None) (sym nexts)
+        (found c (nat_eq c b) refl);
     by_id = λ c j. by_id c j (nat_eq c b) refl (nat_eq j k) refl;
     in_free = λ j. h.in_free j ∙ rw (sym (has-push k held j), sym long) refl;
     apart = distinct_after;
@@ -204,9 +187,6 @@ holds {C = C} chains k row held spare ids h bound = (
     out : has k held ≡ false
     out = not-true (has k held) (and_parts (not (has k held)) (distinct held) h.apart).0
 
-    distinct_held : distinct held ≡ true
-    distinct_held = (and_parts (not (has k held)) (distinct held) h.apart).1
-
     there : k < length slots
     there = h.inside k (rw (eq_is k k refl) refl)
 
@@ -215,9 +195,6 @@ holds {C = C} chains k row held spare ids h bound = (
 
     there_older : k < length older
     there_older = rw (length-links Older slots) there
-
-    there_next : k < length next
-    there_next = rw (length-links Next slots) there
 
     last : EndsWith held chains.newest
     last = ends_newest older chains.newest held h.back
@@ -232,7 +209,7 @@ holds {C = C} chains k row held spare ids h bound = (
     long = length-led Newer chains.newest (Some k) written ∙ length-set slots k slot
 
     newers : links Newer after.slots ≡ led chains.newest (Some k) (set newer k None)
-    newers = links-led Newer chains.newest (Some k) written ∙ ap (led chains.newest (Some k)) (links-set Newer slots k slot)
+    newers = grind (arith, links-set)
 
     olders : links Older after.slots ≡ set older k chains.newest
     olders = links-led_other Newer Older chains.newest (Some k) written (λ s. refl) named ∙ links-set Older slots k slot
@@ -243,53 +220,27 @@ holds {C = C} chains k row held spare ids h bound = (
     not_spare : has k spare ≡ false
     not_spare = h.in_free k ∙ rw (eq_is k k refl) refl
 
-    not_found : (c : ℕ) → has k (ids c) ≡ false
-    not_found c = h.by_id c k ∙ rw out refl
-
     here : row_at after.slots k ≡ row
     here = row-led Newer chains.newest (Some k) written k named ∙ row-set_same slots k slot there
 
-    other : (j : ℕ) → nat_eq j k ≡ false → row_at after.slots j ≡ row_at slots j
-    other j n = row-led Newer chains.newest (Some k) written j named ∙ row-set_other slots k j slot (ne_test j k n)
-
     kept : (j : ℕ) → has j held ≡ true → row_at after.slots j ≡ row_at slots j
-    kept j i = go (nat_eq j k) refl
-      where
-        go : (p : Bool) → nat_eq j k ≡ p → row_at after.slots j ≡ row_at slots j
-        go true e = let f : true ≡ false = sym i ∙ (ap (λ (n : ℕ). has n held) (eq_test j k e) ∙ out) in cc
-        go false e = other j e
+    kept j i = search (rules, arith)
 
-    found : (c : ℕ) (p : Bool) → nat_eq c b ≡ p → Leads (set next k (head b chains)) (head c after) (cond p (k ∷ ids c) (ids c)) None
-    found c true e =
-        let same = eq_test c b e in
-        let begins : head c after ≡ Some k = rw same (get_or-set_same chains.heads b (Some k) None bound) in
-        rw begins (rw same (Leads-first next (head b chains) None (ids b) k (not_found b) there_next (h.found b)))
-    found c false e =
-        let begins : head c after ≡ head c chains = get_or-set_other chains.heads b c (Some k) None (ne_test c b e) in
-        rw begins (Leads-set next (head c chains) None (ids c) k (head b chains) (not_found c) (h.found c))
+    found : (c : ℕ) (p : Bool) → nat_eq c b ≡ p →
+        Leads (set next k (head b chains)) (head c after) (cond p (k ∷ ids c) (ids c)) None
+    found c p e = grind (arith, common_steps, Leads-set)
 
     by_id : (c j : ℕ) (p : Bool) → nat_eq c b ≡ p → (q : Bool) → nat_eq j k ≡ q →
         has j (cond p (k ∷ ids c) (ids c)) ≡ (has j (held ++ k ∷ []) && nat_eq (bucket (row_at after.slots j).id) c)
-    by_id c j true e true f =
-        let sc = eq_test c b e in
-        let sj = eq_test j k f in
-        rw (sj, here, has-push k held k, eq_is k k refl, eq_is b c (sym sc)) refl
-    by_id c j false e true f =
-        let sj = eq_test j k f in
-        let n : nat_eq b c ≡ false = turned (nat_eq b c) refl in
-        rw (sj, here, has-push k held k, eq_is k k refl, n) (not_found c)
-      where
-        turned : (r : Bool) → nat_eq b c ≡ r → r ≡ false
-        turned true g = absurd (ne_test c b e (sym (eq_test b c g)))
-        turned false g = refl
-    by_id c j true e false f = rw (other j f, has-push k held j, f) (h.by_id c j)
-    by_id c j false e false f = rw (other j f, has-push k held j, f) (h.by_id c j)
+    by_id c j p e q f = search (rules, arith, has-push)
 
     distinct_after : distinct (held ++ k ∷ []) ≡ true
     distinct_after =
-        Leads-distinct (led chains.newest (Some k) (set newer k None)) (begun chains.newest (Some k) chains.oldest) (held ++ k ∷ []) (Leads-push newer chains.oldest held chains.newest k h.aged last out there_newer)
+        Leads-distinct (led chains.newest (Some k) (set newer k None)) (begun chains.newest (Some k) chains.oldest)
+        (held ++ k ∷ []) (Leads-push newer chains.oldest held chains.newest k h.aged last out there_newer)
 
-pub fill : {C : ℕ} (chains : Chains C) (k : ℕ) (row : Row) → Linked (k ∷ []) chains → bucket row.id < length chains.heads →
+pub fill : {C : ℕ} (chains : Chains C) (k : ℕ) (row : Row) → Linked (k ∷ []) chains →
+    bucket row.id < length chains.heads →
     Linked [] (filled chains k row) × (rows_in (filled chains k row) ≡ rows_in chains ++ row ∷ [])
 fill chains k row l bound =
     let held = age chains in
@@ -298,78 +249,37 @@ fill chains k row l bound =
     let ids = joined k (bucket row.id) (λ b. id_slots b chains) in (
       closed [] (filled chains k row) (held ++ k ∷ []) (free_slots chains) ids r.0,
       ap (map (row_at after)) (age_is [] (filled chains k row) (held ++ k ∷ []) (free_slots chains) ids r.0)
-          ∙ (map-append (row_at after) held (k ∷ []) ∙ (ap (λ (rows : List Row). rows ++ row_at after k ∷ []) (map_same (row_at after) (row_at chains.slots) held r.1) ∙ ap (λ (x : Row). rows_in chains ++ x ∷ []) r.2)),
+          ∙ (map-append (row_at after) held (k ∷ [])
+          ∙ (ap (λ (rows : List Row). rows ++ row_at after k ∷ [])
+          (map_same (row_at after) (row_at chains.slots) held r.1)
+          ∙ ap (λ (x : Row). rows_in chains ++ x ∷ []) r.2)),
     )
 
 -- as the code writes it
-pub fill_code : {C : ℕ} (chains : Chains C) (k : ℕ) (row : Row) (b place : ℕ) (slots : List Slot) (start : Option ℕ) → Linked (k ∷ []) chains → b ≡ bucket row.id → b < length chains.heads → place ≡ k →
-    slots ≡ led_slots Newer chains.newest (Some k) (set chains.slots place (record { row = row; next = get_or chains.heads b None; newer = None; older = chains.newest })) →
+pub fill_code : {C : ℕ} (chains : Chains C) (k : ℕ) (row : Row) (b place : ℕ) (slots : List Slot) (start : Option ℕ) →
+    Linked (k ∷ []) chains → b ≡ bucket row.id → b < length chains.heads → place ≡ k →
+    slots ≡ led_slots Newer chains.newest (Some k)
+    (set chains.slots place
+    (record { row = row; next = get_or chains.heads b None; newer = None; older = chains.newest })) →
     start ≡ begun chains.newest (Some k) chains.oldest →
-    record { slots = slots; heads = set chains.heads b (Some k); free = chains.free; oldest = start; newest = Some k } ≡ filled chains k row
+    record { slots = slots; heads = set chains.heads b (Some k); free = chains.free; oldest = start; newest = Some k } ≡
+    filled chains k row
 fill_code chains k row b place slots start l e bound p s o = rw (s, o, p, e) refl
 
 -- The counter of the row in a slot is raised.
 
 linked_same : (along : Along) (slot : Slot) → link_of along (raised_slot slot) ≡ link_of along slot
-linked_same Next slot = refl
-linked_same Newer slot = refl
-linked_same Older slot = refl
+linked_same along slot = search (rules, arith)
 
-links_same : (along : Along) (slots : List Slot) (k : ℕ) → k < length slots → links along (set slots k (raised_slot (slot_at slots k))) ≡ links along slots
+links_same : (along : Along) (slots : List Slot) (k : ℕ) → k < length slots →
+    links along (set slots k (raised_slot (slot_at slots k))) ≡ links along slots
 links_same along slots k l =
     links-set along slots k (raised_slot (slot_at slots k))
-    ∙ (ap (set (links along slots) k) (linked_same along (slot_at slots k) ∙ sym (link_at along slots k l)) ∙ set-get_or (links along slots) k None)
+    ∙ (ap (set (links along slots) k) (linked_same along (slot_at slots k) ∙ sym (link_at along slots k l))
+    ∙ set-get_or (links along slots) k None)
 
-pub raise : {C : ℕ} (chains : Chains C) (k : ℕ) (slots : List Slot) → Linked [] chains → has k (age chains) ≡ true → slots ≡ set chains.slots k (raised_slot (slot_at chains.slots k)) →
-    Linked [] (record chains { slots = slots }) × (rows_in (record chains { slots = slots }) ≡ map (raised_at k chains.slots) (age chains))
-raise {C = C} chains k slots l is_held is =
-    (closed [] after (age chains) (free_slots chains) (λ b. id_slots b chains) holds, ap (map (row_at slots)) (age_is [] after (age chains) (free_slots chains) (λ b. id_slots b chains) holds) ∙ each (age chains))
-  where
-    after : Chains C
-    after = record chains { slots = slots }
-
-    h : Holds [] chains (age chains) (free_slots chains) (λ b. id_slots b chains)
-    h = opened [] chains l
-
-    there : k < length chains.slots
-    there = h.inside k is_held
-
-    same : (along : Along) → links along slots ≡ links along chains.slots
-    same along = ap (links along) is ∙ links_same along chains.slots k there
-
-    long : length slots ≡ length chains.slots
-    long = ap length is ∙ length-set chains.slots k (raised_slot (slot_at chains.slots k))
-
-    row : (j : ℕ) → row_at slots j ≡ raised_at k chains.slots j
-    row j = ap (λ (ss : List Slot). row_at ss j) is ∙ go (nat_eq k j) refl
-      where
-        go : (b : Bool) → nat_eq k j ≡ b → row_at (set chains.slots k (raised_slot (slot_at chains.slots k))) j ≡ raised_at k chains.slots j
-        go true e =
-            let s = eq_test k j e in
-            ap (row_at (set chains.slots k (raised_slot (slot_at chains.slots k)))) (sym s)
-            ∙ (row-set_same chains.slots k (raised_slot (slot_at chains.slots k)) there ∙ rw (e, s) refl)
-        go false e = row-set_other chains.slots k j (raised_slot (slot_at chains.slots k)) (ne_test j k (eq_turned j k ∙ e)) ∙ rw e refl
-
-    id : (j : ℕ) → (row_at slots j).id ≡ (row_at chains.slots j).id
-    id j = ap (λ (r : Row). r.id) (row j) ∙ go (nat_eq k j) refl
-      where
-        go : (b : Bool) → nat_eq k j ≡ b → (raised_at k chains.slots j).id ≡ (row_at chains.slots j).id
-        go true e = rw e refl
-        go false e = rw e refl
-
-    each : (ks : List ℕ) → map (row_at slots) ks ≡ map (raised_at k chains.slots) ks
-    each [] = refl
-    each (j ∷ ks) = let r = row j in let m = each ks in cc
-
-    holds : Holds [] after (age chains) (free_slots chains) (λ b. id_slots b chains)
-    holds = record {
-      aged = subst (λ (to : List (Option ℕ)). Leads to chains.oldest (age chains) None) (sym (same Newer)) h.aged;
-      back = subst (λ (to : List (Option ℕ)). Leads to chains.newest (reverse (age chains)) None) (sym (same Older)) h.back;
-      freed = subst (λ (to : List (Option ℕ)). Leads to chains.free (free_slots chains) None) (sym (same Next)) h.freed;
-      found = λ b. subst (λ (to : List (Option ℕ)). Leads to (head b chains) (id_slots b chains) None) (sym (same Next)) (h.found b);
-      by_id = λ b j. h.by_id b j ∙ ap (λ (i : List ℕ). has j (age chains) && nat_eq (bucket i) b) (sym (id j));
-      in_free = λ j. h.in_free j ∙ ap (λ (n : ℕ). not (has j (age chains)) && nat_lt j n) (sym long);
-      apart = h.apart;
-      inside = λ j i. subst (λ (n : ℕ). j < n) (sym long) (h.inside j i);
-      all = h.all ∙ sym long;
-    }
+pub raise : {C : ℕ} (chains : Chains C) (k : ℕ) (slots : List Slot) → Linked [] chains → has k (age chains) ≡ true →
+    slots ≡ set chains.slots k (raised_slot (slot_at chains.slots k)) →
+    Linked [] (record chains { slots = slots })
+    × (rows_in (record chains { slots = slots }) ≡ map (raised_at k chains.slots) (age chains))
+raise {C = C} chains k slots l is_held is = grind (arith, length-set, links_same, row-set_other, row-set_same)

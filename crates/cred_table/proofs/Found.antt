@@ -1,8 +1,7 @@
 -- Rows that are found along a chain.
-use Rattle.std.proofs.Common.{◌≡◌, ℕ, List, [], ◌∷◌, map, Bool, true, false, cond, ◌||◌, not, Option, Some, None, option_map, Bor, refl, sym, ◌∙◌, ap, nat_eq, is_some, ◌<◌, zero, suc, length, arith, get_or, slice_get, ◌+◌}
+use Rattle.std.proofs.Common.{rules, ◌≡◌, ℕ, List, [], ◌∷◌, map, Bool, true, false, cond, not, Option, Some, None, option_map, Bor, refl, sym, ◌∙◌, ap, nat_eq, is_some, ◌<◌, zero, suc, length, arith, get_or, slice_get, ◌+◌}
 use Rattle.std.specs.List.{find, list_any, filter}
-use Rattle.std.proofs.Math.Bool.{or-true}
-use Rattle.std.proofs.lemmas.Bool.{and_parts, not-true}
+use Rattle.std.proofs.lemmas.Bool.{and_parts}
 use Rattle.cred_table.specs.declared.row.Row.{Row}
 use Rattle.cred_table.specs.declared.slot.Slot.{Slot}
 use Rattle.cred_table.specs.declared.chains.Chains.{Chains}
@@ -10,87 +9,57 @@ use Rattle.cred_table.specs.Rows.{has_id, same_id, no_two, without, raised, rais
 use Rattle.cred_table.specs.Slots.{slot_at, numbered, has, bucket, but}
 use Rattle.cred_table.specs.Linked.{Linked, age, id_slots, row_at, rows_in, raised_at}
 use Rattle.cred_table.proofs.Basics.{bytes_from}
-use Rattle.cred_table.proofs.Chain.{eq_is, eq_test, map_same}
-use Rattle.cred_table.proofs.Places.{no_other}
+use Rattle.cred_table.proofs.Chain.{eq_is, map_same}
 
 -- An item of a walk as clauses see it.
 abbrev pub seen : (ℕ × Bor Slot) → (ℕ × Slot)
 seen item = (item.0, item.1.now)
 
 -- what is found among slots is found among their rows
-numbered_row : (slots : List Slot) (ks : List ℕ) (test : Row → Bool) → option_map (λ (item : ℕ × Slot). item.1.row) (find (λ (item : ℕ × Slot). test item.1.row) (numbered slots ks)) ≡ find test (map (row_at slots) ks)
+numbered_row : (slots : List Slot) (ks : List ℕ) (test : Row → Bool) →
+    option_map (λ (item : ℕ × Slot). item.1.row) (find (λ (item : ℕ × Slot). test item.1.row) (numbered slots ks)) ≡
+    find test (map (row_at slots) ks)
 numbered_row slots [] test = refl
-numbered_row slots (k ∷ ks) test = go (test (row_at slots k)) (numbered_row slots ks test)
-  where
-    go : (b : Bool) → option_map (λ (item : ℕ × Slot). item.1.row) (find (λ (item : ℕ × Slot). test item.1.row) (numbered slots ks)) ≡ find test (map (row_at slots) ks) →
-        option_map (λ (item : ℕ × Slot). item.1.row) (cond b (Some (k, slot_at slots k)) (find (λ (item : ℕ × Slot). test item.1.row) (numbered slots ks))) ≡ cond b (Some (row_at slots k)) (find test (map (row_at slots) ks))
-    go true ih = refl
-    go false ih = ih
+numbered_row slots (k ∷ ks) test = search (rules, arith, numbered_row slots ks test)
 
-pub found_row : (slots : List Slot) (ks : List ℕ) (test : Row → Bool) (o : Option (ℕ × Bor Slot)) → option_map seen o ≡ find (λ (item : ℕ × Slot). test item.1.row) (numbered slots ks) →
+pub found_row : (slots : List Slot) (ks : List ℕ) (test : Row → Bool) (o : Option (ℕ × Bor Slot)) →
+    option_map seen o ≡ find (λ (item : ℕ × Slot). test item.1.row) (numbered slots ks) →
     option_map (λ (item : ℕ × Bor Slot). item.1.now.row) o ≡ find test (map (row_at slots) ks)
-found_row slots ks test o e = same o ∙ (ap (option_map (λ (item : ℕ × Slot). item.1.row)) e ∙ numbered_row slots ks test)
+found_row slots ks test o e = same o ∙ (ap (option_map (λ (item : ℕ × Slot). item.1.row)) e
+    ∙ numbered_row slots ks test)
   where
-    same : (o : Option (ℕ × Bor Slot)) → option_map (λ (item : ℕ × Bor Slot). item.1.now.row) o ≡ option_map (λ (item : ℕ × Slot). item.1.row) (option_map seen o)
-    same None = refl
-    same (Some item) = refl
+    same : (o : Option (ℕ × Bor Slot)) → option_map (λ (item : ℕ × Bor Slot). item.1.now.row) o ≡ option_map
+        (λ (item : ℕ × Slot). item.1.row) (option_map seen o)
+    same o = search (rules, arith)
 
 -- a row that is found is that of a slot
-pub find_some : (row : ℕ → Row) (test : Row → Bool) (ks : List ℕ) (r : Row) → find test (map row ks) ≡ Some r → (k : ℕ) × (has k ks ≡ true) × (row k ≡ r) × (test (row k) ≡ true)
+pub find_some : (row : ℕ → Row) (test : Row → Bool) (ks : List ℕ) (r : Row) → find test (map row ks) ≡ Some r →
+    (k : ℕ) × (has k ks ≡ true) × (row k ≡ r) × (test (row k) ≡ true)
 find_some row test [] r h = cc
-find_some row test (k ∷ ks) r h = go (λ e. find_some row test ks r e) (test (row k)) refl h
-  where
-    go : (find test (map row ks) ≡ Some r → (j : ℕ) × (has j ks ≡ true) × (row j ≡ r) × (test (row j) ≡ true)) → (b : Bool) → test (row k) ≡ b → cond b (Some (row k)) (find test (map row ks)) ≡ Some r →
-        (j : ℕ) × (has j (k ∷ ks) ≡ true) × (row j ≡ r) × (test (row j) ≡ true)
-    go ih true e i = let s : row k ≡ r = cc in (k, rw (eq_is k k refl) refl, s, e)
-    go ih false e i = let f = ih i in (f.0, rw f.1 (or-true (nat_eq f.0 k)), f.2, f.3)
+find_some row test (k ∷ ks) r h = grind (arith, find_some row test ks r)
 
 -- where none is found, no slot's row passes
-pub find_none : (row : ℕ → Row) (test : Row → Bool) (ks : List ℕ) (k : ℕ) → find test (map row ks) ≡ None → has k ks ≡ true → test (row k) ≡ false
+pub find_none : (row : ℕ → Row) (test : Row → Bool) (ks : List ℕ) (k : ℕ) → find test (map row ks) ≡ None →
+    has k ks ≡ true → test (row k) ≡ false
 find_none row test [] k h i = cc
-find_none row test (j ∷ ks) k h i = go (λ e f. find_none row test ks k e f) (test (row j)) refl h
-  where
-    go : (find test (map row ks) ≡ None → has k ks ≡ true → test (row k) ≡ false) → (b : Bool) → test (row j) ≡ b → cond b (Some (row j)) (find test (map row ks)) ≡ None → test (row k) ≡ false
-    go ih true e f = cc
-    go ih false e f = here (nat_eq k j) refl i
-      where
-        here : (c : Bool) → nat_eq k j ≡ c → (c || has k ks) ≡ true → test (row k) ≡ false
-        here true g l = ap (λ (n : ℕ). test (row n)) (eq_test k j g) ∙ e
-        here false g l = ih f l
+find_none row test (j ∷ ks) k h i = grind (arith, find_none row test ks k)
 
-pub any_has : (row : ℕ → Row) (test : Row → Bool) (ks : List ℕ) (k : ℕ) → has k ks ≡ true → test (row k) ≡ true → list_any test (map row ks) ≡ true
+pub any_has : (row : ℕ → Row) (test : Row → Bool) (ks : List ℕ) (k : ℕ) → has k ks ≡ true → test (row k) ≡ true →
+    list_any test (map row ks) ≡ true
 any_has row test [] k h t = cc
-any_has row test (j ∷ ks) k h t = go (λ e. any_has row test ks k e t) (nat_eq k j) refl h
-  where
-    go : (has k ks ≡ true → list_any test (map row ks) ≡ true) → (b : Bool) → nat_eq k j ≡ b → (b || has k ks) ≡ true → (test (row j) || list_any test (map row ks)) ≡ true
-    go ih true e i = rw (ap (λ (n : ℕ). test (row n)) (sym (eq_test k j e)) ∙ t) refl
-    go ih false e i = rw (ih i) (or-true (test (row j)))
+any_has row test (j ∷ ks) k h t = grind (arith, any_has row test ks k)
 
 -- a row with the id is the one that is found
-pub find_only : (row : ℕ → Row) (test : Row → Bool) (id : List ℕ) (ks : List ℕ) (k : ℕ) → ((r : Row) → test r ≡ true → has_id id r ≡ true) → no_two same_id (map row ks) ≡ true → has k ks ≡ true → test (row k) ≡ true →
+pub find_only : (row : ℕ → Row) (test : Row → Bool) (id : List ℕ) (ks : List ℕ) (k : ℕ) →
+    ((r : Row) → test r ≡ true → has_id id r ≡ true) → no_two same_id (map row ks) ≡ true → has k ks ≡ true →
+    test (row k) ≡ true →
     find test (map row ks) ≡ Some (row k)
 find_only row test id [] k imp d h t = cc
-find_only row test id (j ∷ ks) k imp d h t =
-    let e = and_parts (not (list_any (same_id (row j)) (map row ks))) (no_two same_id (map row ks)) d in
-    go (not-true (list_any (same_id (row j)) (map row ks)) e.0) (λ i. find_only row test id ks k imp e.1 i t) (test (row j)) refl
-  where
-    go : list_any (same_id (row j)) (map row ks) ≡ false → (has k ks ≡ true → find test (map row ks) ≡ Some (row k)) → (b : Bool) → test (row j) ≡ b → cond b (Some (row j)) (find test (map row ks)) ≡ Some (row k)
-    go n ih true e = here (nat_eq k j) refl h
-      where
-        here : (c : Bool) → nat_eq k j ≡ c → (c || has k ks) ≡ true → Some (row j) ≡ Some (row k)
-        here true g l = ap (λ (i : ℕ). Some (row i)) (sym (eq_test k j g))
-        here false g l =
-            let none = no_other id (row j) (map row ks) (imp (row j) e) n in
-            let some = any_has row (has_id id) ks k l (imp (row k) t) in
-            cc
-    go n ih false e = here (nat_eq k j) refl h
-      where
-        here : (c : Bool) → nat_eq k j ≡ c → (c || has k ks) ≡ true → find test (map row ks) ≡ Some (row k)
-        here true g l = let f : test (row k) ≡ false = ap (λ (i : ℕ). test (row i)) (eq_test k j g) ∙ e in cc
-        here false g l = ih l
+find_only row test id (j ∷ ks) k imp d h t = search (rules, arith, any_has, find_only row test id ks k imp)
 
 -- what is found in the chain of an id is what is found in the table
-pub found_alike : {C : ℕ} (chains : Chains C) (test : Row → Bool) (id : List ℕ) → Linked [] chains → no_two same_id (rows_in chains) ≡ true → ((r : Row) → test r ≡ true → has_id id r ≡ true) →
+pub found_alike : {C : ℕ} (chains : Chains C) (test : Row → Bool) (id : List ℕ) → Linked [] chains →
+    no_two same_id (rows_in chains) ≡ true → ((r : Row) → test r ≡ true → has_id id r ≡ true) →
     find test (map (row_at chains.slots) (id_slots (bucket id) chains)) ≡ find test (rows_in chains)
 found_alike chains test id l d imp = go (find test (map row near)) refl
   where
@@ -103,7 +72,8 @@ found_alike chains test id l d imp = go (find test (map row near)) refl
     go : (o : Option Row) → find test (map row near) ≡ o → o ≡ find test (rows_in chains)
     go (Some r) e =
         let f = find_some row test near r e in
-        let held = (and_parts (has f.0 (age chains)) (nat_eq (bucket (row f.0).id) (bucket id)) (sym (l.by_id (bucket id) f.0) ∙ f.1)).0 in
+        let held = (and_parts (has f.0 (age chains)) (nat_eq (bucket (row f.0).id) (bucket id))
+        (sym (l.by_id (bucket id) f.0) ∙ f.1)).0 in
         ap (λ (x : Row). Some x) (sym f.2) ∙ sym (find_only row test id (age chains) f.0 imp d held f.3)
     go None e = none (find test (rows_in chains)) refl
       where
@@ -112,32 +82,35 @@ found_alike chains test id l d imp = go (find test (map row near)) refl
         none (Some r) f =
             let s = find_some row test (age chains) r f in
             let same : (row s.0).id ≡ id = bytes_from (row s.0).id id (imp (row s.0) s.3) in
-            let in_near : has s.0 near ≡ true = l.by_id (bucket id) s.0 ∙ rw (s.1, eq_is (bucket (row s.0).id) (bucket id) (ap bucket same)) refl in
+            let in_near : has s.0 near ≡ true = l.by_id (bucket id) s.0
+            ∙ rw (s.1, eq_is (bucket (row s.0).id) (bucket id) (ap bucket same)) refl in
             let refused = find_none row test near s.0 e in_near in
             let taken = s.3 in
             cc
 
 -- The slot of a row that is found.
 
-numbered_some : (slots : List Slot) (ks : List ℕ) (test : Row → Bool) (q : ℕ × Slot) → find (λ (item : ℕ × Slot). test item.1.row) (numbered slots ks) ≡ Some q → (has q.0 ks ≡ true) × (test (row_at slots q.0) ≡ true)
+numbered_some : (slots : List Slot) (ks : List ℕ) (test : Row → Bool) (q : ℕ × Slot) →
+    find (λ (item : ℕ × Slot). test item.1.row) (numbered slots ks) ≡ Some q → (has q.0 ks ≡ true)
+    × (test (row_at slots q.0) ≡ true)
 numbered_some slots [] test q h = cc
-numbered_some slots (k ∷ ks) test q h = go (λ e. numbered_some slots ks test q e) (test (row_at slots k)) refl h
-  where
-    go : (find (λ (item : ℕ × Slot). test item.1.row) (numbered slots ks) ≡ Some q → (has q.0 ks ≡ true) × (test (row_at slots q.0) ≡ true)) → (b : Bool) → test (row_at slots k) ≡ b →
-        cond b (Some (k, slot_at slots k)) (find (λ (item : ℕ × Slot). test item.1.row) (numbered slots ks)) ≡ Some q → (has q.0 (k ∷ ks) ≡ true) × (test (row_at slots q.0) ≡ true)
-    go ih true e i = let s : k ≡ q.0 = cc in (rw (eq_is q.0 k (sym s)) refl, ap (λ (n : ℕ). test (row_at slots n)) (sym s) ∙ e)
-    go ih false e i = let f = ih i in (rw f.0 (or-true (nat_eq q.0 k)), f.1)
+numbered_some slots (k ∷ ks) test q h = grind (arith, numbered_some slots ks test q)
 
-pub slot_found : {C : ℕ} (chains : Chains C) (id : List ℕ) (o : Option (ℕ × Bor Slot)) (item : ℕ × Bor Slot) → Linked [] chains → o ≡ Some item →
-    option_map seen o ≡ find (λ (found : ℕ × Slot). has_id id found.1.row) (numbered chains.slots (id_slots (bucket id) chains)) →
+pub slot_found : {C : ℕ} (chains : Chains C) (id : List ℕ) (o : Option (ℕ × Bor Slot)) (item : ℕ × Bor Slot) →
+    Linked [] chains → o ≡ Some item →
+    option_map seen o ≡ find (λ (found : ℕ × Slot). has_id id found.1.row)
+    (numbered chains.slots (id_slots (bucket id) chains)) →
     (has item.0 (age chains) ≡ true) × (has_id id (row_at chains.slots item.0) ≡ true)
 slot_found chains id o item l s e =
-    let f = numbered_some chains.slots (id_slots (bucket id) chains) (has_id id) (seen item) (sym e ∙ ap (option_map seen) s) in
+    let f = numbered_some chains.slots (id_slots (bucket id) chains) (has_id id) (seen item) (sym e
+    ∙ ap (option_map seen) s) in
     ((and_parts (has item.0 (age chains)) (nat_eq (bucket (row_at chains.slots item.0).id) (bucket id)) (sym (l.by_id (bucket id) item.0) ∙ f.0)).0, f.1)
 
 -- a row that is there is found in the chain of its id
-pub slot_there : {C : ℕ} (chains : Chains C) (id : List ℕ) (o : Option (ℕ × Bor Slot)) → Linked [] chains → is_some (find (has_id id) (rows_in chains)) ≡ true →
-    option_map seen o ≡ find (λ (found : ℕ × Slot). has_id id found.1.row) (numbered chains.slots (id_slots (bucket id) chains)) → is_some o ≡ true
+pub slot_there : {C : ℕ} (chains : Chains C) (id : List ℕ) (o : Option (ℕ × Bor Slot)) → Linked [] chains →
+    is_some (find (has_id id) (rows_in chains)) ≡ true →
+    option_map seen o ≡ find (λ (found : ℕ × Slot). has_id id found.1.row)
+    (numbered chains.slots (id_slots (bucket id) chains)) → is_some o ≡ true
 slot_there chains id o l t e = go o (found_row chains.slots (id_slots (bucket id) chains) (has_id id) o e)
   where
     row : ℕ → Row
@@ -146,90 +119,74 @@ slot_there chains id o l t e = go o (found_row chains.slots (id_slots (bucket id
     near : List ℕ
     near = id_slots (bucket id) chains
 
-    none : find (has_id id) (map row near) ≡ None → (p : Option Row) → find (has_id id) (rows_in chains) ≡ p → is_some p ≡ false
+    none : find (has_id id) (map row near) ≡ None → (p : Option Row) → find (has_id id) (rows_in chains) ≡ p →
+        is_some p ≡ false
     none n None f = refl
     none n (Some r) f =
         let s = find_some row (has_id id) (age chains) r f in
         let same : (row s.0).id ≡ id = bytes_from (row s.0).id id s.3 in
-        let in_near : has s.0 near ≡ true = l.by_id (bucket id) s.0 ∙ rw (s.1, eq_is (bucket (row s.0).id) (bucket id) (ap bucket same)) refl in
+        let in_near : has s.0 near ≡ true = l.by_id (bucket id) s.0
+        ∙ rw (s.1, eq_is (bucket (row s.0).id) (bucket id) (ap bucket same)) refl in
         let refused = find_none row (has_id id) near s.0 n in_near in
         let taken = s.3 in
         cc
 
-    go : (p : Option (ℕ × Bor Slot)) → option_map (λ (item : ℕ × Bor Slot). item.1.now.row) p ≡ find (has_id id) (map row near) → is_some p ≡ true
-    go (Some item) f = refl
-    go None f = let n = none (sym f) (find (has_id id) (rows_in chains)) refl in cc
+    go : (p : Option (ℕ × Bor Slot)) → option_map (λ (item : ℕ × Bor Slot). item.1.now.row) p ≡ find (has_id id)
+        (map row near) → is_some p ≡ true
+    go p f = search (rules, arith, none)
 
 -- The row at a place of a chain.
 
 numbered_at : (slots : List Slot) (ks : List ℕ) (place : ℕ) → place < length (map (row_at slots) ks) →
-    (q : ℕ × Slot) × (slice_get (numbered slots ks) place ≡ Some q) × ((d : Row) → q.1.row ≡ get_or (map (row_at slots) ks) place d)
+    (q : ℕ × Slot) × (slice_get (numbered slots ks) place ≡ Some q)
+    × ((d : Row) → q.1.row ≡ get_or (map (row_at slots) ks) place d)
 numbered_at slots [] place l = absurd (omega arith)
 numbered_at slots (k ∷ ks) zero l = ((k, slot_at slots k), refl, λ d. refl)
 numbered_at slots (k ∷ ks) (suc place) l = numbered_at slots ks place (omega arith)
 
-pub nth_row : (slots : List Slot) (ks : List ℕ) (o : Option (ℕ × Bor Slot)) (place : ℕ) → place < length (map (row_at slots) ks) → option_map seen o ≡ slice_get (numbered slots ks) place →
-    (is_some o ≡ true) × ((item : ℕ × Bor Slot) → o ≡ Some item → (d : Row) → item.1.now.row ≡ get_or (map (row_at slots) ks) place d)
+pub nth_row : (slots : List Slot) (ks : List ℕ) (o : Option (ℕ × Bor Slot)) (place : ℕ) →
+    place < length (map (row_at slots) ks) → option_map seen o ≡ slice_get (numbered slots ks) place →
+    (is_some o ≡ true) × ((item : ℕ × Bor Slot) → o ≡ Some item → (d : Row) →
+    item.1.now.row ≡ get_or (map (row_at slots) ks) place d)
 nth_row slots ks o place l e =
     let q = numbered_at slots ks place l in
     (go o (e ∙ q.1), λ item s d. let same : seen item ≡ q.0 = cc in ap (λ (p : ℕ × Slot). p.1.row) same ∙ q.2 d)
   where
     go : {q : ℕ × Slot} → (p : Option (ℕ × Bor Slot)) → option_map seen p ≡ Some q → is_some p ≡ true
-    go None f = cc
-    go (Some item) f = refl
+    go p f = search (rules, arith)
 
 -- Rows with distinct ids, each in a slot.
 
 -- one slot has the row with an id
-one_slot : (row : ℕ → Row) (id : List ℕ) (ks : List ℕ) (j k : ℕ) → no_two same_id (map row ks) ≡ true → has j ks ≡ true → has k ks ≡ true → has_id id (row j) ≡ true → has_id id (row k) ≡ true → j ≡ k
+one_slot : (row : ℕ → Row) (id : List ℕ) (ks : List ℕ) (j k : ℕ) → no_two same_id (map row ks) ≡ true →
+    has j ks ≡ true → has k ks ≡ true → has_id id (row j) ≡ true → has_id id (row k) ≡ true → j ≡ k
 one_slot row id [] j k d hj hk rj rk = cc
-one_slot row id (i ∷ ks) j k d hj hk rj rk =
-    let e = and_parts (not (list_any (same_id (row i)) (map row ks))) (no_two same_id (map row ks)) d in
-    go (not-true (list_any (same_id (row i)) (map row ks)) e.0) (λ f g. one_slot row id ks j k e.1 f g rj rk) (nat_eq j i) refl hj (nat_eq k i) refl hk
-  where
-    go : list_any (same_id (row i)) (map row ks) ≡ false → (has j ks ≡ true → has k ks ≡ true → j ≡ k) → (b : Bool) → nat_eq j i ≡ b → (b || has j ks) ≡ true → (c : Bool) → nat_eq k i ≡ c → (c || has k ks) ≡ true → j ≡ k
-    go n ih true e f true g h = eq_test j i e ∙ sym (eq_test k i g)
-    go n ih false e f false g h = ih f h
-    go n ih true e f false g h =
-        let same = eq_test j i e in
-        let none = no_other id (row i) (map row ks) (ap (λ (m : ℕ). has_id id (row m)) (sym same) ∙ rj) n in
-        let some = any_has row (has_id id) ks k h rk in
-        cc
-    go n ih false e f true g h =
-        let same = eq_test k i g in
-        let none = no_other id (row i) (map row ks) (ap (λ (m : ℕ). has_id id (row m)) (sym same) ∙ rk) n in
-        let some = any_has row (has_id id) ks j f rj in
-        cc
+one_slot row id (i ∷ ks) j k d hj hk rj rk = search (rules, arith, any_has, one_slot row id ks j k)
 
 -- the row with the id is the row of that slot
-has_slot : (row : ℕ → Row) (id : List ℕ) (ks : List ℕ) (k : ℕ) → no_two same_id (map row ks) ≡ true → has k ks ≡ true → has_id id (row k) ≡ true → (j : ℕ) → has j ks ≡ true → has_id id (row j) ≡ nat_eq k j
-has_slot row id ks k d hk rk j hj = go (has_id id (row j)) (nat_eq k j) refl refl
-  where
-    go : (a b : Bool) → has_id id (row j) ≡ a → nat_eq k j ≡ b → a ≡ b
-    go true true e f = refl
-    go false false e f = refl
-    go true false e f = let g = eq_is k j (sym (one_slot row id ks j k d hj hk e rk)) in cc
-    go false true e f = let g : has_id id (row j) ≡ true = ap (λ (m : ℕ). has_id id (row m)) (sym (eq_test k j f)) ∙ rk in cc
+has_slot : (row : ℕ → Row) (id : List ℕ) (ks : List ℕ) (k : ℕ) → no_two same_id (map row ks) ≡ true → has k ks ≡ true →
+    has_id id (row k) ≡ true → (j : ℕ) → has j ks ≡ true → has_id id (row j) ≡ nat_eq k j
+has_slot row id ks k d hk rk j hj = grind (arith, one_slot)
 
-filter_rows : (row : ℕ → Row) (p : Row → Bool) (q : ℕ → Bool) (ks : List ℕ) → ((j : ℕ) → has j ks ≡ true → p (row j) ≡ q j) → map row (filter (λ j. not (q j)) ks) ≡ filter (λ r. not (p r)) (map row ks)
+filter_rows : (row : ℕ → Row) (p : Row → Bool) (q : ℕ → Bool) (ks : List ℕ) →
+    ((j : ℕ) → has j ks ≡ true → p (row j) ≡ q j) → map row (filter (λ j. not (q j)) ks) ≡ filter (λ r. not (p r))
+    (map row ks)
 filter_rows row p q [] h = refl
-filter_rows row p q (k ∷ ks) h =
-    rw (h k (rw (eq_is k k refl) refl)) (go (q k) (filter_rows row p q ks (λ j i. h j (rw i (or-true (nat_eq j k))))))
-  where
-    go : (b : Bool) → map row (filter (λ j. not (q j)) ks) ≡ filter (λ r. not (p r)) (map row ks) →
-        map row (cond (not b) (k ∷ filter (λ j. not (q j)) ks) (filter (λ j. not (q j)) ks)) ≡ cond (not b) (row k ∷ filter (λ r. not (p r)) (map row ks)) (filter (λ r. not (p r)) (map row ks))
-    go true ih = ih
-    go false ih = ap (λ (rows : List Row). row k ∷ rows) ih
+filter_rows row p q (k ∷ ks) h = grind (arith, filter_rows row p q ks)
 
 -- taking out the slot takes out the row with its id
-pub but_without : (row : ℕ → Row) (id : List ℕ) (ks : List ℕ) (k : ℕ) → no_two same_id (map row ks) ≡ true → has k ks ≡ true → has_id id (row k) ≡ true → map row (but k ks) ≡ without id (map row ks)
+pub but_without : (row : ℕ → Row) (id : List ℕ) (ks : List ℕ) (k : ℕ) → no_two same_id (map row ks) ≡ true →
+    has k ks ≡ true → has_id id (row k) ≡ true → map row (but k ks) ≡ without id (map row ks)
 but_without row id ks k d hk rk = filter_rows row (has_id id) (nat_eq k) ks (has_slot row id ks k d hk rk)
 
 -- raising the counter in the slot raises that of the row with its id
-pub raised_is : (slots : List Slot) (id : List ℕ) (ks : List ℕ) (k : ℕ) → no_two same_id (map (row_at slots) ks) ≡ true → has k ks ≡ true → has_id id (row_at slots k) ≡ true →
+pub raised_is : (slots : List Slot) (id : List ℕ) (ks : List ℕ) (k : ℕ) →
+    no_two same_id (map (row_at slots) ks) ≡ true → has k ks ≡ true → has_id id (row_at slots k) ≡ true →
     map (raised_at k slots) ks ≡ raised id (map (row_at slots) ks)
 raised_is slots id ks k d hk rk =
-    map_same (raised_at k slots) (λ j. raised_row id (row_at slots j)) ks (λ j i. ap (λ (b : Bool). cond b (record (row_at slots j) { counter = (row_at slots j).counter + 1 }) (row_at slots j)) (sym (has_slot (row_at slots) id ks k d hk rk j i)))
+    map_same (raised_at k slots) (λ j. raised_row id (row_at slots j)) ks
+    (λ j i. ap (λ (b : Bool). cond b (record (row_at slots j) { counter = (row_at slots j).counter + 1 })
+    (row_at slots j)) (sym (has_slot (row_at slots) id ks k d hk rk j i)))
     ∙ twice ks
   where
     twice : (ls : List ℕ) → map (λ j. raised_row id (row_at slots j)) ls ≡ raised id (map (row_at slots) ls)
@@ -237,5 +194,6 @@ raised_is slots id ks k d hk rk =
     twice (l ∷ ls) = ap (λ (rows : List Row). raised_row id (row_at slots l) ∷ rows) (twice ls)
 
 -- and its counter is that row's
-pub counter_slot : (row : ℕ → Row) (id : List ℕ) (ks : List ℕ) (k : ℕ) → no_two same_id (map row ks) ≡ true → has k ks ≡ true → has_id id (row k) ≡ true → counter_of id (map row ks) ≡ (row k).counter
+pub counter_slot : (row : ℕ → Row) (id : List ℕ) (ks : List ℕ) (k : ℕ) → no_two same_id (map row ks) ≡ true →
+    has k ks ≡ true → has_id id (row k) ≡ true → counter_of id (map row ks) ≡ (row k).counter
 counter_slot row id ks k d hk rk = ap counter_in (find_only row (has_id id) id ks k (λ r h. h) d hk rk)

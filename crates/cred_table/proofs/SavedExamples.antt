@@ -14,7 +14,7 @@ unfolding head
 old_none_is = refl
 
 row : Row
-row = record { rp = replicate 32 0xA3; id = replicate 32 0xAA; x = replicate 32 0xBB; y = replicate 32 0xCC; user = record { items = 1 ∷ [] }; discoverable = true; counter = 0xFFFF_FFFF; name = 0x61 ∷ 0x62 ∷ [] }
+row = record { rp = replicate 32 0xA3; id = replicate 32 0xAA; x = replicate 32 0xBB; y = replicate 32 0xCC; user = record { items = 0x01 ∷ [] }; discoverable = true; counter = 0xFFFF_FFFF; name = 0x61 ∷ 0x62 ∷ [] }
 
 -- a member of 32 bytes
 hash : ℕ → ℕ → List ℕ

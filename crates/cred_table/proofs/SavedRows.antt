@@ -1,53 +1,47 @@
 -- Rows that are read one after another.
-use Rattle.std.proofs.Common.{◌≡◌, ℕ, ◌+◌, Bool, List, [], ◌∷◌, ◌++◌, arith, sym, ap, ◌∙◌, append_assoc, length-append, ◌<◌, ◌≤◌, ◌^◌, true, false, length, refl, subst, cond, Result, Ok, Err, ◌*◌, take, drop, take-append-drop, length-take-le, Some}
+use Rattle.std.proofs.lemmas.Grind.{common_steps}
+use Rattle.std.proofs.Common.{rules, ◌≡◌, ℕ, ◌+◌, Bool, List, [], ◌∷◌, ◌++◌, arith, sym, ap, ◌∙◌, append_assoc, length-append, ◌≤◌, true, length, subst, Result, ◌*◌, take, drop, take-append-drop, length-take-le, Some}
 use Rattle.std.proofs.lemmas.List.{append-nil}
 use Rattle.std.specs.List.{AllByRecursion}
-use Rattle.ctap_cbor.specs.Reading.{Reading, rest_of}
+use Rattle.ctap_cbor.specs.Reading.{Reading}
 use Rattle.cred_table.specs.declared.row.Row.{Row}
-use Rattle.cred_table.specs.Snapshots.{IsRow, rows_then, snapshot, version, IsSnapshot, Saves, saved_len}
+use Rattle.cred_table.specs.Snapshots.{IsRow, rows_then, snapshot, IsSnapshot, Saves, saved_len}
 use Rattle.cred_table.specs.Parsing.{row_text, rows_text, TakesRow, TakesRows, heads_text}
-use Rattle.std.specs.Prelude.{nat_lt, OnErr}
+use Rattle.std.specs.Prelude.{OnErr}
 use Rattle.ctap_cbor.specs.Tree.{no_trees, depth_all, count}
 use Rattle.ctap_cbor.specs.Head.{head, head_len}
 use Rattle.ctap_cbor.specs.Grammar.{text, AreLawful}
 use Rattle.cred_table.specs.Rows.{Lawful}
 use Rattle.cred_table.proofs.RowTrees.{row_lawful, row_flat}
-use Rattle.cred_table.proofs.Contents.{heads_of, count_then}
+use Rattle.cred_table.proofs.Contents.{count_then}
 use Rattle.ctap_cbor.specs.declared.sink.Sink.{Sink}
 use Rattle.ctap_cbor.specs.Composing.{done, then}
 use Rattle.ctap_cbor.specs.Writing.{Appends}
 use Rattle.cred_table.specs.Saving.{AppendsUpTo, SavesInto, longest}
 
 -- one more row after the others
-pub rows_text_more : (named : Bool) (rows : List Row) (row : Row) → rows_text named (rows ++ row ∷ []) ≡ rows_text named rows ++ row_text named row
+pub rows_text_more : (named : Bool) (rows : List Row) (row : Row) →
+    rows_text named (rows ++ row ∷ []) ≡ rows_text named rows ++ row_text named row
 rows_text_more named [] row = append-nil (row_text named row)
-rows_text_more named (r ∷ rows) row = ap (λ x. row_text named r ++ x) (rows_text_more named rows row) ∙ sym (append_assoc (row_text named r) (rows_text named rows) (row_text named row))
+rows_text_more named (r ∷ rows) row = search (rules, arith, append_assoc, rows_text_more named rows row)
 
-pub all_more : (P : Row → Type 0) (rows : List Row) (row : Row) → AllByRecursion P rows → P row → AllByRecursion P (rows ++ row ∷ [])
+pub all_more : (P : Row → Type 0) (rows : List Row) (row : Row) → AllByRecursion P rows → P row →
+    AllByRecursion P (rows ++ row ∷ [])
 all_more P [] row all is = (is, tt)
 all_more P (r ∷ rows) row all is = (all.0, all_more P rows row all.1 is)
 
-pub rows_more : (named : Bool) (n : ℕ) (a b c : Reading) (rows more : List Row) → TakesRows named n a b rows → TakesRow named b c rows more → TakesRows named (n + 1) a c more
-rows_more named n a b c rows more h k = rw k.more_is (record {
-  typed = all_more (IsRow named) rows k.row h.typed k.typed;
-  number = omega (arith, length-append rows (k.row ∷ []), h.number);
-  spelled = h.spelled ∙ ap (λ x. rows_text named rows ++ x) k.spelled ∙ sym (append_assoc (rows_text named rows) (row_text named k.row) (rest_of c)) ∙ ap (λ x. x ++ rest_of c) (sym (rows_text_more named rows k.row));
-})
+pub rows_more : (named : Bool) (n : ℕ) (a b c : Reading) (rows more : List Row) → TakesRows named n a b rows →
+    TakesRow named b c rows more → TakesRows named (n + 1) a c more
+rows_more named n a b c rows more h k = grind (arith, all_more, append_assoc, length-append, rows_text_more)
 
 -- Rows that are written one after another, and their snapshot.
 
 -- a head has at most nine bytes
 pub head_short : (n : ℕ) → head_len n ≤ 9
-head_short n = go (nat_lt n 24) (nat_lt n 0x100) (nat_lt n 0x1_0000) (nat_lt n 0x1_0000_0000)
-  where
-    go : (a b c d : Bool) → cond a 1 (cond b 2 (cond c 3 (cond d 5 9))) ≤ 9
-    go true b c d = omega arith
-    go false true c d = omega arith
-    go false false true d = omega arith
-    go false false false true = omega arith
-    go false false false false = omega arith
+head_short n = search (rules, arith)
 
-pub rows_lawful : (named : Bool) (rows : List Row) → AllByRecursion (IsRow named) rows → AreLawful (rows_then named rows no_trees)
+pub rows_lawful : (named : Bool) (rows : List Row) → AllByRecursion (IsRow named) rows →
+    AreLawful (rows_then named rows no_trees)
 rows_lawful named [] typed = tt
 rows_lawful named (row ∷ rows) typed = (row_lawful named row typed.0, rows_lawful named rows typed.1)
 
@@ -55,28 +49,11 @@ rows_flat : (named : Bool) (rows : List Row) → depth_all (rows_then named rows
 rows_flat named [] = omega arith
 rows_flat named (row ∷ rows) = omega (arith, row_flat named row, rows_flat named rows)
 
-version_lawful : (named : Bool) → version named < 2 ^ 64
-version_lawful true = omega arith
-version_lawful false = omega arith
-
 -- typed and lawful rows have a snapshot
-pub snapshot_is : (named : Bool) (room : ℕ) (rows : List Row) → room ≤ 256 → AllByRecursion (IsRow named) rows → Lawful room rows → IsSnapshot named room rows (text (snapshot named rows))
+pub snapshot_is : (named : Bool) (capacity : ℕ) (rows : List Row) → capacity ≤ 256 → AllByRecursion (IsRow named) rows →
+    Lawful capacity rows → IsSnapshot named capacity rows (text (snapshot named rows))
 unfolding head
-snapshot_is named room rows small typed lawful = record {
-  typed = typed;
-  lawful = lawful;
-  canonical = record {
-    enc = record {
-      lawful = (
-        omega arith,
-        (tt, tt, (tt, refl, tt)),
-        (omega arith, version_lawful named, (omega arith, (omega (arith, count_then named rows no_trees, lawful.few), rows_lawful named rows typed), tt)),
-      );
-      spelled = refl;
-    };
-    flat = omega (arith, rows_flat named rows);
-  };
-}
+snapshot_is named capacity rows small typed lawful = grind (arith, count_then, rows_flat, rows_lawful)
 
 -- ---- as they are written
 
@@ -87,7 +64,8 @@ pub record Written (rows left : List Row) (old new : List ℕ) : Type 0 where
   pub typed : AllByRecursion (IsRow true) done
   pub spelled : new ≡ old ++ (heads_text (true, length rows) ++ rows_text true done)
 
-pub one_written : (rows left rest : List Row) (row : Row) (old between new : List ℕ) → left ≡ row ∷ rest → IsRow true row → Written rows left old between → new ≡ between ++ row_text true row → Written rows rest old new
+pub one_written : (rows left rest : List Row) (row : Row) (old between new : List ℕ) → left ≡ row ∷ rest →
+    IsRow true row → Written rows left old between → new ≡ between ++ row_text true row → Written rows rest old new
 one_written rows left rest row old between new first is w e =
     let front : List ℕ = heads_text (true, length rows) in
     record {
@@ -97,58 +75,51 @@ one_written rows left rest row old between new first is w e =
       spelled =
           e ∙ ap (λ x. x ++ row_text true row) w.spelled
           ∙ append_assoc old (front ++ rows_text true w.done) (row_text true row)
-          ∙ ap (λ x. old ++ x) (append_assoc front (rows_text true w.done) (row_text true row) ∙ ap (λ x. front ++ x) (sym (rows_text_more true w.done row)));
+          ∙ ap (λ x. old ++ x) (append_assoc front (rows_text true w.done) (row_text true row)
+          ∙ ap (λ x. front ++ x) (sym (rows_text_more true w.done row)));
     }
 
 -- the rows' snapshot, as it is written
 pub whole_is : (rows : List Row) → text (snapshot true rows) ≡ heads_text (true, length rows) ++ rows_text true rows
-whole_is rows =
-    let number : count (rows_then true rows no_trees) ≡ length rows = omega (arith, count_then true rows no_trees) in
-    heads_of true (rows_then true rows no_trees) ∙ ap (λ n. heads_text (true, n) ++ rows_text true rows) number
+whole_is rows = grind (arith, common_steps, count_then)
 
 -- what is written next is a part of it
-pub heads_within : (rows : List Row) (count : ℕ) → count ≡ length rows → length (heads_text (true, count)) ≤ saved_len rows
-heads_within rows count is =
-    let same = ap (λ n. length (heads_text (true, n))) is in
-    let whole = ap length (whole_is rows) ∙ length-append (heads_text (true, length rows)) (rows_text true rows) in
-    omega (arith, same, whole)
+pub heads_within : (rows : List Row) (count : ℕ) → count ≡ length rows →
+    length (heads_text (true, count)) ≤ saved_len rows
+heads_within rows count is = grind (arith, length-append, whole_is)
 
-pub row_within : (rows left rest : List Row) (row : Row) (old between : List ℕ) → left ≡ row ∷ rest → Written rows left old between → length between + length (row_text true row) ≤ length old + saved_len rows
+pub row_within : (rows left rest : List Row) (row : Row) (old between : List ℕ) → left ≡ row ∷ rest →
+    Written rows left old between → length between + length (row_text true row) ≤ length old + saved_len rows
 row_within rows left rest row old between first w =
     let front : List ℕ = heads_text (true, length rows) in
     let whole = ap length (whole_is rows) ∙ length-append front (rows_text true rows) in
-    let all = ap (λ l. length (rows_text true l)) (sym w.all ∙ ap (λ l. w.done ++ l) first) ∙ rows_joined w.done (row ∷ rest) in
+    let all = ap (λ l. length (rows_text true l)) (sym w.all ∙ ap (λ l. w.done ++ l) first)
+    ∙ rows_joined w.done (row ∷ rest) in
     let next = length-append (row_text true row) (rows_text true rest) in
     let here = ap length w.spelled ∙ length-append old (front ++ rows_text true w.done) in
     let both = length-append front (rows_text true w.done) in
     omega (arith, whole, all, next, here, both)
   where
-    rows_joined : (some more : List Row) → length (rows_text true (some ++ more)) ≡ length (rows_text true some) + length (rows_text true more)
+    rows_joined : (some more : List Row) →
+        length (rows_text true (some ++ more)) ≡ length (rows_text true some) + length (rows_text true more)
     rows_joined [] more = omega arith
-    rows_joined (r ∷ some) more =
-        let a = length-append (row_text true r) (rows_text true (some ++ more)) in
-        let b = length-append (row_text true r) (rows_text true some) in
-        omega (arith, a, b, rows_joined some more)
+    rows_joined (r ∷ some) more = search (rules, arith, length-append, rows_joined some more)
 
-pub all_written : (room : ℕ) (rows left : List Row) (old new : List ℕ) → room ≤ 256 → Lawful room rows → left ≡ [] → Written rows left old new → Saves room rows old new
-all_written room rows left old new small lawful end w =
-    let whole : w.done ≡ rows = sym (append-nil w.done) ∙ ap (λ l. w.done ++ l) (sym end) ∙ w.all in (
-      text (snapshot true rows),
-      snapshot_is true room rows small (subst (AllByRecursion (IsRow true)) whole w.typed) lawful,
-      w.spelled ∙ ap (λ x. old ++ (heads_text (true, length rows) ++ rows_text true x)) whole ∙ ap (λ x. old ++ x) (sym (whole_is rows)),
-    )
+pub all_written : (capacity : ℕ) (rows left : List Row) (old new : List ℕ) → capacity ≤ 256 → Lawful capacity rows → left ≡ [] →
+    Written rows left old new → Saves capacity rows old new
+all_written capacity rows left old new small lawful end w = grind (arith, append-nil, snapshot_is, whole_is)
 
 -- what holds anyway holds where there is an error
 pub on_err : {T E P : Type 0} (r : Result T E) → P → OnErr r P
-on_err (Ok x) p = tt
-on_err (Err e) p = p
+on_err r p = search (rules, arith)
 
 -- What a sink appends in several calls, where only the greatest length of the pieces is known.
 
 pub exactly : {a b : Sink} {x : List ℕ} {n : ℕ} → Appends a b x n → AppendsUpTo a b x n
 exactly {n = n} p = (n, omega arith, p)
 
-pub up_to : {a b c : Sink} {x y : List ℕ} {m n : ℕ} → AppendsUpTo a b x m → AppendsUpTo b c y n → AppendsUpTo a c (x ++ y) (m + n)
+pub up_to : {a b c : Sink} {x y : List ℕ} {m n : ℕ} → AppendsUpTo a b x m → AppendsUpTo b c y n →
+    AppendsUpTo a c (x ++ y) (m + n)
 up_to p q = (p.0 + q.0, let e = p.1 in let f = q.1 in omega arith, then p.2 q.2)
 
 pub ended : {a : Sink} → AppendsUpTo a a [] 0
@@ -169,7 +140,8 @@ pub record Put (rows left : List Row) (old new : Sink) : Type 0 where
   pub typed : AllByRecursion (IsRow true) done
   pub appends : AppendsUpTo old new (heads_text (true, length rows) ++ rows_text true done) (13 + 283 * length done)
 
-pub one_put : (rows left rest : List Row) (row : Row) (old between new : Sink) → left ≡ row ∷ rest → IsRow true row → Put rows left old between → AppendsUpTo between new (row_text true row) 283 → Put rows rest old new
+pub one_put : (rows left rest : List Row) (row : Row) (old between new : Sink) → left ≡ row ∷ rest → IsRow true row →
+    Put rows left old between → AppendsUpTo between new (row_text true row) 283 → Put rows rest old new
 one_put rows left rest row old between new first is w p =
     let front : List ℕ = heads_text (true, length rows) in
     let more = length-append w.done (row ∷ []) in
@@ -177,29 +149,21 @@ one_put rows left rest row old between new first is w p =
       done = w.done ++ row ∷ [];
       all = append_assoc w.done (row ∷ []) rest ∙ ap (λ l. w.done ++ l) (sym first) ∙ w.all;
       typed = all_more (IsRow true) w.done row w.typed is;
-      appends = at_most (omega (arith, more)) (respelled (append_assoc front (rows_text true w.done) (row_text true row) ∙ ap (λ x. front ++ x) (sym (rows_text_more true w.done row))) (up_to w.appends p));
+      appends = at_most (omega (arith, more)) (respelled (append_assoc front (rows_text true w.done) (row_text true row)
+          ∙ ap (λ x. front ++ x) (sym (rows_text_more true w.done row))) (up_to w.appends p));
     }
 
 -- all are put once none is left
 whole : (rows left : List Row) (old new : Sink) → left ≡ [] → (w : Put rows left old new) → w.done ≡ rows
 whole rows left old new end w = sym (append-nil w.done) ∙ ap (λ l. w.done ++ l) (sym end) ∙ w.all
 
-pub all_put : (room : ℕ) (rows left : List Row) (old new : Sink) → Lawful room rows → left ≡ [] → Put rows left old new → AppendsUpTo old new (text (snapshot true rows)) (longest room)
-all_put room rows left old new lawful end w =
-    let all = whole rows left old new end w in
-    let number = ap length all in
-    let few = lawful.few in
-    at_most (omega (arith, number, few)) (respelled (ap (λ x. heads_text (true, length rows) ++ rows_text true x) all ∙ sym (whole_is rows)) w.appends)
-
-pub all_typed : (rows left : List Row) (old new : Sink) → left ≡ [] → Put rows left old new → AllByRecursion (IsRow true) rows
-all_typed rows left old new end w = subst (AllByRecursion (IsRow true)) (whole rows left old new end w) w.typed
+pub all_put : (capacity : ℕ) (rows left : List Row) (old new : Sink) → Lawful capacity rows → left ≡ [] →
+    Put rows left old new → AppendsUpTo old new (text (snapshot true rows)) (longest capacity)
+all_put capacity rows left old new lawful end w = search (rules, arith, whole_is)
 
 -- the buffer then
-pub saved_into : (room : ℕ) (rows : List Row) (old new : List ℕ) (len : ℕ) → room ≤ 256 → Lawful room rows → AllByRecursion (IsRow true) rows → longest room ≤ length old → take len new ≡ text (snapshot true rows) → drop len new ≡ drop len old → len ≤ length new → SavesInto room rows old new (Some len)
-saved_into room rows old new len small lawful typed space front rest within = (
-  space,
-  text (snapshot true rows),
-  snapshot_is true room rows small typed lawful,
-  sym (ap length front) ∙ length-take-le len new within,
-  sym (take-append-drop len new) ∙ ap (λ x. x ++ drop len new) front ∙ ap (λ x. text (snapshot true rows) ++ x) rest,
-)
+pub saved_into : (capacity : ℕ) (rows : List Row) (old new : List ℕ) (len : ℕ) → capacity ≤ 256 → Lawful capacity rows →
+    AllByRecursion (IsRow true) rows → longest capacity ≤ length old → take len new ≡ text (snapshot true rows) →
+    drop len new ≡ drop len old → len ≤ length new → SavesInto capacity rows old new (Some len)
+saved_into capacity rows old new len small lawful typed space front rest within =
+    grind (arith, length-take-le, snapshot_is, take-append-drop)

@@ -1,5 +1,6 @@
 -- The slot before one in a chain.
-use Rattle.std.proofs.Common.{◌≡◌, ℕ, ◌<◌, List, [], ◌∷◌, ◌++◌, length, Bool, true, false, cond, ◌||◌, Option, Some, None, option_map, refl, sym, ◌∙◌, ap, subst, arith, nat_eq, get_or, reverse, ◌&&◌, not, ◌+◌, map, set}
+use Rattle.std.proofs.lemmas.Grind.{common_steps}
+use Rattle.std.proofs.Common.{rules, ◌≡◌, ℕ, ◌<◌, List, [], ◌∷◌, ◌++◌, length, Bool, true, false, cond, ◌||◌, Option, Some, None, option_map, refl, sym, ◌∙◌, ap, subst, arith, nat_eq, get_or, reverse, ◌&&◌, not, ◌+◌, map, set}
 use Rattle.std.specs.List.{find}
 use Rattle.std.proofs.Math.Bool.{or-true, and-false, and-true}
 use Rattle.std.proofs.lemmas.Bool.{or_parts, and_parts, and_from}
@@ -8,49 +9,30 @@ use Rattle.cred_table.specs.declared.slot.Along.TheVariants.{Next, Newer, Older}
 use Rattle.cred_table.specs.declared.chains.Chains.{Chains}
 use Rattle.cred_table.specs.Slots.{links, has, slot_at, numbered, leads_to, before, but, within, distinct, led_slots, begun, bucket}
 use Rattle.cred_table.specs.Linked.{Linked, id_slots, head, age, free_slots, row_at, rows_in}
-use Rattle.cred_table.proofs.Chain.{Leads, walked, EndsWith, eq_is, link_at, length-links, Leads-set, led, eq_test, ne_test, lt_is, has-push, Leads-split, Leads-without, Leads-distinct, has-split, distinct-split, but_is, links-led, links-led_other, length-led, row-led, map_same, Holds, opened, closed, age_is, ends_newest, has-reverse}
+use Rattle.cred_table.proofs.Chain.{Leads, walked, EndsWith, eq_is, link_at, length-links, Leads-set, led, eq_test, ne_test, lt_is, has-push, Leads-split, Leads-without, Leads-distinct, has-split, distinct-split, but_is, links-led, links-led_other, length-led, row-led, map_same, slot_read, Holds, opened, closed, age_is, ends_newest, has-reverse}
 use Rattle.std.proofs.lemmas.List.{reverse-append, length-append, length-map, get_or-set_same, get_or-set_other}
 use Rattle.std.proofs.lemmas.List.Folds.{list_any-append}
 use Rattle.cred_table.specs.declared.row.Row.{Row}
 use Rattle.cred_table.specs.declared.slot.Along.{Along}
 
 -- the slot that leads to one is the one before
-pub leader_is : (slots : List Slot) (at : Option ℕ) (ks : List ℕ) (k : ℕ) → Leads (links Next slots) at ks None → option_map (λ (found : ℕ × Slot). found.0) (find (leads_to k) (numbered slots ks)) ≡ before k ks
+pub leader_is : (slots : List Slot) (at : Option ℕ) (ks : List ℕ) (k : ℕ) → Leads (links Next slots) at ks None →
+    option_map (λ (found : ℕ × Slot). found.0) (find (leads_to k) (numbered slots ks)) ≡ before k ks
 leader_is slots at [] k h = refl
-leader_is slots at (i ∷ []) k h =
-    let long = length-links Next slots in
-    let there : i < length slots = let l = h.1 in omega arith in
-    let none : (slot_at slots i).next ≡ None = sym (link_at Next slots i there) ∙ h.2 in
-    rw none refl
+leader_is slots at (i ∷ []) k h = grind (arith, length-links, link_at)
 leader_is slots at (i ∷ j ∷ ks) k h =
-    let long = length-links Next slots in
-    let there : i < length slots = let l = h.1 in omega arith in
-    let next : (slot_at slots i).next ≡ Some j = sym (link_at Next slots i there) ∙ h.2.0 in
-    rw next (go (nat_eq j k) (leader_is slots (get_or (links Next slots) i None) (j ∷ ks) k h.2))
-  where
-    go : (b : Bool) → option_map (λ (found : ℕ × Slot). found.0) (find (leads_to k) (numbered slots (j ∷ ks))) ≡ before k (j ∷ ks) →
-        option_map (λ (found : ℕ × Slot). found.0) (cond b (Some (i, slot_at slots i)) (find (leads_to k) (numbered slots (j ∷ ks)))) ≡ cond b (Some i) (before k (j ∷ ks))
-    go true ih = refl
-    go false ih = ih
+    grind (arith, length-links, link_at, leader_is slots (get_or (links Next slots) i None) (j ∷ ks) k)
 
 turned : (k j : ℕ) → nat_eq k j ≡ false → nat_eq j k ≡ false
-turned k j h = go (nat_eq j k) refl
-  where
-    go : (b : Bool) → nat_eq j k ≡ b → b ≡ false
-    go true e = let f = eq_is k j (sym (eq_back e)) in let g : true ≡ false = sym f ∙ h in cc
-      where
-        eq_back : nat_eq j k ≡ true → j ≡ k
-        eq_back e = grind arith
-    go false e = refl
+turned k j h = grind arith
 
 none_before : (k j : ℕ) (ks : List ℕ) → has k ks ≡ false → before k (j ∷ ks) ≡ None
 none_before k j [] h = refl
-none_before k j (i ∷ ks) h =
-    let e = or_parts (nat_eq k i) (has k ks) h in
-    rw (turned k i e.0) (none_before k i ks e.1)
+none_before k j (i ∷ ks) h = grind (arith, none_before k i ks)
 
 -- and what stands before ends with it
-pub before_ends : (fs : List ℕ) (k : ℕ) (rs : List ℕ) → has k fs ≡ false → has k rs ≡ false → EndsWith fs (before k (fs ++ k ∷ rs))
+pub before_ends : (fs : List ℕ) (k : ℕ) (rs : List ℕ) → has k fs ≡ false → has k rs ≡ false →
+    EndsWith fs (before k (fs ++ k ∷ rs))
 before_ends [] k rs h i = let P : Option ℕ → Type 0 = λ o. EndsWith [] o in subst P (sym (none_before k k rs i)) refl
 before_ends (j ∷ []) k rs h i = rw (eq_is k k refl) ([], refl)
 before_ends (j ∷ l ∷ fs) k rs h i =
@@ -62,62 +44,33 @@ before_ends (j ∷ l ∷ fs) k rs h i =
     more None g = cc
     more (Some p) g = (j ∷ g.0, ap (λ (ls : List ℕ). j ∷ ls) g.1)
 
-pub before_is : {C : ℕ} (chains : Chains C) (b k : ℕ) → Linked [] chains → option_map (λ (found : ℕ × Slot). found.0) (find (leads_to k) (numbered chains.slots (id_slots b chains))) ≡ before k (id_slots b chains)
-before_is chains b k l = leader_is chains.slots (head b chains) (id_slots b chains) k (walked (length (links Next chains.slots)) (links Next chains.slots) (head b chains) (l.found b))
+pub before_is : {C : ℕ} (chains : Chains C) (b k : ℕ) → Linked [] chains →
+    option_map (λ (found : ℕ × Slot). found.0) (find (leads_to k) (numbered chains.slots (id_slots b chains))) ≡ before
+    k (id_slots b chains)
+before_is chains b k l = leader_is chains.slots (head b chains) (id_slots b chains) k
+    (walked (length (links Next chains.slots)) (links Next chains.slots) (head b chains) (l.found b))
 
 -- the one before stands in the chain too
 pub before_has : (k : ℕ) (ks : List ℕ) (p : ℕ) → before k ks ≡ Some p → has p ks ≡ true
 before_has k [] p h = cc
 before_has k (i ∷ []) p h = cc
-before_has k (i ∷ j ∷ ks) p h = go (λ e. before_has k (j ∷ ks) p e) (nat_eq j k) h
-  where
-    go : (before k (j ∷ ks) ≡ Some p → has p (j ∷ ks) ≡ true) → (b : Bool) → cond b (Some i) (before k (j ∷ ks)) ≡ Some p → has p (i ∷ j ∷ ks) ≡ true
-    go ih true e = let s : i ≡ p = cc in rw s (rw (eq_is p p refl) refl)
-    go ih false e = rw (ih e) (or-true (nat_eq p i))
+before_has k (i ∷ j ∷ ks) p h = grind (arith, before_has k (j ∷ ks) p)
 
 -- Slots, links and tests, once a slot is taken out of a chain.
 
 -- ---- tests
 
 pub and_swap : (a b c : Bool) → ((a && b) && c) ≡ ((a && c) && b)
-and_swap true true c = go c
-  where
-    go : (c : Bool) → c ≡ (c && true)
-    go true = refl
-    go false = refl
-and_swap true false c = go c
-  where
-    go : (c : Bool) → false ≡ (c && false)
-    go true = refl
-    go false = refl
-and_swap false b c = refl
+and_swap a b c = search (rules, arith)
 
 pub eq_turned : (j k : ℕ) → nat_eq j k ≡ nat_eq k j
-eq_turned j k = go (nat_eq j k) (nat_eq k j) refl refl
-  where
-    go : (a b : Bool) → nat_eq j k ≡ a → nat_eq k j ≡ b → a ≡ b
-    go true true e f = refl
-    go false false e f = refl
-    go true false e f = absurd (ne_test k j f (sym (eq_test j k e)))
-    go false true e f = absurd (ne_test j k e (sym (eq_test k j f)))
+eq_turned j k = grind arith
 
 -- ---- lists
 
 pub has-but : (k : ℕ) (ks : List ℕ) (j : ℕ) → has j (but k ks) ≡ (has j ks && not (nat_eq k j))
 has-but k [] j = refl
-has-but k (i ∷ ks) j = go (nat_eq k i) refl (has-but k ks j)
-  where
-    go : (b : Bool) → nat_eq k i ≡ b → has j (but k ks) ≡ (has j ks && not (nat_eq k j)) → has j (cond (not b) (i ∷ but k ks) (but k ks)) ≡ ((nat_eq j i || has j ks) && not (nat_eq k j))
-    go true e ih = ih ∙ same (nat_eq j i) refl
-      where
-        same : (c : Bool) → nat_eq j i ≡ c → (has j ks && not (nat_eq k j)) ≡ ((c || has j ks) && not (nat_eq k j))
-        same true f = let g : nat_eq k j ≡ true = eq_is k j (eq_test k i e ∙ sym (eq_test j i f)) in rw g (and-false (has j ks))
-        same false f = refl
-    go false e ih = same (nat_eq j i) refl
-      where
-        same : (c : Bool) → nat_eq j i ≡ c → (c || has j (but k ks)) ≡ ((c || has j ks) && not (nat_eq k j))
-        same true f = let g : nat_eq k j ≡ false = ap (nat_eq k) (eq_test j i f) ∙ e in rw g refl
-        same false f = ih
+has-but k (i ∷ ks) j = grind (arith, has-but k ks j)
 
 pub has-front : (fs : List ℕ) (k : ℕ) (rs : List ℕ) (j : ℕ) → has j fs ≡ true → has j (fs ++ k ∷ rs) ≡ true
 has-front fs k rs j h = list_any-append (nat_eq j) fs (k ∷ rs) ∙ rw h refl
@@ -126,13 +79,14 @@ pub has-rear : (fs : List ℕ) (k : ℕ) (rs : List ℕ) (j : ℕ) → has j rs 
 has-rear fs k rs j h = list_any-append (nat_eq j) fs (k ∷ rs) ∙ rw (h, or-true (nat_eq j k)) (or-true (has j fs))
 
 -- the last slot of some is there
-pub within_ends : (ls : List ℕ) (o : Option ℕ) (slots : List Slot) → EndsWith ls o → ((j : ℕ) → has j ls ≡ true → j < length slots) → within o slots ≡ true
+pub within_ends : (ls : List ℕ) (o : Option ℕ) (slots : List Slot) → EndsWith ls o →
+    ((j : ℕ) → has j ls ≡ true → j < length slots) → within o slots ≡ true
 within_ends ls None slots e i = refl
-within_ends ls (Some p) slots e i = lt_is p (length slots) (i p (ap (has p) e.1 ∙ (has-push p e.0 p ∙ rw (eq_is p p refl) refl)))
+within_ends ls (Some p) slots e i = lt_is p (length slots)
+    (i p (ap (has p) e.1 ∙ (has-push p e.0 p ∙ rw (eq_is p p refl) refl)))
 
 pub within_long : (o : Option ℕ) (a b : List Slot) → length a ≡ length b → within o b ≡ true → within o a ≡ true
-within_long None a b e h = refl
-within_long (Some p) a b e h = rw e h
+within_long o a b e h = search (rules, arith)
 
 -- where links begin is where the slots turned round end
 pub starts : (to : List (Option ℕ)) (at : Option ℕ) (ks : List ℕ) → Leads to at ks None → EndsWith (reverse ks) at
@@ -140,16 +94,17 @@ starts to at [] h = subst (EndsWith []) (sym h) refl
 starts to at (k ∷ ks) h = subst (EndsWith (reverse (k ∷ ks))) (sym h.0) (reverse ks, reverse-append (k ∷ []) ks)
 
 -- a link changes in no slot of a chain
-pub Leads-led : (to : List (Option ℕ)) (at : Option ℕ) (ks : List ℕ) (o next : Option ℕ) → ((p : ℕ) → o ≡ Some p → has p ks ≡ false) → Leads to at ks None → Leads (led o next to) at ks None
-Leads-led to at ks None next n h = h
-Leads-led to at ks (Some p) next n h = Leads-set to at None ks p next (n p refl) h
+pub Leads-led : (to : List (Option ℕ)) (at : Option ℕ) (ks : List ℕ) (o next : Option ℕ) →
+    ((p : ℕ) → o ≡ Some p → has p ks ≡ false) → Leads to at ks None → Leads (led o next to) at ks None
+Leads-led to at ks o next n h = search (rules, arith, Leads-set)
 
 -- A slot is taken out of the age chain and the chain of its id.
 
 -- The table after it.
 abbrev pub unlinked : {C : ℕ} → Chains C → ℕ → Slot → Option ℕ → Chains C
 unlinked chains k slot prior = record {
-  slots = led_slots Older slot.newer slot.older (led_slots Newer slot.older slot.newer (led_slots Next prior slot.next chains.slots));
+  slots = led_slots Older slot.newer slot.older
+      (led_slots Newer slot.older slot.newer (led_slots Next prior slot.next chains.slots));
   heads = set chains.heads (bucket slot.row.id) (begun prior slot.next (head (bucket slot.row.id) chains));
   free = chains.free;
   oldest = begun slot.older slot.newer chains.oldest;
@@ -160,23 +115,34 @@ unlinked chains k slot prior = record {
 abbrev left : (k b : ℕ) → (ℕ → List ℕ) → ℕ → List ℕ
 left k b ids c = cond (nat_eq c b) (but k (ids c)) (ids c)
 
-holds : {C : ℕ} (chains : Chains C) (k : ℕ) (prior : Option ℕ) (held spare : List ℕ) (ids : ℕ → List ℕ) → Holds [] chains held spare ids → has k held ≡ true → bucket (row_at chains.slots k).id < length chains.heads →
+holds : {C : ℕ} (chains : Chains C) (k : ℕ) (prior : Option ℕ) (held spare : List ℕ) (ids : ℕ → List ℕ) →
+    Holds [] chains held spare ids → has k held ≡ true → bucket (row_at chains.slots k).id < length chains.heads →
     prior ≡ before k (ids (bucket (row_at chains.slots k).id)) →
-    Holds (k ∷ []) (unlinked chains k (slot_at chains.slots k) prior) (but k held) spare (left k (bucket (row_at chains.slots k).id) ids)
+    Holds (k ∷ []) (unlinked chains k (slot_at chains.slots k) prior) (but k held) spare
+    (left k (bucket (row_at chains.slots k).id) ids)
     × ((j : ℕ) → row_at (unlinked chains k (slot_at chains.slots k) prior).slots j ≡ row_at chains.slots j)
-    × (within prior chains.slots ≡ true) × (within (slot_at chains.slots k).older chains.slots ≡ true) × (within (slot_at chains.slots k).newer chains.slots ≡ true)
+    × (within prior chains.slots ≡ true) × (within (slot_at chains.slots k).older chains.slots ≡ true)
+    × (within (slot_at chains.slots k).newer chains.slots ≡ true)
 holds {C = C} chains k prior held spare ids h is_held bound is_prior = (
   record {
-    aged = subst (λ (ks : List ℕ). Leads (links Newer after.slots) after.oldest ks None) (sym held_left) (subst (λ (to : List (Option ℕ)). Leads to after.oldest (fs ++ rs) None) (sym newers) newer_after);
+    aged = subst (λ (ks : List ℕ). Leads (links Newer after.slots) after.oldest ks None) (sym held_left)
+        (subst (λ (to : List (Option ℕ)). Leads to after.oldest (fs ++ rs) None) (sym newers) newer_after);
     back = subst (λ (ks : List ℕ). Leads (links Older after.slots) after.newest (reverse ks) None) (sym held_left)
-        (subst (λ (ks : List ℕ). Leads (links Older after.slots) after.newest ks None) (sym (reverse-append fs rs)) (subst (λ (to : List (Option ℕ)). Leads to after.newest (reverse rs ++ reverse fs) None) (sym olders) older_after));
-    freed = subst (λ (to : List (Option ℕ)). Leads to chains.free spare None) (sym nexts) (Leads-led next chains.free spare prior slot.next not_spare h.freed);
-    found = λ c. subst (λ (to : List (Option ℕ)). Leads to (head c after) (left k b ids c) None) (sym nexts) (found c (nat_eq c b) refl);
-    by_id = λ c j. by_id c j (nat_eq c b) refl ∙ ap (λ (r : Row). has j (but k held) && nat_eq (bucket r.id) c) (sym (rows j));
+        (subst (λ (ks : List ℕ). Leads (links Older after.slots) after.newest ks None) (sym (reverse-append fs rs))
+        (subst (λ (to : List (Option ℕ)). Leads to after.newest (reverse rs ++ reverse fs) None)
+        (sym olders) older_after));
+    freed = subst (λ (to : List (Option ℕ)). Leads to chains.free spare None) (sym nexts)
+        (Leads-led next chains.free spare prior slot.next not_spare h.freed);
+    found = λ c. subst (λ (to : List (Option ℕ)). Leads to (head c after) (left k b ids c) None) (sym nexts)
+        (found c (nat_eq c b) refl);
+    by_id = λ c j. by_id c j (nat_eq c b) refl ∙ ap (λ (r : Row). has j (but k held) && nat_eq (bucket r.id) c)
+        (sym (rows j));
     in_free = λ j. h.in_free j ∙ rw (in_away j, long) refl;
-    apart = and_from (not (has k (but k held))) (distinct (but k held)) (rw (has-but k held k, eq_is k k refl, and-false (has k held)) refl) distinct_left;
+    apart = and_from (not (has k (but k held))) (distinct (but k held))
+        (rw (has-but k held k, eq_is k k refl, and-false (has k held)) refl) distinct_left;
     inside = λ j i. rw long (h.inside j (in_away j ∙ i));
-    all = let a = h.all in let l = ap length held_left in let m = ap length is_split in let n = length-append fs rs in let o = length-append fs (k ∷ rs) in let p = long in omega arith;
+    all = let a = h.all in let l = ap length held_left in let m = ap length is_split in let n = length-append fs rs in
+        let o = length-append fs (k ∷ rs) in let p = long in omega arith;
   },
   rows,
   named_prior,
@@ -227,11 +193,7 @@ holds {C = C} chains k prior held spare ids h is_held bound is_prior = (
     held_left = ap (but k) is_split ∙ but_is newer chains.oldest fs k rs aged
 
     is_turned : reverse held ≡ reverse rs ++ k ∷ reverse fs
-    is_turned = ap reverse is_split ∙ (reverse-append fs (k ∷ rs) ∙ (ap (λ (ks : List ℕ). ks ++ reverse fs) (reverse-append (k ∷ []) rs) ∙ moved (reverse rs)))
-      where
-        moved : (ls : List ℕ) → (ls ++ k ∷ []) ++ reverse fs ≡ ls ++ k ∷ reverse fs
-        moved [] = refl
-        moved (l ∷ ls) = ap (λ (ks : List ℕ). l ∷ ks) (moved ls)
+    is_turned = grind (arith, common_steps, reverse-append, is_split)
 
     back : Leads older chains.newest (reverse rs ++ k ∷ reverse fs) None
     back = subst (λ (ks : List ℕ). Leads older chains.newest ks None) is_turned h.back
@@ -246,40 +208,32 @@ holds {C = C} chains k prior held spare ids h is_held bound is_prior = (
     is_next = link_at Next slots k there
 
     ends_older : EndsWith fs slot.older
-    ends_older =
-        let s = Leads-split older chains.newest None (reverse rs) (k ∷ reverse fs) back in
-        ends_newest older slot.older fs (subst (λ (o : Option ℕ). Leads older o (reverse fs) None) is_older s.2.2)
+    ends_older = search (rules, arith, Leads-split, ends_newest, back, is_older)
 
     ends_newer : EndsWith (reverse rs) slot.newer
-    ends_newer =
-        let s = Leads-split newer chains.oldest None fs (k ∷ rs) aged in
-        starts newer slot.newer rs (subst (λ (o : Option ℕ). Leads newer o rs None) is_newer s.2.2)
+    ends_newer = search (rules, arith, Leads-split, starts, aged, is_newer)
 
     newer_after : Leads (led slot.older slot.newer newer) (begun slot.older slot.newer chains.oldest) (fs ++ rs) None
-    newer_after =
-        subst (λ (o : Option ℕ). Leads (led slot.older o newer) (begun slot.older o chains.oldest) (fs ++ rs) None) is_newer (Leads-without newer chains.oldest fs k rs slot.older aged ends_older)
+    newer_after = search (rules, arith, Leads-without, is_newer, aged, ends_older)
 
-    older_after : Leads (led slot.newer slot.older older) (begun slot.newer slot.older chains.newest) (reverse rs ++ reverse fs) None
-    older_after =
-        subst (λ (o : Option ℕ). Leads (led slot.newer o older) (begun slot.newer o chains.newest) (reverse rs ++ reverse fs) None) is_older
-        (Leads-without older chains.newest (reverse rs) k (reverse fs) slot.newer back ends_newer)
+    older_after : Leads (led slot.newer slot.older older) (begun slot.newer slot.older chains.newest)
+        (reverse rs ++ reverse fs) None
+    older_after = search (rules, arith, Leads-without, is_older, back, ends_newer)
 
     -- the slots that are named
     named_older : within slot.older slots ≡ true
-    named_older = within_ends fs slot.older slots ends_older (λ j i. h.inside j (ap (has j) is_split ∙ has-front fs k rs j i))
+    named_older = search (rules, arith, has-front, within_ends, ends_older, h.inside, is_split)
 
     named_newer : within slot.newer slots ≡ true
-    named_newer = within_ends (reverse rs) slot.newer slots ends_newer (λ j i. h.inside j (ap (has j) is_split ∙ has-rear fs k rs j (sym (has-reverse j rs) ∙ i)))
+    named_newer = within_ends (reverse rs) slot.newer slots ends_newer
+        (λ j i. h.inside j (ap (has j) is_split ∙ has-rear fs k rs j (sym (has-reverse j rs) ∙ i)))
 
     prior_held : (p : ℕ) → prior ≡ Some p → (has p held ≡ true) × (nat_eq (bucket (row_at slots p).id) b ≡ true)
-    prior_held p e = and_parts (has p held) (nat_eq (bucket (row_at slots p).id) b) (sym (h.by_id b p) ∙ before_has k (ids b) p (sym is_prior ∙ e))
+    prior_held p e = and_parts (has p held) (nat_eq (bucket (row_at slots p).id) b) (sym (h.by_id b p)
+        ∙ before_has k (ids b) p (sym is_prior ∙ e))
 
     named_prior : within prior slots ≡ true
-    named_prior = go prior refl
-      where
-        go : (o : Option ℕ) → prior ≡ o → within o slots ≡ true
-        go None e = refl
-        go (Some p) e = lt_is p (length slots) (h.inside p (prior_held p e).0)
+    named_prior = search (rules, arith, lt_is, h.inside, prior_held)
 
     -- the links after it
     slots1 : List Slot
@@ -304,22 +258,16 @@ holds {C = C} chains k prior held spare ids h is_held bound is_prior = (
     named2 = within_long slot.newer slots2 slots long2 named_newer
 
     newers : links Newer after.slots ≡ led slot.older slot.newer newer
-    newers =
-        links-led_other Older Newer slot.newer slot.older slots2 (λ s. refl) named2
-        ∙ (links-led Newer slot.older slot.newer slots1 ∙ ap (led slot.older slot.newer) (links-led_other Next Newer prior slot.next slots (λ s. refl) named_prior))
+    newers = grind (arith, common_steps, led, links-led, links-led_other)
 
     olders : links Older after.slots ≡ led slot.newer slot.older older
-    olders =
-        links-led Older slot.newer slot.older slots2
-        ∙ ap (led slot.newer slot.older) (links-led_other Newer Older slot.older slot.newer slots1 (λ s. refl) named1 ∙ links-led_other Next Older prior slot.next slots (λ s. refl) named_prior)
+    olders = search (rules, arith, links-led, links-led_other, named1, named_prior)
 
     nexts : links Next after.slots ≡ led prior slot.next next
-    nexts =
-        links-led_other Older Next slot.newer slot.older slots2 (λ s. refl) named2
-        ∙ (links-led_other Newer Next slot.older slot.newer slots1 (λ s. refl) named1 ∙ links-led Next prior slot.next slots)
+    nexts = search (rules, arith, links-led, links-led_other, named2, named1)
 
     rows : (j : ℕ) → row_at after.slots j ≡ row_at slots j
-    rows j = row-led Older slot.newer slot.older slots2 j named2 ∙ (row-led Newer slot.older slot.newer slots1 j named1 ∙ row-led Next prior slot.next slots j named_prior)
+    rows j = search (rules, arith, row-led, named2, named1, named_prior)
 
     -- the chains by id, and the free chain
     is_found : has k (ids b) ≡ true
@@ -329,61 +277,33 @@ holds {C = C} chains k prior held spare ids h is_held bound is_prior = (
     not_spare p e = h.in_free p ∙ rw (prior_held p e).0 refl
 
     not_found : (c : ℕ) → nat_eq c b ≡ false → (p : ℕ) → prior ≡ Some p → has p (ids c) ≡ false
-    not_found c n p e =
-        let f = prior_held p e in
-        let g : nat_eq (bucket (row_at slots p).id) c ≡ false = ap (λ (m : ℕ). nat_eq m c) (eq_test (bucket (row_at slots p).id) b f.1) ∙ (eq_turned b c ∙ n) in
-        h.by_id c p ∙ rw g (and-false (has p held))
+    not_found c n p e = search (rules, arith, and-false, eq_test, eq_turned, prior_held, h.by_id)
 
     own : Leads (led prior slot.next next) (begun prior slot.next (head b chains)) (but k (ids b)) None
-    own =
-        let s = has-split k (ids b) is_found in
-        let chain_b = subst (λ (ks : List ℕ). Leads next (head b chains) ks None) s.2 (h.found b) in
-        let d = distinct-split s.0 k s.1 (Leads-distinct next (head b chains) (s.0 ++ k ∷ s.1) chain_b) in
-        let e = subst (EndsWith s.0) (sym (is_prior ∙ ap (before k) s.2)) (before_ends s.0 k s.1 d.0 d.1) in
-        let w = Leads-without next (head b chains) s.0 k s.1 prior chain_b e in
-        let is_left = ap (but k) s.2 ∙ but_is next (head b chains) s.0 k s.1 chain_b in
-        subst (λ (ks : List ℕ). Leads (led prior slot.next next) (begun prior slot.next (head b chains)) ks None) (sym is_left)
-        (subst (λ (o : Option ℕ). Leads (led prior o next) (begun prior o (head b chains)) (s.0 ++ s.1) None) is_next w)
+    own = search (rules, arith, Leads-distinct, Leads-without, before_ends, but_is, distinct-split, has-split, is_found, h.found, is_next)
 
-    found : (c : ℕ) (p : Bool) → nat_eq c b ≡ p → Leads (led prior slot.next next) (head c after) (cond p (but k (ids c)) (ids c)) None
-    found c true e =
-        let same = eq_test c b e in
-        let begins : head b after ≡ begun prior slot.next (head b chains) = get_or-set_same chains.heads b (begun prior slot.next (head b chains)) None bound in
-        let P : ℕ → Type 0 = λ i. Leads (led prior slot.next next) (head i after) (but k (ids i)) None in
-        subst P (sym same) (subst (λ (o : Option ℕ). Leads (led prior slot.next next) o (but k (ids b)) None) (sym begins) own)
-    found c false e =
-        let begins : head c after ≡ head c chains = get_or-set_other chains.heads b c (begun prior slot.next (head b chains)) None (ne_test c b e) in
-        subst (λ (o : Option ℕ). Leads (led prior slot.next next) o (ids c) None) (sym begins) (Leads-led next (head c chains) (ids c) prior slot.next (not_found c e) (h.found c))
+    found : (c : ℕ) (p : Bool) → nat_eq c b ≡ p →
+        Leads (led prior slot.next next) (head c after) (cond p (but k (ids c)) (ids c)) None
+    found c p e = search (rules, arith, Leads-led, eq_test, get_or-set_other, get_or-set_same, ne_test, own, not_found, h.found)
 
-    by_id : (c j : ℕ) (p : Bool) → nat_eq c b ≡ p → has j (cond p (but k (ids c)) (ids c)) ≡ (has j (but k held) && nat_eq (bucket (row_at slots j).id) c)
-    by_id c j true e =
-        has-but k (ids c) j
-        ∙ (ap (λ (t : Bool). t && not (nat_eq k j)) (h.by_id c j)
-        ∙ (and_swap (has j held) (nat_eq (bucket (row_at slots j).id) c) (not (nat_eq k j)) ∙ ap (λ (t : Bool). t && nat_eq (bucket (row_at slots j).id) c) (sym (has-but k held j))))
-    by_id c j false e = h.by_id c j ∙ (go (nat_eq k j) refl ∙ ap (λ (t : Bool). t && nat_eq (bucket (row_at slots j).id) c) (sym (has-but k held j)))
-      where
-        go : (q : Bool) → nat_eq k j ≡ q → (has j held && nat_eq (bucket (row_at slots j).id) c) ≡ ((has j held && not (nat_eq k j)) && nat_eq (bucket (row_at slots j).id) c)
-        go true f =
-            let same = eq_test k j f in
-            let g : nat_eq (bucket (row_at slots j).id) c ≡ false = ap (λ (i : ℕ). nat_eq (bucket (row_at slots i).id) c) (sym same) ∙ (eq_turned b c ∙ e) in
-            rw (g, and-false (has j held)) (sym (and-false (has j held && not (nat_eq k j))))
-        go false f = rw (f, and-true (has j held)) refl
+    by_id : (c j : ℕ) (p : Bool) → nat_eq c b ≡ p →
+        has j (cond p (but k (ids c)) (ids c)) ≡ (has j (but k held) && nat_eq (bucket (row_at slots j).id) c)
+    by_id c j p e = grind (arith, and-false, and-true, and_swap, eq_test, eq_turned, has-but)
 
     in_away : (j : ℕ) → has j held ≡ (nat_eq j k || has j (but k held))
-    in_away j = go (nat_eq j k) refl
-      where
-        go : (q : Bool) → nat_eq j k ≡ q → has j held ≡ (q || has j (but k held))
-        go true f = ap (λ (i : ℕ). has i held) (eq_test j k f) ∙ is_held
-        go false f = sym (has-but k held j ∙ (ap (λ (t : Bool). has j held && not t) (eq_turned k j ∙ f) ∙ and-true (has j held)))
+    in_away j = grind (arith, and-true, eq_test, eq_turned, has-but)
 
     distinct_left : distinct (but k held) ≡ true
-    distinct_left = ap distinct held_left ∙ Leads-distinct (led slot.older slot.newer newer) (begun slot.older slot.newer chains.oldest) (fs ++ rs) newer_after
+    distinct_left = ap distinct held_left ∙ Leads-distinct (led slot.older slot.newer newer)
+        (begun slot.older slot.newer chains.oldest) (fs ++ rs) newer_after
 
-pub unlink : {C : ℕ} (chains : Chains C) (k : ℕ) (prior : Option ℕ) → Linked [] chains → has k (age chains) ≡ true → bucket (row_at chains.slots k).id < length chains.heads →
+pub unlink : {C : ℕ} (chains : Chains C) (k : ℕ) (prior : Option ℕ) → Linked [] chains → has k (age chains) ≡ true →
+    bucket (row_at chains.slots k).id < length chains.heads →
     prior ≡ before k (id_slots (bucket (row_at chains.slots k).id) chains) →
     Linked (k ∷ []) (unlinked chains k (slot_at chains.slots k) prior)
     × (rows_in (unlinked chains k (slot_at chains.slots k) prior) ≡ map (row_at chains.slots) (but k (age chains)))
-    × (within prior chains.slots ≡ true) × (within (slot_at chains.slots k).older chains.slots ≡ true) × (within (slot_at chains.slots k).newer chains.slots ≡ true)
+    × (within prior chains.slots ≡ true) × (within (slot_at chains.slots k).older chains.slots ≡ true)
+    × (within (slot_at chains.slots k).newer chains.slots ≡ true)
 unlink chains k prior l i bound p =
     let held = age chains in
     let b = bucket (row_at chains.slots k).id in
@@ -391,28 +311,50 @@ unlink chains k prior l i bound p =
     let after = unlinked chains k (slot_at chains.slots k) prior in
     let ids = left k b (λ c. id_slots c chains) in (
       closed (k ∷ []) after (but k held) (free_slots chains) ids r.0,
-      ap (map (row_at after.slots)) (age_is (k ∷ []) after (but k held) (free_slots chains) ids r.0) ∙ map_same (row_at after.slots) (row_at chains.slots) (but k held) (λ j _. r.1 j),
+      ap (map (row_at after.slots)) (age_is (k ∷ []) after (but k held) (free_slots chains) ids r.0)
+          ∙ map_same (row_at after.slots) (row_at chains.slots) (but k held) (λ j _. r.1 j),
       r.2,
       r.3,
       r.4,
     )
 
+-- as the code reads the slot
+pub unlink_read : {C : ℕ} (chains : Chains C) (k place b : ℕ) (any : Slot) (prior : Option ℕ) → Linked [] chains →
+    has k (age chains) ≡ true → place ≡ k → b ≡ bucket (get_or chains.slots place any).row.id →
+    b < length chains.heads → prior ≡ before k (id_slots (bucket (row_at chains.slots k).id) chains) →
+    (get_or chains.slots place any ≡ slot_at chains.slots k)
+    × Linked (k ∷ []) (unlinked chains k (slot_at chains.slots k) prior)
+    × (rows_in (unlinked chains k (slot_at chains.slots k) prior) ≡ map (row_at chains.slots) (but k (age chains)))
+    × (within prior chains.slots ≡ true) × (within (get_or chains.slots place any).older chains.slots ≡ true)
+    × (within (get_or chains.slots place any).newer chains.slots ≡ true)
+unlink_read chains k place b any prior l i p h bound e =
+    let read = slot_read chains.slots k place any (l.inside k i) p in
+    let same = h ∙ ap (λ (s : Slot). bucket s.row.id) read in
+    let u = unlink chains k prior l i (rw same at bound) e in
+    (read, u.0, u.1, u.2, rw read u.3, rw read u.4)
+
 -- as the code writes it
-pub unlink_code : {C : ℕ} (chains : Chains C) (k b : ℕ) (slot : Slot) (prior : Option ℕ) (slots1 slots2 slots3 : List Slot) (start oldest newest : Option ℕ) → slot ≡ slot_at chains.slots k → b ≡ bucket slot.row.id →
+pub unlink_code : {C : ℕ} (chains : Chains C) (k b : ℕ) (slot : Slot) (prior : Option ℕ)
+    (slots1 slots2 slots3 : List Slot) (start oldest newest : Option ℕ) → slot ≡ slot_at chains.slots k →
+    b ≡ bucket slot.row.id →
     slots1 ≡ led_slots Next prior slot.next chains.slots → start ≡ begun prior slot.next (head b chains) →
     slots2 ≡ led_slots Newer slot.older slot.newer slots1 → oldest ≡ begun slot.older slot.newer chains.oldest →
     slots3 ≡ led_slots Older slot.newer slot.older slots2 → newest ≡ begun slot.newer slot.older chains.newest →
-    record { slots = slots3; heads = set chains.heads b start; free = chains.free; oldest = oldest; newest = newest } ≡ unlinked chains k (slot_at chains.slots k) prior
-unlink_code chains k b slot prior slots1 slots2 slots3 start oldest newest r e s1 st s2 o s3 n = rw (s3, s2, s1, o, n, st, e, r) refl
+    record { slots = slots3; heads = set chains.heads b start; free = chains.free; oldest = oldest; newest = newest } ≡
+    unlinked chains k (slot_at chains.slots k) prior
+unlink_code chains k b slot prior slots1 slots2 slots3 start oldest newest r e s1 st s2 o s3 n = search (rules, arith)
 
-pub within_led : (o : Option ℕ) (along : Along) (prior next : Option ℕ) (slots after : List Slot) → after ≡ led_slots along prior next slots → within o slots ≡ true → within o after ≡ true
-within_led o along prior next slots after e h = within_long o after slots (ap length e ∙ length-led along prior next slots) h
+pub within_led : (o : Option ℕ) (along : Along) (prior next : Option ℕ) (slots after : List Slot) →
+    after ≡ led_slots along prior next slots → within o slots ≡ true → within o after ≡ true
+within_led o along prior next slots after e h = grind (arith, length-led)
 
-pub one_less : {C : ℕ} (chains : Chains C) (k : ℕ) → Linked [] chains → has k (age chains) ≡ true → length (map (row_at chains.slots) (but k (age chains))) + 1 ≡ length (rows_in chains)
+pub one_less : {C : ℕ} (chains : Chains C) (k : ℕ) → Linked [] chains → has k (age chains) ≡ true →
+    length (map (row_at chains.slots) (but k (age chains))) + 1 ≡ length (rows_in chains)
 one_less chains k l i =
     let h = opened [] chains l in
     let s = has-split k (age chains) i in
-    let kept = ap length (ap (but k) s.2 ∙ but_is (links Newer chains.slots) chains.oldest s.0 k s.1 (subst (λ (ks : List ℕ). Leads (links Newer chains.slots) chains.oldest ks None) s.2 h.aged)) in
+    let kept = ap length (ap (but k) s.2 ∙ but_is (links Newer chains.slots) chains.oldest s.0 k s.1
+    (subst (λ (ks : List ℕ). Leads (links Newer chains.slots) chains.oldest ks None) s.2 h.aged)) in
     let whole = ap length s.2 in
     let a = length-append s.0 s.1 in
     let b = length-append s.0 (k ∷ s.1) in

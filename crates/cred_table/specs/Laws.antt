@@ -11,14 +11,14 @@ SameRows rows others = rows_then true rows no_trees ≡ rows_then true others no
 
 -- one text is the snapshot of one list of rows, of one version
 abbrev pub SnapshotsAreOne : Type 0
-SnapshotsAreOne = (named other : Bool) (room space : ℕ) (rows others : List Row) (text : List ℕ)
-    → IsSnapshot named room rows text → IsSnapshot other space others text → (named ≡ other) × SameRows rows others
+SnapshotsAreOne = (named other : Bool) (capacity space : ℕ) (rows others : List Row) (text : List ℕ)
+    → IsSnapshot named capacity rows text → IsSnapshot other space others text → (named ≡ other) × SameRows rows others
 
 -- what is refused is the snapshot of no rows for which there is capacity
 abbrev pub RefusedIsNone : Type 0
-RefusedIsNone = (room : ℕ) (text : List ℕ) (fault : SnapshotFault) → Refuses room text fault
-    → (named : Bool) (rows : List Row) → IsSnapshot named room rows text → ⊥
+RefusedIsNone = (capacity : ℕ) (text : List ℕ) (fault : SnapshotFault) → Refuses capacity text fault
+    → (named : Bool) (rows : List Row) → IsSnapshot named capacity rows text → ⊥
 
 -- a text is refused for one thing
 abbrev pub OneRefusal : Type 0
-OneRefusal = (room : ℕ) (text : List ℕ) (f g : SnapshotFault) → Refuses room text f → Refuses room text g → f ≡ g
+OneRefusal = (capacity : ℕ) (text : List ℕ) (f g : SnapshotFault) → Refuses capacity text f → Refuses capacity text g → f ≡ g

@@ -2,9 +2,9 @@
 use Rattle.std.specs.Prelude.{List, map}
 use Rattle.std.specs.Slice.Iter.{iter_rest}
 use Rattle.cred_table.specs.declared.row.Row.{Row}
-use Rattle.cred_table.specs.declared.rows.Left.{Left}
-use Rattle.cred_table.specs.declared.rows.Left.TheVariants.{Listed, Chained}
+use Rattle.cred_table.specs.declared.rows.RowsLeft.{RowsLeft}
+use Rattle.cred_table.specs.declared.rows.RowsLeft.TheVariants.{Listed, Chained}
 
-abbrev pub rows_left : Left → List Row
+abbrev pub rows_left : RowsLeft → List Row
 rows_left (Listed rows) = iter_rest rows
 rows_left (Chained walk) = map (λ item. item.1.row) walk

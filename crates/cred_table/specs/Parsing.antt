@@ -25,9 +25,9 @@ pub record Reads {V : Type 0} (Is : V → Type 0) (spell : V → List ℕ) (old 
   pub found : (v : V) (rest : List ℕ) → Is v → rest_of old ≡ spell v ++ rest → IsSome result × (rest_of new ≡ rest)
 
 -- The same of heads, with the bytes of strings: where one is, it is what was read.
-pub record ReadsPart (room : ℕ) (spell : Part → List ℕ) (old new : Reading) (result : Option Part) : Type 0 where
-  pub took : Given result (λ i. Suits room AnItem i × (rest_of old ≡ spell i ++ rest_of new))
-  pub found : (i : Part) (rest : List ℕ) → Suits room AnItem i → rest_of old ≡ spell i ++ rest
+pub record ReadsPart (capacity : ℕ) (spell : Part → List ℕ) (old new : Reading) (result : Option Part) : Type 0 where
+  pub took : Given result (λ i. Suits capacity AnItem i × (rest_of old ≡ spell i ++ rest_of new))
+  pub found : (i : Part) (rest : List ℕ) → Suits capacity AnItem i → rest_of old ≡ spell i ++ rest
       → (result ≡ Some i) × (rest_of new ≡ rest)
 
 -- a member of a map, by its key: the key and the head of its value, which is a string whole
@@ -123,17 +123,17 @@ pub record TakesRows (named : Bool) (n : ℕ) (old new : Reading) (rows : List R
   pub spelled : rest_of old ≡ rows_text named rows ++ rest_of new
 
 -- so many were, fewer than the entries, and after them none fits
-pub record BreaksOff (named : Bool) (room n place : ℕ) (old : Reading) : Type 0 where
+pub record BreaksOff (named : Bool) (capacity n place : ℕ) (old : Reading) : Type 0 where
   pub rows : List Row
   pub between : Reading
   pub takes : TakesRows named place old between rows
-  pub lawful : Lawful room rows
+  pub lawful : Lawful capacity rows
   pub fewer : place < n
   pub none : NoneFits named rows (rest_of between)
 
 -- what reading so many entries does
-abbrev pub ReadsRows : (named : Bool) (room n : ℕ) → Reading → Reading → List Row → Result (Unit {0}) SnapshotFault
+abbrev pub ReadsRows : (named : Bool) (capacity n : ℕ) → Reading → Reading → List Row → Result (Unit {0}) SnapshotFault
     → Type 0
-ReadsRows named room n old new rows (Ok _) = TakesRows named n old new rows
-ReadsRows named room n old new rows (Err (RowBroken place)) = BreaksOff named room n place old
-ReadsRows named room n old new rows (Err _) = ⊥
+ReadsRows named capacity n old new rows (Ok _) = TakesRows named n old new rows
+ReadsRows named capacity n old new rows (Err (RowBroken place)) = BreaksOff named capacity n place old
+ReadsRows named capacity n old new rows (Err _) = ⊥

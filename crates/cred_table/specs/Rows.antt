@@ -35,10 +35,10 @@ no_two clash (row ∷ rows) = not (list_any (clash row) rows) && no_two clash ro
 
 -- Lawful rows: their ids are distinct, at most one discoverable row has a given RP and user, and there are
 -- no more of them than the table has capacity for.
-pub record Lawful (room : ℕ) (rows : List Row) : Type 0 where
+pub record Lawful (capacity : ℕ) (rows : List Row) : Type 0 where
   pub distinct : no_two same_id rows ≡ true
   pub one_each : no_two replaces rows ≡ true
-  pub few : length rows ≤ room
+  pub few : length rows ≤ capacity
 
 -- The rows but the one with the id.
 abbrev pub without : (id : List ℕ) → List Row → List Row

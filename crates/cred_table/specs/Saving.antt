@@ -14,12 +14,12 @@ abbrev pub Extends : List ℕ → List ℕ → Type 0
 Extends old new = (more : List ℕ) × (new ≡ old ++ more)
 
 -- No snapshot of so many rows is longer: its heads have at most 13 bytes, and a row has at most 283.
-abbrev pub longest : (room : ℕ) → ℕ
-longest room = 13 + 283 * room
+abbrev pub longest : (capacity : ℕ) → ℕ
+longest capacity = 13 + 283 * capacity
 
 -- The rows' snapshot, of version 2, is in the buffer's front, and the rest of the buffer is as it was; or the buffer is
 -- too short for the longest one, and all of it is as it was.
-abbrev pub SavesInto : (room : ℕ) → List Row → (old new : List ℕ) → Option ℕ → Type 0
-SavesInto room rows old new (Some len) = (longest room ≤ length old)
-    × (saved : List ℕ) × IsSnapshot true room rows saved × (length saved ≡ len) × (new ≡ saved ++ drop len old)
-SavesInto room rows old new None = (length old < longest room) × (new ≡ old)
+abbrev pub SavesInto : (capacity : ℕ) → List Row → (old new : List ℕ) → Option ℕ → Type 0
+SavesInto capacity rows old new (Some len) = (longest capacity ≤ length old)
+    × (saved : List ℕ) × IsSnapshot true capacity rows saved × (length saved ≡ len) × (new ≡ saved ++ drop len old)
+SavesInto capacity rows old new None = (length old < longest capacity) × (new ≡ old)

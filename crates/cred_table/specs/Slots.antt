@@ -114,8 +114,8 @@ abbrev pub leads_to : ℕ → (ℕ × Slot) → Bool
 leads_to k slot = is_to k slot.1.next
 
 -- The link of a slot where all are free, in their order.
-abbrev pub next_free : (room k : ℕ) → Option ℕ
-next_free room k = if nat_lt (k + 1) room then Some (k + 1) else None
+abbrev pub next_free : (capacity k : ℕ) → Option ℕ
+next_free capacity k = if nat_lt (k + 1) capacity then Some (k + 1) else None
 
 -- The row with its counter raised by one.
 abbrev pub raised_by_one : Row → Row

@@ -76,16 +76,16 @@ abbrev pub snapshot : (named : Bool) → List Row → Tree
 snapshot named rows = snapshot_of named (rows_then named rows no_trees)
 
 -- The text is the canonical one of these rows' snapshot, and the rows are lawful.
-pub record IsSnapshot (named : Bool) (room : ℕ) (rows : List Row) (text : List ℕ) : Type 0 where
+pub record IsSnapshot (named : Bool) (capacity : ℕ) (rows : List Row) (text : List ℕ) : Type 0 where
   pub typed : AllByRecursion (IsRow named) rows
-  pub lawful : Lawful room rows
+  pub lawful : Lawful capacity rows
   pub canonical : IsCanonical (snapshot named rows) text
 
 -- ---- saving
 
 -- the rows' snapshot, of version 2, was written at the end
-abbrev pub Saves : (room : ℕ) → List Row → (old new : List ℕ) → Type 0
-Saves room rows old new = (saved : List ℕ) × IsSnapshot true room rows saved × (new ≡ old ++ saved)
+abbrev pub Saves : (capacity : ℕ) → List Row → (old new : List ℕ) → Type 0
+Saves capacity rows old new = (saved : List ℕ) × IsSnapshot true capacity rows saved × (new ≡ old ++ saved)
 
 -- the number of its bytes
 abbrev pub saved_len : List Row → ℕ
@@ -102,26 +102,26 @@ abbrev pub clashes : Row → List Row → Bool
 clashes row rows = list_any (has_id row.id) rows || list_any (replaces row) rows
 
 -- The entry at a place is broken, and those before it aren't: no row has its map and can be after them.
-pub record FirstBroken (named : Bool) (room : ℕ) (entries : Trees) (place : ℕ) : Type 0 where
+pub record FirstBroken (named : Bool) (capacity : ℕ) (entries : Trees) (place : ℕ) : Type 0 where
   pub before : List Row
   pub entry : Tree
   pub after : Trees
   pub split : entries ≡ rows_then named before (tree entry after)
   pub place_is : length before ≡ place
   pub typed : AllByRecursion (IsRow named) before
-  pub lawful : Lawful room before
+  pub lawful : Lawful capacity before
   pub broken : (row : Row) → IsRow named row → entry ≡ row_tree named row → IsTrue (clashes row before)
 
 -- What a text is refused for, in the order in which it is asked: it is no snapshot at all; it has more entries than
 -- there is capacity for; it has a broken entry.
-abbrev pub Refuses : (room : ℕ) → List ℕ → SnapshotFault → Type 0
-Refuses room text NotSnapshot = (named : Bool) (entries : Trees) → Holds named entries text → ⊥
-Refuses room text TooMany = (named : Bool) × (entries : Trees) × Holds named entries text × (room < count entries)
-Refuses room text (RowBroken place) = (named : Bool) × (entries : Trees) × Holds named entries text
-    × (count entries ≤ room) × FirstBroken named room entries place
-Refuses room text Memory = ⊥
+abbrev pub Refuses : (capacity : ℕ) → List ℕ → SnapshotFault → Type 0
+Refuses capacity text NotSnapshot = (named : Bool) (entries : Trees) → Holds named entries text → ⊥
+Refuses capacity text TooMany = (named : Bool) × (entries : Trees) × Holds named entries text × (capacity < count entries)
+Refuses capacity text (RowBroken place) = (named : Bool) × (entries : Trees) × Holds named entries text
+    × (count entries ≤ capacity) × FirstBroken named capacity entries place
+Refuses capacity text Memory = ⊥
 
 -- what loading answers of a text, and the rows that the table then has
-abbrev pub Loads : (room : ℕ) → List ℕ → Result (Unit {0}) SnapshotFault → List Row → Type 0
-Loads room text (Ok _) rows = (named : Bool) × IsSnapshot named room rows text
-Loads room text (Err fault) rows = Refuses room text fault
+abbrev pub Loads : (capacity : ℕ) → List ℕ → Result (Unit {0}) SnapshotFault → List Row → Type 0
+Loads capacity text (Ok _) rows = (named : Bool) × IsSnapshot named capacity rows text
+Loads capacity text (Err fault) rows = Refuses capacity text fault

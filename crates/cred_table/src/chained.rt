@@ -23,7 +23,7 @@ pub struct Chained<const C: usize> {
 }
 
 impl<const C: usize> Chained<C> {
-    /// A table without rows, for 1 to 256 rows. It allocates nothing.
+    /// Returns a table without rows, for 1 to 256 rows. It allocates nothing.
     pub fn new() -> Self
         requires some { 1 ≤ C }
         requires few { C ≤ 256 }

@@ -7,7 +7,7 @@ ghost use Rattle.cred_table.specs.Rows.{has_id};
 ghost use Rattle.cred_table.specs.Linked.{Linked, raised_at, age, id_slots, rows_in, row_at};
 
 use crate::row::Row;
-use crate::slot::{self, Along, Link, Slot, Walk};
+use crate::slot::{self, Along, ChainWalk, Link, Slot};
 use std::array;
 
 /// Slots that hold rows, chained by age and by id, and free slots.
@@ -23,7 +23,7 @@ pub(crate) struct Chains<const C: usize> {
 }
 
 impl<const C: usize> Chains<C> {
-    /// Free slots.
+    /// Returns free slots.
     pub(crate) fn new() -> Self
         requires some { 1 ≤ C }
         requires few { C ≤ 256 }
@@ -55,7 +55,7 @@ impl<const C: usize> Chains<C> {
         self.newest = None;
     }
 
-    /// The row at a place in order of age.
+    /// Returns the row at a place in order of age.
     pub(crate) fn row(&self, place: usize) -> &Row
         requires linked { Linked [] self.now }
         requires there { place < length (rows_in self.now) }
@@ -65,7 +65,7 @@ impl<const C: usize> Chains<C> {
         &item.1.row
     }
 
-    /// The number of the slot that holds the row with an id, which is there.
+    /// Returns the number of the slot that holds the row with an id, which is there.
     pub(crate) fn number(&self, id: &[u8; 32]) -> u16
         requires linked { Linked [] self.now }
         requires there { IsSome (find (has_id id.now) (rows_in self.now)) }
@@ -87,36 +87,36 @@ impl<const C: usize> Chains<C> {
         slot::raise(&mut self.slots, number)
     }
 
-    /// The rows whose ids are in the chain of an id.
-    pub(crate) fn like(&self, id: &[u8]) -> Walk<'_>
+    /// Returns the rows whose ids are in the chain of an id.
+    pub(crate) fn like(&self, id: &[u8]) -> ChainWalk<'_>
         requires { Linked [] self.now }
         ensures { result ≡ numbered self.now.slots (id_slots (bucket id.now) self.now) }
     {
-        Walk {
+        ChainWalk {
             slots: &self.slots,
             along: Along::Next,
             at: self.heads[slot::bucket(id)],
         }
     }
 
-    /// The rows, oldest first.
-    pub(crate) fn oldest_first(&self) -> Walk<'_>
+    /// Returns the rows, oldest first.
+    pub(crate) fn oldest_first(&self) -> ChainWalk<'_>
         requires { Linked [] self.now }
         ensures { result ≡ numbered self.now.slots (age self.now) }
     {
-        Walk {
+        ChainWalk {
             slots: &self.slots,
             along: Along::Newer,
             at: self.oldest,
         }
     }
 
-    /// The rows, newest first.
-    pub(crate) fn newest_first(&self) -> Walk<'_>
+    /// Returns the rows, newest first.
+    pub(crate) fn newest_first(&self) -> ChainWalk<'_>
         requires { Linked [] self.now }
         ensures { result ≡ numbered self.now.slots (reverse (age self.now)) }
     {
-        Walk {
+        ChainWalk {
             slots: &self.slots,
             along: Along::Older,
             at: self.newest,
@@ -135,7 +135,7 @@ impl<const C: usize> Chains<C> {
         number
     }
 
-    /// The slot before one in the chain of its id.
+    /// Returns the slot before one in the chain of its id.
     fn before(&self, number: u16) -> Link
         requires linked { Linked [] self.now }
         requires there { has number (age self.now) ≡ true }

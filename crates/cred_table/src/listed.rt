@@ -19,7 +19,7 @@ pub struct Listed<const C: usize> {
 }
 
 impl<const C: usize> Listed<C> {
-    /// A table without rows, for 1 to 256 rows. It allocates nothing.
+    /// Returns a table without rows, for 1 to 256 rows. It allocates nothing.
     pub fn new() -> Self
         requires some { 1 ≤ C }
         requires few { C ≤ 256 }
@@ -30,14 +30,14 @@ impl<const C: usize> Listed<C> {
         }
     }
 
-    /// The place of the row with the id, if there is one.
+    /// Returns the place of the row with the id, if there is one.
     fn position(&self, id: &[u8; 32]) -> Option<usize>
         ensures { result ≡ position (has_id id.now) self.now.list.items }
     {
         self.list.as_slice().iter().position(|row| row.id == *id)
     }
 
-    /// The place of the row with the id, which is there.
+    /// Returns the place of the row with the id, which is there.
     fn place(&self, id: &[u8; 32]) -> usize
         requires { IsSome (find (has_id id.now) self.now.list.items) }
         ensures value { result ≡ position_or_len (has_id id.now) self.now.list.items }

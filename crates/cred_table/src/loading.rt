@@ -31,7 +31,7 @@ fn clashes<T: Table<C>, const C: usize>(table: &T, row: &Row) -> bool
 /// Puts a row last, unless it clashes with one that is there: it has that one's id, or both are discoverable and have
 /// one RP and user handle. Returns whether it was put.
 pub fn put_new<T: Table<C>, const C: usize>(table: &mut T, row: Row) -> bool
-    requires room { length (T.rows table.old) < C }
+    requires capacity { length (T.rows table.old) < C }
     ensures value { result ≡ not (clashes row (T.rows table.old)) }
     ensures rows { T.rows table.new ≡ (if clashes row (T.rows table.old) then T.rows table.old
         else T.rows table.old ++ row ∷ []) }
@@ -45,7 +45,7 @@ pub fn put_new<T: Table<C>, const C: usize>(table: &mut T, row: Row) -> bool
 
 /// Reads an entry and puts it after the rows. Returns whether it was a row that may be there.
 fn read_entry<const C: usize>(cursor: &mut Cursor, named: bool, rows: &mut Listed<C>) -> bool
-    requires room { length rows.old.list.items < C }
+    requires capacity { length rows.old.list.items < C }
     ensures { ReadsEntry named cursor.old cursor.new rows.old.list.items rows.new.list.items result }
 {
     none_begins_another();
@@ -63,7 +63,7 @@ fn read_rows<const C: usize>(
     rows: &mut Listed<C>,
 ) -> Result<(), SnapshotFault>
     requires empty { rows.old.list.items ≡ [] }
-    requires room { count ≤ C }
+    requires capacity { count ≤ C }
     ensures { ReadsRows named C count cursor.old cursor.new rows.new.list.items result }
 {
     for place in 0..count {

@@ -56,7 +56,7 @@ fn read_member<'a>(cursor: &mut Cursor<'a>, level: u8, key: u8) -> Option<Item<'
     take(cursor, level)
 }
 
-/// A map of so many pairs.
+/// Reads the head of a map of so many pairs.
 fn map_of(item: Item, count: u64) -> Option<()>
     ensures { result ≡ map_in count (part_of item.entry) }
 {
@@ -76,7 +76,7 @@ fn key_of(item: Item, key: u8) -> Option<()>
     }
 }
 
-/// 32 bytes.
+/// Reads 32 bytes.
 fn hash_of(item: Item) -> Option<[u8; 32]>
     ensures { result ≡ hash_in (part_of item.entry) }
 {
@@ -86,7 +86,7 @@ fn hash_of(item: Item) -> Option<[u8; 32]>
     }
 }
 
-/// At most 64 bytes.
+/// Reads at most 64 bytes.
 fn short_of(item: Item) -> Option<ArrayVec<u8, 64>>
     ensures { option_map (λ v. v.items) result ≡ short_in (part_of item.entry) }
 {
@@ -100,7 +100,7 @@ fn short_of(item: Item) -> Option<ArrayVec<u8, 64>>
     }
 }
 
-/// A truth value.
+/// Reads a truth value.
 fn flag_of(item: Item) -> Option<bool>
     ensures { result ≡ flag_in (part_of item.entry) }
 {
@@ -110,7 +110,7 @@ fn flag_of(item: Item) -> Option<bool>
     }
 }
 
-/// An integer from 0 to 2^32-1.
+/// Reads an integer from 0 to 2^32-1.
 fn counter_of(item: Item) -> Option<u32>
     ensures { result ≡ counter_in (part_of item.entry) }
 {
@@ -120,7 +120,7 @@ fn counter_of(item: Item) -> Option<u32>
     }
 }
 
-/// A text of at most 64 bytes.
+/// Reads a text of at most 64 bytes.
 fn name_of(item: Item) -> Option<Name>
     ensures { result ≡ name_in (part_of item.entry) }
 {
@@ -130,7 +130,7 @@ fn name_of(item: Item) -> Option<Name>
     }
 }
 
-/// The number of an array's items.
+/// Reads the number of an array's items.
 fn count_of(item: Item) -> Option<u64>
     ensures { result ≡ count_in (part_of item.entry) }
 {
@@ -140,7 +140,7 @@ fn count_of(item: Item) -> Option<u64>
     }
 }
 
-/// A version, by whether its rows have names.
+/// Reads a version, by whether its rows have names.
 fn named_of(item: Item) -> Option<bool>
     ensures { result ≡ named_in (part_of item.entry) }
 {
@@ -245,7 +245,7 @@ pub(crate) fn read_row(cursor: &mut Cursor, named: bool) -> Option<Row>
     })
 }
 
-/// The number of a row's members.
+/// Reads the number of a row's members.
 fn members_of(named: bool) -> u64
     ensures { result ≡ members_of named }
 {

@@ -27,7 +27,7 @@ impl<const C: usize> Model for Pending<C> {
 }
 
 impl<const C: usize> Pending<C> {
-    /// Nothing.
+    /// Returns that of nothing.
     pub fn new() -> Self
         ensures { result ≡ None }
     {
@@ -64,7 +64,7 @@ impl<const C: usize> Pending<C> {
         Some(self.ids.remove(0))
     }
 
-    /// From this moment on the time to ask for the next counts. Of nothing, nothing changes.
+    /// Notes a moment from which on the time to ask for the next counts. Of nothing, nothing changes.
     pub fn stamp(&mut self, at: u64)
         ensures { self.new ≡ stamped at self.old }
     {
@@ -78,7 +78,7 @@ impl<const C: usize> Pending<C> {
         self.ids.clear();
     }
 
-    /// The number of ids.
+    /// Returns the number of ids.
     pub fn len(&self) -> usize
         ensures value { result ≡ pending_count self.now }
         ensures few { result ≤ C }
@@ -87,7 +87,7 @@ impl<const C: usize> Pending<C> {
         self.ids.len()
     }
 
-    /// The channel that asked. Something is pending.
+    /// Returns the channel that asked. Something is pending.
     pub fn cid(&self) -> u32
         requires { IsSome self.now }
         ensures { result ≡ cid_of self.now }
@@ -95,7 +95,7 @@ impl<const C: usize> Pending<C> {
         self.cid
     }
 
-    /// The hash of the client data. Something is pending.
+    /// Returns the hash of the client data. Something is pending.
     pub fn hash(&self) -> [u8; 32]
         requires { IsSome self.now }
         ensures { result ≡ hash_of self.now }
@@ -103,7 +103,7 @@ impl<const C: usize> Pending<C> {
         self.hash
     }
 
-    /// Whether the user's presence was asked for. Something is pending.
+    /// Returns whether the user's presence was asked for. Something is pending.
     pub fn presence(&self) -> bool
         requires { IsSome self.now }
         ensures { result ≡ presence_of self.now }
@@ -111,7 +111,7 @@ impl<const C: usize> Pending<C> {
         self.presence
     }
 
-    /// The moment from which the time to ask for the next counts. Something is pending.
+    /// Returns the moment from which the time to ask for the next counts. Something is pending.
     pub fn moment(&self) -> u64
         requires { IsSome self.now }
         ensures { result ≡ moment_of self.now }

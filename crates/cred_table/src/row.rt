@@ -30,21 +30,21 @@ pub struct Row {
 impl Row {
     ghost use Rattle.cred_table.specs.Rows.{is_named, is_listed, is_user};
 
-    /// Whether it belongs to the RP and has the id.
+    /// Returns whether it belongs to the RP and has the id.
     pub(crate) fn is_named(&self, rp: &[u8; 32], id: &[u8]) -> bool
         ensures { result ≡ is_named rp.now id.now self.now }
     {
         self.id.as_slice() == id && self.rp == *rp
     }
 
-    /// Whether it is discoverable and belongs to the RP.
+    /// Returns whether it is discoverable and belongs to the RP.
     pub(crate) fn is_listed(&self, rp: &[u8; 32]) -> bool
         ensures { result ≡ is_listed rp.now self.now }
     {
         self.discoverable && self.rp == *rp
     }
 
-    /// Whether it is the RP's discoverable one for the user.
+    /// Returns whether it is the RP's discoverable one for the user.
     pub(crate) fn is_user(&self, rp: &[u8; 32], user: &[u8]) -> bool
         ensures { result ≡ is_user rp.now user.now self.now }
     {

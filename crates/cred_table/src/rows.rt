@@ -4,7 +4,7 @@ ghost use Rattle.std.specs.Prelude.{◌≡◌, map};
 ghost use Rattle.std.specs.Iterator.{YieldsFirstBy, item_count};
 
 use crate::row::Row;
-use crate::slot::Walk;
+use crate::slot::ChainWalk;
 use std::marker::Model;
 use std::slice;
 
@@ -12,14 +12,14 @@ use std::slice;
 /// that are left.
 #[derive(Debug, Drop)]
 pub struct Rows<'a> {
-    left: Left<'a>,
+    left: RowsLeft<'a>,
 }
 
 /// The rows that are left, by how their table keeps them.
 #[derive(Debug, Drop)]
-enum Left<'a> {
+enum RowsLeft<'a> {
     Listed(slice::Iter<'a, Row>),
-    Chained(Walk<'a>),
+    Chained(ChainWalk<'a>),
 }
 
 impl<'a> Model for Rows<'a> {
@@ -33,21 +33,21 @@ impl<'a> Model for Rows<'a> {
 }
 
 impl<'a> Rows<'a> {
-    /// The rows of a list.
+    /// Returns the rows of a list.
     pub(crate) fn listed(list: &'a [Row]) -> Self
         ensures { result ≡ list.now }
     {
         Rows {
-            left: Left::Listed(list.iter()),
+            left: RowsLeft::Listed(list.iter()),
         }
     }
 
-    /// The rows in the slots of a walk.
-    pub(crate) fn chained(walk: Walk<'a>) -> Self
+    /// Returns the rows in the slots of a walk.
+    pub(crate) fn chained(walk: ChainWalk<'a>) -> Self
         ensures { result ≡ map (λ item. item.1.row) walk.entry }
     {
         Rows {
-            left: Left::Chained(walk),
+            left: RowsLeft::Chained(walk),
         }
     }
 }
@@ -61,8 +61,8 @@ impl<'a> Iterator for Rows<'a> {
 
     fn next(&mut self) -> Option<&'a Row> {
         match &mut self.left {
-            Left::Listed(rows) => rows.next(),
-            Left::Chained(walk) => walk.next().map(|item| &item.1.row),
+            RowsLeft::Listed(rows) => rows.next(),
+            RowsLeft::Chained(walk) => walk.next().map(|item| &item.1.row),
         }
     }
 }

@@ -4,7 +4,7 @@ ghost use Rattle.std.specs.Prelude.{◌≡◌, ◌<◌, ◌≤◌, ◌+◌, ◌+
 ghost use Rattle.std.specs.List.{AllByRecursion};
 ghost use Rattle.ctap_cbor.specs.Tree.{Int, Bytes, Text};
 ghost use Rattle.ctap_cbor.specs.Grammar.{scalar_text, text};
-ghost use Rattle.ctap_cbor.specs.Writing.{room_of, Appends, SameBuffer};
+ghost use Rattle.ctap_cbor.specs.Writing.{space_of, Appends, SameBuffer};
 ghost use Rattle.cred_table.specs.declared.fault.SnapshotFault.TheVariants.{Memory};
 ghost use Rattle.cred_table.specs.Snapshots.{IsRow, IsHash, IsShort, IsName, Saves, saved_len, snapshot};
 ghost use Rattle.cred_table.specs.Parsing.{row_text, heads_text};
@@ -36,7 +36,7 @@ impl From<AllocError> for SnapshotFault {
     }
 }
 
-/// What a row's type says of it. It does nothing.
+/// States what a row's type says of it. It does nothing.
 fn known_row(row: &Row)
     ensures { IsRow true row.now }
 {
@@ -69,7 +69,7 @@ fn known_name(name: &Name)
 
 /// Writes 32 bytes.
 fn put_hash(sink: &mut Sink<'_>, hash: &[u8; 32])
-    requires { 34 ≤ room_of sink.old }
+    requires { 34 ≤ space_of sink.old }
     ensures appends { Appends sink.old sink.new (scalar_text (Bytes hash.now)) 34 }
     ensures same { SameBuffer sink.old sink.new }
 {
@@ -79,9 +79,9 @@ fn put_hash(sink: &mut Sink<'_>, hash: &[u8; 32])
 /// Writes at most 64 bytes.
 fn put_short(sink: &mut Sink<'_>, bytes: &[u8])
     requires short { length bytes.now ≤ 64 }
-    requires room { 66 ≤ room_of sink.old }
+    requires space { 66 ≤ space_of sink.old }
     ensures appends { AppendsUpTo sink.old sink.new (scalar_text (Bytes bytes.now)) 66 }
-    ensures room { room_of sink.old ≤ room_of sink.new + 66 }
+    ensures space { space_of sink.old ≤ space_of sink.new + 66 }
     ensures same { SameBuffer sink.old sink.new }
 {
     sink.bytes(bytes);
@@ -90,9 +90,9 @@ fn put_short(sink: &mut Sink<'_>, bytes: &[u8])
 /// Writes a text of at most 64 bytes.
 fn put_name(sink: &mut Sink<'_>, name: &str)
     requires short { length name.now ≤ 64 }
-    requires room { 66 ≤ room_of sink.old }
+    requires space { 66 ≤ space_of sink.old }
     ensures appends { AppendsUpTo sink.old sink.new (scalar_text (Text name.now)) 66 }
-    ensures room { room_of sink.old ≤ room_of sink.new + 66 }
+    ensures space { space_of sink.old ≤ space_of sink.new + 66 }
     ensures same { SameBuffer sink.old sink.new }
 {
     sink.text(name);
@@ -100,9 +100,9 @@ fn put_name(sink: &mut Sink<'_>, name: &str)
 
 /// Writes an integer from 0 to 2^32-1.
 fn put_counter(sink: &mut Sink<'_>, counter: u32)
-    requires { 5 ≤ room_of sink.old }
+    requires { 5 ≤ space_of sink.old }
     ensures appends { AppendsUpTo sink.old sink.new (scalar_text (Int (pos counter))) 5 }
-    ensures room { room_of sink.old ≤ room_of sink.new + 5 }
+    ensures space { space_of sink.old ≤ space_of sink.new + 5 }
     ensures same { SameBuffer sink.old sink.new }
 {
     sink.uint(counter as u64);
@@ -110,7 +110,7 @@ fn put_counter(sink: &mut Sink<'_>, counter: u32)
 
 /// Writes a row's map, its members in rising order of their keys.
 fn put_row(sink: &mut Sink<'_>, row: &Row)
-    requires { LONGEST_ROW ≤ room_of sink.old }
+    requires { LONGEST_ROW ≤ space_of sink.old }
     ensures appends { AppendsUpTo sink.old sink.new (row_text true row.now) LONGEST_ROW }
     ensures same { SameBuffer sink.old sink.new }
 {
@@ -146,7 +146,7 @@ fn row_into(buffer: &mut [u8], row: &Row) -> usize
 
 /// Writes the heads of a snapshot: the version, and the number of entries.
 fn put_heads(sink: &mut Sink<'_>, count: u64)
-    requires { LONGEST_HEADS ≤ room_of sink.old }
+    requires { LONGEST_HEADS ≤ space_of sink.old }
     ensures appends { AppendsUpTo sink.old sink.new (heads_text (true, count)) LONGEST_HEADS }
     ensures same { SameBuffer sink.old sink.new }
 {
@@ -170,7 +170,7 @@ fn heads_into(buffer: &mut [u8], count: u64) -> usize
 
 /// Writes a snapshot of a table's rows.
 fn put_snapshot<T: Table<C>, const C: usize>(sink: &mut Sink<'_>, table: &T)
-    requires { longest C ≤ room_of sink.old }
+    requires { longest C ≤ space_of sink.old }
     ensures appends { AppendsUpTo sink.old sink.new (text (snapshot true (T.rows table.now))) (longest C) }
     ensures same { SameBuffer sink.old sink.new }
     ensures typed { AllByRecursion (IsRow true) (T.rows table.now) }
@@ -213,7 +213,7 @@ fn write_row(row: &Row, out: &mut Vec<u8>) -> Result<(), AllocError>
     ensures ok { OnOk result (out.new.items ≡ out.old.items ++ row_text true row.now) }
     ensures err { OnErr result (out.new.items ≡ out.old.items) }
     ensures full { OnErr result (vec_capacity out.old < length out.old.items + length (row_text true row.now)) }
-    ensures room { vec_capacity out.old ≤ vec_capacity out.new }
+    ensures space { vec_capacity out.old ≤ vec_capacity out.new }
 {
     let mut buffer = [0; LONGEST_ROW];
     let len = row_into(&mut buffer, row);
@@ -225,7 +225,7 @@ fn write_heads(count: u64, out: &mut Vec<u8>) -> Result<(), AllocError>
     ensures ok { OnOk result (out.new.items ≡ out.old.items ++ heads_text (true, count)) }
     ensures err { OnErr result (out.new.items ≡ out.old.items) }
     ensures full { OnErr result (vec_capacity out.old < length out.old.items + length (heads_text (true, count))) }
-    ensures room { vec_capacity out.old ≤ vec_capacity out.new }
+    ensures space { vec_capacity out.old ≤ vec_capacity out.new }
 {
     let mut buffer = [0; LONGEST_HEADS];
     let len = heads_into(&mut buffer, count);

@@ -34,7 +34,7 @@ pub(crate) enum Along {
 impl Slot {
     ghost use Rattle.cred_table.specs.Slots.{link_of};
 
-    /// The link of one kind.
+    /// Returns the link of one kind.
     pub(crate) fn link(&self, along: Along) -> Link
         ensures { result ≡ link_of along self.now }
     {
@@ -78,7 +78,7 @@ impl Slot {
 impl Slot {
     ghost use Rattle.cred_table.specs.Slots.{is_to};
 
-    /// Whether its link leads to a slot, along the chain that it is in.
+    /// Returns whether its link leads to a slot, along the chain that it is in.
     fn leads_to(&self, number: u16) -> bool
         ensures { result ≡ is_to number self.now.next }
     {
@@ -120,9 +120,9 @@ pub(crate) fn chain_all(slots: &mut [Slot])
     requires { length slots.old ≤ 256 }
     ensures { EachIndex slots.new (λ k. (slot_at slots.new k).next ≡ next_free (length slots.new) k) }
 {
-    let room = slots.len();
-    for place in 0..room {
-        let next = if place + 1 < room {
+    let capacity = slots.len();
+    for place in 0..capacity {
+        let next = if place + 1 < capacity {
             Some(place as u16 + 1)
         } else {
             None
@@ -131,7 +131,7 @@ pub(crate) fn chain_all(slots: &mut [Slot])
     }
 }
 
-/// The chain that an id is in: the low five bits of its first byte.
+/// Returns the chain that an id is in: the low five bits of its first byte.
 pub(crate) fn bucket(id: &[u8]) -> usize
     ensures value { result ≡ bucket id.now }
     ensures bound { result < 32 }
@@ -141,7 +141,7 @@ pub(crate) fn bucket(id: &[u8]) -> usize
 
 /// The slots of a chain from one on, each with its number.
 #[derive(Debug, Drop)]
-pub(crate) struct Walk<'a> {
+pub(crate) struct ChainWalk<'a> {
     pub(crate) slots: &'a [Slot],
     pub(crate) along: Along,
     /// The number of the next one.
@@ -149,7 +149,7 @@ pub(crate) struct Walk<'a> {
 }
 
 // Clauses see the slots that are left.
-impl<'a> Model for Walk<'a> {
+impl<'a> Model for ChainWalk<'a> {
     ghost use Rattle.std.specs.Prelude.{ℕ, List, ◌≡◌, true};
     ghost use Rattle.cred_table.specs.Slots.{links, chain, is_chain, numbered};
     ghost use Rattle.cred_table.specs.declared.slot.Slot.{Slot as AnySlot};
@@ -161,12 +161,12 @@ impl<'a> Model for Walk<'a> {
     ghost invariant = { λ walk. is_chain (links walk.along walk.slots.now) walk.at ≡ true };
 }
 
-impl<'a> Walk<'a> {
+impl<'a> ChainWalk<'a> {
     ghost use Rattle.std.specs.Prelude.{option_map};
     ghost use Rattle.std.specs.List.{find};
     ghost use Rattle.cred_table.specs.Slots.{leads_to};
 
-    /// The first slot whose link along its chain leads to a slot.
+    /// Returns the first slot whose link along its chain leads to a slot.
     pub(crate) fn leader(mut self, number: u16) -> Link
         ensures { result ≡ option_map (λ found. found.0) (find (leads_to number) self.entry) }
     {
@@ -175,7 +175,7 @@ impl<'a> Walk<'a> {
     }
 }
 
-impl<'a> Iterator for Walk<'a> {
+impl<'a> Iterator for ChainWalk<'a> {
     type Item = (u16, &'a Slot);
 
     ghost next_gives = { YieldsFirstBy (λ item. (item.0, item.1.now)) (λ left. left) };

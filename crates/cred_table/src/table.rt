@@ -19,11 +19,11 @@ pub trait Table<const C: usize> {
     /// Its rows in order of making.
     ghost rows: { Self → List AnyRow };
 
-    /// The number of rows.
+    /// Returns the number of rows.
     fn len(&self) -> usize
         ensures { result ≡ length (rows self.now) };
 
-    /// The row at a place in order of making, counted from 0. The place is below `len`.
+    /// Returns the row at a place in order of making, counted from 0. The place is below `len`.
     fn row(&self, place: usize) -> &Row
         requires { place < length (rows self.now) }
         ensures { result.now ≡ slice_index_or (rows self.now) place result.now };
@@ -32,16 +32,16 @@ pub trait Table<const C: usize> {
     fn iter(&self) -> Rows<'_>
         ensures { result ≡ rows self.now };
 
-    /// The row with the id, `None` where there is none.
+    /// Returns the row with the id, `None` where there is none.
     fn find(&self, id: &[u8; 32]) -> Option<&Row>
         ensures { option_map (λ row. row.now) result ≡ find (has_id id.now) (rows self.now) };
 
-    /// The RP's row that an id as a host sent it names, of whatever length. `None` where there is none, also where the
-    /// row with the id is another RP's.
+    /// Returns the RP's row that an id as a host sent it names, of whatever length. `None` where there is none, also
+    /// where the row with the id is another RP's.
     fn named(&self, rp: &[u8; 32], id: &[u8]) -> Option<&Row>
         ensures { option_map (λ row. row.now) result ≡ find (is_named rp.now id.now) (rows self.now) };
 
-    /// The id of the RP's discoverable row for the user, `None` where there is none.
+    /// Returns the id of the RP's discoverable row for the user, `None` where there is none.
     fn same_user(&self, rp: &[u8; 32], user: &[u8]) -> Option<[u8; 32]>
         ensures { result ≡ option_map (λ row. row.id) (find (is_user rp.now user.now) (rows self.now)) };
 
@@ -52,7 +52,7 @@ pub trait Table<const C: usize> {
     /// Puts a row last. There is capacity, its id is new, and if it is discoverable, no discoverable row has its RP and
     /// user (`len`, `find` and `same_user` say).
     fn put(&mut self, row: Row)
-        requires room { length (rows self.old) < C }
+        requires capacity { length (rows self.old) < C }
         requires fresh { find (has_id row.id) (rows self.old) ≡ None }
         requires alone { IsTrue row.discoverable → find (is_user row.rp row.user.items) (rows self.old) ≡ None }
         ensures appended { rows self.new ≡ rows self.old ++ row ∷ [] }

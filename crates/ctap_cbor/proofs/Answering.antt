@@ -1,11 +1,10 @@
 -- From a cursor at the first byte to what the text is.
-use Rattle.std.proofs.Common.{◌≡◌, ℕ, List, ◌++◌, length, drop, Some, None, Result, Ok, Err, refl, arith, sym, ap, subst, ◌∙◌, inl, inr}
-use Rattle.std.specs.Prelude.{MatchResult, ◌⊎◌}
+use Rattle.std.proofs.Common.{rules, ◌≡◌, ℕ, List, ◌++◌, length, drop, Some, None, Result, Ok, Err, refl, arith, sym, ap, subst, ◌∙◌, inl, inr}
+use Rattle.std.specs.Prelude.{MatchResult, ◌⊎◌, IsOk, ◌↔◌}
 use Rattle.std.proofs.lemmas.List.{append-nil, drop_at}
 use Rattle.ctap_cbor.specs.declared.fault.Kind.TheVariants.{Trailing}
 use Rattle.ctap_cbor.specs.declared.fault.Fault.{Fault}
 use Rattle.ctap_cbor.specs.Tree.{Tree}
-use Rattle.std.specs.Prelude.{IsOk, ◌↔◌}
 use Rattle.ctap_cbor.specs.Head.{AreBytes}
 use Rattle.ctap_cbor.proofs.Uniqueness.{each_text_is_one}
 use Rattle.ctap_cbor.specs.Grammar.{text, IsCanonical}
@@ -25,13 +24,15 @@ place_at r = r.place
 abbrev pub Found : List ℕ → Result (Unit {0}) Fault → ℕ → Type 0
 Found b r n = (o : Outcome) × IsOutcome b o × Answers b o r n
 
-pub found_whole : (b : List ℕ) (middle new : Reading) (u : Unit {0}) → PassesOne 4 (start b) middle → Ends middle new → Found b (Ok u) new.steps
+pub found_whole : (b : List ℕ) (middle new : Reading) (u : Unit {0}) → PassesOne 4 (start b) middle → Ends middle new →
+    Found b (Ok u) new.steps
 found_whole b middle new u p e =
     let t : Tree = p.0 in
     let spelled : b ≡ text t = p.1.spelled ∙ ap (λ x. text t ++ x) e.at_end ∙ append-nil (text t) in
     (Whole t, record { enc = record { lawful = p.1.lawful; spelled = spelled }; flat = p.1.flat }, (refl, omega (arith, ap length spelled, ap steps_at e.moved, ap steps_at p.1.moved)))
 
-pub found_longer : (b : List ℕ) (middle new : Reading) (f : Fault) → PassesOne 4 (start b) middle → GoesOn middle new f.at f.kind → Found b (Err f) new.steps
+pub found_longer : (b : List ℕ) (middle new : Reading) (f : Fault) → PassesOne 4 (start b) middle →
+    GoesOn middle new f.at f.kind → Found b (Err f) new.steps
 found_longer b middle new f p e =
     let t : Tree = p.0 in
     let at : length (text t) ≡ f.at = omega (arith, e.place, ap place_at p.1.moved) in (
@@ -40,37 +41,41 @@ found_longer b middle new f p e =
       (ap (λ x. Some (x, Trailing)) at ∙ ap (λ x. Some (f.at, x)) (sym e.is_trailing), omega (arith, ap steps_at e.moved, ap steps_at p.1.moved)),
     )
 
-pub found_stopped : (b : List ℕ) (new : Reading) (f : Fault) → Halts 4 (start b) new f.at f.kind → Found b (Err f) new.steps
+pub found_stopped : (b : List ℕ) (new : Reading) (f : Fault) → Halts 4 (start b) new f.at f.kind →
+    Found b (Err f) new.steps
 found_stopped b new f h =
     let at : length (fronts h.os) ≡ f.at = omega (arith, h.place) in
-    let tail : drop (length (fronts h.os)) b ≡ h.tail = ap (drop (length (fronts h.os))) h.spelled ∙ drop_at (fronts h.os) h.tail (length (fronts h.os)) refl in (
+    let tail : drop (length (fronts h.os)) b ≡ h.tail = ap (drop (length (fronts h.os))) h.spelled
+    ∙ drop_at (fronts h.os) h.tail (length (fronts h.os)) refl in (
       Stopped h.os f.kind,
       (h.tail, h.halts, h.spelled),
       (ap (λ x. Some (x, f.kind)) at, omega (arith, ap steps_at h.moved, ap (fault_steps f.kind) tail)),
     )
 
 abbrev Whole-read : Reading → Reading → Result (Unit {0}) Fault → Type 0
-Whole-read old new r = MatchResult r (λ _. (middle : Reading) × PassesOne 4 old middle × Ends middle new) (λ f. Halts 4 old new f.at f.kind ⊎ ((middle : Reading) × PassesOne 4 old middle × GoesOn middle new f.at f.kind))
+Whole-read old new r = MatchResult r (λ _. (middle : Reading) × PassesOne 4 old middle × Ends middle new)
+    (λ f. Halts 4 old new f.at f.kind ⊎ ((middle : Reading) × PassesOne 4 old middle × GoesOn middle new f.at f.kind))
 
-found_from : (b : List ℕ) (new : Reading) (r : Result (Unit {0}) Fault) → Whole-read (start b) new r → Found b r new.steps
+found_from : (b : List ℕ) (new : Reading) (r : Result (Unit {0}) Fault) → Whole-read (start b) new r →
+    Found b r new.steps
 found_from b new (Ok u) h = found_whole b h.0 new u h.1 h.2
 found_from b new (Err f) (inl h) = found_stopped b new f h
 found_from b new (Err f) (inr h) = found_longer b h.0 new f h.1 h.2
 
-pub found : (b : List ℕ) (old new : Reading) (r : Result (Unit {0}) Fault) (n : ℕ) → old ≡ start b → Whole-read old new r → n ≡ new.steps → Found b r n
+pub found : (b : List ℕ) (old new : Reading) (r : Result (Unit {0}) Fault) (n : ℕ) → old ≡ start b →
+    Whole-read old new r → n ≡ new.steps → Found b r n
 found b old new r n e h len = subst (Found b r) (sym len) (found_from b new r (subst (λ x. Whole-read x new r) e h))
 
 -- a text is one outcome, so the answer is that of every outcome that it is
-pub only : (b : List ℕ) (r : Result (Unit {0}) Fault) (n : ℕ) → AreBytes b → Found b r n → (o : Outcome) → IsOutcome b o → Answers b o r n
-only b r n fits h o is =
-    let one = each_text_is_one b fits in
-    subst (λ x. Answers b x r n) (one.2 h.0 h.1 ∙ sym (one.2 o is)) h.2
+pub only : (b : List ℕ) (r : Result (Unit {0}) Fault) (n : ℕ) → AreBytes b → Found b r n → (o : Outcome) →
+    IsOutcome b o → Answers b o r n
+only b r n fits h o is = search (rules, arith, each_text_is_one)
 
 whole_of : (b : List ℕ) (o : Outcome) → IsOutcome b o → result_of o ≡ None → (t : Tree) × IsCanonical t b
-whole_of b (Whole t) h e = (t, h)
-whole_of b (Longer t) h e = absurd cc
-whole_of b (Stopped os kind) h e = absurd cc
+whole_of b o h e = search (rules, arith)
 
-pub ok_iff : (b : List ℕ) (r : Result (Unit {0}) Fault) (n : ℕ) → AreBytes b → Found b r n → IsOk r ↔ ((t : Tree) × IsCanonical t b)
+pub ok_iff : (b : List ℕ) (r : Result (Unit {0}) Fault) (n : ℕ) → AreBytes b → Found b r n →
+    IsOk r ↔ ((t : Tree) × IsCanonical t b)
 ok_iff b (Ok u) n fits h = (λ _. whole_of b h.0 h.1 h.2.0, λ _. refl)
-ok_iff b (Err f) n fits h = (λ (e : IsOk {T = Unit {0}} (Err f)). absurd cc, λ c. absurd (let k = (only b (Err f) n fits h (Whole c.0) c.1).0 in cc))
+ok_iff b (Err f) n fits h =
+    (λ (e : IsOk {T = Unit {0}} (Err f)). absurd cc, λ c. absurd (let k = (only b (Err f) n fits h (Whole c.0) c.1).0 in cc))

@@ -1,47 +1,49 @@
 -- What is collected: one pair or one entry more, and from these to the map or the array.
-use Rattle.std.proofs.Common.{◌≡◌, ℕ, ◌+◌, ◌-◌, ◌<◌, Bool, true, List, Option, Some, None, refl, sym, subst}
+use Rattle.std.proofs.Common.{arith, ◌≡◌, ℕ, ◌+◌, ◌-◌, ◌<◌, Bool, true, List, Option, Some, None, refl, sym, subst}
 use Rattle.std.specs.Prelude.{◌&&◌}
 use Rattle.ctap_cbor.specs.declared.fault.Kind.{Kind}
 use Rattle.ctap_cbor.specs.Tree.{Plain, Array, Map, Trees, no_trees, Pairs, no_pairs, push, push_pair}
-use Rattle.ctap_cbor.specs.Faults.{AKey}
 use Rattle.ctap_cbor.specs.Parts.{Part, OpensArray, OpensMap}
-use Rattle.ctap_cbor.specs.Reading.{Reading, Takes, Halts, HaltsInAll, HaltsInPairs, Refuses, GivesKey}
+use Rattle.ctap_cbor.specs.Reading.{Reading, Takes, Halts, HaltsInPairs, GivesKey}
 use Rattle.ctap_cbor.proofs.Moves.{passes_none, passes_more, pairs_none}
-use Rattle.ctap_cbor.proofs.Skipping.{given_more, key_stops, value_stops, item_stops, map_then, array_then}
+use Rattle.ctap_cbor.proofs.Skipping.{given_more, map_then, array_then}
 use Rattle.ctap_cbor.specs.Collecting.{Adds, AddsEntry, AddsPairs, AddsAll, ReadsMap, ReadsArray}
 
-pub adds_none : {M : Type 0} (H : M → Bool → Pairs → Type 0) (room : ℕ) (m : M) (r : Reading) → AddsPairs H room 0 None true m m r r
-adds_none H room m r = (no_pairs, pairs_none room r, λ h. h)
+pub adds_none : {M : Type 0} (H : M → Bool → Pairs → Type 0) (levels : ℕ) (m : M) (r : Reading) →
+    AddsPairs H levels 0 None true m m r r
+adds_none H levels m r = (no_pairs, pairs_none levels r, λ h. h)
 
-pub adds_more : {M : Type 0} (H : M → Bool → Pairs → Type 0) (room n : ℕ) (last : Option (List ℕ)) (ok taken both : Bool) (x y z : M) (a b c d : Reading) (part : Part) (bytes : List ℕ)
-    → AddsPairs H room n last ok x y a b → GivesKey last b c part bytes → Adds H room part taken y z c d → both ≡ (ok && taken) → AddsPairs H room (n + 1) (Some bytes) both x z a d
-adds_more H room n last ok taken both x y z a b c d part bytes h k s is =
-    (push_pair h.0 (Plain k.key) s.0, given_more room n h.0 s.0 last a b c d part bytes h.1 k s.1, λ e. subst (λ r. H z r (push_pair h.0 (Plain k.key) s.0)) (sym is) (s.2 ok h.0 k.key k.part_is (h.2 e)))
+pub adds_more : {M : Type 0} (H : M → Bool → Pairs → Type 0) (levels n : ℕ) (last : Option (List ℕ))
+    (ok taken both : Bool) (x y z : M) (a b c d : Reading) (part : Part) (bytes : List ℕ)
+    → AddsPairs H levels n last ok x y a b → GivesKey last b c part bytes → Adds H levels part taken y z c d →
+    both ≡ (ok && taken) → AddsPairs H levels (n + 1) (Some bytes) both x z a d
+adds_more H levels n last ok taken both x y z a b c d part bytes h k s is =
+    (push_pair h.0 (Plain k.key) s.0, given_more levels n h.0 s.0 last a b c d part bytes h.1 k s.1, λ e. subst (λ r. H z r (push_pair h.0 (Plain k.key) s.0)) (sym is) (s.2 ok h.0 k.key k.part_is (h.2 e)))
 
-pub key_ends : {M : Type 0} (H : M → Bool → Pairs → Type 0) (room n i : ℕ) (last : Option (List ℕ)) (ok : Bool) (x y : M) (a b c : Reading) (at : ℕ) (kind : Kind)
-    → i < n → AddsPairs H room i last ok x y a b → Refuses 0 (AKey last) b c at kind → HaltsInPairs room n a c at kind
-key_ends H room n i last ok x y a b c at kind lt h k = key_stops room n i h.0 last a b c at kind lt h.1 k
+pub value_ends : {M : Type 0} (H : M → Bool → Pairs → Type 0) (levels n i : ℕ) (last : Option (List ℕ)) (ok : Bool)
+    (x y : M) (a b c d : Reading) (part : Part) (bytes : List ℕ) (at : ℕ) (kind : Kind)
+    → i < n → AddsPairs H levels i last ok x y a b → GivesKey last b c part bytes → Halts levels c d at kind →
+    HaltsInPairs levels n a d at kind
+value_ends H levels n i last ok x y a b c d part bytes at kind lt h k p = grind arith
 
-pub value_ends : {M : Type 0} (H : M → Bool → Pairs → Type 0) (room n i : ℕ) (last : Option (List ℕ)) (ok : Bool) (x y : M) (a b c d : Reading) (part : Part) (bytes : List ℕ) (at : ℕ) (kind : Kind)
-    → i < n → AddsPairs H room i last ok x y a b → GivesKey last b c part bytes → Halts room c d at kind → HaltsInPairs room n a d at kind
-value_ends H room n i last ok x y a b c d part bytes at kind lt h k p = value_stops room n i h.0 last a b c d part bytes at kind lt h.1 k p
+pub all_none : {M : Type 0} (H : M → Bool → Trees → Type 0) (levels : ℕ) (m : M) (r : Reading) →
+    AddsAll H levels 0 true m m r r
+all_none H levels m r = (no_trees, passes_none levels r, λ h. h)
 
-pub all_none : {M : Type 0} (H : M → Bool → Trees → Type 0) (room : ℕ) (m : M) (r : Reading) → AddsAll H room 0 true m m r r
-all_none H room m r = (no_trees, passes_none room r, λ h. h)
+pub all_more : {M : Type 0} (H : M → Bool → Trees → Type 0) (levels n : ℕ) (ok taken both : Bool) (x y z : M)
+    (a b c : Reading)
+    → AddsAll H levels n ok x y a b → AddsEntry H levels taken y z b c → both ≡ (ok && taken) →
+    AddsAll H levels (n + 1) both x z a c
+all_more H levels n ok taken both x y z a b c h s is =
+    (push h.0 s.0, passes_more levels n h.0 s.0 a b c h.1 s.1, λ e. subst (λ r. H z r (push h.0 s.0)) (sym is) (s.2 ok h.0 (h.2 e)))
 
-pub all_more : {M : Type 0} (H : M → Bool → Trees → Type 0) (room n : ℕ) (ok taken both : Bool) (x y z : M) (a b c : Reading)
-    → AddsAll H room n ok x y a b → AddsEntry H room taken y z b c → both ≡ (ok && taken) → AddsAll H room (n + 1) both x z a c
-all_more H room n ok taken both x y z a b c h s is =
-    (push h.0 s.0, passes_more room n h.0 s.0 a b c h.1 s.1, λ e. subst (λ r. H z r (push h.0 s.0)) (sym is) (s.2 ok h.0 (h.2 e)))
-
-pub entry_ends : {M : Type 0} (H : M → Bool → Trees → Type 0) (room n i : ℕ) (ok : Bool) (x y : M) (a b c : Reading) (at : ℕ) (kind : Kind)
-    → i < n → AddsAll H room i ok x y a b → Halts room b c at kind → HaltsInAll room n a c at kind
-entry_ends H room n i ok x y a b c at kind lt h k = item_stops room n i h.0 a b c at kind lt h.1 k
-
-pub map_read : {M : Type 0} (H : M → Bool → Pairs → Type 0) (level n : ℕ) (last : Option (List ℕ)) (ok : Bool) (x y : M) (a b c : Reading)
-    → Takes (5 - level) a b (OpensMap n) → AddsPairs H (5 - (level + 1)) n last ok x y b c → ReadsMap H (5 - level) (Some ok) x y a c
+pub map_read : {M : Type 0} (H : M → Bool → Pairs → Type 0) (level n : ℕ) (last : Option (List ℕ)) (ok : Bool) (x y : M)
+    (a b c : Reading)
+    → Takes (5 - level) a b (OpensMap n) → AddsPairs H (5 - (level + 1)) n last ok x y b c →
+    ReadsMap H (5 - level) (Some ok) x y a c
 map_read H level n last ok x y a b c t h = (Map h.0, map_then level n h.0 last a b c t h.1, (ok, refl, h.2))
 
 pub array_read : {M : Type 0} (H : M → Bool → Trees → Type 0) (level n : ℕ) (ok : Bool) (x y : M) (a b c : Reading)
-    → Takes (5 - level) a b (OpensArray n) → AddsAll H (5 - (level + 1)) n ok x y b c → ReadsArray H (5 - level) (Some ok) x y a c
+    → Takes (5 - level) a b (OpensArray n) → AddsAll H (5 - (level + 1)) n ok x y b c →
+    ReadsArray H (5 - level) (Some ok) x y a c
 array_read H level n ok x y a b c t h = (Array h.0, array_then level n h.0 a b c t h.1, (ok, refl, h.2))

@@ -18,5 +18,4 @@ pub mod Written
 pub mod Accepting
 pub mod Telling
 pub mod Collecting
-pub mod Onward
 pub mod Readings

@@ -1,5 +1,5 @@
 -- What reading bytes whole tells of them.
-use Rattle.std.proofs.Common.{◌≡◌, ℕ, List, ◌++◌, length, drop, refl, arith, ap, ◌∙◌}
+use Rattle.std.proofs.Common.{rules, ◌≡◌, ℕ, List, ◌++◌, length, drop, refl, arith, ap, ◌∙◌}
 use Rattle.std.proofs.lemmas.List.{append-nil, drop_at}
 use Rattle.ctap_cbor.specs.declared.fault.Kind.{Kind}
 use Rattle.ctap_cbor.specs.Tree.{Tree}
@@ -17,31 +17,41 @@ use Rattle.ctap_cbor.proofs.Telling.{bytes_tell}
 is : (b : List ℕ) (o : Outcome) → AreBytes b → IsOutcome b o → outcome_of b ≡ o
 is b o fits h = bytes_tell.only b o fits h
 
-passed : (b : List ℕ) (t : Tree) (s : ℕ) (middle new : Reading) → AreBytes b → Passes 4 t (at_front b s) middle → Ends middle new → TellsTree b s t new
+passed : (b : List ℕ) (t : Tree) (s : ℕ) (middle new : Reading) → AreBytes b → Passes 4 t (at_front b s) middle →
+    Ends middle new → TellsTree b s t new
 passed b t s middle new fits p e =
     let spelled : b ≡ text t = p.spelled ∙ ap (λ x. text t ++ x) e.at_end ∙ append-nil (text t) in
-    let told : outcome_of b ≡ Whole t = is b (Whole t) fits record { enc = record { lawful = p.lawful; spelled = spelled }; flat = p.flat } in
+    let told : outcome_of b ≡ Whole t =
+    is b (Whole t) fits record { enc = record { lawful = p.lawful; spelled = spelled }; flat = p.flat } in
     let cost : steps b (outcome_of b) ≡ steps b (Whole t) = ap (steps b) told in
-    let place : new.place ≡ length b = omega (arith, ap length spelled, ap (λ (r : Reading). r.place) e.moved, ap (λ (r : Reading). r.place) p.moved) in
-    let count : new.steps ≡ counted s (steps b (outcome_of b)) = omega (arith, cost, ap length spelled, ap (λ (r : Reading). r.steps) e.moved, ap (λ (r : Reading). r.steps) p.moved) in
+    let place : new.place ≡ length b =
+    omega (arith, ap length spelled, ap (λ (r : Reading). r.place) e.moved, ap (λ (r : Reading). r.place) p.moved)
+    in
+    let count : new.steps ≡ counted s (steps b (outcome_of b)) =
+    omega (arith, cost, ap length spelled, ap (λ (r : Reading). r.steps) e.moved, ap (λ (r : Reading). r.steps) p.moved) in
     record {
       tree_is = ap whole_tree told;
-      moved = ap (λ x. at x new.place new.steps) (ap (λ (r : Reading). r.bytes) e.moved ∙ ap (λ (r : Reading). r.bytes) p.moved) ∙ ap (λ x. at b x new.steps) place ∙ ap (at b (length b)) count;
+      moved = ap (λ x. at x new.place new.steps) (ap (λ (r : Reading). r.bytes) e.moved
+          ∙ ap (λ (r : Reading). r.bytes) p.moved) ∙ ap (λ x. at b x new.steps) place ∙ ap (at b (length b)) count;
     }
 
-longer : (b : List ℕ) (t : Tree) (s : ℕ) (middle new : Reading) (place : ℕ) (kind : Kind) → AreBytes b → Passes 4 t (at_front b s) middle → GoesOn middle new place kind → TellsNone b s new
+longer : (b : List ℕ) (t : Tree) (s : ℕ) (middle new : Reading) (place : ℕ) (kind : Kind) → AreBytes b →
+    Passes 4 t (at_front b s) middle → GoesOn middle new place kind → TellsNone b s new
 longer b t s middle new place kind fits p e =
-    let told : outcome_of b ≡ Longer t = is b (Longer t) fits (text t, rest_of middle, record { enc = record { lawful = p.lawful; spelled = refl }; flat = p.flat }, e.left, p.spelled) in
+    let told : outcome_of b ≡ Longer t = is b (Longer t) fits
+    (text t, rest_of middle, record { enc = record { lawful = p.lawful; spelled = refl }; flat = p.flat }, e.left, p.spelled) in
     record {
       none = ap whole_tree told;
       bytes_stay = ap (λ (r : Reading). r.bytes) e.moved ∙ ap (λ (r : Reading). r.bytes) p.moved;
       steps_are = omega (arith, ap (steps b) told, ap (λ (r : Reading). r.steps) e.moved, ap (λ (r : Reading). r.steps) p.moved);
     }
 
-stopped : (b : List ℕ) (s : ℕ) (new : Reading) (place : ℕ) (kind : Kind) → AreBytes b → Halts 4 (at_front b s) new place kind → TellsNone b s new
+stopped : (b : List ℕ) (s : ℕ) (new : Reading) (place : ℕ) (kind : Kind) → AreBytes b →
+    Halts 4 (at_front b s) new place kind → TellsNone b s new
 stopped b s new place kind fits h =
     let told : outcome_of b ≡ Stopped h.os kind = is b (Stopped h.os kind) fits (h.tail, h.halts, h.spelled) in
-    let tail : drop (length (fronts h.os)) b ≡ h.tail = ap (drop (length (fronts h.os))) h.spelled ∙ drop_at (fronts h.os) h.tail (length (fronts h.os)) refl in
+    let tail : drop (length (fronts h.os)) b ≡ h.tail = ap (drop (length (fronts h.os))) h.spelled
+    ∙ drop_at (fronts h.os) h.tail (length (fronts h.os)) refl in
     record {
       none = ap whole_tree told;
       bytes_stay = ap (λ (r : Reading). r.bytes) h.moved;
@@ -49,8 +59,4 @@ stopped b s new place kind fits h =
     }
 
 pub whole_readings : (b : List ℕ) → AreBytes b → WholeReadings b
-whole_readings b fits = record {
-  passed = λ t s middle new. passed b t s middle new fits;
-  stopped = λ s new place kind. stopped b s new place kind fits;
-  longer = λ t s middle new place kind. longer b t s middle new place kind fits;
-}
+whole_readings b fits = search (rules, arith, longer, passed, stopped)

@@ -10,23 +10,29 @@ use Rattle.ctap_cbor.specs.Faults.{AnItem, AKey, fault, first_faults, body_fault
 use Rattle.ctap_cbor.specs.Outcome.{AtKey, Whole, Stopped, IsOutcome, steps}
 
 -- a2 02 00 01 00: a key not above the one before it
-out_of_order : IsOutcome (0xa2 ∷ 2 ∷ 0 ∷ 1 ∷ 0 ∷ []) (Stopped (AtKey 2 (pair (Plain (Int (pos 2))) (Plain (Int (pos 0))) no_pairs) ∷ []) KeyOrder)
+out_of_order : IsOutcome (0xa2 ∷ 0x02 ∷ 0x00 ∷ 0x01 ∷ 0x00 ∷ [])
+    (Stopped (AtKey 2 (pair (Plain (Int (pos 2))) (Plain (Int (pos 0))) no_pairs) ∷ []) KeyOrder)
 unfolding head first_faults body_faults argument_len argument least_argument item_len string_len
-out_of_order = (1 ∷ 0 ∷ [], ((omega arith, omega arith, (tt, tt, tt), (omega arith, omega arith, tt), omega arith), tt, refl), refl)
+out_of_order = (0x01 ∷ 0x00 ∷ [], ((omega arith, omega arith, (tt, tt, tt), (omega arith, omega arith, tt), omega arith), tt, refl), refl)
 
-out_of_order_steps : steps (0xa2 ∷ 2 ∷ 0 ∷ 1 ∷ 0 ∷ []) (Stopped (AtKey 2 (pair (Plain (Int (pos 2))) (Plain (Int (pos 0))) no_pairs) ∷ []) KeyOrder) ≡ 5
+out_of_order_steps : steps (0xa2 ∷ 0x02 ∷ 0x00 ∷ 0x01 ∷ 0x00 ∷ [])
+    (Stopped (AtKey 2 (pair (Plain (Int (pos 2))) (Plain (Int (pos 0))) no_pairs) ∷ []) KeyOrder) ≡ 5
 unfolding head fault_steps passed argument_len argument item_len string_len
 out_of_order_steps = refl
 
 -- 81 81 81 81 00
-deep : IsOutcome (0x81 ∷ 0x81 ∷ 0x81 ∷ 0x81 ∷ 0 ∷ []) (Whole (Array (tree (Array (tree (Array (tree (Array (tree (Plain (Int (pos 0))) no_trees)) no_trees)) no_trees)) no_trees)))
+deep : IsOutcome (0x81 ∷ 0x81 ∷ 0x81 ∷ 0x81 ∷ 0x00 ∷ [])
+    (Whole (Array (tree (Array (tree (Array (tree (Array (tree (Plain (Int (pos 0))) no_trees)) no_trees)) no_trees))
+    no_trees)))
 unfolding head
 deep = record { enc = record { lawful = (omega arith, ((omega arith, ((omega arith, ((omega arith, (omega arith, tt)), tt)), tt)), tt)); spelled = refl }; flat = omega arith }
 
 -- the faults of the table's rows, where they stand at the top
-rows : (fault 4 AnItem [] ≡ Some Truncated) × (fault 4 AnItem (0x18 ∷ 5 ∷ []) ≡ Some NotShortest)
-    × (fault 0 AnItem (0x81 ∷ 0 ∷ []) ≡ Some TooDeep) × (fault 4 AnItem (0x61 ∷ 0xc3 ∷ []) ≡ Some NotUtf8) × (fault 4 AnItem (0x62 ∷ 0xc3 ∷ []) ≡ Some Truncated)
-    × (fault 3 (AKey None) (0xf5 ∷ 0 ∷ []) ≡ Some KeyType) × (fault 4 AnItem (0x5f ∷ []) ≡ Some Reserved) × (fault 4 AnItem (0xf9 ∷ 0 ∷ 0 ∷ []) ≡ Some Unsupported)
+rows : (fault 4 AnItem [] ≡ Some Truncated) × (fault 4 AnItem (0x18 ∷ 0x05 ∷ []) ≡ Some NotShortest)
+    × (fault 0 AnItem (0x81 ∷ 0x00 ∷ []) ≡ Some TooDeep) × (fault 4 AnItem (0x61 ∷ 0xc3 ∷ []) ≡ Some NotUtf8)
+    × (fault 4 AnItem (0x62 ∷ 0xc3 ∷ []) ≡ Some Truncated)
+    × (fault 3 (AKey None) (0xf5 ∷ 0x00 ∷ []) ≡ Some KeyType) × (fault 4 AnItem (0x5f ∷ []) ≡ Some Reserved)
+    × (fault 4 AnItem (0xf9 ∷ 0x00 ∷ 0x00 ∷ []) ≡ Some Unsupported)
 unfolding first_faults body_faults argument_len argument least_argument item_len string_len is_utf8 chars
 rows = (refl, refl, refl, refl, refl, refl, refl, refl)
 

@@ -1,11 +1,10 @@
 -- What a cursor's calls do, from what was found at its place.
-use Rattle.std.proofs.Common.{◌≡◌, ℕ, suc, ◌+◌, ◌<◌, ◌≤◌, Bool, true, false, List, [], ◌∷◌, ◌++◌, length, get_or, drop, Some, Ok, Err, refl, arith, sym, ap, subst, ◌∙◌}
+use Rattle.std.proofs.Common.{rules, ◌≡◌, ℕ, suc, ◌+◌, ◌<◌, ◌≤◌, List, [], ◌∷◌, ◌++◌, length, get_or, drop, Some, Ok, Err, arith, sym, ap, subst, ◌∙◌}
 use Rattle.std.proofs.lemmas.List.{drop-drop, length-append, length-drop}
-use Rattle.std.specs.List.{AllByRecursion}
 use Rattle.ctap_cbor.specs.declared.fault.Kind.{Kind}
-use Rattle.ctap_cbor.specs.declared.fault.Kind.TheVariants.{Truncated, KeyOrder}
+use Rattle.ctap_cbor.specs.declared.fault.Kind.TheVariants.{KeyOrder}
 use Rattle.ctap_cbor.specs.Head.{AreBytes}
-use Rattle.ctap_cbor.specs.Faults.{AnItem, first_of, first_faults, body_faults, later_faults, fault, passed, fault_steps}
+use Rattle.ctap_cbor.specs.Faults.{AnItem, first_faults, body_faults, fault, passed, fault_steps}
 use Rattle.ctap_cbor.specs.Parts.{Part, item_text, read}
 use Rattle.ctap_cbor.specs.Reading.{Reading, rest_of, advance, Takes, Refuses}
 use Rattle.ctap_cbor.specs.Views.{end_steps_of}
@@ -23,9 +22,11 @@ rest_beyond old new n s e = ap rest_of e ∙ sym (drop-drop n old.place old.byte
 pub read_len : (rest text : List ℕ) (n : ℕ) → rest ≡ text ++ drop n rest → n ≤ length rest → n ≡ length text
 read_len rest text n e le = omega (arith, ap length e, length-append text (drop n rest), length-drop n rest)
 
-item_taken_at : (room : ℕ) (old new : Reading) (i : Part) (n : ℕ) → AreBytes (rest_of old) → read room AnItem (rest_of old) ≡ Ok (i, drop n (rest_of old)) → n ≤ length (rest_of old) → new ≡ advance old n (n + 0) → Takes room old new i
-item_taken_at room old new i n fits e le moved =
-    let h = read_sound room AnItem (rest_of old) i (drop n (rest_of old)) fits e in
+item_taken_at : (levels : ℕ) (old new : Reading) (i : Part) (n : ℕ) → AreBytes (rest_of old) →
+    read levels AnItem (rest_of old) ≡ Ok (i, drop n (rest_of old)) → n ≤ length (rest_of old) →
+    new ≡ advance old n (n + 0) → Takes levels old new i
+item_taken_at levels old new i n fits e le moved =
+    let h = read_sound levels AnItem (rest_of old) i (drop n (rest_of old)) fits e in
     let len : n ≡ length (item_text i) = read_len (rest_of old) (item_text i) n h.parts le in
     let same : n + 0 ≡ length (item_text i) = omega arith in
     record {
@@ -38,41 +39,36 @@ abbrev pub InOrder : Kind → Type 0
 InOrder KeyOrder = ⊥
 InOrder _ = Unit {0}
 
-pub kind_among : (ts : List (Bool × Kind)) (kind : Kind) → AllByRecursion (λ (t : Bool × Kind). t.0 ≡ true → InOrder t.1) ts → first_of ts ≡ Some kind → InOrder kind
-kind_among [] kind h e = absurd cc
-kind_among ((true, k) ∷ ts) kind h e = let same : k ≡ kind = cc in subst InOrder same (h.0 refl)
-kind_among ((false, k) ∷ ts) kind h e = kind_among ts kind h.1 e
-
-item_in_order : (room : ℕ) (bytes : List ℕ) (kind : Kind) → fault room AnItem bytes ≡ Some kind → InOrder kind
+item_in_order : (levels : ℕ) (bytes : List ℕ) (kind : Kind) → fault levels AnItem bytes ≡ Some kind → InOrder kind
 unfolding first_faults body_faults
-item_in_order room [] kind e = let same : Truncated ≡ kind = cc in subst InOrder same tt
-item_in_order room (first ∷ rest) kind e =
-    kind_among (first_faults room AnItem first ++ later_faults AnItem first rest) kind
-    ((λ _. tt), ((λ _. tt), ((λ _. tt), ((λ _. tt), ((λ _. tt), ((λ _. tt), ((λ _. tt), ((λ _. tt), ((λ (e : false ≡ true). absurd cc), tt))))))))) e
+item_in_order levels bytes kind e = grind arith
 
-pub in_order_steps : (kind : Kind) (bytes : List ℕ) → InOrder kind → fault_steps kind bytes ≡ passed kind bytes + end_steps_of kind
+pub in_order_steps : (kind : Kind) (bytes : List ℕ) → InOrder kind →
+    fault_steps kind bytes ≡ passed kind bytes + end_steps_of kind
 unfolding fault_steps passed
-in_order_steps Truncated bytes h = refl
-in_order_steps KeyOrder bytes h = absurd h
-in_order_steps kind bytes h = omega arith
+in_order_steps kind bytes h = search (rules, arith)
 
-item_refused_at : (room : ℕ) (old new : Reading) (at n : ℕ) (kind : Kind) → read room AnItem (rest_of old) ≡ Err kind → n ≡ passed kind (rest_of old) → new ≡ advance old n (n + end_steps_of kind) → at ≡ old.place → Refuses room AnItem old new at kind
-item_refused_at room old new at n kind e len moved place =
-    let is : fault room AnItem (rest_of old) ≡ Some kind = fault_read room AnItem (rest_of old) kind e in
-    let steps : n + end_steps_of kind ≡ fault_steps kind (rest_of old) = ap (λ x. x + end_steps_of kind) len ∙ sym (in_order_steps kind (rest_of old) (item_in_order room (rest_of old) kind is)) in
-    record { is = is; place = place; moved = moved ∙ ap (λ x. advance old x (n + end_steps_of kind)) len ∙ ap (advance old (passed kind (rest_of old))) steps }
+item_refused_at : (levels : ℕ) (old new : Reading) (at n : ℕ) (kind : Kind) → read levels AnItem (rest_of old) ≡ Err kind →
+    n ≡ passed kind (rest_of old) → new ≡ advance old n (n + end_steps_of kind) → at ≡ old.place →
+    Refuses levels AnItem old new at kind
+item_refused_at levels old new at n kind e len moved place = grind (arith, fault_read, in_order_steps, item_in_order)
 
 -- the same, of a list that is the rest
-pub item_taken : (room : ℕ) (old new : Reading) (rest : List ℕ) (i : Part) (n : ℕ) → rest ≡ rest_of old → AreBytes rest → (read room AnItem rest ≡ Ok (i, drop n rest)) × (n ≤ length rest) × (n ≡ passed KeyOrder rest) → new ≡ advance old n (n + 0) → Takes room old new i
-item_taken room old new rest i n e fits h moved =
-    let k = subst (λ x. (read room AnItem x ≡ Ok (i, drop n x)) × (n ≤ length x)) e (h.0, h.1) in
-    item_taken_at room old new i n (subst AreBytes e fits) k.0 k.1 moved
+pub item_taken : (levels : ℕ) (old new : Reading) (rest : List ℕ) (i : Part) (n : ℕ) → rest ≡ rest_of old →
+    AreBytes rest → (read levels AnItem rest ≡ Ok (i, drop n rest)) × (n ≤ length rest) × (n ≡ passed KeyOrder rest) →
+    new ≡ advance old n (n + 0) → Takes levels old new i
+item_taken levels old new rest i n e fits h moved =
+    let k = subst (λ x. (read levels AnItem x ≡ Ok (i, drop n x)) × (n ≤ length x)) e (h.0, h.1) in
+    item_taken_at levels old new i n (subst AreBytes e fits) k.0 k.1 moved
 
-pub item_refused : (room : ℕ) (old new : Reading) (at : ℕ) (rest : List ℕ) (kind : Kind) (n end : ℕ) → rest ≡ rest_of old → read room AnItem rest ≡ Err kind × (n ≡ passed kind rest) × (n ≤ length rest) → end ≡ end_steps_of kind → new ≡ advance old n (n + end) → at ≡ old.place → Refuses room AnItem old new at kind
-item_refused room old new at rest kind n end e h end-is moved place =
-    let k = subst (λ x. read room AnItem x ≡ Err kind × (n ≡ passed kind x) × (n ≤ length x)) e h in
-    item_refused_at room old new at n kind k.0 k.1 (moved ∙ ap (λ x. advance old n (n + x)) end-is) place
+pub item_refused : (levels : ℕ) (old new : Reading) (at : ℕ) (rest : List ℕ) (kind : Kind) (n end : ℕ) →
+    rest ≡ rest_of old → read levels AnItem rest ≡ Err kind × (n ≡ passed kind rest) × (n ≤ length rest) →
+    end ≡ end_steps_of kind → new ≡ advance old n (n + end) → at ≡ old.place → Refuses levels AnItem old new at kind
+item_refused levels old new at rest kind n end e h end-is moved place =
+    let k = subst (λ x. read levels AnItem x ≡ Err kind × (n ≡ passed kind x) × (n ≤ length x)) e h in
+    item_refused_at levels old new at n kind k.0 k.1 (moved ∙ ap (λ x. advance old n (n + x)) end-is) place
 
-pub read_taken : (room : ℕ) (old new : Reading) (rest : List ℕ) (i : Part) (n : ℕ) → rest ≡ rest_of old → read room AnItem rest ≡ Ok (i, drop n rest) → new ≡ advance old n (n + 0) → read room AnItem (rest_of old) ≡ Ok (i, rest_of new)
-read_taken room old new rest i n e h moved =
-    subst (λ x. read room AnItem x ≡ Ok (i, drop n x)) e h ∙ ap (λ x. Ok (i, x)) (sym (rest_beyond old new n (n + 0) moved))
+pub read_taken : (levels : ℕ) (old new : Reading) (rest : List ℕ) (i : Part) (n : ℕ) → rest ≡ rest_of old →
+    read levels AnItem rest ≡ Ok (i, drop n rest) → new ≡ advance old n (n + 0) →
+    read levels AnItem (rest_of old) ≡ Ok (i, rest_of new)
+read_taken levels old new rest i n e h moved = search (rules, arith, rest_beyond)

@@ -1,14 +1,13 @@
 -- What bytes are, as a function of them.
-use Rattle.std.proofs.Common.{◌≡◌, ℕ, ◌+◌, ◌*◌, ◌≤◌, Bool, true, false, List, [], ◌∷◌, ◌++◌, length, Some, refl, arith, sym, ap, subst, ◌∙◌}
-use Rattle.std.specs.Prelude.{◌&&◌, if◌then◌else◌, nat_lt}
-use Rattle.std.proofs.lemmas.Bool.{and_parts, ltb-true}
+use Rattle.std.proofs.Common.{rules, ◌≡◌, ℕ, ◌+◌, ◌*◌, ◌≤◌, Bool, true, List, [], ◌∷◌, ◌++◌, length, Some, refl, arith, sym, ap, ◌∙◌}
+use Rattle.std.specs.Prelude.{◌&&◌, if◌then◌else◌}
 use Rattle.std.proofs.lemmas.List.{append-nil}
 use Rattle.ctap_cbor.specs.declared.fault.Kind.TheVariants.{Reserved}
 use Rattle.ctap_cbor.specs.Tree.{Tree, count}
 use Rattle.ctap_cbor.specs.Head.{AreBytes}
 use Rattle.ctap_cbor.specs.Grammar.{texts, IsCanonical}
 use Rattle.ctap_cbor.specs.Faults.{passed, fault_steps}
-use Rattle.ctap_cbor.specs.Outcome.{Outcome, Whole, Longer, Stopped, IsOutcome, steps}
+use Rattle.ctap_cbor.specs.Outcome.{Outcome, Whole, Stopped, IsOutcome, steps}
 use Rattle.ctap_cbor.specs.Parse.{items, parse, outcome_by, ran_by}
 use Rattle.ctap_cbor.specs.Telling.{are_bytes, outcome_of, whole_tree, items_at}
 use Rattle.ctap_cbor.specs.Laws.{BytesTell, TreesAreTold, CheckStepsAreBounded, ItemsAreFound}
@@ -24,9 +23,7 @@ are_bytes_true (x ∷ bs) h = ap (λ c. c && are_bytes bs) (below x 256 h.0) ∙
 
 pub bytes_of_test : (b : List ℕ) → are_bytes b ≡ true → AreBytes b
 bytes_of_test [] e = tt
-bytes_of_test (x ∷ bs) e =
-    let p = and_parts (nat_lt x 256) (are_bytes bs) e in
-    (ltb-true x 256 p.0, bytes_of_test bs p.1)
+bytes_of_test (x ∷ bs) e = grind (arith, bytes_of_test bs)
 
 outcome_parsed : (b : List ℕ) → AreBytes b → outcome_of b ≡ outcome_by (parse 4 b)
 unfolding outcome_of
@@ -38,26 +35,21 @@ told b fits = rw (outcome_parsed b fits) (outcome_sound b (parse 4 b) (parse_sou
 pub bytes_tell : BytesTell
 bytes_tell = record { told = told; only = λ b o fits is. outcome_parsed b fits ∙ outcome_only b o is }
 
-some_same : (t u : Tree) → Some t ≡ Some u → t ≡ u
-some_same t u e = cc
-
 tree_of : (b : List ℕ) (t : Tree) (o : Outcome) → IsOutcome b o → whole_tree o ≡ Some t → IsCanonical t b
-tree_of b t (Whole u) is e = subst (λ x. IsCanonical x b) (some_same u t e) is
-tree_of b t (Longer u) is e = absurd cc
-tree_of b t (Stopped os kind) is e = absurd cc
+tree_of b t o is e = grind arith
 
 pub trees_are_told : TreesAreTold
-trees_are_told b t fits = (λ e. tree_of b t (outcome_of b) (told b fits) e, λ c. ap whole_tree (bytes_tell.only b (Whole t) fits c))
+trees_are_told b t fits =
+    (λ e. tree_of b t (outcome_of b) (told b fits) e, λ c. ap whole_tree (bytes_tell.only b (Whole t) fits c))
 
 -- a list with a number that is no byte
 no_bytes : (b : List ℕ) → steps b (Stopped [] Reserved) ≤ 2 * length b + 1
 unfolding fault_steps passed
-no_bytes [] = omega arith
-no_bytes (x ∷ bs) = omega arith
+no_bytes b = search (rules, arith)
 
-bounded_by : (b : List ℕ) (c : Bool) → are_bytes b ≡ c → steps b (if c then outcome_by (parse 4 b) else Stopped [] Reserved) ≤ 2 * length b + 1
-bounded_by b true e = let fits = bytes_of_test b e in steps_bound b (outcome_by (parse 4 b)) (outcome_sound b (parse 4 b) (parse_sound 4 b fits))
-bounded_by b false e = no_bytes b
+bounded_by : (b : List ℕ) (c : Bool) → are_bytes b ≡ c →
+    steps b (if c then outcome_by (parse 4 b) else Stopped [] Reserved) ≤ 2 * length b + 1
+bounded_by b c e = grind (arith, bytes_of_test, no_bytes, outcome_sound, parse_sound, steps_bound)
 
 pub check_steps_bounded : CheckStepsAreBounded
 unfolding outcome_of
@@ -65,8 +57,8 @@ check_steps_bounded b = bounded_by b (are_bytes b) refl
 
 pub items_are_found : ItemsAreFound
 unfolding items_at
-items_are_found room ts lawful flat =
-    ap (λ x. ran_by (items (parse room) (count ts) x)) (sym (append-nil (texts ts)))
-    ∙ ap (λ n. ran_by (items (parse room) n (texts ts ++ []))) (let e : count ts ≡ count ts + 0 = omega arith in e)
-    ∙ ap ran_by (items_again ts room 0 [] lawful flat)
+items_are_found levels ts lawful flat =
+    ap (λ x. ran_by (items (parse levels) (count ts) x)) (sym (append-nil (texts ts)))
+    ∙ ap (λ n. ran_by (items (parse levels) n (texts ts ++ []))) (let e : count ts ≡ count ts + 0 = omega arith in e)
+    ∙ ap ran_by (items_again ts levels 0 [] lawful flat)
     ∙ ap ran_by (all_ran ts [])

@@ -1,8 +1,8 @@
 -- The grammar's laws, by the reading.
-use Rattle.std.proofs.Common.{◌≡◌, ℕ, ◌+◌, ◌<◌, List, [], ◌∷◌, ◌++◌, length, refl, arith, sym, ap, ◌∙◌}
+use Rattle.std.proofs.Common.{rules, ◌≡◌, ℕ, ◌+◌, List, [], ◌++◌, refl, arith, sym, ap, ◌∙◌}
 use Rattle.std.proofs.lemmas.List.{append-nil}
 use Rattle.ctap_cbor.specs.Tree.{Tree, depth}
-use Rattle.ctap_cbor.specs.Grammar.{text, IsCanonical}
+use Rattle.ctap_cbor.specs.Grammar.{text}
 use Rattle.ctap_cbor.specs.Outcome.{Outcome, Whole, Longer, Stopped, IsOutcome, result_of}
 use Rattle.ctap_cbor.specs.Laws.{EachTextIsOne, NoneBeginsAnother, WrittenIsReadAgain, EncodedIsDecoded}
 use Rattle.ctap_cbor.specs.Parse.{Parse, Done, Halt, parse, outcome_by}
@@ -10,21 +10,17 @@ use Rattle.ctap_cbor.proofs.Again.{parse_again, halt_again}
 use Rattle.ctap_cbor.proofs.Sound.{IsParse, parse_sound}
 
 pub outcome_sound : (b : List ℕ) (p : Parse) → IsParse 4 b p → IsOutcome b (outcome_by p)
-outcome_sound b (Done t []) h = record { enc = record { lawful = h.0; spelled = h.2 ∙ append-nil (text t) }; flat = h.1 }
-outcome_sound b (Done t (x ∷ rest)) h = (text t, x ∷ rest, record { enc = record { lawful = h.0; spelled = refl }; flat = h.1 }, omega arith, h.2)
-outcome_sound b (Halt os kind rest) h = (rest, h.0, h.1)
+outcome_sound b p h = search (rules, arith)
 
 pub outcome_only : (b : List ℕ) (o : Outcome) → IsOutcome b o → outcome_by (parse 4 b) ≡ o
-outcome_only b (Whole t) h = ap (λ x. outcome_by (parse 4 x)) (h.enc.spelled ∙ sym (append-nil (text t))) ∙ ap outcome_by (parse_again t 4 [] h.enc.lawful h.flat)
-outcome_only b (Longer t) h = longer h.0 h.1 h.2 h.3 h.4
-  where
-    longer : (whole rest : List ℕ) → IsCanonical t whole → 0 < length rest → b ≡ whole ++ rest → outcome_by (parse 4 b) ≡ Longer t
-    longer whole [] c lt e = absurd (omega arith)
-    longer whole (x ∷ rest) c lt e = ap (λ y. outcome_by (parse 4 y)) (e ∙ ap (λ y. y ++ x ∷ rest) c.enc.spelled) ∙ ap outcome_by (parse_again t 4 (x ∷ rest) c.enc.lawful c.flat)
+outcome_only b (Whole t) h = ap (λ x. outcome_by (parse 4 x)) (h.enc.spelled ∙ sym (append-nil (text t)))
+    ∙ ap outcome_by (parse_again t 4 [] h.enc.lawful h.flat)
+outcome_only b (Longer t) h = search (rules, arith, parse_again)
 outcome_only b (Stopped os kind) h = ap (λ x. outcome_by (parse 4 x)) h.2 ∙ ap outcome_by (halt_again os 4 kind h.0 h.1)
 
 pub each_text_is_one : EachTextIsOne
-each_text_is_one b fits = (outcome_by (parse 4 b), outcome_sound b (parse 4 b) (parse_sound 4 b fits), λ p h. sym (outcome_only b p h))
+each_text_is_one b fits =
+    (outcome_by (parse 4 b), outcome_sound b (parse 4 b) (parse_sound 4 b fits), λ p h. sym (outcome_only b p h))
 
 pub written_is_read_again : WrittenIsReadAgain
 written_is_read_again t b c o is = sym (outcome_only b o is) ∙ outcome_only b (Whole t) c
@@ -39,10 +35,12 @@ rest_from (Halt os kind rest) = rest
 
 pub none_begins_another : NoneBeginsAnother
 none_begins_another t u b c x y f g e =
-    let room : ℕ = depth t + depth u in
-    let p : parse room (b ++ x) ≡ Done t x = ap (λ z. parse room (z ++ x)) f.spelled ∙ parse_again t room x f.lawful (omega arith) in
-    let q : parse room (c ++ y) ≡ Done u y = ap (λ z. parse room (z ++ y)) g.spelled ∙ parse_again u room y g.lawful (omega arith) in
-    let same : Done t x ≡ Done u y = sym p ∙ ap (parse room) e ∙ q in
+    let levels : ℕ = depth t + depth u in
+    let p : parse levels (b ++ x) ≡ Done t x = ap (λ z. parse levels (z ++ x)) f.spelled
+    ∙ parse_again t levels x f.lawful (omega arith) in
+    let q : parse levels (c ++ y) ≡ Done u y = ap (λ z. parse levels (z ++ y)) g.spelled
+    ∙ parse_again u levels y g.lawful (omega arith) in
+    let same : Done t x ≡ Done u y = sym p ∙ ap (parse levels) e ∙ q in
     let trees : t ≡ u = ap (tree_of t) same in
     (trees, f.spelled ∙ ap text trees ∙ sym g.spelled, ap rest_from same)
 

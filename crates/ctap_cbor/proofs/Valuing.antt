@@ -1,20 +1,19 @@
 -- Values that grow by one at the end, and refusals that aren't for want of memory.
-use Rattle.std.proofs.Common.{◌≡◌, ◌≢◌, ℕ, ◌+◌, List, [], ◌∷◌, ◌++◌, Option, Some, map, refl, sym, ap, subst, ◌∙◌}
+use Rattle.std.proofs.Common.{arith, rules, ◌≡◌, ◌≢◌, ℕ, ◌+◌, List, [], ◌∷◌, ◌++◌, Option, Some, map, refl, sym, ap, subst, ◌∙◌}
 use Rattle.std.proofs.lemmas.List.{map_push}
 use Rattle.ctap_cbor.specs.declared.fault.Fault.{Fault}
 use Rattle.ctap_cbor.specs.declared.fault.Kind.{Kind}
-use Rattle.ctap_cbor.specs.declared.fault.Kind.TheVariants.{Truncated, Trailing, Memory}
+use Rattle.ctap_cbor.specs.declared.fault.Kind.TheVariants.{Trailing, Memory}
 use Rattle.ctap_cbor.specs.declared.item.Item.{Item}
 use Rattle.ctap_cbor.specs.declared.item.Item.TheVariants as item
 use Rattle.ctap_cbor.specs.declared.value.Value.{Value}
-use Rattle.ctap_cbor.specs.Tree.{push, push_pair, Tree, Trees, Pairs, Plain, Scalar}
-use Rattle.ctap_cbor.specs.Faults.{Due, first_faults, body_faults, faults, fault}
+use Rattle.ctap_cbor.specs.Tree.{push, push_pair, Tree, Plain}
+use Rattle.ctap_cbor.specs.Faults.{Due, first_faults, body_faults, fault}
 use Rattle.ctap_cbor.specs.Outcome.{Outcome, IsOutcome, result_of}
 use Rattle.ctap_cbor.specs.Parts.{Part}
 use Rattle.ctap_cbor.specs.Reading.{Reading, Takes, Refuses, Passes, PassesAll, PassesPairs, GivesKey, Halts, GoesOn}
 use Rattle.ctap_cbor.specs.Views.{part_of}
 use Rattle.ctap_cbor.specs.Values.{trees, pairs, tree_of, pair_of, trees_of, pairs_of, IsScalarOf, UnlessMemory}
-use Rattle.ctap_cbor.proofs.Finding.{kind_of}
 use Rattle.ctap_cbor.proofs.Answering.{start, found_stopped, found_longer}
 use Rattle.ctap_cbor.proofs.Moves.{passes_more}
 use Rattle.ctap_cbor.proofs.Skipping.{given_more, one_passes}
@@ -31,39 +30,48 @@ unfolding push_pair
 pairs_push [] k v = refl
 pairs_push (p ∷ ps) k v = ap (λ x. Rattle.ctap_cbor.specs.Tree.pair p.0 p.1 x) (pairs_push ps k v)
 
-pub item_more : (room n : ℕ) (vs : List Value) (v : Value) (a b c : Reading) → PassesAll room n (trees_of vs) a b → Passes room (tree_of v) b c → PassesAll room (n + 1) (trees_of (vs ++ v ∷ [])) a c
-item_more room n vs v a b c h k =
-    let e : trees_of (vs ++ v ∷ []) ≡ push (trees_of vs) (tree_of v) = ap trees (map_push tree_of vs v) ∙ trees_push (map tree_of vs) (tree_of v) in
-    subst (λ x. PassesAll room (n + 1) x a c) (sym e) (passes_more room n (trees_of vs) (tree_of v) a b c h k)
+pub item_more : (levels n : ℕ) (vs : List Value) (v : Value) (a b c : Reading) → PassesAll levels n (trees_of vs) a b →
+    Passes levels (tree_of v) b c → PassesAll levels (n + 1) (trees_of (vs ++ v ∷ [])) a c
+item_more levels n vs v a b c h k = search (rules, arith, map_push, passes_more, trees_push)
 
-pub pair_more : (room n : ℕ) (vs : List (Value × Value)) (name value : Value) (last : Option (List ℕ)) (a b c d : Reading) (part : Part) (bytes : List ℕ) → PassesPairs room n (pairs_of vs) last a b → GivesKey last b c part bytes → IsScalarOf part (tree_of name) → Passes room (tree_of value) c d → PassesPairs room (n + 1) (pairs_of (vs ++ (name, value) ∷ [])) (Some bytes) a d
-pair_more room n vs name value last a b c d part bytes h k is p =
+pub pair_more : (levels n : ℕ) (vs : List (Value × Value)) (name value : Value) (last : Option (List ℕ))
+    (a b c d : Reading) (part : Part) (bytes : List ℕ) → PassesPairs levels n (pairs_of vs) last a b →
+    GivesKey last b c part bytes → IsScalarOf part (tree_of name) → Passes levels (tree_of value) c d →
+    PassesPairs levels (n + 1) (pairs_of (vs ++ (name, value) ∷ [])) (Some bytes) a d
+pair_more levels n vs name value last a b c d part bytes h k is p =
     let key : tree_of name ≡ Plain k.key = is k.key k.part_is k.takes.suits.0 in
     let e : pairs_of (vs ++ (name, value) ∷ []) ≡ push_pair (pairs_of vs) (Plain k.key) (tree_of value) =
-    ap pairs (map_push pair_of vs (name, value)) ∙ pairs_push (map pair_of vs) (tree_of name) (tree_of value) ∙ ap (λ x. push_pair (pairs_of vs) x (tree_of value)) key in
-    subst (λ x. PassesPairs room (n + 1) x (Some bytes) a d) (sym e) (given_more room n (pairs_of vs) (tree_of value) last a b c d part bytes h k p)
+    ap pairs (map_push pair_of vs (name, value)) ∙ pairs_push (map pair_of vs) (tree_of name) (tree_of value)
+    ∙ ap (λ x. push_pair (pairs_of vs) x (tree_of value)) key in
+    subst (λ x. PassesPairs levels (n + 1) x (Some bytes) a d) (sym e)
+    (given_more levels n (pairs_of vs) (tree_of value) last a b c d part bytes h k p)
 
 -- what opens no array or map was passed whole
-pub scalar_passes : (room : ℕ) (a b : Reading) (i : Item) (t : Tree) → ((n : ℕ) → i ≡ item.Array n → ⊥) → ((n : ℕ) → i ≡ item.Map n → ⊥) → Takes room a b (part_of i) → IsScalarOf (part_of i) t → Passes room t a b
-scalar_passes room a b (item.Array n) t no-array no-map k is = absurd (no-array n refl)
-scalar_passes room a b (item.Map n) t no-array no-map k is = absurd (no-map n refl)
-scalar_passes room a b (item.Int i) t no-array no-map k is = subst (λ x. Passes room x a b) (sym (is _ refl k.suits)) (one_passes room a b _ k)
-scalar_passes room a b (item.Bytes s) t no-array no-map k is = subst (λ x. Passes room x a b) (sym (is _ refl k.suits)) (one_passes room a b _ k)
-scalar_passes room a b (item.Text s) t no-array no-map k is = subst (λ x. Passes room x a b) (sym (is _ refl k.suits)) (one_passes room a b _ k)
-scalar_passes room a b (item.Bool f) t no-array no-map k is = subst (λ x. Passes room x a b) (sym (is _ refl k.suits)) (one_passes room a b _ k)
-scalar_passes room a b item.Null t no-array no-map k is = subst (λ x. Passes room x a b) (sym (is _ refl k.suits)) (one_passes room a b _ k)
+pub scalar_passes : (levels : ℕ) (a b : Reading) (i : Item) (t : Tree) → ((n : ℕ) → i ≡ item.Array n → ⊥) →
+    ((n : ℕ) → i ≡ item.Map n → ⊥) → Takes levels a b (part_of i) → IsScalarOf (part_of i) t → Passes levels t a b
+scalar_passes levels a b (item.Array n) t no-array no-map k is = absurd (no-array n refl)
+scalar_passes levels a b (item.Map n) t no-array no-map k is = absurd (no-map n refl)
+scalar_passes levels a b (item.Int i) t no-array no-map k is = subst (λ x. Passes levels x a b) (sym (is _ refl k.suits))
+    (one_passes levels a b _ k)
+scalar_passes levels a b (item.Bytes s) t no-array no-map k is = subst (λ x. Passes levels x a b) (sym (is _ refl k.suits))
+    (one_passes levels a b _ k)
+scalar_passes levels a b (item.Text s) t no-array no-map k is = subst (λ x. Passes levels x a b) (sym (is _ refl k.suits))
+    (one_passes levels a b _ k)
+scalar_passes levels a b (item.Bool f) t no-array no-map k is = subst (λ x. Passes levels x a b) (sym (is _ refl k.suits))
+    (one_passes levels a b _ k)
+scalar_passes levels a b item.Null t no-array no-map k is = subst (λ x. Passes levels x a b) (sym (is _ refl k.suits))
+    (one_passes levels a b _ k)
 
 -- ---- no item's fault is want of memory
 
-fault_not_memory : (room : ℕ) (due : Due) (bytes : List ℕ) (kind : Kind) → fault room due bytes ≡ Some kind → kind ≢ Memory
+fault_not_memory : (levels : ℕ) (due : Due) (bytes : List ℕ) (kind : Kind) → fault levels due bytes ≡ Some kind →
+    kind ≢ Memory
 unfolding first_faults body_faults
-fault_not_memory room due [] kind e = let same : Truncated ≡ kind = cc in subst (λ k. k ≢ Memory) same (λ (f : Truncated ≡ Memory). cc)
-fault_not_memory room due (first ∷ rest) kind e =
-    kind_of (λ k. k ≢ Memory) (faults room due first rest) kind
-    ((λ f. cc), ((λ f. cc), ((λ f. cc), ((λ f. cc), ((λ f. cc), ((λ f. cc), ((λ f. cc), ((λ f. cc), ((λ f. cc), tt))))))))) e
+fault_not_memory levels due bytes kind e = search (rules, arith)
 
-pub refuses_not_memory : (room : ℕ) (due : Due) (a b : Reading) (at : ℕ) (kind : Kind) → Refuses room due a b at kind → kind ≢ Memory
-refuses_not_memory room due a b at kind h = fault_not_memory room due _ kind h.is
+pub refuses_not_memory : (levels : ℕ) (due : Due) (a b : Reading) (at : ℕ) (kind : Kind) → Refuses levels due a b at kind →
+    kind ≢ Memory
+refuses_not_memory levels due a b at kind h = fault_not_memory levels due _ kind h.is
 
 -- what the text tells
 pub told : (f : Fault) (p : Type 0) → f.kind ≢ Memory → p → UnlessMemory f p
@@ -75,12 +83,15 @@ told_by f p q go h = (λ differs. go (h.0 differs), h.1)
 
 -- ---- what a decoder's refusal says of the text
 
-pub stopped_outcome : (b : List ℕ) (old new : Reading) (f : Fault) → old ≡ start b → Halts 4 old new f.at f.kind → (o : Outcome) × IsOutcome b o × (result_of o ≡ Some (f.at, f.kind))
+pub stopped_outcome : (b : List ℕ) (old new : Reading) (f : Fault) → old ≡ start b → Halts 4 old new f.at f.kind →
+    (o : Outcome) × IsOutcome b o × (result_of o ≡ Some (f.at, f.kind))
 stopped_outcome b old new f e h =
     let k = found_stopped b new f (subst (λ r. Halts 4 r new f.at f.kind) e h) in
     (k.0, k.1, k.2.0)
 
-pub longer_outcome : (b : List ℕ) (old middle new : Reading) (f : Fault) (t : Tree) → old ≡ start b → Passes 4 t old middle → GoesOn middle new f.at f.kind → UnlessMemory f ((o : Outcome) × IsOutcome b o × (result_of o ≡ Some (f.at, f.kind)))
+pub longer_outcome : (b : List ℕ) (old middle new : Reading) (f : Fault) (t : Tree) → old ≡ start b →
+    Passes 4 t old middle → GoesOn middle new f.at f.kind →
+    UnlessMemory f ((o : Outcome) × IsOutcome b o × (result_of o ≡ Some (f.at, f.kind)))
 longer_outcome b old middle new f t e p g =
     let k = found_longer b middle new f (t, subst (λ r. Passes 4 t r middle) e p) g in
     told f _ (subst (λ k. k ≢ Memory) (sym g.is_trailing) (λ (h : Trailing ≡ Memory). cc)) (k.0, k.1, k.2.0)

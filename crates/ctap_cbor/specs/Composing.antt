@@ -9,7 +9,7 @@ pub then : {a b c : Sink} {x y : List ℕ} {m n : ℕ} → Appends a b x m → A
 then {a = a} {x = x} {y = y} {m = m} {n = n} p q = record {
   grows = q.grows ∙ ap (λ w. w ++ y) p.grows ∙ append_assoc (contents a) x y;
   len_is = omega arith;
-  room_is = omega arith;
+  space_is = omega arith;
   keeps = q.keeps ∙ ap (drop n) p.keeps ∙ drop-drop n m _;
 }
 
@@ -18,6 +18,6 @@ pub done : {a : Sink} → Appends a a [] 0
 done {a = a} = record {
   grows = sym (append-nil (contents a));
   len_is = omega arith;
-  room_is = omega arith;
+  space_is = omega arith;
   keeps = refl;
 }

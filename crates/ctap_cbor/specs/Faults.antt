@@ -52,14 +52,14 @@ first_of (t ∷ ts) = if t.0 then Some t.1 else first_of ts
 -- The faults that a head's first byte shows, each with its test, in their order. So many arrays and maps may
 -- still be opened.
 unfoldable pub first_faults : ℕ → Due → ℕ → List (Bool × Kind)
-first_faults room due first =
+first_faults levels due first =
     let m = major first in
     let i = info first in
     let is_nest = nat_eq m 4 || nat_eq m 5 in
     (nat_le 28 i, Reserved)
     ∷ (nat_eq m 6 || (nat_eq m 7 && not (nat_le 20 i && nat_le i 22)), Unsupported)
     ∷ (is_key due && (is_nest || nat_eq m 7), KeyType)
-    ∷ (is_nest && nat_eq room 0, TooDeep)
+    ∷ (is_nest && nat_eq levels 0, TooDeep)
     ∷ []
 
 -- the faults of the rest of the head, and of the string
@@ -80,12 +80,12 @@ later_faults due first rest = body_faults first rest ++
 
 -- all of these, in their order
 abbrev pub faults : ℕ → Due → ℕ → List ℕ → List (Bool × Kind)
-faults room due first rest = first_faults room due first ++ later_faults due first rest
+faults levels due first rest = first_faults levels due first ++ later_faults due first rest
 
 -- the fault of the item that begins here
 abbrev pub fault : ℕ → Due → List ℕ → Option Kind
-fault room due [] = Some Truncated
-fault room due (first ∷ rest) = first_of (faults room due first rest)
+fault levels due [] = Some Truncated
+fault levels due (first ∷ rest) = first_of (faults levels due first rest)
 
 -- how many bytes from the item's place on count as passed
 unfoldable pub passed : Kind → List ℕ → ℕ

@@ -22,7 +22,7 @@ NoneBeginsAnother = (t u : Tree) (b c x y : List ℕ) → IsEncoding t b → IsE
 
 -- and the same of items without what is inside them: heads, and heads with the bytes of a string
 abbrev pub NoItemBeginsAnother : Type 0
-NoItemBeginsAnother = (room : ℕ) (i j : Part) (x y : List ℕ) → Suits room AnItem i → Suits room AnItem j
+NoItemBeginsAnother = (levels : ℕ) (i j : Part) (x y : List ℕ) → Suits levels AnItem i → Suits levels AnItem j
     → item_text i ++ x ≡ item_text j ++ y → (i ≡ j) × (x ≡ y)
 
 -- reading n bytes takes at most 2 * n + 1 steps
@@ -35,13 +35,13 @@ WrittenIsReadAgain = (t : Tree) (b : List ℕ) → IsCanonical t b → (o : Outc
 
 -- where a tree's text is at a cursor's place, no other tree is passed
 abbrev pub OneTreePasses : Type 0
-OneTreePasses = (room : ℕ) (t u : Tree) (rest : List ℕ) (old new : Reading) → IsLawful t → depth t ≤ room
-    → rest_of old ≡ text t ++ rest → Passes room u old new → (u ≡ t) × (rest_of new ≡ rest)
+OneTreePasses = (levels : ℕ) (t u : Tree) (rest : List ℕ) (old new : Reading) → IsLawful t → depth t ≤ levels
+    → rest_of old ≡ text t ++ rest → Passes levels u old new → (u ≡ t) × (rest_of new ≡ rest)
 
 -- and no fault is found
 abbrev pub NothingHalts : Type 0
-NothingHalts = (room : ℕ) (t : Tree) (rest : List ℕ) (old new : Reading) (at : ℕ) (kind : Kind) → IsLawful t
-    → depth t ≤ room → rest_of old ≡ text t ++ rest → Halts room old new at kind → ⊥
+NothingHalts = (levels : ℕ) (t : Tree) (rest : List ℕ) (old new : Reading) (at : ℕ) (kind : Kind) → IsLawful t
+    → depth t ≤ levels → rest_of old ≡ text t ++ rest → Halts levels old new at kind → ⊥
 
 -- what is encoded is decoded to the same tree, and for no fault is it refused
 abbrev pub EncodedIsDecoded : Type 0
@@ -86,4 +86,4 @@ CheckStepsAreBounded = (b : List ℕ) → check_steps b ≤ 2 * length b + 1
 
 -- items that are one after another are found there
 abbrev pub ItemsAreFound : Type 0
-ItemsAreFound = (room : ℕ) (ts : Trees) → AreLawful ts → depth_all ts ≤ room → items_at room (count ts) (texts ts) ≡ ts
+ItemsAreFound = (levels : ℕ) (ts : Trees) → AreLawful ts → depth_all ts ≤ levels → items_at levels (count ts) (texts ts) ≡ ts

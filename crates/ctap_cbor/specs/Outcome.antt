@@ -9,19 +9,19 @@ use Rattle.ctap_cbor.specs.Grammar.{text, texts, pair_texts, IsKey, IsAbove, Ris
 use Rattle.ctap_cbor.specs.Faults.{Due, AnItem, AKey, fault, fault_steps}
 
 -- An array or a map that is open: what its head counts, and the whole items after the head.
-pub data Open : Type 0 where
-  InArray : (total : ℕ) (done : Trees) → Open
-  AtKey : (total : ℕ) (done : Pairs) → Open
-  AtValue : (total : ℕ) (done : Pairs) (key : Tree) → Open
+pub data Enclosing : Type 0 where
+  InArray : (total : ℕ) (done : Trees) → Enclosing
+  AtKey : (total : ℕ) (done : Pairs) → Enclosing
+  AtValue : (total : ℕ) (done : Pairs) (key : Tree) → Enclosing
 
 -- the text up to where the next item is due
-abbrev pub front : Open → List ℕ
+abbrev pub front : Enclosing → List ℕ
 front (InArray total done) = head 4 total ++ texts done
 front (AtKey total done) = head 5 total ++ pair_texts done
 front (AtValue total done key) = head 5 total ++ (pair_texts done ++ text key)
 
 -- the same of those that are open, each in the one before
-abbrev pub fronts : List Open → List ℕ
+abbrev pub fronts : List Enclosing → List ℕ
 fronts [] = []
 fronts (o ∷ os) = front o ++ fronts os
 
@@ -31,30 +31,30 @@ last_key before no_pairs = before
 last_key before (pair k v ps) = last_key (Some (text k)) ps
 
 -- It may be open where so many more may be opened inside of it.
-abbrev pub IsOpen : ℕ → Open → Type 0
-IsOpen room (InArray total done) = (total < 2 ^ 64) × (count done < total) × AreLawful done × (depth_all done ≤ room)
-IsOpen room (AtKey total done) = (total < 2 ^ 64) × (count_pairs done < total) × Rises None done × AreLawfulPairs done
-    × (depth_pairs done ≤ room)
-IsOpen room (AtValue total done key) = (total < 2 ^ 64) × (count_pairs done < total) × Rises None done
-    × AreLawfulPairs done × (depth_pairs done ≤ room) × IsKey key × IsLawful key
+abbrev pub IsOpen : ℕ → Enclosing → Type 0
+IsOpen levels (InArray total done) = (total < 2 ^ 64) × (count done < total) × AreLawful done × (depth_all done ≤ levels)
+IsOpen levels (AtKey total done) = (total < 2 ^ 64) × (count_pairs done < total) × Rises None done × AreLawfulPairs done
+    × (depth_pairs done ≤ levels)
+IsOpen levels (AtValue total done key) = (total < 2 ^ 64) × (count_pairs done < total) × Rises None done
+    × AreLawfulPairs done × (depth_pairs done ≤ levels) × IsKey key × IsLawful key
     × IsAbove (last_key None done) (text key)
 
 -- an array or a map is inside one, and a key is no array or map
-abbrev pub CanHold : Open → List Open → Type 0
+abbrev pub CanHold : Enclosing → List Enclosing → Type 0
 CanHold (AtKey total done) (o ∷ os) = ⊥
 CanHold _ _ = Unit {0}
 
 -- what is due after what is inside of it
-abbrev pub due_in : Open → Due
+abbrev pub due_in : Enclosing → Due
 due_in (InArray total done) = AnItem
 due_in (AtKey total done) = AKey (last_key None done)
 due_in (AtValue total done key) = AnItem
 
 -- the arrays and maps that are open, where so many may be, and the fault of the item after them
-abbrev pub HaltsIn : ℕ → Due → List Open → Kind → List ℕ → Type 0
-HaltsIn room due [] kind rest = fault room due rest ≡ Some kind
+abbrev pub HaltsIn : ℕ → Due → List Enclosing → Kind → List ℕ → Type 0
+HaltsIn levels due [] kind rest = fault levels due rest ≡ Some kind
 HaltsIn zero due (o ∷ os) kind rest = ⊥
-HaltsIn (suc room) due (o ∷ os) kind rest = IsOpen room o × CanHold o os × HaltsIn room (due_in o) os kind rest
+HaltsIn (suc levels) due (o ∷ os) kind rest = IsOpen levels o × CanHold o os × HaltsIn levels (due_in o) os kind rest
 
 -- What a text is.
 pub data Outcome : Type 0 where
@@ -63,7 +63,7 @@ pub data Outcome : Type 0 where
   -- such a text, and bytes after it
   Longer : Tree → Outcome
   -- an item after these open arrays and maps has a fault
-  Stopped : List Open → Kind → Outcome
+  Stopped : List Enclosing → Kind → Outcome
 
 -- what it is that a text has this outcome
 abbrev pub IsOutcome : List ℕ → Outcome → Type 0
@@ -96,12 +96,12 @@ later_key no_pairs key = 0
 later_key (pair k v ps) key = length (text key)
 
 -- the same of what is open
-abbrev pub later_in : Open → ℕ
+abbrev pub later_in : Enclosing → ℕ
 later_in (InArray total done) = later_in_all done
 later_in (AtKey total done) = later_in_map done
 later_in (AtValue total done key) = later_in_map done + later_key done key
 
-abbrev pub later_in_open : List Open → ℕ
+abbrev pub later_in_open : List Enclosing → ℕ
 later_in_open [] = 0
 later_in_open (o ∷ os) = later_in o + later_in_open os
 

@@ -5,24 +5,24 @@ use Rattle.ctap_cbor.specs.declared.fault.Kind.{Kind}
 use Rattle.ctap_cbor.specs.Tree.{Null, Tree, Plain, Array, Map, Trees, no_trees, tree, Pairs, no_pairs, pair}
 use Rattle.ctap_cbor.specs.Grammar.{scalar_text}
 use Rattle.ctap_cbor.specs.Faults.{AnItem, AKey}
-use Rattle.ctap_cbor.specs.Outcome.{Open, InArray, AtKey, AtValue, Outcome, Whole, Longer, Stopped}
+use Rattle.ctap_cbor.specs.Outcome.{Enclosing, InArray, AtKey, AtValue, Outcome, Whole, Longer, Stopped}
 use Rattle.ctap_cbor.specs.Parts.{Part, One, OpensArray, OpensMap, read}
 
 -- a tree and what follows, or the open arrays and maps with the fault after them
 pub data Parse : Type 0 where
   Done : Tree → List ℕ → Parse
-  Halt : List Open → Kind → List ℕ → Parse
+  Halt : List Enclosing → Kind → List ℕ → Parse
 
 -- the items of an array
 pub data Run : Type 0 where
   Ran : Trees → List ℕ → Run
-  Broke : Trees → List Open → Kind → List ℕ → Run
+  Broke : Trees → List Enclosing → Kind → List ℕ → Run
 
 -- the pairs of a map
 pub data Walk : Type 0 where
   Walked : Pairs → List ℕ → Walk
   BadKey : Pairs → Kind → List ℕ → Walk
-  BadValue : Pairs → Tree → List Open → Kind → List ℕ → Walk
+  BadValue : Pairs → Tree → List Enclosing → Kind → List ℕ → Walk
 
 abbrev pub array_of : ℕ → Run → Parse
 array_of total (Ran ts rest) = Done (Array ts) rest
@@ -62,20 +62,20 @@ then_value sub bytes (Ok (OpensArray n, rest)) go = Walked no_pairs rest
 then_value sub bytes (Ok (OpensMap n, rest)) go = Walked no_pairs rest
 
 abbrev pub pairs : (List ℕ → Parse) → ℕ → ℕ → Option (List ℕ) → List ℕ → Walk
-pairs sub room zero last bytes = Walked no_pairs bytes
-pairs sub room (suc n) last bytes = then_value sub bytes (read room (AKey last) bytes)
-    (λ key. pairs sub room n (Some key))
+pairs sub levels zero last bytes = Walked no_pairs bytes
+pairs sub levels (suc n) last bytes = then_value sub bytes (read levels (AKey last) bytes)
+    (λ key. pairs sub levels n (Some key))
 
 -- what an item leads to
 abbrev pub then_inside : (List ℕ → Parse) → ℕ → List ℕ → Result (Part × List ℕ) Kind → Parse
-then_inside sub room bytes (Err kind) = Halt [] kind bytes
-then_inside sub room bytes (Ok (One s, rest)) = Done (Plain s) rest
-then_inside sub room bytes (Ok (OpensArray n, rest)) = array_of n (items sub n rest)
-then_inside sub room bytes (Ok (OpensMap n, rest)) = map_of n (pairs sub room n None rest)
+then_inside sub levels bytes (Err kind) = Halt [] kind bytes
+then_inside sub levels bytes (Ok (One s, rest)) = Done (Plain s) rest
+then_inside sub levels bytes (Ok (OpensArray n, rest)) = array_of n (items sub n rest)
+then_inside sub levels bytes (Ok (OpensMap n, rest)) = map_of n (pairs sub levels n None rest)
 
 unfoldable pub parse : ℕ → List ℕ → Parse
 parse zero bytes = then_inside (λ b. Done (Plain Null) b) zero bytes (read zero AnItem bytes)
-parse (suc room) bytes = then_inside (parse room) room bytes (read (suc room) AnItem bytes)
+parse (suc levels) bytes = then_inside (parse levels) levels bytes (read (suc levels) AnItem bytes)
 
 -- a text, by what reading its item returns
 abbrev pub outcome_by : Parse → Outcome

@@ -39,17 +39,17 @@ unless None i rest = Ok (i, rest)
 unless (Some kind) i rest = Err kind
 
 unfoldable pub read : ℕ → Due → List ℕ → Result (Part × List ℕ) Kind
-read room due [] = Err Truncated
-read room due (first ∷ rest) = unless (fault room due (first ∷ rest)) (item_of (major first) first rest)
+read levels due [] = Err Truncated
+read levels due (first ∷ rest) = unless (fault levels due (first ∷ rest)) (item_of (major first) first rest)
     (drop (item_len first rest) (first ∷ rest))
 
 abbrev pub Nests : ℕ → Due → Type 0
-Nests room AnItem = 0 < room
-Nests room (AKey before) = ⊥
+Nests levels AnItem = 0 < levels
+Nests levels (AKey before) = ⊥
 
 -- the item may be there
 abbrev pub Suits : ℕ → Due → Part → Type 0
-Suits room AnItem (One s) = Fits s
-Suits room (AKey before) (One s) = Fits s × IsKey (Plain s) × IsAbove before (scalar_text s)
-Suits room due (OpensArray n) = Nests room due × (n < 2 ^ 64)
-Suits room due (OpensMap n) = Nests room due × (n < 2 ^ 64)
+Suits levels AnItem (One s) = Fits s
+Suits levels (AKey before) (One s) = Fits s × IsKey (Plain s) × IsAbove before (scalar_text s)
+Suits levels due (OpensArray n) = Nests levels due × (n < 2 ^ 64)
+Suits levels due (OpensMap n) = Nests levels due × (n < 2 ^ 64)

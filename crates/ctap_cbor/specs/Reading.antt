@@ -7,7 +7,7 @@ use Rattle.ctap_cbor.specs.Tree.{Tree, Plain, Array, Map, Trees, Pairs, Scalar, 
 use Rattle.ctap_cbor.specs.Grammar.{text, texts, pair_texts, scalar_text, Rises, IsLawful, AreLawful, AreLawfulPairs}
 use Rattle.ctap_cbor.specs.Faults.{Due, AnItem, AKey, fault, passed, fault_steps}
 use Rattle.ctap_cbor.specs.Parts.{Part, One, OpensArray, OpensMap, item_text, Suits}
-use Rattle.ctap_cbor.specs.Outcome.{Open, fronts, last_key, HaltsIn, later_keys, later_in_all, later_in_map, later_in_open}
+use Rattle.ctap_cbor.specs.Outcome.{Enclosing, fronts, last_key, HaltsIn, later_keys, later_in_all, later_in_map, later_in_open}
 
 -- a message, the place of the next byte, and the steps so far
 pub record Reading : Type 0 where
@@ -37,14 +37,14 @@ pub record MovesOn (old new : Reading) : Type 0 where
   pub steps : old.steps ≤ new.steps
 
 -- a head was taken, with the bytes of a string
-pub record Takes (room : ℕ) (old new : Reading) (part : Part) : Type 0 where
-  pub suits : Suits room AnItem part
+pub record Takes (levels : ℕ) (old new : Reading) (part : Part) : Type 0 where
+  pub suits : Suits levels AnItem part
   pub spelled : rest_of old ≡ item_text part ++ rest_of new
   pub moved : new ≡ advance old (length (item_text part)) (length (item_text part))
 
 -- the item at the place has a fault
-pub record Refuses (room : ℕ) (due : Due) (old new : Reading) (at : ℕ) (kind : Kind) : Type 0 where
-  pub is : fault room due (rest_of old) ≡ Some kind
+pub record Refuses (levels : ℕ) (due : Due) (old new : Reading) (at : ℕ) (kind : Kind) : Type 0 where
+  pub is : fault levels due (rest_of old) ≡ Some kind
   pub place : at ≡ old.place
   pub moved : new ≡ advance old (passed kind (rest_of old)) (fault_steps kind (rest_of old))
 
@@ -68,61 +68,61 @@ pub record GivesKey (last : Option (List ℕ)) (old new : Reading) (part : Part)
   pub takes : TakesKey last old new key
 
 -- a whole item was passed, with all that is inside
-pub record Passes (room : ℕ) (tree : Tree) (old new : Reading) : Type 0 where
+pub record Passes (levels : ℕ) (tree : Tree) (old new : Reading) : Type 0 where
   pub lawful : IsLawful tree
-  pub flat : depth tree ≤ room
+  pub flat : depth tree ≤ levels
   pub spelled : rest_of old ≡ text tree ++ rest_of new
   pub moved : new ≡ advance old (length (text tree)) (length (text tree) + later_keys tree)
 
 -- after these open arrays and maps an item has a fault
-pub record Halts (room : ℕ) (old new : Reading) (at : ℕ) (kind : Kind) : Type 0 where
-  pub os : List Open
+pub record Halts (levels : ℕ) (old new : Reading) (at : ℕ) (kind : Kind) : Type 0 where
+  pub os : List Enclosing
   pub tail : List ℕ
-  pub halts : HaltsIn room AnItem os kind tail
+  pub halts : HaltsIn levels AnItem os kind tail
   pub spelled : rest_of old ≡ fronts os ++ tail
   pub place : at ≡ old.place + length (fronts os)
   pub moved : new ≡ advance old (length (fronts os) + passed kind tail)
       (length (fronts os) + later_in_open os + fault_steps kind tail)
 
 -- so many items of an array were passed
-pub record PassesAll (room n : ℕ) (done : Trees) (old new : Reading) : Type 0 where
+pub record PassesAll (levels n : ℕ) (done : Trees) (old new : Reading) : Type 0 where
   pub lawful : AreLawful done
-  pub flat : depth_all done ≤ room
+  pub flat : depth_all done ≤ levels
   pub number : count done ≡ n
   pub spelled : rest_of old ≡ texts done ++ rest_of new
   pub moved : new ≡ advance old (length (texts done)) (length (texts done) + later_in_all done)
 
 -- fewer were, and after them an item halts
-pub record HaltsInAll (room n : ℕ) (old new : Reading) (at : ℕ) (kind : Kind) : Type 0 where
+pub record HaltsInAll (levels n : ℕ) (old new : Reading) (at : ℕ) (kind : Kind) : Type 0 where
   pub before : ℕ
   pub fewer : before < n
   pub between : Reading
   pub done : Trees
-  pub passes : PassesAll room before done old between
-  pub halts : Halts room between new at kind
+  pub passes : PassesAll levels before done old between
+  pub halts : Halts levels between new at kind
 
 -- so many pairs of a map were passed, and this is the last key
-pub record PassesPairs (room n : ℕ) (done : Pairs) (last : Option (List ℕ)) (old new : Reading) : Type 0 where
+pub record PassesPairs (levels n : ℕ) (done : Pairs) (last : Option (List ℕ)) (old new : Reading) : Type 0 where
   pub rises : Rises None done
   pub lawful : AreLawfulPairs done
-  pub flat : depth_pairs done ≤ room
+  pub flat : depth_pairs done ≤ levels
   pub number : count_pairs done ≡ n
   pub last_is : last ≡ last_key None done
   pub spelled : rest_of old ≡ pair_texts done ++ rest_of new
   pub moved : new ≡ advance old (length (pair_texts done)) (length (pair_texts done) + later_in_map done)
 
 -- fewer were, and after them a key has a fault
-pub record HaltsAtKey (room n : ℕ) (old new : Reading) (at : ℕ) (kind : Kind) : Type 0 where
+pub record HaltsAtKey (levels n : ℕ) (old new : Reading) (at : ℕ) (kind : Kind) : Type 0 where
   pub before : ℕ
   pub last : Option (List ℕ)
   pub fewer : before < n
   pub between : Reading
   pub done : Pairs
-  pub passes : PassesPairs room before done last old between
+  pub passes : PassesPairs levels before done last old between
   pub refuses : Refuses 0 (AKey last) between new at kind
 
 -- fewer were, and after them and a key the value halts
-pub record HaltsAtValue (room n : ℕ) (old new : Reading) (at : ℕ) (kind : Kind) : Type 0 where
+pub record HaltsAtValue (levels n : ℕ) (old new : Reading) (at : ℕ) (kind : Kind) : Type 0 where
   pub before : ℕ
   pub last : Option (List ℕ)
   pub fewer : before < n
@@ -130,16 +130,16 @@ pub record HaltsAtValue (room n : ℕ) (old new : Reading) (at : ℕ) (kind : Ki
   pub at_value : Reading
   pub key : Scalar
   pub done : Pairs
-  pub passes : PassesPairs room before done last old between
+  pub passes : PassesPairs levels before done last old between
   pub takes : TakesKey last between at_value key
-  pub halts : Halts room at_value new at kind
+  pub halts : Halts levels at_value new at kind
 
 abbrev pub PassesSomePairs : ℕ → ℕ → Reading → Reading → Type 0
-PassesSomePairs room n old new = (ps : Pairs) × (last : Option (List ℕ)) × PassesPairs room n ps last old new
+PassesSomePairs levels n old new = (ps : Pairs) × (last : Option (List ℕ)) × PassesPairs levels n ps last old new
 
 -- some item was passed
 abbrev pub PassesOne : ℕ → Reading → Reading → Type 0
-PassesOne room old new = (t : Tree) × Passes room t old new
+PassesOne levels old new = (t : Tree) × Passes levels t old new
 
 -- the head of a tree's text
 abbrev pub part_of_tree : Tree → Part
@@ -149,19 +149,19 @@ part_of_tree (Map ps) = OpensMap (count_pairs ps)
 
 -- an item with this head was passed
 abbrev pub PassesAs : ℕ → Part → Reading → Reading → Type 0
-PassesAs room part old new = (t : Tree) × Passes room t old new × (part ≡ part_of_tree t)
+PassesAs levels part old new = (t : Tree) × Passes levels t old new × (part ≡ part_of_tree t)
 
 abbrev pub PassesSome : ℕ → ℕ → Reading → Reading → Type 0
-PassesSome room n old new = (ts : Trees) × PassesAll room n ts old new
+PassesSome levels n old new = (ts : Trees) × PassesAll levels n ts old new
 
 abbrev pub HaltsInPairs : ℕ → ℕ → Reading → Reading → ℕ → Kind → Type 0
-HaltsInPairs room n old new at kind = HaltsAtKey room n old new at kind ⊎ HaltsAtValue room n old new at kind
+HaltsInPairs levels n old new at kind = HaltsAtKey levels n old new at kind ⊎ HaltsAtValue levels n old new at kind
 
 -- Nothing else can be passed or found there: a tree whose text is at the place is the one that was passed, and
 -- where reading halts, it halts there.
-pub record Only (room : ℕ) (old new : Reading) (result : Result (Unit {0}) Fault) : Type 0 where
-  pub passed : (t : Tree) (r : Reading) → Passes room t old r → (result ≡ Ok tt) × (new ≡ r)
-  pub halted : (at : ℕ) (kind : Kind) (r : Reading) → Halts room old r at kind
+pub record Only (levels : ℕ) (old new : Reading) (result : Result (Unit {0}) Fault) : Type 0 where
+  pub passed : (t : Tree) (r : Reading) → Passes levels t old r → (result ≡ Ok tt) × (new ≡ r)
+  pub halted : (at : ℕ) (kind : Kind) (r : Reading) → Halts levels old r at kind
       → (result ≡ Err record { at = at; kind = kind }) × (new ≡ r)
 
 -- no byte is left, and one step found that

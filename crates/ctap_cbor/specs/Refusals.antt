@@ -39,15 +39,15 @@ order_refusal last key = if is_above (AKey last) key then None else Some KeyOrde
 -- of a tree, where so many arrays and maps may be in one another
 abbrev mutual
   pub refusal : ℕ → Tree → Option Kind
-  refusal room (Plain s) = range_refusal s
-  refusal room (Array ts) = if nat_eq room 0 then Some TooDeep else refusal_all (room - 1) ts
-  refusal room (Map ps) = if nat_eq room 0 then Some TooDeep else refusal_pairs (room - 1) None ps
+  refusal levels (Plain s) = range_refusal s
+  refusal levels (Array ts) = if nat_eq levels 0 then Some TooDeep else refusal_all (levels - 1) ts
+  refusal levels (Map ps) = if nat_eq levels 0 then Some TooDeep else refusal_pairs (levels - 1) None ps
 
   pub refusal_all : ℕ → Trees → Option Kind
-  refusal_all room no_trees = None
-  refusal_all room (tree t ts) = or_else (refusal room t) (refusal_all room ts)
+  refusal_all levels no_trees = None
+  refusal_all levels (tree t ts) = or_else (refusal levels t) (refusal_all levels ts)
 
   pub refusal_pairs : ℕ → Option (List ℕ) → Pairs → Option Kind
-  refusal_pairs room last no_pairs = None
-  refusal_pairs room last (pair k v ps) = or_else (own_refusal k)
-      (or_else (order_refusal last (text k)) (or_else (refusal room v) (refusal_pairs room (Some (text k)) ps)))
+  refusal_pairs levels last no_pairs = None
+  refusal_pairs levels last (pair k v ps) = or_else (own_refusal k)
+      (or_else (order_refusal last (text k)) (or_else (refusal levels v) (refusal_pairs levels (Some (text k)) ps)))

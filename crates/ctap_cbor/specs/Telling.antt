@@ -29,5 +29,5 @@ abbrev pub check_steps : List ℕ → ℕ
 check_steps b = steps b (outcome_of b)
 
 -- so many items that are one after another, each of at most so many levels
-unfoldable pub items_at : (room n : ℕ) → List ℕ → Trees
-items_at room n b = ran_by (items (parse room) n b)
+unfoldable pub items_at : (levels n : ℕ) → List ℕ → Trees
+items_at levels n b = ran_by (items (parse levels) n b)

@@ -30,8 +30,8 @@ head_of (OpensMap n) = tree.Map tree.no_pairs
 
 -- Nothing else can be taken there: an item that is at the place is the one that was taken.
 abbrev pub TakesOnly : ℕ → Reading → Reading → Result Item Fault → Type 0
-TakesOnly room old new result =
-    (i : Part) (rest : List ℕ) → Suits room AnItem i → rest_of old ≡ item_text i ++ rest
+TakesOnly levels old new result =
+    (i : Part) (rest : List ℕ) → Suits levels AnItem i → rest_of old ≡ item_text i ++ rest
     → IsOkAnd result (λ j. (part_of j ≡ i) × (rest_of new ≡ rest))
 
 -- what a function found is what reading returns

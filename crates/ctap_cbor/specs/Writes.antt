@@ -21,25 +21,25 @@ pub record WritesScalar (s : Scalar) (old new : List ℕ) : Type 0 where
   pub appended : new ≡ old ++ scalar_text s
 
 -- a tree was written
-pub record Writes (room : ℕ) (t : Tree) (old new : List ℕ) : Type 0 where
-  pub accepted : refusal room t ≡ None
+pub record Writes (levels : ℕ) (t : Tree) (old new : List ℕ) : Type 0 where
+  pub accepted : refusal levels t ≡ None
   pub lawful : IsLawful t
-  pub flat : depth t ≤ room
+  pub flat : depth t ≤ levels
   pub appended : new ≡ old ++ text t
 
 -- items were
-pub record WritesAll (room : ℕ) (ts : Trees) (old new : List ℕ) : Type 0 where
-  pub accepted : refusal_all room ts ≡ None
+pub record WritesAll (levels : ℕ) (ts : Trees) (old new : List ℕ) : Type 0 where
+  pub accepted : refusal_all levels ts ≡ None
   pub lawful : AreLawful ts
-  pub flat : depth_all ts ≤ room
+  pub flat : depth_all ts ≤ levels
   pub appended : new ≡ old ++ texts ts
 
 -- pairs were
-pub record WritesPairs (room : ℕ) (ps : Pairs) (old new : List ℕ) : Type 0 where
-  pub accepted : refusal_pairs room None ps ≡ None
+pub record WritesPairs (levels : ℕ) (ps : Pairs) (old new : List ℕ) : Type 0 where
+  pub accepted : refusal_pairs levels None ps ≡ None
   pub rises : Rises None ps
   pub lawful : AreLawfulPairs ps
-  pub flat : depth_pairs ps ≤ room
+  pub flat : depth_pairs ps ≤ levels
   pub appended : new ≡ old ++ pair_texts ps
 
 -- a key was

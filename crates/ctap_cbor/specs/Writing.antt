@@ -23,14 +23,14 @@ scalar_len (Flag b) = 1
 scalar_len Null = 1
 
 -- how many bytes may still be written
-abbrev pub room_of : Sink → ℕ
-room_of s = length s.buffer.now - s.len
+abbrev pub space_of : Sink → ℕ
+space_of s = length s.buffer.now - s.len
 
 -- so many bytes were written at the end, these, and the buffer keeps its length and what is after them
 pub record Appends (old new : Sink) (bytes : List ℕ) (len : ℕ) : Type 0 where
   pub grows : contents new ≡ contents old ++ bytes
   pub len_is : length (contents new) ≡ length (contents old) + len
-  pub room_is : room_of old ≡ room_of new + len
+  pub space_is : space_of old ≡ space_of new + len
   pub keeps : spare new ≡ drop len (spare old)
 
 -- the sink writes into this buffer, so what is written in the end is found in it

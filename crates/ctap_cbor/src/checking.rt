@@ -18,7 +18,7 @@ pub struct Checked {
     pub steps: u64,
 }
 
-/// Whether the bytes are the canonical encoding of one data item, or where and why not.
+/// Returns whether the bytes are the canonical encoding of one data item, or where and why not.
 pub fn check(bytes: &[u8]) -> Checked
     // The bytes are an encoding, or have one first fault, and the answer names it with its steps.
     ensures found { (o : Outcome) × IsOutcome bytes.now o × Answers bytes.now o result.result result.steps }

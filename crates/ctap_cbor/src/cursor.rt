@@ -42,7 +42,7 @@ impl<'a> Model for Cursor<'a> {
 }
 
 impl<'a> Cursor<'a> {
-    /// A cursor at the message's first byte.
+    /// Returns a cursor at the message's first byte.
     pub fn new(bytes: &'a [u8]) -> Self
         ensures { result ≡ record { bytes = bytes.now; place = 0; steps = 0 } }
     {
@@ -53,14 +53,14 @@ impl<'a> Cursor<'a> {
         }
     }
 
-    /// The place of the next byte, counted from 0.
+    /// Returns the place of the next byte, counted from 0.
     pub fn place(&self) -> usize
         ensures { result ≡ self.now.place }
     {
         self.place
     }
 
-    /// The steps so far. The count stops at 2^64-1.
+    /// Returns the steps so far. The count stops at 2^64-1.
     pub fn steps(&self) -> u64
         ensures { result ≡ self.now.steps }
     {
@@ -231,7 +231,7 @@ impl<'a> Cursor<'a> {
         self.place = 0;
     }
 
-    /// The bytes that were passed from this place on, as the text of a whole list.
+    /// Returns the bytes that were passed from this place on, as the text of a whole list.
     pub fn since(&self, place: usize) -> &'a [u8]
         requires { place ≤ self.now.place }
         ensures { result.now ≡ take (self.now.place - place) (drop place self.now.bytes) }
@@ -239,7 +239,7 @@ impl<'a> Cursor<'a> {
         &self.bytes[place..self.place]
     }
 
-    /// The bytes from the place on.
+    /// Returns the bytes from the place on.
     fn rest(&self) -> &'a [u8]
         ensures rest { result.now ≡ rest_of self.now }
         ensures bytes { AreBytes result.now }
@@ -274,7 +274,7 @@ fn compare(previous: Option<&[u8]>, key: &[u8]) -> (bool, usize)
     }
 }
 
-/// The step of finding the end, where a fault is that.
+/// Counts the step of finding the end, where a fault is that.
 fn end_steps(kind: Kind) -> usize
     ensures { result ≡ end_steps_of kind }
 {

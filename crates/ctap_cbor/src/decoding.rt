@@ -40,7 +40,7 @@ impl<T: Drop> From<AllocFailed<T>> for Fault {
     }
 }
 
-/// The tree whose canonical encoding the bytes are.
+/// Returns the tree whose canonical encoding the bytes are.
 ///
 /// Bytes that aren't canonical have the fault that [`check`](crate::check) returns. Where memory is refused the fault
 /// is [`Kind::Memory`] at 0. What a head declares isn't allocated before it is there.
@@ -130,7 +130,7 @@ fn read_pairs(
     Ok(pairs)
 }
 
-/// A scalar as a value: an item that opens no array or map.
+/// Returns a scalar as a value: an item that opens no array or map.
 fn scalar_of(alloc: Global, item: Item) -> Result<Value, AllocError>
     ensures { IfOk result (λ v. IsScalarOf (part_of item.entry) (tree_of v)) }
 {

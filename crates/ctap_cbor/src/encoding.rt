@@ -69,10 +69,10 @@ pub fn encode_value(value: &Value, out: &mut Vec<u8>) -> Result<(), Kind>
 
 /// Writes a value that may hold so many levels of arrays and maps.
 #[cycle(write)]
-fn write_value(value: &Value, out: &mut Vec<u8>, room: u8) -> Result<(), Kind>
+fn write_value(value: &Value, out: &mut Vec<u8>, levels: u8) -> Result<(), Kind>
     ensures writes { MatchResult result
-        (λ _. Writes room (tree_of value.now) out.old.items out.new.items)
-        (λ k. FailsWith k (refusal room (tree_of value.now)) out.old.items out.new.items) }
+        (λ _. Writes levels (tree_of value.now) out.old.items out.new.items)
+        (λ k. FailsWith k (refusal levels (tree_of value.now)) out.old.items out.new.items) }
     ensures grows { vec_capacity out.old ≤ vec_capacity out.new }
     ensures short { IfErr result (λ k. k ≡ Kind.Memory
         → IsShort (vec_capacity out.old) out.old.items (text (tree_of value.now))) }
@@ -81,8 +81,8 @@ fn write_value(value: &Value, out: &mut Vec<u8>, room: u8) -> Result<(), Kind>
         Value::Int(i) => write_int(*i, out),
         Value::Bytes(bytes) => write_bytes(bytes, out),
         Value::Text(text) => write_text(text, out),
-        Value::Array(items) => write_array(items, out, room),
-        Value::Map(pairs) => write_map(pairs, out, room),
+        Value::Array(items) => write_array(items, out, levels),
+        Value::Map(pairs) => write_map(pairs, out, levels),
         Value::Bool(flag) => write_byte(if *flag { 0xf5 } else { 0xf4 }, out),
         Value::Null => write_byte(0xf6, out),
     }
@@ -90,60 +90,60 @@ fn write_value(value: &Value, out: &mut Vec<u8>, room: u8) -> Result<(), Kind>
 
 /// Writes an array: its head and its items.
 #[cycle(write)]
-fn write_array(items: &[Value], out: &mut Vec<u8>, room: u8) -> Result<(), Kind>
+fn write_array(items: &[Value], out: &mut Vec<u8>, levels: u8) -> Result<(), Kind>
     ensures writes { MatchResult result
-        (λ _. Writes room (tree.Array (trees_of items.now)) out.old.items out.new.items)
-        (λ k. FailsWith k (refusal room (tree.Array (trees_of items.now))) out.old.items out.new.items) }
+        (λ _. Writes levels (tree.Array (trees_of items.now)) out.old.items out.new.items)
+        (λ k. FailsWith k (refusal levels (tree.Array (trees_of items.now))) out.old.items out.new.items) }
     ensures grows { vec_capacity out.old ≤ vec_capacity out.new }
     ensures short { IfErr result (λ k. k ≡ Kind.Memory
         → IsShort (vec_capacity out.old) out.old.items (text (tree.Array (trees_of items.now)))) }
 {
-    if room == 0 {
+    if levels == 0 {
         return Err(Kind::TooDeep);
     }
     write_head(4, items.len() as u64, out)?;
-    write_items(items, out, room - 1)
+    write_items(items, out, levels - 1)
 }
 
 /// Writes a map: its head and its pairs.
 #[cycle(write)]
-fn write_map(pairs: &[(Value, Value)], out: &mut Vec<u8>, room: u8) -> Result<(), Kind>
+fn write_map(pairs: &[(Value, Value)], out: &mut Vec<u8>, levels: u8) -> Result<(), Kind>
     ensures writes { MatchResult result
-        (λ _. Writes room (tree.Map (pairs_of pairs.now)) out.old.items out.new.items)
-        (λ k. FailsWith k (refusal room (tree.Map (pairs_of pairs.now))) out.old.items out.new.items) }
+        (λ _. Writes levels (tree.Map (pairs_of pairs.now)) out.old.items out.new.items)
+        (λ k. FailsWith k (refusal levels (tree.Map (pairs_of pairs.now))) out.old.items out.new.items) }
     ensures grows { vec_capacity out.old ≤ vec_capacity out.new }
     ensures short { IfErr result (λ k. k ≡ Kind.Memory
         → IsShort (vec_capacity out.old) out.old.items (text (tree.Map (pairs_of pairs.now)))) }
 {
-    if room == 0 {
+    if levels == 0 {
         return Err(Kind::TooDeep);
     }
     write_head(5, pairs.len() as u64, out)?;
-    write_pairs(pairs, out, room - 1)
+    write_pairs(pairs, out, levels - 1)
 }
 
 /// Writes the items of an array.
 #[cycle(write)]
-fn write_items(items: &[Value], out: &mut Vec<u8>, room: u8) -> Result<(), Kind>
+fn write_items(items: &[Value], out: &mut Vec<u8>, levels: u8) -> Result<(), Kind>
     ensures writes { MatchResult result
-        (λ _. WritesAll room (trees_of items.now) out.old.items out.new.items)
-        (λ k. FailsWith k (refusal_all room (trees_of items.now)) out.old.items out.new.items) }
+        (λ _. WritesAll levels (trees_of items.now) out.old.items out.new.items)
+        (λ k. FailsWith k (refusal_all levels (trees_of items.now)) out.old.items out.new.items) }
     ensures grows { vec_capacity out.old ≤ vec_capacity out.new }
     ensures short { IfErr result (λ k. k ≡ Kind.Memory
         → IsShort (vec_capacity out.old) out.old.items (texts (trees_of items.now))) }
 {
     for item in items {
-        write_value(item, out, room)?;
+        write_value(item, out, levels)?;
     }
     Ok(())
 }
 
 /// Writes the pairs of a map, whose keys have to rise.
 #[cycle(write)]
-fn write_pairs(pairs: &[(Value, Value)], out: &mut Vec<u8>, room: u8) -> Result<(), Kind>
+fn write_pairs(pairs: &[(Value, Value)], out: &mut Vec<u8>, levels: u8) -> Result<(), Kind>
     ensures writes { MatchResult result
-        (λ _. WritesPairs room (pairs_of pairs.now) out.old.items out.new.items)
-        (λ k. FailsWith k (refusal_pairs room None (pairs_of pairs.now)) out.old.items out.new.items) }
+        (λ _. WritesPairs levels (pairs_of pairs.now) out.old.items out.new.items)
+        (λ k. FailsWith k (refusal_pairs levels None (pairs_of pairs.now)) out.old.items out.new.items) }
     ensures grows { vec_capacity out.old ≤ vec_capacity out.new }
     ensures short { IfErr result (λ k. k ≡ Kind.Memory
         → IsShort (vec_capacity out.old) out.old.items (pair_texts (pairs_of pairs.now))) }
@@ -159,7 +159,7 @@ fn write_pairs(pairs: &[(Value, Value)], out: &mut Vec<u8>, room: u8) -> Result<
             start,
             end: out.len(),
         });
-        write_value(&pair.1, out, room)?;
+        write_value(&pair.1, out, levels)?;
     }
     Ok(())
 }
@@ -181,7 +181,7 @@ fn write_key(key: &Value, out: &mut Vec<u8>) -> Result<(), Kind>
     }
 }
 
-/// Whether the key that was written from `start` on is above the one before it.
+/// Returns whether the key that was written from `start` on is above the one before it.
 fn is_above_last(previous: Option<Span>, out: &[u8], start: usize) -> bool
     requires span { ForSome previous (λ s. (s.start ≤ s.end) × (s.end ≤ length out.now)) }
     requires start { start ≤ length out.now }

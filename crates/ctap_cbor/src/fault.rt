@@ -42,7 +42,7 @@ pub enum Kind {
 }
 
 impl Kind {
-    /// The kind's number, from 1 to 10, as programs show it.
+    /// Returns the kind's number, from 1 to 10, as programs show it.
     pub fn number(self) -> u8
         ensures { result ≡ number_of self }
     {

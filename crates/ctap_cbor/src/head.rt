@@ -11,29 +11,29 @@ use crate::fault::Kind;
 use crate::item::Item;
 use byteorder::{BigEndian, ByteOrder};
 
-/// The item or the key that begins a text, with its length, or its fault and how many bytes count as passed
+/// Returns the item or the key that begins a text, with its length, or its fault and how many bytes count as passed
 /// then. The order of keys is left out.
 #[inline(always)]
 pub(crate) fn find<'a>(
     bytes: &'a [u8],
-    room: u8,
+    levels: u8,
     is_key: bool,
 ) -> Result<(Item<'a>, usize), (Kind, usize)>
-    ensures { Finds bytes.now result (read room (due_of is_key) bytes.now) }
+    ensures { Finds bytes.now result (read levels (due_of is_key) bytes.now) }
 {
     let Some((first, rest)) = bytes.split_first() else {
         return Err((Kind::Truncated, 0));
     };
-    match first_fault(*first, room, is_key) {
+    match first_fault(*first, levels, is_key) {
         Some(kind) => Err((kind, 1)),
         None => find_rest(*first, rest),
     }
 }
 
-/// The fault that a head's first byte shows.
+/// Returns the fault that a head's first byte shows.
 #[tactic(auto, unfolding(crate::specs::Faults::first_faults))]
-fn first_fault(first: u8, room: u8, is_key: bool) -> Option<Kind>
-    ensures { result ≡ first_of (first_faults room (due_of is_key) first) }
+fn first_fault(first: u8, levels: u8, is_key: bool) -> Option<Kind>
+    ensures { result ≡ first_of (first_faults levels (due_of is_key) first) }
 {
     let major = first / 32;
     let info = first % 32;
@@ -43,7 +43,7 @@ fn first_fault(first: u8, room: u8, is_key: bool) -> Option<Kind>
     match major {
         0..=3 => None,
         4 | 5 if is_key => Some(Kind::KeyType),
-        4 | 5 if room == 0 => Some(Kind::TooDeep),
+        4 | 5 if levels == 0 => Some(Kind::TooDeep),
         4 | 5 => None,
         7 if 20 <= info && info <= 22 && is_key => Some(Kind::KeyType),
         7 if 20 <= info && info <= 22 => None,
@@ -51,7 +51,7 @@ fn first_fault(first: u8, room: u8, is_key: bool) -> Option<Kind>
     }
 }
 
-/// The item after a head's first byte that shows no fault, with its length, or its fault.
+/// Returns the item after a head's first byte that shows no fault, with its length, or its fault.
 #[tactic(auto, unfolding(crate::specs::Faults::body_faults, crate::specs::Faults::string_len, crate::specs::Faults::item_len, crate::specs::Faults::passed))]
 #[inline(always)]
 fn find_rest<'a>(first: u8, rest: &'a [u8]) -> Result<(Item<'a>, usize), (Kind, usize)>
@@ -103,11 +103,11 @@ fn argument_form(info: u8) -> (usize, u64)
     }
 }
 
-/// The argument of a head.
+/// Returns the argument of a head.
 #[tactic(auto, unfolding(crate::specs::Head::argument, crate::specs::Head::argument_len))]
 fn argument_of(first: u8, rest: &[u8]) -> u64
     requires known { info first < 28 }
-    requires room { argument_len (info first) ≤ length rest.now }
+    requires space { argument_len (info first) ≤ length rest.now }
     ensures { result ≡ argument first rest.now }
 {
     match first % 32 {
@@ -119,7 +119,7 @@ fn argument_of(first: u8, rest: &[u8]) -> u64
     }
 }
 
-/// What a head with this major type and additional information opens or is, unless it is a string.
+/// Returns what a head with this major type and additional information opens or is, unless it is a string.
 fn without_string<'a>(major: u8, info: u8, argument: u64) -> Item<'a>
     requires { major ≢ 2 × major ≢ 3 }
     ensures { part_of result ≡ headed major info argument }
@@ -137,7 +137,7 @@ fn without_string<'a>(major: u8, info: u8, argument: u64) -> Item<'a>
     }
 }
 
-/// The bytes as text, where they are UTF-8.
+/// Returns the bytes as text, where they are UTF-8.
 #[inline(always)]
 fn text_of(bytes: &[u8]) -> Option<&str>
     ensures { MatchOption result (is_utf8 bytes.now ≡ false) (λ t. (t.now ≡ bytes.now) × (is_utf8 bytes.now ≡ true)) }

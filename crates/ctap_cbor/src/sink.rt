@@ -18,26 +18,26 @@ pub struct Sink<'a> {
 }
 
 impl<'a> Sink<'a> {
-    ghost use Rattle.ctap_cbor.specs.Writing.{contents, spare, room_of, scalar_len, Appends, IsOver, SameBuffer};
+    ghost use Rattle.ctap_cbor.specs.Writing.{contents, spare, space_of, scalar_len, Appends, IsOver, SameBuffer};
 
-    /// A sink over the whole buffer, with nothing written.
+    /// Returns a sink over the whole buffer, with nothing written.
     pub fn new(buffer: &'a mut [u8]) -> Self
         ensures empty { contents result ≡ [] }
         ensures spare { spare result ≡ buffer.old }
-        ensures room { room_of result ≡ length buffer.old }
+        ensures space { space_of result ≡ length buffer.old }
         ensures same { IsOver buffer.entry result }
     {
         Sink { buffer, len: 0 }
     }
 
-    /// How many bytes are written.
+    /// Returns how many bytes are written.
     pub fn len(&self) -> usize
         ensures { result ≡ length (contents self.now) }
     {
         self.len
     }
 
-    /// Whether nothing is written.
+    /// Returns whether nothing is written.
     pub fn is_empty(&self) -> bool
         ensures { IsTrue result ↔ (contents self.now ≡ []) }
     {
@@ -46,7 +46,7 @@ impl<'a> Sink<'a> {
 
     /// Writes an integer of at least 0.
     pub fn uint(&mut self, value: u64)
-        requires { head_len value ≤ room_of self.old }
+        requires { head_len value ≤ space_of self.old }
         ensures appends { Appends self.old self.new (head 0 value) (head_len value) }
         ensures same { SameBuffer self.old self.new }
     {
@@ -56,7 +56,7 @@ impl<'a> Sink<'a> {
     /// Writes an integer from -2^64 to 2^64-1.
     pub fn int(&mut self, value: i128)
         requires range { Fits (Int value) }
-        requires room { scalar_len (Int value) ≤ room_of self.old }
+        requires space { scalar_len (Int value) ≤ space_of self.old }
         ensures appends { Appends self.old self.new (scalar_text (Int value)) (scalar_len (Int value)) }
         ensures same { SameBuffer self.old self.new }
     {
@@ -69,7 +69,7 @@ impl<'a> Sink<'a> {
 
     /// Writes a byte string.
     pub fn bytes(&mut self, value: &[u8])
-        requires { scalar_len (Bytes value.now) ≤ room_of self.old }
+        requires { scalar_len (Bytes value.now) ≤ space_of self.old }
         ensures appends { Appends self.old self.new (scalar_text (Bytes value.now)) (scalar_len (Bytes value.now)) }
         ensures same { SameBuffer self.old self.new }
     {
@@ -79,7 +79,7 @@ impl<'a> Sink<'a> {
 
     /// Writes a text.
     pub fn text(&mut self, value: &str)
-        requires { scalar_len (Text value.now) ≤ room_of self.old }
+        requires { scalar_len (Text value.now) ≤ space_of self.old }
         ensures appends { Appends self.old self.new (scalar_text (Text value.now)) (scalar_len (Text value.now)) }
         ensures same { SameBuffer self.old self.new }
     {
@@ -89,7 +89,7 @@ impl<'a> Sink<'a> {
 
     /// Writes the head of an array of so many items.
     pub fn array(&mut self, count: u64)
-        requires { head_len count ≤ room_of self.old }
+        requires { head_len count ≤ space_of self.old }
         ensures appends { Appends self.old self.new (head 4 count) (head_len count) }
         ensures same { SameBuffer self.old self.new }
     {
@@ -98,7 +98,7 @@ impl<'a> Sink<'a> {
 
     /// Writes the head of a map of so many pairs.
     pub fn map(&mut self, count: u64)
-        requires { head_len count ≤ room_of self.old }
+        requires { head_len count ≤ space_of self.old }
         ensures appends { Appends self.old self.new (head 5 count) (head_len count) }
         ensures same { SameBuffer self.old self.new }
     {
@@ -107,7 +107,7 @@ impl<'a> Sink<'a> {
 
     /// Writes false or true.
     pub fn flag(&mut self, value: bool)
-        requires { 1 ≤ room_of self.old }
+        requires { 1 ≤ space_of self.old }
         ensures appends { Appends self.old self.new (scalar_text (Flag value)) 1 }
         ensures same { SameBuffer self.old self.new }
     {
@@ -116,7 +116,7 @@ impl<'a> Sink<'a> {
 
     /// Writes null.
     pub fn null(&mut self)
-        requires { 1 ≤ room_of self.old }
+        requires { 1 ≤ space_of self.old }
         ensures appends { Appends self.old self.new (scalar_text Null) 1 }
         ensures same { SameBuffer self.old self.new }
     {
@@ -126,7 +126,7 @@ impl<'a> Sink<'a> {
     /// Writes the shortest head of a major type with an argument.
     fn head(&mut self, major: u8, argument: u64)
         requires low { major < 8 }
-        requires room { head_len argument ≤ room_of self.old }
+        requires space { head_len argument ≤ space_of self.old }
         ensures appends { Appends self.old self.new (head major argument) (head_len argument) }
         ensures same { SameBuffer self.old self.new }
     {
@@ -137,7 +137,7 @@ impl<'a> Sink<'a> {
 
     /// Writes bytes.
     fn extend(&mut self, bytes: &[u8])
-        requires { length bytes.now ≤ room_of self.old }
+        requires { length bytes.now ≤ space_of self.old }
         ensures appends { Appends self.old self.new bytes.now (length bytes.now) }
         ensures same { SameBuffer self.old self.new }
     {
@@ -152,7 +152,7 @@ impl<'a> Sink<'a> {
 #[tactic(auto, unfolding(crate::specs::Head::head))]
 pub fn head_into(major: u8, argument: u64, out: &mut [u8]) -> usize
     requires low { major < 8 }
-    requires room { 9 ≤ length out.old }
+    requires space { 9 ≤ length out.old }
     ensures len { result ≡ head_len argument }
     ensures within { result ≤ 9 }
     ensures front { take result out.new ≡ head major argument }

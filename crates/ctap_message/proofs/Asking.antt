@@ -17,12 +17,15 @@ bytes_at r = r.bytes
 
 -- where a walk over all bytes stops
 abbrev pub Stops : Reading → Reading → Fault → Type 0
-Stops old new f = Halts 4 old new f.at f.kind ⊎ ((middle : Reading) × PassesOne 4 old middle × GoesOn middle new f.at f.kind)
+Stops old new f = Halts 4 old new f.at f.kind ⊎ ((middle : Reading) × PassesOne 4 old middle
+    × GoesOn middle new f.at f.kind)
 
 abbrev pub Whole-read : Reading → Reading → Result (Unit {0}) Fault → Type 0
-Whole-read old new r = MatchResult r (λ _. (middle : Reading) × PassesOne 4 old middle × Ends middle new) (λ f. Stops old new f)
+Whole-read old new r = MatchResult r (λ _. (middle : Reading) × PassesOne 4 old middle × Ends middle new)
+    (λ f. Stops old new f)
 
-stops : (b : List ℕ) (s : ℕ) (new : Reading) (f : Fault) → WholeReadings b → Stops (at_front b s) new f → TellsNone b s new
+stops : (b : List ℕ) (s : ℕ) (new : Reading) (f : Fault) → WholeReadings b → Stops (at_front b s) new f →
+    TellsNone b s new
 stops b s new f w (inl h) = w.stopped s new f.at f.kind h
 stops b s new f w (inr h) = w.longer h.1.0 s h.0 new f.at f.kind h.1.1 h.2
 
@@ -31,14 +34,9 @@ stops b s new f w (inr h) = w.longer h.1.0 s h.0 new f.at f.kind h.1.1 h.2
 abbrev pub IsRefused : List ℕ → ℕ → Type 0
 IsRefused b n = (canonical_tree b ≡ None) × (n ≡ min (reading_steps b) LARGEST)
 
-once : (b : List ℕ) (n : ℕ) → canonical_tree b ≡ None → n ≡ min (check_steps b) LARGEST → n ≡ min (reading_steps b) LARGEST
-once b n e h = rw e h
-
-pub refused : (b : List ℕ) (old new : Reading) (r : Result (Unit {0}) Fault) → WholeReadings b → old ≡ at_front b 0 → is_err r ≡ true → Whole-read old new r → IsRefused b new.steps
-refused b old new (Ok u) w start e h = absurd cc
-refused b old new (Err f) w start e h =
-    let t = stops b 0 new f w (subst (λ x. Stops x new f) start h) in
-    (t.none, once b new.steps t.none (omega (arith, t.steps_are)))
+pub refused : (b : List ℕ) (old new : Reading) (r : Result (Unit {0}) Fault) → WholeReadings b → old ≡ at_front b 0 →
+    is_err r ≡ true → Whole-read old new r → IsRefused b new.steps
+refused b old new r w start e h = grind arith
 
 -- these bytes were accepted, and the cursor goes back
 pub record Accepted (b : List ℕ) (new : Reading) : Type 0 where
@@ -47,7 +45,8 @@ pub record Accepted (b : List ℕ) (new : Reading) : Type 0 where
   pub back : record { bytes = new.bytes; place = 0; steps = new.steps } ≡ at_front b new.steps
   pub steps_are : new.steps ≡ min (check_steps b) LARGEST
 
-pub accepted : (b : List ℕ) (old new : Reading) (r : Result (Unit {0}) Fault) → WholeReadings b → old ≡ at_front b 0 → is_err r ≡ false → Whole-read old new r → Accepted b new
+pub accepted : (b : List ℕ) (old new : Reading) (r : Result (Unit {0}) Fault) → WholeReadings b → old ≡ at_front b 0 →
+    is_err r ≡ false → Whole-read old new r → Accepted b new
 accepted b old new (Err f) w start e h = absurd cc
 accepted b old new (Ok u) w start e h =
     let k = subst (λ x. Whole-read x new (Ok u)) start h in
@@ -62,7 +61,8 @@ accepted b old new (Ok u) w start e h =
 -- ---- the second walk
 
 -- over what the first accepted it doesn't stop
-pub never : (b : List ℕ) (first start new : Reading) (f : Fault) → WholeReadings b → Accepted b first → start ≡ at_front b first.steps → Stops start new f → ⊥
+pub never : (b : List ℕ) (first start new : Reading) (f : Fault) → WholeReadings b → Accepted b first →
+    start ≡ at_front b first.steps → Stops start new f → ⊥
 never b first start new f w a from h =
     let t = stops b first.steps new f w (subst (λ x. Stops x new f) from h) in
     let no : ◌≡◌ {A = Option Tree} (Some a.tree) None = sym a.tree_is ∙ t.none in cc
@@ -74,10 +74,13 @@ pub record Told {V : Type 0} (f : Tree → V) (b : List ℕ) (value : V) (n : �
   pub value_is : value ≡ f tree
   pub steps_are : n ≡ min (reading_steps b) LARGEST
 
-twice : (b : List ℕ) (t : Tree) (n : ℕ) → canonical_tree b ≡ Some t → n ≡ min (2 * check_steps b) LARGEST → n ≡ min (reading_steps b) LARGEST
+twice : (b : List ℕ) (t : Tree) (n : ℕ) → canonical_tree b ≡ Some t → n ≡ min (2 * check_steps b) LARGEST →
+    n ≡ min (reading_steps b) LARGEST
 twice b t n is h = rw is h
 
-pub told : {V : Type 0} (f : Tree → V) (b : List ℕ) (m : V) (first start middle new : Reading) → WholeReadings b → Accepted b first → start ≡ at_front b first.steps → Reads f 4 m start middle → Ends middle new → Told f b m new.steps
+pub told : {V : Type 0} (f : Tree → V) (b : List ℕ) (m : V) (first start middle new : Reading) → WholeReadings b →
+    Accepted b first → start ≡ at_front b first.steps → Reads f 4 m start middle → Ends middle new →
+    Told f b m new.steps
 told f b m first start middle new w a from h e =
     let k = subst (λ x. Reads f 4 m x middle) from h in
     let t : TellsTree b first.steps k.0 new = w.passed k.0 first.steps middle new k.1 e in

@@ -1,13 +1,10 @@
 -- What each map says, of one pair more, and which keys' values a head decides.
-use Prim.Native.String.{String}
-use Rattle.std.proofs.Common.{◌≡◌, ℕ, Bool, true, false, List, Option, Some, None, Result, Ok, Err, refl, sym, ap, ◌∙◌}
-use Rattle.std.specs.Prelude.{ℤ, pos, negsuc, MatchResult, is_some, unwrap_or, ◌&&◌, ◌||◌, if◌then◌else◌, codes}
-use Rattle.std.proofs.lemmas.Slice.Eq.{bytes_eq-Decides}
-use Rattle.std.proofs.lemmas.Bool.Decides.{Decides-eqb}
+use Rattle.std.proofs.Common.{arith, rules, ◌≡◌, ℕ, Bool, true, false, List, Option, Some, None, Result, Ok, Err, refl, ◌∙◌}
+use Rattle.std.specs.Prelude.{ℤ, pos, MatchResult, is_some, unwrap_or, ◌&&◌, ◌||◌, codes}
 use Rattle.std.specs.Option.{option_and_then}
 use Rattle.ctap_cbor.specs.declared.fault.Fault.{Fault}
-use Rattle.ctap_cbor.specs.Tree.{Int, Bytes, Text, Flag, Null, Tree, Plain, Array, Map, Trees, no_trees, no_pairs, push, as_bytes, as_text, as_int, as_uint, as_flag}
-use Rattle.ctap_cbor.specs.Parts.{Part, One, OpensArray, OpensMap}
+use Rattle.ctap_cbor.specs.Tree.{Int, Text, Tree, Array, Map, Trees, no_trees, no_pairs, push, as_bytes, as_text, as_int, as_uint, as_flag}
+use Rattle.ctap_cbor.specs.Parts.{Part, One}
 use Rattle.ctap_cbor.specs.Reading.{Reading, Halts, PassesAs}
 use Rattle.ctap_cbor.specs.Views.{head_of}
 use Rattle.ctap_cbor.specs.Collecting.{Adds, AddsEntry, InArray, ReadsArray}
@@ -28,29 +25,13 @@ use Rattle.ctap_message.specs.Walks.{Reads, typed, HasPairs}
 use Rattle.ctap_message.specs.Collected.{rp_next, user_next, options_next, parameter_next, descriptor_next, IsPlainName, shown_rp, shown_user, shown_options, shown_parameter, shown_descriptor}
 use Rattle.ctap_message.specs.CollectedRequests.{make_in, make_next, shown_make, IsPlainMake, IsOtherMake, TakesMake, no_parameters, assertion_in, assert_next, shown_assert, IsPlainAssert, IsOtherAssert, TakesAssert}
 use Rattle.ctap_message.specs.DescriptorWalk.{DescriptorWalk, list_of, left_of, IsWhole}
-use Rattle.ctap_message.proofs.Pushes.{ap2, ap3, ap4, field_push, entries_push, some_push, head_bytes, head_text, head_int, head_uint, head_flag, head_map, is_head_bytes, is_head_text, is_head_int, is_head_uint, is_head_flag}
+use Rattle.ctap_message.proofs.Pushes.{ap2, ap3, field_push, entries_push, some_push}
 use Rattle.ctap_message.proofs.Collecting.{Grows, HeadDecides, adds_head, adds_tree}
 
 -- ---- keys
 
 number_key : (n : ℕ) (part : Part) → is_key (Number n) (head_of part) ≡ true → part ≡ One (Int (pos n))
-number_key n (One (Int (pos m))) e = ap (λ m. One (Int (pos m))) ((Decides-eqb m n).0 e)
-number_key n (One (Int (negsuc m))) e = absurd cc
-number_key n (One (Bytes s)) e = absurd cc
-number_key n (One (Text s)) e = absurd cc
-number_key n (One (Flag b)) e = absurd cc
-number_key n (One Null) e = absurd cc
-number_key n (OpensArray m) e = absurd cc
-number_key n (OpensMap m) e = absurd cc
-
-pub name_key : (name : String) (part : Part) → is_key (Name name) (head_of part) ≡ true → part ≡ One (Text (codes name))
-name_key name (One (Text s)) e = ap (λ s. One (Text s)) ((bytes_eq-Decides s (codes name)).0 e)
-name_key name (One (Int i)) e = absurd cc
-name_key name (One (Bytes s)) e = absurd cc
-name_key name (One (Flag b)) e = absurd cc
-name_key name (One Null) e = absurd cc
-name_key name (OpensArray m) e = absurd cc
-name_key name (OpensMap m) e = absurd cc
+number_key n part e = grind arith
 
 -- ---- rp
 
@@ -58,14 +39,13 @@ rp_grows : Grows rp_in rp_next
 rp_grows ps k v = field_push (option_and_then as_text) (Name "id") ps k v
 
 rp_heads : (k : Tree) → HeadDecides rp_types rp_next k
-rp_heads k v = (
-  ap (λ b. if is_key (Name "id") k then b else (if is_key (Name "name") k then b else true)) (is_head_text v),
-  λ z. ap (λ x. if is_key (Name "id") k then x else z) (head_text v),
-)
+rp_heads k v = grind arith
 
-pub rp_adds : (room : ℕ) (key part : Part) (taken : Bool) (x y : RpFields) (a c : Reading) → PassesAs room part a c → taken ≡ suits rp_types (head_of key) (head_of part) → shown_rp y ≡ rp_next (head_of key) (head_of part) (shown_rp x)
-    → Adds (λ m ok ps. HasPairs rp_types rp_in (shown_rp m) ok ps) room key taken x y a c
-rp_adds room key part taken x y a c = adds_head shown_rp rp_types rp_in rp_next room key part taken x y a c rp_grows (rp_heads (head_of key))
+pub rp_adds : (levels : ℕ) (key part : Part) (taken : Bool) (x y : RpFields) (a c : Reading) → PassesAs levels part a c →
+    taken ≡ suits rp_types (head_of key) (head_of part) → shown_rp y ≡ rp_next (head_of key) (head_of part) (shown_rp x)
+    → Adds (λ m ok ps. HasPairs rp_types rp_in (shown_rp m) ok ps) levels key taken x y a c
+rp_adds levels key part taken x y a c = adds_head shown_rp rp_types rp_in rp_next levels key part taken x y a c rp_grows
+    (rp_heads (head_of key))
 
 pub rp_start : ◌≡◌ {A = Option (List ℕ)} None (rp_in (Some (Map no_pairs)))
 unfolding value_at
@@ -77,17 +57,18 @@ abbrev make_user : Option (List ℕ) → Option (List ℕ) → User
 make_user a b = record { id = a; name = b }
 
 user_grows : Grows user_in user_next
-user_grows ps k v = ap2 make_user (field_push (option_and_then as_bytes) (Name "id") ps k v) (field_push (option_and_then as_text) (Name "name") ps k v)
+user_grows ps k v = ap2 make_user (field_push (option_and_then as_bytes) (Name "id") ps k v)
+    (field_push (option_and_then as_text) (Name "name") ps k v)
 
 user_heads : (k : Tree) → HeadDecides user_types user_next k
-user_heads k v = (
-  ap2 (λ a b. if is_key (Name "id") k then a else (if is_key (Name "name") k then b else (if is_key (Name "displayName") k then b else true))) (is_head_bytes v) (is_head_text v),
-  λ z. ap2 (λ a b. make_user (if is_key (Name "id") k then a else z.id) (if is_key (Name "name") k then b else z.name)) (head_bytes v) (head_text v),
-)
+user_heads k v = grind arith
 
-pub user_adds : (room : ℕ) (key part : Part) (taken : Bool) (x y : UserFields) (a c : Reading) → PassesAs room part a c → taken ≡ suits user_types (head_of key) (head_of part) → shown_user y ≡ user_next (head_of key) (head_of part) (shown_user x)
-    → Adds (λ m ok ps. HasPairs user_types user_in (shown_user m) ok ps) room key taken x y a c
-user_adds room key part taken x y a c = adds_head shown_user user_types user_in user_next room key part taken x y a c user_grows (user_heads (head_of key))
+pub user_adds : (levels : ℕ) (key part : Part) (taken : Bool) (x y : UserFields) (a c : Reading) →
+    PassesAs levels part a c → taken ≡ suits user_types (head_of key) (head_of part) →
+    shown_user y ≡ user_next (head_of key) (head_of part) (shown_user x)
+    → Adds (λ m ok ps. HasPairs user_types user_in (shown_user m) ok ps) levels key taken x y a c
+user_adds levels key part taken x y a c = adds_head shown_user user_types user_in user_next levels key part taken x y a c
+    user_grows (user_heads (head_of key))
 
 pub user_start : make_user None None ≡ user_in (Some (Map no_pairs))
 unfolding value_at
@@ -100,17 +81,19 @@ make_options a b c = record { rk = a; up = b; uv = c }
 
 options_grows : Grows options_in options_next
 options_grows ps k v =
-    ap3 make_options (field_push (option_and_then as_flag) (Name "rk") ps k v) (field_push (option_and_then as_flag) (Name "up") ps k v) (field_push (option_and_then as_flag) (Name "uv") ps k v)
+    ap3 make_options (field_push (option_and_then as_flag) (Name "rk") ps k v)
+    (field_push (option_and_then as_flag) (Name "up") ps k v)
+    (field_push (option_and_then as_flag) (Name "uv") ps k v)
 
 options_heads : (k : Tree) → HeadDecides option_types options_next k
-options_heads k v = (
-  ap (λ a. if is_key (Name "rk") k then a else (if is_key (Name "up") k then a else (if is_key (Name "uv") k then a else true))) (is_head_flag v),
-  λ z. ap (λ a. make_options (if is_key (Name "rk") k then a else z.rk) (if is_key (Name "up") k then a else z.up) (if is_key (Name "uv") k then a else z.uv)) (head_flag v),
-)
+options_heads k v = grind arith
 
-pub options_adds : (room : ℕ) (key part : Part) (taken : Bool) (x y : OptionsFields) (a c : Reading) → PassesAs room part a c → taken ≡ suits option_types (head_of key) (head_of part) → shown_options y ≡ options_next (head_of key) (head_of part) (shown_options x)
-    → Adds (λ m ok ps. HasPairs option_types options_in (shown_options m) ok ps) room key taken x y a c
-options_adds room key part taken x y a c = adds_head shown_options option_types options_in options_next room key part taken x y a c options_grows (options_heads (head_of key))
+pub options_adds : (levels : ℕ) (key part : Part) (taken : Bool) (x y : OptionsFields) (a c : Reading) →
+    PassesAs levels part a c → taken ≡ suits option_types (head_of key) (head_of part) →
+    shown_options y ≡ options_next (head_of key) (head_of part) (shown_options x)
+    → Adds (λ m ok ps. HasPairs option_types options_in (shown_options m) ok ps) levels key taken x y a c
+options_adds levels key part taken x y a c = adds_head shown_options option_types options_in options_next levels key part
+    taken x y a c options_grows (options_heads (head_of key))
 
 pub options_start : make_options None None None ≡ options_in (Some (Map no_pairs))
 unfolding value_at
@@ -122,17 +105,18 @@ abbrev make_parameter : Option ℤ → Option (List ℕ) → Parameter
 make_parameter a b = record { alg = a; credential_type = b }
 
 parameter_grows : Grows parameter_in parameter_next
-parameter_grows ps k v = ap2 make_parameter (field_push (option_and_then as_int) (Name "alg") ps k v) (field_push (option_and_then as_text) (Name "type") ps k v)
+parameter_grows ps k v = ap2 make_parameter (field_push (option_and_then as_int) (Name "alg") ps k v)
+    (field_push (option_and_then as_text) (Name "type") ps k v)
 
 parameter_heads : (k : Tree) → HeadDecides parameter_types parameter_next k
-parameter_heads k v = (
-  ap2 (λ a b. if is_key (Name "alg") k then a else (if is_key (Name "type") k then b else true)) (is_head_int v) (is_head_text v),
-  λ z. ap2 (λ a b. make_parameter (if is_key (Name "alg") k then a else z.alg) (if is_key (Name "type") k then b else z.credential_type)) (head_int v) (head_text v),
-)
+parameter_heads k v = grind arith
 
-pub parameter_adds : (room : ℕ) (key part : Part) (taken : Bool) (x y : ParameterFields) (a c : Reading) → PassesAs room part a c → taken ≡ suits parameter_types (head_of key) (head_of part) → shown_parameter y ≡ parameter_next (head_of key) (head_of part) (shown_parameter x)
-    → Adds (λ m ok ps. HasPairs parameter_types parameter_in (shown_parameter m) ok ps) room key taken x y a c
-parameter_adds room key part taken x y a c = adds_head shown_parameter parameter_types parameter_in parameter_next room key part taken x y a c parameter_grows (parameter_heads (head_of key))
+pub parameter_adds : (levels : ℕ) (key part : Part) (taken : Bool) (x y : ParameterFields) (a c : Reading) →
+    PassesAs levels part a c → taken ≡ suits parameter_types (head_of key) (head_of part) →
+    shown_parameter y ≡ parameter_next (head_of key) (head_of part) (shown_parameter x)
+    → Adds (λ m ok ps. HasPairs parameter_types parameter_in (shown_parameter m) ok ps) levels key taken x y a c
+parameter_adds levels key part taken x y a c = adds_head shown_parameter parameter_types parameter_in parameter_next levels
+    key part taken x y a c parameter_grows (parameter_heads (head_of key))
 
 pub parameter_start : make_parameter None None ≡ parameter_in (Some (Map no_pairs))
 unfolding value_at
@@ -145,12 +129,11 @@ pub parameters_start : make_parameters true false ≡ parameters_in (Some (Array
 unfolding all_entries some_entry
 parameters_start = refl
 
-pub parameters_more : (old : Parameters) (p : Bool × Parameter) (w whole s es256 : Bool) (t : Tree) → w ≡ is_whole_parameter p.1 → whole ≡ (old.is_whole && w) → s ≡ names_es256 p.1 → es256 ≡ (old.has_es256 || s)
-    → p ≡ typed (map_of parameter_types) parameter_in t → (ts : Trees) → old ≡ parameters_in (Some (Array ts)) → make_parameters whole es256 ≡ parameters_in (Some (Array (push ts t)))
-parameters_more old p w whole s es256 t f g h i is ts eq =
-    ap2 make_parameters
-    (g ∙ ap2 (λ a b. a && b) (ap (λ x. x.is_whole) eq) (f ∙ ap (λ x. is_whole_parameter x.1) is) ∙ sym (entries_push (λ t. is_whole_parameter (parameter_in (Some t))) ts t))
-    (i ∙ ap2 (λ a b. a || b) (ap (λ x. x.has_es256) eq) (h ∙ ap (λ x. names_es256 x.1) is) ∙ sym (some_push (λ t. names_es256 (parameter_in (Some t))) ts t))
+pub parameters_more : (old : Parameters) (p : Bool × Parameter) (w whole s es256 : Bool) (t : Tree) →
+    w ≡ is_whole_parameter p.1 → whole ≡ (old.is_whole && w) → s ≡ names_es256 p.1 → es256 ≡ (old.has_es256 || s)
+    → p ≡ typed (map_of parameter_types) parameter_in t → (ts : Trees) → old ≡ parameters_in (Some (Array ts)) →
+    make_parameters whole es256 ≡ parameters_in (Some (Array (push ts t)))
+parameters_more old p w whole s es256 t f g h i is ts eq = grind (arith, entries_push, some_push)
 
 -- ---- descriptors
 
@@ -158,45 +141,53 @@ abbrev make_descriptor : Option (List ℕ) → Option (List ℕ) → Descriptor
 make_descriptor a b = record { id = a; credential_type = b }
 
 pub descriptor_grows : Grows descriptor_in descriptor_next
-descriptor_grows ps k v = ap2 make_descriptor (field_push (option_and_then as_bytes) (Name "id") ps k v) (field_push (option_and_then as_text) (Name "type") ps k v)
+descriptor_grows ps k v = ap2 make_descriptor (field_push (option_and_then as_bytes) (Name "id") ps k v)
+    (field_push (option_and_then as_text) (Name "type") ps k v)
 
 pub descriptor_heads : (k : Tree) → IsPlainName k → HeadDecides descriptor_types descriptor_next k
-descriptor_heads k plain v = (
-  rw plain (ap2 (λ a b. if is_key (Name "id") k then a else (if is_key (Name "type") k then b else true)) (is_head_bytes v) (is_head_text v)),
-  λ z. ap2 (λ a b. make_descriptor (if is_key (Name "id") k then a else z.id) (if is_key (Name "type") k then b else z.credential_type)) (head_bytes v) (head_text v),
-)
+descriptor_heads k plain v = grind arith
 
 pub descriptor_start : make_descriptor None None ≡ descriptor_in (Some (Map no_pairs))
 unfolding value_at
 descriptor_start = refl
 
-pub transports_arm : (room : ℕ) (key : Part) (x : DescriptorFields) (a c : Reading) (r : Result Bool Fault) → key ≡ One (Text (codes "transports"))
-    → MatchResult r (λ is. Reads (array_of is_text) room is a c) (λ f. Halts room a c f.at f.kind)
-    → MatchResult r (λ taken. Adds (λ m ok ps. HasPairs descriptor_types descriptor_in (shown_descriptor m) ok ps) room key taken x x a c) (λ f. Halts room a c f.at f.kind)
-transports_arm room key x a c (Ok is) e h =
-    adds_tree shown_descriptor descriptor_types descriptor_in descriptor_next room key (Text (codes "transports")) is x x a c descriptor_grows e (h.0, h.1, h.2, refl)
-transports_arm room key x a c (Err f) e h = h
+pub transports_arm : (levels : ℕ) (key : Part) (x : DescriptorFields) (a c : Reading) (r : Result Bool Fault) →
+    key ≡ One (Text (codes "transports"))
+    → MatchResult r (λ is. Reads (array_of is_text) levels is a c) (λ f. Halts levels a c f.at f.kind)
+    → MatchResult r (λ taken. Adds (λ m ok ps. HasPairs descriptor_types descriptor_in (shown_descriptor m) ok ps) levels
+    key taken x x a c) (λ f. Halts levels a c f.at f.kind)
+transports_arm levels key x a c (Ok is) e h =
+    adds_tree shown_descriptor descriptor_types descriptor_in descriptor_next levels key (Text (codes "transports")) is x
+    x a c descriptor_grows e (h.0, h.1, h.2, refl)
+transports_arm levels key x a c (Err f) e h = h
 
 -- ---- arrays of texts
 
-pub texts_more : {M : Type 0} (room : ℕ) (part : Part) (taken : Bool) (x y : M) (a c : Reading) → PassesAs room part a c → taken ≡ is_text (head_of part) → AddsEntry {M = M} (λ _ ok ts. ok ≡ all_entries is_text ts) room taken x y a c
-texts_more room part taken x y a c h is = (h.0, h.1, λ ok ts e. ap2 (λ a b. a && b) e (is ∙ ap (λ p. is_text (head_of p)) h.2 ∙ sym (is_head_text h.0)) ∙ sym (entries_push is_text ts h.0))
+pub texts_more : {M : Type 0} (levels : ℕ) (part : Part) (taken : Bool) (x y : M) (a c : Reading) →
+    PassesAs levels part a c → taken ≡ is_text (head_of part) →
+    AddsEntry {M = M} (λ _ ok ts. ok ≡ all_entries is_text ts) levels taken x y a c
+texts_more levels part taken x y a c h is = grind (arith, entries_push)
 
-texts_say : {M : Type 0} (t : Tree) (r : Option Bool) (x y : M) → InArray {M = M} (λ _ ok ts. ok ≡ all_entries is_text ts) r x y t → unwrap_or r false ≡ array_of is_text t
+texts_say : {M : Type 0} (t : Tree) (r : Option Bool) (x y : M) →
+    InArray {M = M} (λ _ ok ts. ok ≡ all_entries is_text ts) r x y t → unwrap_or r false ≡ array_of is_text t
 unfolding all_entries
-texts_say (Plain s) r x y h = ap (λ r. unwrap_or r false) h.0
-texts_say (Map ps) r x y h = ap (λ r. unwrap_or r false) h.0
-texts_say (Array ts) r x y h = ap (λ r. unwrap_or r false) h.1 ∙ h.2 refl
+texts_say t r x y h = search (rules, arith)
 
-pub texts_read : {M : Type 0} (room : ℕ) (r : Option Bool) (b : Bool) (x y : M) (a c : Reading) → b ≡ unwrap_or r false → ReadsArray {M = M} (λ _ ok ts. ok ≡ all_entries is_text ts) room r x y a c → Reads (array_of is_text) room b a c
-texts_read room r b x y a c e h = (h.0, h.1, e ∙ texts_say h.0 r x y h.2)
+pub texts_read : {M : Type 0} (levels : ℕ) (r : Option Bool) (b : Bool) (x y : M) (a c : Reading) →
+    b ≡ unwrap_or r false → ReadsArray {M = M} (λ _ ok ts. ok ≡ all_entries is_text ts) levels r x y a c →
+    Reads (array_of is_text) levels b a c
+texts_read levels r b x y a c e h = (h.0, h.1, e ∙ texts_say h.0 r x y h.2)
 
 -- ---- makeCredential
 
-ap9 : {A B C D E F G H J I : Type 0} (f : A → B → C → D → E → F → G → H → J → I) {a a' : A} {b b' : B} {c c' : C} {d d' : D} {e e' : E} {g g' : F} {h h' : G} {i i' : H} {j j' : J} → a ≡ a' → b ≡ b' → c ≡ c' → d ≡ d' → e ≡ e' → g ≡ g' → h ≡ h' → i ≡ i' → j ≡ j' → f a b c d e g h i j ≡ f a' b' c' d' e' g' h' i' j'
+ap9 : {A B C D E F G H J I : Type 0} (f : A → B → C → D → E → F → G → H → J →
+    I) {a a' : A} {b b' : B} {c c' : C} {d d' : D} {e e' : E} {g g' : F} {h h' : G} {i i' : H} {j j' : J} → a ≡ a' →
+    b ≡ b' → c ≡ c' → d ≡ d' → e ≡ e' → g ≡ g' → h ≡ h' → i ≡ i' → j ≡ j' →
+    f a b c d e g h i j ≡ f a' b' c' d' e' g' h' i' j'
 ap9 f p q r s t u v w x = cc
 
-abbrev make_all : Option (List ℕ) → Option (List ℕ) → User → Bool → Parameters → DescriptorList → Options → Option (List ℕ) → Option ℕ → MakeParameters
+abbrev make_all : Option (List ℕ) → Option (List ℕ) → User → Bool → Parameters → DescriptorList → Options →
+    Option (List ℕ) → Option ℕ → MakeParameters
 make_all a b c d e f g h i =
     record {
       client_data_hash = a;
@@ -226,31 +217,28 @@ make_grows ps k v =
     (field_push entries_of (Number 0x05) ps k v)
 
 pub make_heads : (k : Tree) → IsPlainMake k → HeadDecides make_types make_next k
-make_heads k h v = (
-  rw (h.rp, h.user, h.parameters, h.exclude_list, h.options) (ap3
-      (λ a b c. if is_key (Number 0x01) k then a else (if is_key (Number 0x06) k then b else (if is_key (Number 0x08) k then a else (if is_key (Number 0x09) k then c else (if is_key (Number 0x0a) k then c else true)))))
-      (is_head_bytes v) (head_map v) (is_head_uint v)),
-  λ z. rw (h.rp, h.user, h.parameters, h.exclude_list, h.options) (ap2
-      (λ a b. (make_all (if is_key (Number 0x01) k then a else z.0.client_data_hash) z.0.rp_id z.0.user z.0.has_parameters z.0.parameters z.0.exclude_list z.0.options (if is_key (Number 0x08) k then a else z.0.pin_uv_auth_param) (if is_key (Number 0x0a) k then b else z.0.enterprise_attestation), z.1))
-      (head_bytes v) (head_uint v)),
-)
+make_heads k h v = grind arith
 
-pub make_adds : (room : ℕ) (key part : Part) (taken : Bool) (x y : Make) (a c : Reading) → IsPlainMake (head_of key)
-    → PassesAs room part a c → taken ≡ suits make_types (head_of key) (head_of part)
+pub make_adds : (levels : ℕ) (key part : Part) (taken : Bool) (x y : Make) (a c : Reading) → IsPlainMake (head_of key)
+    → PassesAs levels part a c → taken ≡ suits make_types (head_of key) (head_of part)
     → shown_make y ≡ make_next (head_of key) (head_of part) (shown_make x)
-    → Adds (λ m ok ps. HasPairs make_types make_in (shown_make m) ok ps) room key taken x y a c
-make_adds room key part taken x y a c plain = adds_head shown_make make_types make_in make_next room key part taken x y a c make_grows (make_heads (head_of key) plain)
+    → Adds (λ m ok ps. HasPairs make_types make_in (shown_make m) ok ps) levels key taken x y a c
+make_adds levels key part taken x y a c plain = adds_head shown_make make_types make_in make_next levels key part taken x y
+    a c make_grows (make_heads (head_of key) plain)
 
-pub make_other : (room : ℕ) (key part : Part) (x : Make) (a c : Reading) → IsOtherMake (head_of key) → PassesAs room part a c
-    → Adds (λ m ok ps. HasPairs make_types make_in (shown_make m) ok ps) room key true x x a c
-make_other room key part x a c h passes =
+pub make_other : (levels : ℕ) (key part : Part) (x : Make) (a c : Reading) → IsOtherMake (head_of key) →
+    PassesAs levels part a c
+    → Adds (λ m ok ps. HasPairs make_types make_in (shown_make m) ok ps) levels key true x x a c
+make_other levels key part x a c h passes =
     let o = h.others in
-    make_adds room key part true x x a c o passes
+    make_adds levels key part true x x a c o passes
     (rw (h.hash, o.rp, o.user, o.parameters, o.exclude_list, h.extensions, o.options, h.pin_uv_auth_param, h.pin_uv_auth_protocol, h.enterprise_attestation) refl)
-    (rw (h.hash, o.rp, o.user, o.parameters, o.exclude_list, o.options, h.pin_uv_auth_param, h.enterprise_attestation) refl)
+    (rw (h.hash, o.rp, o.user, o.parameters, o.exclude_list, o.options, h.pin_uv_auth_param, h.enterprise_attestation)
+    refl)
 
 abbrev make_none : DescriptorList → Trees → MakeParameters × Trees
-make_none list entries = (make_all None None (make_user None None) false no_parameters list (make_options None None None) None None, entries)
+make_none list entries =
+    (make_all None None (make_user None None) false no_parameters list (make_options None None None) None None, entries)
 
 -- with these entries, and these left
 abbrev make_with : Trees → Trees → MakeParameters × Trees
@@ -260,16 +248,20 @@ make_start : make_with no_trees no_trees ≡ make_in (Some (Map no_pairs))
 unfolding value_at all_entries some_entry
 make_start = refl
 
-pub make_begins : (w : DescriptorWalk) → IsWhole w no_trees → make_with (list_of w) (left_of w) ≡ make_in (Some (Map no_pairs))
+pub make_begins : (w : DescriptorWalk) → IsWhole w no_trees →
+    make_with (list_of w) (left_of w) ≡ make_in (Some (Map no_pairs))
 make_begins w h = ap2 make_with h.0 h.1 ∙ make_start
 
-pub make_took : (room n : ℕ) (key : Part) (taken : Bool) (x y : Make) (a c : Reading) → is_key (Number n) (head_of key) ≡ true → TakesMake n room taken x y a c
-    → Adds (λ m ok ps. HasPairs make_types make_in (shown_make m) ok ps) room key taken x y a c
-make_took room n key taken x y a c e h = adds_tree shown_make make_types make_in make_next room key (Int (pos n)) taken x y a c make_grows (number_key n key e) h
+pub make_took : (levels n : ℕ) (key : Part) (taken : Bool) (x y : Make) (a c : Reading) →
+    is_key (Number n) (head_of key) ≡ true → TakesMake n levels taken x y a c
+    → Adds (λ m ok ps. HasPairs make_types make_in (shown_make m) ok ps) levels key taken x y a c
+make_took levels n key taken x y a c e h = adds_tree shown_make make_types make_in make_next levels key
+    (Int (pos n)) taken x y a c make_grows (number_key n key e) h
 
 -- ---- getAssertion
 
-ap5 : {A B C D E I : Type 0} (f : A → B → C → D → E → I) {a a' : A} {b b' : B} {c c' : C} {d d' : D} {e e' : E} → a ≡ a' → b ≡ b' → c ≡ c' → d ≡ d' → e ≡ e' → f a b c d e ≡ f a' b' c' d' e'
+ap5 : {A B C D E I : Type 0} (f : A → B → C → D → E → I) {a a' : A} {b b' : B} {c c' : C} {d d' : D} {e e' : E} →
+    a ≡ a' → b ≡ b' → c ≡ c' → d ≡ d' → e ≡ e' → f a b c d e ≡ f a' b' c' d' e'
 ap5 f p q r s t = cc
 
 abbrev assert_all : Option (List ℕ) → Option (List ℕ) → DescriptorList → Options → Option (List ℕ) → AssertionParameters
@@ -287,26 +279,22 @@ assert_grows ps k v =
     (field_push entries_of (Number 0x03) ps k v)
 
 pub assert_heads : (k : Tree) → IsPlainAssert k → HeadDecides assertion_types assert_next k
-assert_heads k h v = (
-  rw (h.allow_list, h.options) (ap4
-      (λ a b c d. if is_key (Number 0x01) k then a else (if is_key (Number 0x02) k then b else (if is_key (Number 0x04) k then c else (if is_key (Number 0x06) k then b else (if is_key (Number 0x07) k then d else true)))))
-      (is_head_text v) (is_head_bytes v) (head_map v) (is_head_uint v)),
-  λ z. rw (h.allow_list, h.options) (ap2
-      (λ a b. (assert_all (if is_key (Number 0x01) k then a else z.0.rp_id) (if is_key (Number 0x02) k then b else z.0.client_data_hash) z.0.allow_list z.0.options (if is_key (Number 0x06) k then b else z.0.pin_uv_auth_param), z.1))
-      (head_text v) (head_bytes v)),
-)
+assert_heads k h v = grind arith
 
-pub assert_adds : (room : ℕ) (key part : Part) (taken : Bool) (x y : Assert) (a c : Reading) → IsPlainAssert (head_of key)
-    → PassesAs room part a c → taken ≡ suits assertion_types (head_of key) (head_of part)
+pub assert_adds : (levels : ℕ) (key part : Part) (taken : Bool) (x y : Assert) (a c : Reading) →
+    IsPlainAssert (head_of key)
+    → PassesAs levels part a c → taken ≡ suits assertion_types (head_of key) (head_of part)
     → shown_assert y ≡ assert_next (head_of key) (head_of part) (shown_assert x)
-    → Adds (λ m ok ps. HasPairs assertion_types assertion_in (shown_assert m) ok ps) room key taken x y a c
-assert_adds room key part taken x y a c plain = adds_head shown_assert assertion_types assertion_in assert_next room key part taken x y a c assert_grows (assert_heads (head_of key) plain)
+    → Adds (λ m ok ps. HasPairs assertion_types assertion_in (shown_assert m) ok ps) levels key taken x y a c
+assert_adds levels key part taken x y a c plain = adds_head shown_assert assertion_types assertion_in assert_next levels key
+    part taken x y a c assert_grows (assert_heads (head_of key) plain)
 
-pub assert_other : (room : ℕ) (key part : Part) (x : Assert) (a c : Reading) → IsOtherAssert (head_of key) → PassesAs room part a c
-    → Adds (λ m ok ps. HasPairs assertion_types assertion_in (shown_assert m) ok ps) room key true x x a c
-assert_other room key part x a c h passes =
+pub assert_other : (levels : ℕ) (key part : Part) (x : Assert) (a c : Reading) → IsOtherAssert (head_of key) →
+    PassesAs levels part a c
+    → Adds (λ m ok ps. HasPairs assertion_types assertion_in (shown_assert m) ok ps) levels key true x x a c
+assert_other levels key part x a c h passes =
     let o = h.others in
-    assert_adds room key part true x x a c o passes
+    assert_adds levels key part true x x a c o passes
     (rw (h.rp_id, h.hash, o.allow_list, h.extensions, o.options, h.pin_uv_auth_param, h.pin_uv_auth_protocol) refl)
     (rw (h.rp_id, h.hash, o.allow_list, o.options, h.pin_uv_auth_param) refl)
 
@@ -317,9 +305,12 @@ assert_start : assert_with no_trees no_trees ≡ assertion_in (Some (Map no_pair
 unfolding value_at all_entries
 assert_start = refl
 
-pub assert_begins : (w : DescriptorWalk) → IsWhole w no_trees → assert_with (list_of w) (left_of w) ≡ assertion_in (Some (Map no_pairs))
+pub assert_begins : (w : DescriptorWalk) → IsWhole w no_trees →
+    assert_with (list_of w) (left_of w) ≡ assertion_in (Some (Map no_pairs))
 assert_begins w h = ap2 assert_with h.0 h.1 ∙ assert_start
 
-pub assert_took : (room n : ℕ) (key : Part) (taken : Bool) (x y : Assert) (a c : Reading) → is_key (Number n) (head_of key) ≡ true → TakesAssert n room taken x y a c
-    → Adds (λ m ok ps. HasPairs assertion_types assertion_in (shown_assert m) ok ps) room key taken x y a c
-assert_took room n key taken x y a c e h = adds_tree shown_assert assertion_types assertion_in assert_next room key (Int (pos n)) taken x y a c assert_grows (number_key n key e) h
+pub assert_took : (levels n : ℕ) (key : Part) (taken : Bool) (x y : Assert) (a c : Reading) →
+    is_key (Number n) (head_of key) ≡ true → TakesAssert n levels taken x y a c
+    → Adds (λ m ok ps. HasPairs assertion_types assertion_in (shown_assert m) ok ps) levels key taken x y a c
+assert_took levels n key taken x y a c e h = adds_tree shown_assert assertion_types assertion_in assert_next levels key
+    (Int (pos n)) taken x y a c assert_grows (number_key n key e) h

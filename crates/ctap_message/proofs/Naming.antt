@@ -1,5 +1,5 @@
 -- From one entry of a list to the next, and the head of a list.
-use Rattle.std.proofs.Common.{◌≡◌, ℕ, ◌+◌, ◌-◌, ◌<◌, Bool, true, false, List, [], ◌++◌, length, Option, Some, None, Ok, Err, Bor, refl, sym, ap, subst, ◌∙◌, arith, length-append}
+use Rattle.std.proofs.Common.{rules, ◌≡◌, ℕ, ◌+◌, ◌-◌, ◌<◌, Bool, true, false, List, [], ◌++◌, length, Option, Some, None, Ok, Err, Bor, refl, sym, ap, subst, ◌∙◌, arith, length-append}
 use Rattle.std.specs.Prelude.{is_some, if◌then◌else◌}
 use Rattle.std.specs.Option.{option_copied}
 use Rattle.ctap_cbor.specs.declared.fault.Kind.{Kind}
@@ -22,17 +22,21 @@ use Rattle.ctap_message.specs.Descriptors.{ids_of, descriptor_types}
 use Rattle.ctap_message.specs.Fields.{Descriptor, descriptor_in, named_id}
 use Rattle.std.specs.List.{cons_option}
 use Rattle.ctap_message.specs.Walks.{Reads, typed}
-use Rattle.ctap_message.specs.DescriptorWalk.{DescriptorWalk, IsWhole, list_steps, entry_steps, after_first, NextId, Left, Walks, Gives, IsList, IsWalk}
+use Rattle.ctap_message.specs.DescriptorWalk.{DescriptorWalk, IsWhole, list_steps, entry_steps, after_first, Left, Walks, Gives, IsList, IsWalk}
 
 -- as many ids are left as there were
 abbrev pub Sofar : Reading → ℕ → Reading → ℕ → Type 0
-Sofar r n s m = (ts : Trees) → Left r n ts → (us : Trees) × (more : ℕ) × Walks r s m ts us more × (ids_of ts ≡ ids_of us) × (after_first ts ≡ after_first us)
+Sofar r n s m = (ts : Trees) → Left r n ts → (us : Trees) × (more : ℕ) × Walks r s m ts us more
+    × (ids_of ts ≡ ids_of us) × (after_first ts ≡ after_first us)
 
 Onward : Reading → Reading → ℕ → Trees → Trees → Descriptor → Type 0
 Onward r s m ts us d =
-    (vs : Trees) × (more : ℕ) × Walks r s m ts vs more × (ids_of us ≡ cons_option (named_id d) (ids_of vs)) × (after_first us ≡ (if is_some (named_id d) then vs else after_first vs))
+    (vs : Trees) × (more : ℕ) × Walks r s m ts vs more × (ids_of us ≡ cons_option (named_id d) (ids_of vs))
+    × (after_first us ≡ (if is_some (named_id d) then vs else after_first vs))
 
-onward : OneTreePasses → (r s s' : Reading) (m : ℕ) (ts us : Trees) (more : ℕ) (d : Bool × Descriptor) → Walks r s m ts us more → 0 < m → Reads (typed (map_of descriptor_types) descriptor_in) 3 d s s' → Onward r s' (m - 1) ts us d.1
+onward : OneTreePasses → (r s s' : Reading) (m : ℕ) (ts us : Trees) (more : ℕ) (d : Bool × Descriptor) →
+    Walks r s m ts us more → 0 < m → Reads (typed (map_of descriptor_types) descriptor_in) 3 d s s' →
+    Onward r s' (m - 1) ts us d.1
 unfolding Onward
 onward law r s s' m ts no_trees more d h lt k = absurd (omega (arith, h.left.number))
 onward law r s s' m ts (tree u us) more d h lt k =
@@ -49,22 +53,29 @@ onward law r s s' m ts (tree u us) more d h lt k =
         cost = omega (arith, h.cost, length-append (text u) (texts us));
         steps = omega (arith, h.steps, ap (λ (r : Reading). r.steps) p.moved, len, later);
       },
-      ap (λ t. cons_option (named_id (descriptor_in (Some t))) (ids_of us)) (sym only.0) ∙ ap (λ x. cons_option (named_id x.1) (ids_of us)) (sym k.2),
-      ap (λ t. if is_some (named_id (descriptor_in (Some t))) then us else after_first us) (sym only.0) ∙ ap (λ x. if is_some (named_id x.1) then us else after_first us) (sym k.2),
+      ap (λ t. cons_option (named_id (descriptor_in (Some t))) (ids_of us)) (sym only.0)
+          ∙ ap (λ x. cons_option (named_id x.1) (ids_of us)) (sym k.2),
+      ap (λ t. if is_some (named_id (descriptor_in (Some t))) then us else after_first us) (sym only.0)
+          ∙ ap (λ x. if is_some (named_id x.1) then us else after_first us) (sym k.2),
     )
 
-pub entry_never : NothingHalts → (r s s' : Reading) (m : ℕ) (ts us : Trees) (more : ℕ) (at : ℕ) (kind : Kind) → Walks r s m ts us more → 0 < m → Halts 3 s s' at kind → ⊥
+pub entry_never : NothingHalts → (r s s' : Reading) (m : ℕ) (ts us : Trees) (more : ℕ) (at : ℕ) (kind : Kind) →
+    Walks r s m ts us more → 0 < m → Halts 3 s s' at kind → ⊥
 entry_never law r s s' m ts no_trees more at kind h lt k = omega (arith, h.left.number)
-entry_never law r s s' m ts (tree u us) more at kind h lt k = law 3 u (texts us) s s' at kind h.left.lawful.0 (omega (arith, h.left.flat)) h.left.spelled k
+entry_never law r s s' m ts (tree u us) more at kind h lt k = law 3 u (texts us) s s' at kind h.left.lawful.0
+    (omega (arith, h.left.flat)) h.left.spelled k
 
-pub sofar_more : OneTreePasses → (r s s' : Reading) (n m : ℕ) (d : Bool × Descriptor) → Sofar r n s m → 0 < m → Reads (typed (map_of descriptor_types) descriptor_in) 3 d s s' → named_id d.1 ≡ None → Sofar r n s' (m - 1)
+pub sofar_more : OneTreePasses → (r s s' : Reading) (n m : ℕ) (d : Bool × Descriptor) → Sofar r n s m → 0 < m →
+    Reads (typed (map_of descriptor_types) descriptor_in) 3 d s s' → named_id d.1 ≡ None → Sofar r n s' (m - 1)
 unfolding Onward
 sofar_more law r s s' n m d h lt k e = λ ts l.
     let g = h ts l in
     let o = onward law r s s' m ts g.0 g.1 d g.2 lt k in
     (o.0, o.1, o.2, g.3 ∙ o.3 ∙ ap (λ x. cons_option x (ids_of o.0)) e, g.4 ∙ o.4 ∙ ap (λ x. if is_some x then o.0 else after_first o.0) e)
 
-pub gives_some : OneTreePasses → (r s s' : Reading) (n m : ℕ) (d : Bool × Descriptor) (id : Option (List ℕ)) → Sofar r n s m → 0 < m → Reads (typed (map_of descriptor_types) descriptor_in) 3 d s s' → id ≡ named_id d.1 → is_some id ≡ true → Gives r n s' (m - 1) id
+pub gives_some : OneTreePasses → (r s s' : Reading) (n m : ℕ) (d : Bool × Descriptor) (id : Option (List ℕ)) →
+    Sofar r n s m → 0 < m → Reads (typed (map_of descriptor_types) descriptor_in) 3 d s s' → id ≡ named_id d.1 →
+    is_some id ≡ true → Gives r n s' (m - 1) id
 unfolding Onward
 gives_some law r s s' n m d id h lt k e there = λ ts l.
     let g = h ts l in
@@ -82,18 +93,13 @@ empty no_trees e = refl
 empty (tree u us) e = absurd (omega arith)
 
 pub gives_none : (r s : Reading) (n m : ℕ) → Sofar r n s m → m ≡ 0 → Gives r n s m None
-gives_none r s n m h e = λ ts l.
-    let g = h ts l in
-    let none : g.0 ≡ no_trees = empty g.0 (g.2.left.number ∙ e) in
-    (g.0, g.1, g.2, g.3, λ _. none, none ∙ sym (g.4 ∙ ap after_first none))
+gives_none r s n m h e = search (rules, arith, empty)
 
 pub copied_some : (o : Option (Bor (List ℕ))) → is_some (option_copied o) ≡ is_some o
-copied_some None = refl
-copied_some (Some x) = refl
+copied_some o = search (rules, arith)
 
 pub none_is : (o : Option (List ℕ)) → is_some o ≡ false → o ≡ None
-none_is None e = refl
-none_is (Some x) e = absurd cc
+none_is o e = search (rules, arith)
 
 -- ---- walks
 
@@ -107,44 +113,7 @@ abbrev left_at : Reading → ℕ → Trees
 left_at r n = items_at 3 n (rest_of r)
 
 left_found : ItemsAreFound → (r : Reading) (n : ℕ) (ts : Trees) → Left r n ts → left_at r n ≡ ts
-left_found law r n ts h = ap (λ m. items_at 3 m (rest_of r)) (sym h.number) ∙ ap (items_at 3 (count ts)) h.spelled ∙ law 3 ts h.lawful h.flat
-
--- what looking for an id makes of a walk
-abbrev Moves : Reading → ℕ → Bool → Reading → ℕ → Option (List ℕ) → Type 0
-Moves r n given s m id =
-    IsWalk (walk_at s m) given × (entries_in s ≡ entries_in r) × (ids_of (left_at r n) ≡ cons_option id (ids_of (left_at s m))) × (id ≡ None → left_at s m ≡ no_trees) × (left_at s m ≡ after_first (left_at r n))
-
-moves : ItemsAreFound → (r s : Reading) (n m : ℕ) (given : Bool) (id : Option (List ℕ)) → IsWalk (walk_at r n) given → Gives r n s m id → Moves r n given s m id
-moves law r s n m given id w g =
-    let h = g (left_at r n) w.stands in
-    let us : Trees = h.0 in
-    let k : Walks r s m (left_at r n) us h.1 = h.2 in
-    let found : left_at s m ≡ us = left_found law s m us k.left in
-    let same : entries_in s ≡ entries_in r = ap (λ b. entries_of (canonical_tree b)) k.same in
-    let cost : entry_steps (left_at s m) ≡ entry_steps us = ap entry_steps found in
-    let whole : list_steps (entries_in s) ≡ list_steps (entries_in r) = ap list_steps same in (
-      record {
-        stands = subst (Left s m) (sym found) k.left;
-        given_is = w.given_is ∙ ap has_entries (sym same);
-        within = omega (arith, w.within, k.cost, cost, whole);
-        steps_are = omega (arith, w.within, w.steps_are, k.steps, k.cost, cost, whole);
-      },
-      same,
-      h.3 ∙ ap (λ x. cons_option id (ids_of x)) (sym found),
-      λ e. found ∙ h.4 e,
-      found ∙ h.5,
-    )
-
-pub still_walk : ItemsAreFound → (r s : Reading) (n m : ℕ) (given : Bool) (id : Option (List ℕ)) → IsWalk (walk_at r n) given → Gives r n s m id → IsWalk (walk_at s m) given
-still_walk law r s n m given id w g = (moves law r s n m given id w g).0
-
-pub next_gives : ItemsAreFound → (r s : Reading) (n m : ℕ) (given : Bool) (id : Option (Bor (List ℕ))) → IsWalk (walk_at r n) given → Gives r n s m (option_copied id) → NextId (walk_at r n) id (walk_at s m)
-next_gives law r s n m given None w g =
-    let h = moves law r s n m given None w g in
-    record { first = (h.2 ∙ ap ids_of (h.3 refl), ap ids_of (h.3 refl)); same = h.1; left = h.4; ended = λ _. h.3 refl }
-next_gives law r s n m given (Some x) w g =
-    let h = moves law r s n m given (Some x.now) w g in
-    record { first = h.2; same = h.1; left = h.4; ended = λ e. absurd cc }
+left_found law r n ts h = search (rules, arith)
 
 -- ---- the head of a list
 
@@ -161,14 +130,16 @@ size_of _ = 0
 
 list_tree : BytesTell → (l : List ℕ) (ts : Trees) → AreBytes l → IsList l ts → canonical_tree l ≡ Some (Array ts)
 list_tree law l ts fits h =
-    ap whole_tree (law.only l (Whole (Array ts)) fits (record { enc = record { lawful = h.lawful; spelled = h.spelled }; flat = omega (arith, h.flat) }))
+    ap whole_tree (law.only l (Whole (Array ts)) fits
+    (record { enc = record { lawful = h.lawful; spelled = h.spelled }; flat = omega (arith, h.flat) }))
 
 list_costs : (ts : Trees) → has_entries ts ≡ true → list_steps ts ≡ length (head 4 (count ts)) + entry_steps ts
 list_costs no_trees e = absurd cc
 list_costs (tree t ts) e = omega (arith, length-append (head 4 (count (tree t ts))) (texts (tree t ts)))
 
 -- after its head a list's walk begins
-pub begins : BytesTell → ItemsAreFound → (l : List ℕ) (ts : Trees) (r s : Reading) (n : ℕ) → AreBytes l → IsList l ts → r ≡ at_front l 0 → TakesOnly 4 r s (Ok (item.Array n)) → Takes 4 r s (OpensArray n)
+pub begins : BytesTell → ItemsAreFound → (l : List ℕ) (ts : Trees) (r s : Reading) (n : ℕ) → AreBytes l → IsList l ts →
+    r ≡ at_front l 0 → TakesOnly 4 r s (Ok (item.Array n)) → Takes 4 r s (OpensArray n)
     → IsWalk (walk_at s n) true × IsWhole (walk_at s n) ts
 begins tell found_law l ts r s n fits h e only t =
     let there = head_stands l ts r h e in
@@ -177,7 +148,8 @@ begins tell found_law l ts r s n fits h e only t =
     let stands : Left s n ts = record { spelled = same.1; number = sym size; lawful = h.lawful.1; flat = h.flat } in
     let found : left_at s n ≡ ts = left_found found_law s n ts stands in
     let bytes : s.bytes ≡ l = ap (λ (r : Reading). r.bytes) t.moved ∙ ap (λ (r : Reading). r.bytes) e in
-    let entries : entries_in s ≡ ts = ap (λ b. entries_of (canonical_tree b)) bytes ∙ ap entries_of (list_tree tell l ts fits h) in
+    let entries : entries_in s ≡ ts = ap (λ b. entries_of (canonical_tree b)) bytes
+    ∙ ap entries_of (list_tree tell l ts fits h) in
     let headed : length (head 4 n) ≡ length (head 4 (count ts)) = ap (λ n. length (head 4 n)) size in
     let costs = list_costs ts h.given in
     let left_cost : entry_steps (left_at s n) ≡ entry_steps ts = ap entry_steps found in
@@ -191,19 +163,16 @@ begins tell found_law l ts r s n fits h e only t =
       (entries, found),
     )
 
-pub no_fault : (l : List ℕ) (ts : Trees) (r s : Reading) (f : Fault) → IsList l ts → r ≡ at_front l 0 → TakesOnly 4 r s (Err f) → ⊥
-no_fault l ts r s f h e only = let there = head_stands l ts r h e in only (OpensArray (count ts)) (texts ts) there.0 there.1
+pub no_fault : (l : List ℕ) (ts : Trees) (r s : Reading) (f : Fault) → IsList l ts → r ≡ at_front l 0 →
+    TakesOnly 4 r s (Err f) → ⊥
+no_fault l ts r s f h e only = let there = head_stands l ts r h e in
+    only (OpensArray (count ts)) (texts ts) there.0 there.1
 
 no_part : (i : Item) (n : ℕ) → ((n : ℕ) → i ≡ item.Array n → ⊥) → part_of i ≡ OpensArray n → ⊥
-no_part (item.Array m) n other e = other m refl
-no_part (item.Map m) n other e = cc
-no_part (item.Int m) n other e = cc
-no_part (item.Bytes m) n other e = cc
-no_part (item.Text m) n other e = cc
-no_part (item.Bool m) n other e = cc
-no_part item.Null n other e = cc
+no_part i n other e = search (rules, arith)
 
-pub no_other : (l : List ℕ) (ts : Trees) (r s : Reading) (i : Item) → IsList l ts → r ≡ at_front l 0 → TakesOnly 4 r s (Ok i) → ((n : ℕ) → i ≡ item.Array n → ⊥) → ⊥
+pub no_other : (l : List ℕ) (ts : Trees) (r s : Reading) (i : Item) → IsList l ts → r ≡ at_front l 0 →
+    TakesOnly 4 r s (Ok i) → ((n : ℕ) → i ≡ item.Array n → ⊥) → ⊥
 no_other l ts r s i h e only other =
     let there = head_stands l ts r h e in
     no_part i (count ts) other (only (OpensArray (count ts)) (texts ts) there.0 there.1).0
@@ -218,19 +187,6 @@ none_left : (r : Reading) → left_at r 0 ≡ no_trees
 unfolding items_at
 none_left r = refl
 
-pub no_list : (r : Reading) (l : List ℕ) → l ≡ [] → r ≡ at_front l 0 → IsWalk (walk_at r 0) false × IsWhole (walk_at r 0) no_trees
-no_list r l nothing e =
-    let bytes : r.bytes ≡ [] = ap (λ (r : Reading). r.bytes) e ∙ nothing in
-    let entries : entries_in r ≡ no_trees = ap (λ b. entries_of (canonical_tree b)) bytes ∙ ap entries_of no_tree in
-    let found : left_at r 0 ≡ no_trees = none_left r in
-    let stands : Left r 0 no_trees = record { spelled = ap rest_of e ∙ nothing; number = refl; lawful = tt; flat = omega arith } in
-    let left_cost : entry_steps (left_at r 0) ≡ 0 = ap entry_steps found in
-    let whole_cost : list_steps (entries_in r) ≡ 0 = ap list_steps entries in (
-      record {
-        stands = subst (Left r 0) (sym found) stands;
-        given_is = ap has_entries (sym entries);
-        within = omega (arith, left_cost);
-        steps_are = omega (arith, ap (λ (r : Reading). r.steps) e, left_cost, whole_cost);
-      },
-      (entries, found),
-    )
+pub no_list : (r : Reading) (l : List ℕ) → l ≡ [] → r ≡ at_front l 0 → IsWalk (walk_at r 0) false
+    × IsWhole (walk_at r 0) no_trees
+no_list r l nothing e = grind (arith, no_tree, none_left)

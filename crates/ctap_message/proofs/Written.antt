@@ -1,5 +1,5 @@
 -- The pieces of an assertion's answer, in the order in which they are written.
-use Rattle.std.proofs.Common.{◌≡◌, ◌+◌, List, ℕ, ◌++◌, ◌∷◌, Option, Some, None, refl, codes, append_assoc, append-nil}
+use Rattle.std.proofs.Common.{arith, rules, ◌≡◌, ◌+◌, List, ℕ, ◌++◌, ◌∷◌, Option, codes, append_assoc, append-nil}
 use Rattle.ctap_cbor.specs.Tree.{Pairs, no_pairs, count_pairs}
 use Rattle.ctap_cbor.specs.Head.{head}
 use Rattle.ctap_cbor.specs.Grammar.{text, pair_texts}
@@ -7,17 +7,20 @@ use Rattle.ctap_message.specs.Answers.{number, name, byte_string, with_user, wit
 
 pub user_then : (user : Option (List ℕ)) (rest : Pairs)
     → pair_texts (with_user user no_pairs) ++ pair_texts rest ≡ pair_texts (with_user user rest)
-user_then None rest = refl
-user_then (Some id) rest = simp append_assoc
+user_then user rest = search (rules, arith, append_assoc)
 
 -- one list after another, however they are joined
-pub joined : (a b d e f t w x : List ℕ) → ((((((a ++ b) ++ d) ++ e) ++ f) ++ t) ++ w) ++ x ≡ a ++ (b ++ (d ++ (e ++ (f ++ (t ++ (w ++ x))))))
+pub joined : (a b d e f t w x : List ℕ) → ((((((a ++ b) ++ d) ++ e) ++ f) ++ t) ++ w) ++ x ≡ a ++
+    (b ++ (d ++ (e ++ (f ++ (t ++ (w ++ x))))))
 joined a b d e f t w x = simp append_assoc
 
 pub assertion_text : (id auth sig : List ℕ) (user : Option (List ℕ)) (count : Option ℕ)
-    → assertion_answer id auth sig user count ≡ 0x00 ∷ (head 5 (count_pairs (with_user user (with_number count)) + 1 + 1 + 1)
+    → assertion_answer id auth sig user count ≡ 0x00 ∷
+    (head 5 (count_pairs (with_user user (with_number count)) + 1 + 1 + 1)
     ++ (text (number 0x01) ++ (head 5 2 ++ (text (name (codes "id")) ++ (text (byte_string id)
     ++ (text (name (codes "type")) ++ (text (name (codes "public-key"))
-    ++ (text (number 0x02) ++ (text (byte_string auth) ++ (text (number 0x03) ++ (text (byte_string sig) ++ pair_texts (with_user user (with_number count)))))))))))))
+    ++ (text (number 0x02) ++
+    (text (byte_string auth) ++
+    (text (number 0x03) ++ (text (byte_string sig) ++ pair_texts (with_user user (with_number count)))))))))))))
 unfolding assertion_tree assertion_answer
 assertion_text id auth sig user count = simp (append_assoc, append-nil)

@@ -76,7 +76,7 @@ pub record IsOtherMake (k : Tree) : Type 0 where
 
 -- the value of the parameter with this number was passed, and taken or not
 abbrev pub TakesMake : ℕ → ℕ → Bool → Make → Make → Reading → Reading → Type 0
-TakesMake n room taken before after old new = (v : Tree) × Passes room v old new
+TakesMake n levels taken before after old new = (v : Tree) × Passes levels v old new
     × (taken ≡ suits make_types (numbered n) v) × (shown_make after ≡ make_next (numbered n) v (shown_make before))
 
 -- ---- getAssertion
@@ -123,6 +123,6 @@ pub record IsOtherAssert (k : Tree) : Type 0 where
   pub pin_uv_auth_protocol : is_key (Number 0x07) k ≡ false
 
 abbrev pub TakesAssert : ℕ → ℕ → Bool → Assert → Assert → Reading → Reading → Type 0
-TakesAssert n room taken before after old new = (v : Tree) × Passes room v old new
+TakesAssert n levels taken before after old new = (v : Tree) × Passes levels v old new
     × (taken ≡ suits assertion_types (numbered n) v)
     × (shown_assert after ≡ assert_next (numbered n) v (shown_assert before))

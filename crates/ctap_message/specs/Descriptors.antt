@@ -4,18 +4,18 @@ use Rattle.std.specs.Prelude.{ℕ, ℤ, negsuc, ◌==◌, Bool, false, ◌&&◌,
 use Rattle.std.specs.List.{cons_option}
 use Rattle.std.specs.Str.{bytes_eq}
 use Rattle.ctap_cbor.specs.Tree.{Tree, Trees, no_trees, tree, as_bytes, as_text, as_int}
-use Rattle.ctap_message.specs.Members.{Key, Name, member_as, is_some_and, is_bytes, is_text, is_int, is_flag, array_of}
+use Rattle.ctap_message.specs.Members.{MemberKey, Name, member_as, is_some_and, is_bytes, is_text, is_int, is_flag, array_of}
 
 -- the types of a descriptor's members
-abbrev pub descriptor_types : List (Key × (Tree → Bool))
+abbrev pub descriptor_types : List (MemberKey × (Tree → Bool))
 descriptor_types = (Name "id", is_bytes) ∷ (Name "type", is_text) ∷ (Name "transports", array_of is_text) ∷ []
 
 -- the types of a credential parameter's members
-abbrev pub parameter_types : List (Key × (Tree → Bool))
+abbrev pub parameter_types : List (MemberKey × (Tree → Bool))
 parameter_types = (Name "alg", is_int) ∷ (Name "type", is_text) ∷ []
 
 -- the types of the options
-abbrev pub option_types : List (Key × (Tree → Bool))
+abbrev pub option_types : List (MemberKey × (Tree → Bool))
 option_types = (Name "rk", is_flag) ∷ (Name "up", is_flag) ∷ (Name "uv", is_flag) ∷ []
 
 -- the credential type that is known

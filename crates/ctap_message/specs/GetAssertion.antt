@@ -3,13 +3,13 @@
 use Prim.Native.String.{String}
 use Rattle.std.specs.Prelude.{ℕ, ◌==◌, Bool, true, false, not, ◌&&◌, List, [], ◌∷◌, length, Option, is_some, is_none, unwrap_or, Result}
 use Rattle.ctap_cbor.specs.Tree.{Tree, is_map, as_bytes, as_text, as_flag}
-use Rattle.ctap_message.specs.Members.{Key, Number, Name, member, member_as, entries_of, all_entries, is_some_and, is_bytes, is_text, is_uint, array_of, map_of}
+use Rattle.ctap_message.specs.Members.{MemberKey, Number, Name, member, member_as, entries_of, all_entries, is_some_and, is_bytes, is_text, is_uint, array_of, map_of}
 use Rattle.ctap_message.specs.Checks.{if_all_hold}
 use Rattle.ctap_message.specs.Asked.{Asked, GetAssertion}
 use Rattle.ctap_message.specs.Descriptors.{descriptor_types, option_types, has_id_and_type}
 
 -- the types of the parameters
-abbrev pub assertion_types : List (Key × (Tree → Bool))
+abbrev pub assertion_types : List (MemberKey × (Tree → Bool))
 assertion_types =
     (Number 0x01, is_text)  -- rpId
     ∷ (Number 0x02, is_bytes)  -- clientDataHash

@@ -3,21 +3,21 @@
 use Prim.Native.String.{String}
 use Rattle.std.specs.Prelude.{ℕ, ◌==◌, nat_le, Bool, true, false, not, ◌&&◌, List, [], ◌∷◌, length, Option, is_some, is_none, unwrap_or, Result}
 use Rattle.ctap_cbor.specs.Tree.{Tree, is_map, as_bytes, as_text, as_uint, as_flag}
-use Rattle.ctap_message.specs.Members.{Key, Number, Name, member, member_as, entries_of, all_entries, some_entry, is_some_and, is_bytes, is_text, is_uint, array_of, map_of}
+use Rattle.ctap_message.specs.Members.{MemberKey, Number, Name, member, member_as, entries_of, all_entries, some_entry, is_some_and, is_bytes, is_text, is_uint, array_of, map_of}
 use Rattle.ctap_message.specs.Checks.{if_all_hold}
 use Rattle.ctap_message.specs.Asked.{Asked, MakeCredential}
 use Rattle.ctap_message.specs.Descriptors.{descriptor_types, option_types, parameter_types, has_id_and_type, has_alg_and_type, asks_es256}
 
 -- the types of rp's members
-abbrev pub rp_types : List (Key × (Tree → Bool))
+abbrev pub rp_types : List (MemberKey × (Tree → Bool))
 rp_types = (Name "id", is_text) ∷ (Name "name", is_text) ∷ []
 
 -- the types of user's members
-abbrev pub user_types : List (Key × (Tree → Bool))
+abbrev pub user_types : List (MemberKey × (Tree → Bool))
 user_types = (Name "id", is_bytes) ∷ (Name "name", is_text) ∷ (Name "displayName", is_text) ∷ []
 
 -- the types of the parameters
-abbrev pub make_types : List (Key × (Tree → Bool))
+abbrev pub make_types : List (MemberKey × (Tree → Bool))
 make_types =
     (Number 0x01, is_bytes)  -- clientDataHash
     ∷ (Number 0x02, map_of rp_types)  -- rp

@@ -19,27 +19,27 @@ entries_of (Some (Array ts)) = ts
 entries_of _ = no_trees
 
 -- A key of a map: a number or a name.
-pub data Key : Type 0 where
-  Number : ℕ → Key
-  Name : String → Key
+pub data MemberKey : Type 0 where
+  Number : ℕ → MemberKey
+  Name : String → MemberKey
 
 -- whether a tree is this key
-abbrev pub is_key : Key → Tree → Bool
+abbrev pub is_key : MemberKey → Tree → Bool
 is_key (Number n) (Plain (Int (pos m))) = m == n
 is_key (Name name) (Plain (Text s)) = bytes_eq s (codes name)
 is_key key _ = false
 
 -- the last one; no canonical map has a key twice
-unfoldable pub value_at : Key → Pairs → Option Tree
+unfoldable pub value_at : MemberKey → Pairs → Option Tree
 value_at key no_pairs = None
 value_at key (pair k v ps) = option_or (value_at key ps) (if is_key key k then Some v else None)
 
 -- the value of a map's member
-abbrev pub member : Key → Option Tree → Option Tree
+abbrev pub member : MemberKey → Option Tree → Option Tree
 member key map = value_at key (pairs_of map)
 
 -- the same as `kind` takes it
-abbrev pub member_as : {A : Type 0} → (Tree → Option A) → Key → Option Tree → Option A
+abbrev pub member_as : {A : Type 0} → (Tree → Option A) → MemberKey → Option Tree → Option A
 member_as kind key map = option_and_then kind (member key map)
 
 -- Each entry passes.
@@ -89,10 +89,10 @@ all_pairs test no_pairs = true
 all_pairs test (pair k v ps) = test k v && all_pairs test ps
 
 -- Under a key that isn't listed a value may be anything.
-abbrev pub suits : List (Key × (Tree → Bool)) → Tree → Tree → Bool
+abbrev pub suits : List (MemberKey × (Tree → Bool)) → Tree → Tree → Bool
 suits [] k v = true
 suits (t ∷ ts) k v = if is_key t.0 k then t.1 v else suits ts k v
 
 -- a map whose members have the listed types
-abbrev pub map_of : List (Key × (Tree → Bool)) → Tree → Bool
+abbrev pub map_of : List (MemberKey × (Tree → Bool)) → Tree → Bool
 map_of types t = is_map t && all_pairs (suits types) (pairs_of (Some t))

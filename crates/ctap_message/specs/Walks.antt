@@ -2,18 +2,18 @@
 use Rattle.std.specs.Prelude.{◌≡◌, ℕ, Bool, List, Option, Some}
 use Rattle.ctap_cbor.specs.Tree.{Tree, Array, Map, Trees, Pairs}
 use Rattle.ctap_cbor.specs.Reading.{Reading, Passes}
-use Rattle.ctap_message.specs.Members.{Key, all_pairs, all_entries, suits}
+use Rattle.ctap_message.specs.Members.{MemberKey, all_pairs, all_entries, suits}
 
 -- a tree was passed, and this is what it says
 abbrev pub Reads : {V : Type 0} → (Tree → V) → ℕ → V → Reading → Reading → Type 0
-Reads f room value old new = (t : Tree) × Passes room t old new × (value ≡ f t)
+Reads f levels value old new = (t : Tree) × Passes levels t old new × (value ≡ f t)
 
 -- whether a tree is of a type, and what it says
 abbrev pub typed : {V : Type 0} → (Tree → Bool) → (Option Tree → V) → Tree → Bool × V
 typed type view t = (type t, view (Some t))
 
 -- of these pairs: whether they have their types, and what a map of them says
-abbrev pub HasPairs : {V : Type 0} → List (Key × (Tree → Bool)) → (Option Tree → V) → V → Bool → Pairs → Type 0
+abbrev pub HasPairs : {V : Type 0} → List (MemberKey × (Tree → Bool)) → (Option Tree → V) → V → Bool → Pairs → Type 0
 HasPairs types view value ok ps = (ok ≡ all_pairs (suits types) ps) × (value ≡ view (Some (Map ps)))
 
 -- the same of entries, which are of one type

@@ -16,7 +16,7 @@ use ctap_cbor::head_into;
 /// An answer's message: a status byte, and at success a map after it.
 pub type Answer = ArrayVec<u8, 262>;
 
-/// The answer that is a status alone.
+/// Returns the answer that is a status alone.
 pub fn write_status(status: Status) -> Answer
     ensures { result.items ≡ spec.refusal status.0 }
 {
@@ -25,9 +25,9 @@ pub fn write_status(status: Status) -> Answer
     answer
 }
 
-/// The answer of authenticatorGetInfo (CTAP 2.1, section 6.4), 81 bytes: status 0x00 and the map
-/// `{1: ["FIDO_2_0"], 3: aaguid, 4: {"rk": true, "up": true, "plat": false}, 5: 7609, 9: ["usb"],
-/// 10: [{"alg": -7, "type": "public-key"}]}` in canonical CBOR.
+/// Returns the answer of authenticatorGetInfo (CTAP 2.1, section 6.4), 81 bytes: status 0x00 and the map `{1:
+/// ["FIDO_2_0"], 3: aaguid, 4: {"rk": true, "up": true, "plat": false}, 5: 7609, 9: ["usb"], 10: [{"alg": -7, "type":
+/// "public-key"}]}` in canonical CBOR.
 // It isn't inlined, so that no other turn pays for the space of this answer.
 #[inline(never)]
 #[tactic(auto, unfolding(ctap_cbor::specs::Head::head, crate::specs::Answers::info_tree, crate::specs::Answers::info_answer))]
@@ -48,8 +48,8 @@ pub fn write_info(aaguid: &[u8; 16]) -> Answer
     answer
 }
 
-/// The answer of authenticatorMakeCredential (CTAP 2.1, section 6.1.2): status 0x00 and the map
-/// `{1: "packed", 2: auth, 3: {"alg": -7, "sig": sig}}` in canonical CBOR, by the authenticator data and the signature.
+/// Returns the answer of authenticatorMakeCredential (CTAP 2.1, section 6.1.2): status 0x00 and the map `{1: "packed",
+/// 2: auth, 3: {"alg": -7, "sig": sig}}` in canonical CBOR, by the authenticator data and the signature.
 pub fn write_created(auth: &[u8], sig: &[u8]) -> Answer
     requires auth { length auth.now ≡ 164 }
     requires sig { length sig.now ≤ 72 }
@@ -67,9 +67,9 @@ pub fn write_created(auth: &[u8], sig: &[u8]) -> Answer
     answer
 }
 
-/// The answer of an assertion (CTAP 2.1, sections 6.2.2 and 6.3): status 0x00 and the map
-/// `{1: {"id": id, "type": "public-key"}, 2: auth, 3: sig, 4: {"id": user}, 5: number}` in canonical CBOR, 4 and 5
-/// where they are given.
+/// Returns the answer of an assertion (CTAP 2.1, sections 6.2.2 and 6.3): status 0x00 and the map `{1: {"id": id,
+/// "type": "public-key"}, 2: auth, 3: sig, 4: {"id": user}, 5: number}` in canonical CBOR, 4 and 5 where they are
+/// given.
 pub fn write_assertion(
     id: &[u8; 32],
     auth: &[u8],

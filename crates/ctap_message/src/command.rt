@@ -21,7 +21,7 @@ pub enum Command {
 }
 
 impl Command {
-    /// The command with this byte, None where none is served.
+    /// Returns the command with this byte, None where none is served.
     pub fn named(byte: u8) -> Option<Command>
         ensures { result ≡ named_command byte }
     {

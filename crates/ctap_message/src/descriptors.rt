@@ -15,13 +15,13 @@ use std::marker::Model;
 
 /// What is left of a list: a cursor at its next entry, and how many entries there are.
 #[derive(Drop)]
-pub(crate) struct Entry<'a> {
+pub(crate) struct ListEntry<'a> {
     cursor: Cursor<'a>,
     left: u64,
 }
 
-impl<'a> Entry<'a> {
-    /// The next id that an entry of type `public-key` has.
+impl<'a> ListEntry<'a> {
+    /// Returns the next id that an entry of type `public-key` has.
     fn next_id(&mut self) -> Option<&'a [u8]>
         requires { (ts : Trees) × Left self.old.cursor self.old.left ts }
         ensures gives { Gives self.old.cursor self.old.left self.new.cursor self.new.left (option_copied result) }
@@ -49,7 +49,7 @@ impl<'a> Entry<'a> {
 /// there has no entry.
 #[derive(Drop)]
 pub struct Descriptors<'a> {
-    entry: Entry<'a>,
+    entry: ListEntry<'a>,
     given: bool,
 }
 
@@ -65,12 +65,12 @@ impl<'a> Model for Descriptors<'a> {
 }
 
 impl<'a> Descriptors<'a> {
-    /// The walk of no list.
+    /// Returns the walk of no list.
     pub(crate) fn none() -> Self
         ensures { IsWhole result no_trees }
     {
         Descriptors {
-            entry: Entry {
+            entry: ListEntry {
                 cursor: Cursor::new(b""),
                 left: 0,
             },
@@ -78,7 +78,7 @@ impl<'a> Descriptors<'a> {
         }
     }
 
-    /// A walk of a list with entries, which is in a message.
+    /// Returns a walk of a list with entries, which is in a message.
     pub(crate) fn over(list: &'a [u8]) -> Self
         requires { (ts : Trees) × IsList list.now ts }
         ensures { (ts : Trees) → IsList list.now ts → IsWhole result ts }
@@ -94,20 +94,20 @@ impl<'a> Descriptors<'a> {
             unreachable!()
         };
         Descriptors {
-            entry: Entry { cursor, left },
+            entry: ListEntry { cursor, left },
             given: true,
         }
     }
 
-    /// Whether the list has an entry of any type; the same at any time.
+    /// Returns whether the list has an entry of any type; the same at any time.
     pub fn is_given(&self) -> bool
         ensures { result ≡ has_entries (list_of self.now) }
     {
         self.given
     }
 
-    /// The steps of the walk so far. At the end of the list they are those of checking its bytes, without the one that
-    /// finds their end.
+    /// Returns the steps of the walk so far. At the end of the list they are those of checking its bytes, without the
+    /// one that finds their end.
     pub fn steps(&self) -> u64
         ensures { result ≡ walked self.now }
     {

@@ -12,27 +12,28 @@ ghost use Rattle.ctap_message.specs.Answers.{info_tree, info_answer, created_tre
 
 use ctap_cbor::laws as encoding;
 
-/// After its status, the answer of authenticatorGetInfo is the canonical CBOR encoding of its map; it has 81 bytes.
+/// States that after its status, the answer of authenticatorGetInfo is the canonical CBOR encoding of its map; it has
+/// 81 bytes.
 pub fn info_is_canonical()
     ensures canonical { (aaguid : List ℕ) → length aaguid ≡ 16 → AreBytes aaguid
         → IsCanonical (info_tree aaguid) (drop 1 (info_answer aaguid)) }
     ensures len { (aaguid : List ℕ) → length aaguid ≡ 16 → length (info_answer aaguid) ≡ 81 }
 {}
 
-/// Reading a message takes at most 4 * n + 2 steps for n bytes after its command byte.
+/// States that reading a message takes at most 4 * n + 2 steps for n bytes after its command byte.
 pub fn steps_are_bounded()
     ensures { (message : List ℕ) → steps_of message ≤ 4 * (length message - 1) + 2 }
 {
     encoding::check_steps_are_bounded();
 }
 
-/// After its status, the answer of authenticatorMakeCredential is the canonical CBOR encoding of its map.
+/// States that after its status, the answer of authenticatorMakeCredential is the canonical CBOR encoding of its map.
 pub fn created_is_canonical()
     ensures { (auth sig : List ℕ) → AreShort auth → AreShort sig
         → IsCanonical (created_tree auth sig) (drop 1 (created_answer auth sig)) }
 {}
 
-/// After its status, the answer of an assertion is the canonical CBOR encoding of its map.
+/// States that after its status, the answer of an assertion is the canonical CBOR encoding of its map.
 pub fn assertion_is_canonical()
     ensures { (id auth sig : List ℕ) (user : Option (List ℕ)) (credentials : Option ℕ) → AreShort id → AreShort auth
         → AreShort sig → UserIsShort user → NumberIsShort credentials
@@ -40,8 +41,8 @@ pub fn assertion_is_canonical()
         (drop 1 (assertion_answer id auth sig user credentials)) }
 {}
 
-/// A walk over a list of n bytes takes at most 2 * n steps, and at the list's end exactly those of checking its bytes,
-/// without the one that finds their end.
+/// States that a walk over a list of n bytes takes at most 2 * n steps, and at the list's end exactly those of checking
+/// its bytes, without the one that finds their end.
 pub fn walks_are_bounded()
     ensures bound { (ts : Trees) (l : List ℕ) → IsCanonical (Array ts) l → list_steps ts ≤ 2 * length l }
     ensures ended { (w : DescriptorWalk) → left_of w ≡ no_trees → walked w ≡ min (list_steps (list_of w)) LARGEST }

@@ -61,8 +61,8 @@ pub enum Request<'a> {
     Select,
 }
 
-/// What a message asks, its command byte first, or the status of the first check that it fails; and the steps of
-/// reading it.
+/// Returns what a message asks, its command byte first, or the status of the first check that it fails; and the steps
+/// of reading it.
 ///
 /// | Message | Result | Steps |
 /// |---|---|---|
@@ -70,8 +70,8 @@ pub enum Request<'a> {
 /// | a command that isn't served | 0x01 | 0 |
 /// | 0x04, 0x07, 0x08 or 0x0b alone | `Info`, `Reset`, `Next` or `Select` | 0 |
 /// | one of these and bytes after it | 0x03 | 0 |
-/// | 0x01 or 0x02 and canonical parameters | `Make` or `Assert`, or the first failing check's status | twice those of
-/// checking them | | 0x01 or 0x02 and others | 0x12 | those of checking them |
+/// | 0x01 or 0x02, canonical parameters | `Make`, `Assert`, or the first failing check's status | twice those of a check |
+/// | 0x01 or 0x02, other parameters | 0x12 | those of a check |
 #[tactic(auto, unfolding(crate::specs::Requests::read_of, crate::specs::Requests::steps_of))]
 pub fn read_request<'a>(message: &'a [u8]) -> (Result<Request<'a>, Status>, u64)
     ensures request { shown result.0 ≡ read_of message.now }
@@ -97,7 +97,7 @@ pub fn read_request<'a>(message: &'a [u8]) -> (Result<Request<'a>, Status>, u64)
     }
 }
 
-/// What takes no parameters has nothing after its command byte.
+/// Refuses bytes after the command byte of what takes no parameters.
 fn alone<'a>(parameters: &[u8], request: Request<'a>) -> Result<Request<'a>, Status>
     requires fresh { IsFresh (Ok request) }
     requires lens { HasLengths (Ok request) }
@@ -112,7 +112,7 @@ fn alone<'a>(parameters: &[u8], request: Request<'a>) -> Result<Request<'a>, Sta
     }
 }
 
-/// authenticatorMakeCredential: the parameters are checked whole, and then read by the same cursor.
+/// Reads authenticatorMakeCredential: the parameters are checked whole, and then read by the same cursor.
 fn read_make_credential<'a>(parameters: &'a [u8]) -> (Result<Request<'a>, Status>, u64)
     ensures request { shown result.0 ≡ make_request (canonical_tree parameters.now) }
     ensures steps { result.1 ≡ min (reading_steps parameters.now) LARGEST }
@@ -131,7 +131,7 @@ fn read_make_credential<'a>(parameters: &'a [u8]) -> (Result<Request<'a>, Status
     }
 }
 
-/// authenticatorGetAssertion: the parameters are checked whole, and then read by the same cursor.
+/// Reads authenticatorGetAssertion: the parameters are checked whole, and then read by the same cursor.
 fn read_get_assertion<'a>(parameters: &'a [u8]) -> (Result<Request<'a>, Status>, u64)
     ensures request { shown result.0 ≡ assertion_request (canonical_tree parameters.now) }
     ensures steps { result.1 ≡ min (reading_steps parameters.now) LARGEST }

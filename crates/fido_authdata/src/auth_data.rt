@@ -54,8 +54,8 @@ impl Model for AuthData {
 }
 
 impl AuthData {
-    /// The authenticator data of an assertion: the SHA-256 hash of the RP id, whether the user was present (UP),
-    /// and the signature counter, already raised.
+    /// Returns the authenticator data of an assertion: the SHA-256 hash of the RP id, whether the user was present
+    /// (UP), and the signature counter, already raised.
     pub fn assertion(rp_hash: &[u8; 32], up: bool, counter: u32) -> Self
         ensures value { result ≡ assertion_bytes rp_hash.now up counter }
         ensures len { length result ≡ ASSERTION_LEN }
@@ -68,7 +68,7 @@ impl AuthData {
         }
     }
 
-    /// The authenticator data of a new credential: its id, its public key's coordinates, and the AAGUID of the
+    /// Returns the authenticator data of a new credential: its id, its public key's coordinates, and the AAGUID of the
     /// authenticator's model. The user was present and the counter is 0 (flags 0x41).
     pub fn created(
         rp_hash: &[u8; 32],
@@ -93,7 +93,7 @@ impl AuthData {
         }
     }
 
-    /// The bytes that a relying party verifies: 37 for an assertion, 164 for a new credential.
+    /// Returns the bytes that a relying party verifies: 37 for an assertion, 164 for a new credential.
     pub fn bytes(&self) -> ArrayVec<u8, CREATED_LEN>
         ensures value { result.items ≡ self.now }
         ensures len { (length result.items ≡ ASSERTION_LEN) ⊎ (length result.items ≡ CREATED_LEN) }
@@ -121,9 +121,9 @@ impl AuthData {
     }
 }
 
-/// What an authenticator signs: authenticator data and after it the SHA-256 hash of the client data, for an assertion
-/// (WebAuthn Level 2, section 6.3.3) as for packed self attestation (section 8.2). It has 69 bytes for an assertion,
-/// 196 for a new credential.
+/// Returns what an authenticator signs: authenticator data and after it the SHA-256 hash of the client data, for an
+/// assertion (WebAuthn Level 2, section 6.3.3) as for packed self attestation (section 8.2). It has 69 bytes for an
+/// assertion, 196 for a new credential.
 pub fn to_sign(auth_data: &AuthData, hash: &[u8; 32]) -> ArrayVec<u8, TO_SIGN_MAX>
     ensures value { result.items ≡ auth_data.now ++ hash.now }
     ensures len { (length result.items ≡ ASSERTION_LEN + 32) ⊎ (length result.items ≡ TO_SIGN_MAX) }

@@ -22,8 +22,8 @@ const UP_TO_Y: [u8; 3] = [
     0x22, 0x58, 0x20, // y (-3): a byte string of 32 bytes
 ];
 
-/// The COSE key of an ES256 public key with these coordinates: the map `{1: 2, 3: -7, -1: 1, -2: x, -3: y}`
-/// in canonical CBOR (RFC 8152, section 13.1.1; CTAP 2.1, section 8).
+/// Returns the COSE key of an ES256 public key with these coordinates: the map `{1: 2, 3: -7, -1: 1, -2: x, -3: y}` in
+/// canonical CBOR (RFC 8152, section 13.1.1; CTAP 2.1, section 8).
 pub fn cose_key(x: &[u8; 32], y: &[u8; 32]) -> [u8; COSE_KEY_LEN]
     ensures { result ≡ cose_key_bytes x.now y.now }
 {

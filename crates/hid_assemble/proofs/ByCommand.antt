@@ -1,16 +1,19 @@
 -- The rows of an initialization packet by the kind of its command: CANCEL, INIT, and any other.
-use Rattle.std.proofs.Common.{◌≡◌, ℕ, Bool, true, false, cond, not, ◌&&◌, ◌||◌, ◌==◌, nat_le, nat_lt, Option, refl}
+use Rattle.std.proofs.lemmas.Bool.Decides.{nat_tests}
+use Rattle.std.proofs.Common.{arith}
+use Rattle.std.proofs.Common.{rules}
+use Rattle.std.proofs.Common.{◌≡◌, ℕ, Bool, cond, not, ◌&&◌, ◌||◌, ◌==◌, nat_le, nat_lt, Option}
 use Rattle.hid_packet.specs.Commands.{PING, INIT, CBOR, CANCEL, BROADCAST}
-use Rattle.hid_assemble.specs.declared.table.Row.{Row}
-use Rattle.hid_assemble.specs.declared.table.Row.TheVariants.{CancelsWork, CancelsNothing, NoSuchChannel, InitLength, InitFull, InitNew, InitAgain, BusyElsewhere, BusyHere, BrokenOff, NoSuchCommand, BadLength, Short, Long}
+use Rattle.hid_assemble.specs.declared.table.ReplyRow.{ReplyRow}
+use Rattle.hid_assemble.specs.declared.table.ReplyRow.TheVariants.{CancelsWork, CancelsNothing, NoSuchChannel, InitLength, InitFull, InitNew, InitAgain, BusyElsewhere, BusyHere, BrokenOff, NoSuchCommand, BadLength, Short, Long}
 use Rattle.hid_assemble.specs.Table.{LAST_CHANNEL, is_given, is_on, is_elsewhere, initialization_row}
 use Rattle.hid_packet.specs.Limits.{LONGEST_MESSAGE}
 
-unfoldable pub init_row : ℕ → ℕ → ℕ → Row
+unfoldable pub init_row : ℕ → ℕ → ℕ → ReplyRow
 init_row given cid len =
     cond (not (len == 8)) InitLength (cond (cid == BROADCAST) (cond (given == LAST_CHANNEL) InitFull InitNew) InitAgain)
 
-unfoldable pub begin_row : Option ℕ → Option ℕ → ℕ → ℕ → ℕ → Row
+unfoldable pub begin_row : Option ℕ → Option ℕ → ℕ → ℕ → ℕ → ReplyRow
 begin_row current work cid cmd len =
     cond (is_elsewhere current cid || is_elsewhere work cid) BusyElsewhere
     (cond (is_on work cid) BusyHere
@@ -19,24 +22,15 @@ begin_row current work cid cmd len =
     (cond (nat_lt LONGEST_MESSAGE len || (cmd == CBOR && (len == 0))) BadLength
     (cond (nat_le len 57) Short Long)))))
 
-kinds : (cancel work strange init length_is broadcast full : Bool) (r : Row)
+kinds : (cancel work strange init length_is broadcast full : Bool) (r : ReplyRow)
     → cond (cancel && work) CancelsWork (cond cancel CancelsNothing (cond strange NoSuchChannel (cond (init && length_is) InitLength
     (cond ((broadcast && init) && full) InitFull (cond (broadcast && init) InitNew (cond init InitAgain r))))))
     ≡ cond cancel (cond work CancelsWork CancelsNothing) (cond strange NoSuchChannel (cond init (cond length_is InitLength (cond broadcast (cond full InitFull InitNew) InitAgain)) r))
-kinds true true s i l b f r = refl
-kinds true false s i l b f r = refl
-kinds false w true i l b f r = refl
-kinds false w false true true b f r = refl
-kinds false w false true false true true r = refl
-kinds false w false true false true false r = refl
-kinds false w false true false false f r = refl
-kinds false w false false l true f r = refl
-kinds false w false false l false f r = refl
+kinds x0 w s i l b f r = search (rules, arith)
 
 pub by_command : (given : ℕ) (current work : Option ℕ) (cid cmd len : ℕ) → initialization_row given current work cid cmd len
     ≡ cond (cmd == CANCEL) (cond (is_on work cid) CancelsWork CancelsNothing)
     (cond (not (is_given given cid || ((cid == BROADCAST) && (cmd == INIT)))) NoSuchChannel
     (cond (cmd == INIT) (init_row given cid len) (begin_row current work cid cmd len)))
 unfolding initialization_row init_row begin_row
-by_command given current work cid cmd len =
-    kinds (cmd == CANCEL) (is_on work cid) (not (is_given given cid || ((cid == BROADCAST) && (cmd == INIT)))) (cmd == INIT) (not (len == 8)) (cid == BROADCAST) (given == LAST_CHANNEL) _
+by_command given current work cid cmd len = grind (arith, nat_tests)

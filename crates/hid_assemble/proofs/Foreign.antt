@@ -1,20 +1,16 @@
 -- What leaves an open message as it was.
-use Rattle.std.proofs.Common.{◌≡◌, ℕ, Bool, true, false, cond, not, ◌&&◌, ◌||◌, ◌==◌, List, Option, Some, None, refl, sym, ◌∙◌, ap, subst, arith}
+use Rattle.std.proofs.Common.{◌≡◌, ℕ, false, cond, not, ◌&&◌, ◌||◌, ◌==◌, List, Option, Some, None, refl, sym, ◌∙◌, ap, subst, arith}
 use Rattle.std.proofs.lemmas.Bool.Decides.{nat_tests}
 use Rattle.hid_packet.specs.Commands.{INIT, CANCEL, BROADCAST}
 use Rattle.hid_packet.specs.Packet.{Fields, initialization, continuation, channel_of}
-use Rattle.hid_assemble.specs.declared.table.Row.{Row}
+use Rattle.hid_assemble.specs.declared.table.ReplyRow.{ReplyRow}
 use Rattle.hid_assemble.specs.Table.{Open, Begins, Continues, LAST_CHANNEL, is_given, is_on, initialization_row, continuation_row, ruling_of}
 use Rattle.hid_assemble.specs.Assembly.{Assembly, open_after, accepted}
 use Rattle.hid_assemble.proofs.ByCommand.{init_row, begin_row, by_command}
 use Rattle.hid_assemble.proofs.Comparing.{cond_case}
 
 apart : (a b : ℕ) → (a ≡ b → ⊥) → (a == b) ≡ false
-apart a b never = go (a == b) refl
-  where
-    go : (v : Bool) → (a == b) ≡ v → v ≡ false
-    go true h = let same : a ≡ b = grind (arith, nat_tests) in absurd (never same)
-    go false h = refl
+apart a b never = grind (arith, nat_tests)
 
 module _ (at : ℕ) (m : Open) (work : Option ℕ) where
   -- an initialization packet of another channel
@@ -22,7 +18,7 @@ module _ (at : ℕ) (m : Open) (work : Option ℕ) where
       → open_after (Some m) at (initialization cid cmd len part) (Begins (initialization_row given (Some m.cid) work cid cmd len)) ≡ Some m
   unfolding init_row begin_row open_after
   foreign_start given cid cmd len part other =
-      let P : Row → Type 0 = λ row. open_after (Some m) at (initialization cid cmd len part) (Begins row) ≡ Some m in
+      let P : ReplyRow → Type 0 = λ row. open_after (Some m) at (initialization cid cmd len part) (Begins row) ≡ Some m in
       let drops : cond (m.cid == cid) None (Some m) ≡ Some m = rw other refl in
       subst P (sym (by_command given (Some m.cid) work cid cmd len))
       (cond_case P (cmd == CANCEL) _ _

@@ -1,46 +1,41 @@
 -- What the fields of an assembler tell of what is kept.
-use Rattle.std.proofs.Common.{◌≡◌, ℕ, ◌+◌, ◌*◌, ◌≤◌, ◌<◌, List, [], ◌++◌, length, take, drop, Option, Some, None, option_map, sym, ◌∙◌, ap, subst, arith, length-take-le}
+use Rattle.std.proofs.lemmas.Bool.Decides.{nat_tests}
+use Rattle.std.proofs.Common.{rules}
+use Rattle.std.proofs.Common.{◌≡◌, ℕ, ◌+◌, ◌≤◌, ◌<◌, List, [], ◌++◌, length, take, drop, Option, Some, None, option_map, sym, ◌∙◌, ap, subst, arith, length-take-le}
 use Rattle.std.proofs.lemmas.List.{take-append-le}
 use Rattle.std.proofs.Math.Seq.{take-append_seam}
 use Rattle.hid_assemble.specs.declared.assembler.Contents.{Contents}
-use Rattle.hid_assemble.specs.declared.assembler.Contents.TheVariants.{Nothing, Open as HoldsOpen, Finished}
+use Rattle.hid_assemble.specs.declared.assembler.Contents.TheVariants.{Open as HoldsOpen, Finished}
 use Rattle.hid_packet.specs.Packet.{initialization}
-use Rattle.hid_assemble.specs.declared.table.Row.{Row}
-use Rattle.hid_assemble.specs.declared.table.Row.TheVariants.{Short, Long}
+use Rattle.hid_assemble.specs.declared.table.ReplyRow.{ReplyRow}
+use Rattle.hid_assemble.specs.declared.table.ReplyRow.TheVariants.{Short, Long}
 use Rattle.hid_assemble.specs.Table.{Begins, LAST_CHANNEL, initialization_row, ruling_of}
 use Rattle.hid_assemble.specs.Assembly.{Assembly, IsLawful, OpenIsLawful, open_after, message_after, kept_by, accepted}
 use Rattle.hid_assemble.specs.Kept.{open_in, finished_in, assembly, IsKept, MayBeHeld}
 
 lawful_in : (given : ℕ) (contents : Contents) (buffer : List ℕ) → length buffer ≡ 7609 → MayBeHeld given contents
     → OpenIsLawful given (open_in buffer contents) × (length (finished_in buffer contents) ≤ 7609)
-lawful_in given Nothing buffer size h = (tt, omega arith)
-lawful_in given (HoldsOpen m) buffer size h = ((h, length-take-le (57 + 59 * m.kept) buffer (omega (arith, h.more, h.longest))), omega arith)
-lawful_in given (Finished len) buffer size h = (tt, let n = length-take-le len buffer (omega (arith, h, size)) in omega (arith, n, h))
+lawful_in given x1 buffer size h = search (rules, arith, length-take-le)
 
 pub lawful : (given : ℕ) (contents : Contents) (buffer : List ℕ) (a : Assembly) → assembly given contents buffer ≡ a → IsKept given contents buffer → IsLawful a
 unfolding assembly
-lawful given contents buffer a is kept =
-    let l = lawful_in given contents buffer kept.size kept.held in
-    subst IsLawful is (record { channels = kept.channels; current = l.0; short = l.1 })
+lawful given contents buffer a is kept = search (rules, arith, lawful_in)
 
 pub given-is : (given : ℕ) (contents : Contents) (buffer : List ℕ) (a : Assembly) → assembly given contents buffer ≡ a → given ≡ a.given
 unfolding assembly
 given-is given contents buffer a is = ap (λ (x : Assembly). x.given) is
 
 more_held : (given : ℕ) (contents : Contents) → MayBeHeld given contents → MayBeHeld (given + 1) contents
-more_held given Nothing h = tt
-more_held given (HoldsOpen m) h = record { low = h.low; high = omega (arith, h.high); served = h.served; longer = h.longer; longest = h.longest; more = h.more }
-more_held given (Finished len) h = h
+more_held given x1 h = search (rules, arith)
 
 -- A channel more was given out.
 pub one_more : (given : ℕ) (contents : Contents) (buffer : List ℕ) → IsKept given contents buffer → given < LAST_CHANNEL → IsKept (given + 1) contents buffer
-one_more given contents buffer kept few =
-    record { channels = omega (arith, few); size = kept.size; held = more_held given contents kept.held }
+one_more given contents buffer kept few = grind (arith, nat_tests)
 
 -- The data of an initialization packet stands at the buffer's head.
 module _ (given : ℕ) (contents : Contents) (buffer : List ℕ) (a : Assembly) (is : assembly given contents buffer ≡ a) (at cid cmd len size : ℕ) (work : Option ℕ) (part now : List ℕ)
     (full : length part ≡ 57) (e : now ≡ part ++ drop size buffer) where
-  abbrev row : Row → Type 0
+  abbrev row : ReplyRow → Type 0
   row r = initialization_row a.given (option_map (λ m. m.cid) a.current) work cid cmd len ≡ r
 
   pub short_state : row Short → len ≤ 57 → assembly given (Finished len) now ≡ accepted a at work (initialization cid cmd len part)

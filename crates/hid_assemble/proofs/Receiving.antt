@@ -1,10 +1,11 @@
 -- The packets of a message finish it.
-use Rattle.std.proofs.Common.{◌≡◌, ℕ, ◌+◌, ◌*◌, ◌≤◌, ◌<◌, ◌⊎◌, inl, inr, Bool, true, false, cond, not, ◌&&◌, ◌||◌, ◌==◌, nat_le, nat_lt, List, [], ◌∷◌, ◌++◌, length, take, flat_map, append-nil, append_assoc, Some, None, refl, sym, ◌∙◌, ap, arith}
+use Rattle.std.proofs.Common.{rules}
+use Rattle.std.proofs.Common.{◌≡◌, ℕ, ◌+◌, ◌*◌, ◌≤◌, ◌<◌, ◌⊎◌, Bool, true, false, cond, not, ◌&&◌, ◌||◌, ◌==◌, nat_le, nat_lt, List, [], ◌∷◌, ◌++◌, length, take, flat_map, append-nil, append_assoc, Some, None, refl, sym, ◌∙◌, ap, arith}
 use Rattle.std.proofs.lemmas.Bool.Decides.{nat_tests}
 use Rattle.hid_packet.specs.Commands.{PING, INIT, CBOR, CANCEL, BROADCAST}
 use Rattle.hid_packet.specs.Packet.{Fields, fields, channel, is_initialization, command, message_length, sequence, initialization_data, continuation_data, initialization, continuation}
 use Rattle.hid_packet.specs.Carries.{Continue, IsLeast, Carries, CarriesMessage}
-use Rattle.hid_assemble.specs.declared.table.Row.TheVariants.{Short, Long}
+use Rattle.hid_assemble.specs.declared.table.ReplyRow.TheVariants.{Short, Long}
 use Rattle.hid_assemble.specs.declared.table.Continuation.TheVariants.{Kept, Whole}
 use Rattle.hid_assemble.specs.Table.{Open, Ruling, Begins, Continues, is_given, continuation_row, ruling_of}
 use Rattle.hid_assemble.proofs.ByCommand.{begin_row, by_command}
@@ -29,18 +30,13 @@ kept_as a at f ruling h = ap (kept_by a at f) h
 in_time : (given at since : ℕ) (m : Open) (finished : List ℕ) → m.last ≡ since → at < since + 500
     → ◌≡◌ {A = Assembly} (record { given = given; current = still_open (Some m) at; finished = finished }) (record { given = given; current = Some m; finished = finished })
 unfolding is_overdue
-in_time given at since m finished same soon =
-    let early : nat_le (m.last + 500) at ≡ false = grind (arith, nat_tests) in
-    ap (λ b. record { given = given; current = cond b None (Some m); finished = finished }) early
+in_time given at since m finished same soon = grind (arith, nat_tests)
 
 -- the row of the continuation packet that is due
 due_row : (given : ℕ) (m : Open) (number : ℕ) (part : List ℕ) (last : Bool) → number ≡ m.kept → nat_lt (57 + 59 * (m.kept + 1)) m.len ≡ last
     → ruling_of given (Some m) None (continuation m.cid number part) ≡ Continues (cond last Kept Whole)
 unfolding ruling_of continuation_row
-due_row given m number part last same test =
-    let here : (m.cid == m.cid) ≡ true = grind (arith, nat_tests) in
-    let due : (number == m.kept) ≡ true = grind (arith, nat_tests) in
-    rw (here, due, test) refl
+due_row given m number part last same test = grind (arith, nat_tests)
 
 -- the continuation packets that are left finish the open message
 continues : (arrivals : List Arrival) (given since : ℕ) (m : Open) (finished : List ℕ) → 0 < length arrivals → m.last ≡ since → InTime since arrivals
@@ -77,26 +73,18 @@ continues (x ∷ y ∷ more) given since m finished some last time follow enough
 served_tests : (given cid cmd len : ℕ) → 1 ≤ cid → cid ≤ given → (cmd ≡ 1) ⊎ ((cmd ≡ 16) × (1 ≤ len)) → len ≤ 7609
     → ((cmd == CANCEL) ≡ false) × (not (is_given given cid || ((cid == BROADCAST) && (cmd == INIT))) ≡ false) × ((cmd == INIT) ≡ false)
     × (not ((cmd == PING) || (cmd == CBOR)) ≡ false) × ((nat_lt LONGEST_MESSAGE len || ((cmd == CBOR) && (len == 0))) ≡ false)
-served_tests given cid cmd len low high (inl ping) fits = (grind (arith, nat_tests), grind (arith, nat_tests), grind (arith, nat_tests), grind (arith, nat_tests), grind (arith, nat_tests))
-served_tests given cid cmd len low high (inr cbor) fits =
-    let asks = cbor.0 in
-    let some = cbor.1 in
-    (grind (arith, nat_tests), grind (arith, nat_tests), grind (arith, nat_tests), grind (arith, nat_tests), grind (arith, nat_tests))
+served_tests given cid cmd len low high x6 fits = grind (arith, nat_tests)
 
 admitted_row : (given cid cmd len : ℕ) (part : List ℕ) (short : Bool) → 1 ≤ cid → cid ≤ given → (cmd ≡ 1) ⊎ ((cmd ≡ 16) × (1 ≤ len)) → len ≤ 7609 → nat_le len 57 ≡ short
     → ruling_of given None None (initialization cid cmd len part) ≡ Begins (cond short Short Long)
 unfolding ruling_of begin_row
-admitted_row given cid cmd len part short low high served fits test =
-    let t = served_tests given cid cmd len low high served fits in
-    ap Begins (by_command given None None cid cmd len ∙ rw (t.0, t.1, t.2, t.3, t.4, test) refl)
+admitted_row given cid cmd len part short low high served fits test = grind (arith, by_command, served_tests)
 
 many : (count len : ℕ) → 0 < count → IsLeast count len → (57 < len) × (len ≤ 57 + 59 * count) × (57 + 59 * count < len + 59)
-many count len some (inl x) = absurd (omega (arith, x.1))
-many count len some (inr x) = (omega (arith, x.1), x.0, x.1)
+many count len some x3 = search (rules, arith)
 
 one : (len : ℕ) → IsLeast 0 len → len ≤ 57
-one len (inl x) = x.0
-one len (inr x) = omega (arith, x.0)
+one len x1 = search (rules, arith)
 
 length-packets_of : (arrivals : List Arrival) → length (packets_of arrivals) ≡ length arrivals
 length-packets_of [] = refl
@@ -107,8 +95,7 @@ abbrev begins_with : ℕ → ℕ → List ℕ → List ℕ → Fields
 begins_with cid cmd bytes p = initialization cid cmd (length bytes) (initialization_data p)
 
 first_fields : (p : List ℕ) (others : List (List ℕ)) (cid cmd : ℕ) (bytes : List ℕ) → Carries p others cid cmd bytes → fields p ≡ begins_with cid cmd bytes p
-first_fields p others cid cmd bytes c =
-    starts p c.begins ∙ (λ i. initialization (c.on i) (c.asks i) (c.counts i) (initialization_data p))
+first_fields p others cid cmd bytes c = grind (arith, nat_tests)
 
 -- With nothing open, the packets of a message that is admitted finish it with its bytes.
 pub message_finishes : (a : Assembly) (arrivals : List Arrival) (cid cmd : ℕ) (bytes : List ℕ) → a.current ≡ None → 1 ≤ cid → cid ≤ a.given → IsServed cmd bytes

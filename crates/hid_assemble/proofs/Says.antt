@@ -2,18 +2,18 @@
 use Rattle.std.proofs.Common.{◌≡◌, ℕ, ◌+◌, ◌*◌, ◌≤◌, ◌<◌, false, not, ◌&&◌, ◌||◌, ◌==◌, nat_le, nat_lt, ◌⊎◌, Option, sym, subst, arith}
 use Rattle.std.proofs.lemmas.Bool.Decides.{nat_tests}
 use Rattle.hid_packet.specs.Commands.{PING, INIT, CBOR, CANCEL, BROADCAST}
-use Rattle.hid_assemble.specs.declared.table.Row.{Row}
-use Rattle.hid_assemble.specs.declared.table.Row.TheVariants.{InitNew, Short, Long}
+use Rattle.hid_assemble.specs.declared.table.ReplyRow.{ReplyRow}
+use Rattle.hid_assemble.specs.declared.table.ReplyRow.TheVariants.{InitNew, Short, Long}
 use Rattle.hid_assemble.specs.declared.table.Continuation.{Continuation}
 use Rattle.hid_assemble.specs.declared.table.Continuation.TheVariants.{Kept, Whole}
-use Rattle.hid_assemble.specs.Table.{LAST_CHANNEL, is_given, is_on, is_elsewhere, initialization_row, continues}
+use Rattle.hid_assemble.specs.Table.{LAST_CHANNEL, is_given, is_on, initialization_row, continues}
 use Rattle.hid_assemble.specs.Assembly.{IsOpenMessage}
-use Rattle.hid_assemble.proofs.Comparing.{cond_case, at_most, above, below, no_less}
+use Rattle.hid_assemble.proofs.Comparing.{cond_case}
 use Rattle.hid_assemble.proofs.ByCommand.{init_row, begin_row, by_command}
 use Rattle.hid_packet.specs.Limits.{LONGEST_MESSAGE}
 
 -- what the row of an initialization packet says of it
-abbrev pub RowSays : (given cid cmd len : ℕ) → Row → Type 0
+abbrev pub RowSays : (given cid cmd len : ℕ) → ReplyRow → Type 0
 RowSays given cid cmd len InitNew = given < LAST_CHANNEL
 RowSays given cid cmd len Short = len ≤ 57
 RowSays given cid cmd len Long = IsOpenMessage given cid cmd len 0
@@ -30,10 +30,7 @@ free given few h = grind (arith, nat_tests)
 
 init_says : (given cid cmd len : ℕ) → given ≤ LAST_CHANNEL → RowSays given cid cmd len (init_row given cid len)
 unfolding init_row
-init_says given cid cmd len few =
-    let P = RowSays given cid cmd len in
-    cond_case P (not (len == 8)) _ _ (λ _. tt)
-    (λ _. cond_case P (cid == BROADCAST) _ _ (λ _. cond_case P (given == LAST_CHANNEL) _ _ (λ _. tt) (λ h. free given few h)) (λ _. tt))
+init_says given cid cmd len few = grind (arith, nat_tests)
 
 served : (cmd : ℕ) → not ((cmd == PING) || (cmd == CBOR)) ≡ false → (cmd ≡ PING) ⊎ (cmd ≡ CBOR)
 served cmd h = grind (arith, nat_tests)
@@ -43,15 +40,7 @@ within cmd len h = grind (arith, nat_tests)
 
 begin_says : (given : ℕ) (current work : Option ℕ) (cid cmd len : ℕ) → 1 ≤ cid → cid ≤ given → RowSays given cid cmd len (begin_row current work cid cmd len)
 unfolding begin_row
-begin_says given current work cid cmd len low high =
-    let P = RowSays given cid cmd len in
-    cond_case P (is_elsewhere current cid || is_elsewhere work cid) _ _ (λ _. tt)
-    (λ _. cond_case P (is_on work cid) _ _ (λ _. tt)
-    (λ _. cond_case P (is_on current cid) _ _ (λ _. tt)
-    (λ _. cond_case P (not ((cmd == PING) || (cmd == CBOR))) _ _ (λ _. tt)
-    (λ command. cond_case P (nat_lt LONGEST_MESSAGE len || ((cmd == CBOR) && (len == 0))) _ _ (λ _. tt)
-    (λ fits. cond_case P (nat_le len 57) _ _ (λ short. at_most len 57 short)
-    (λ long. record { low = low; high = high; served = served cmd command; longer = above len 57 long; longest = within cmd len fits; more = above len 57 long }))))))
+begin_says given current work cid cmd len low high = grind (arith, nat_tests)
 
 channel_given : (given cid cmd : ℕ) → not ((nat_le 1 cid && nat_le cid given) || ((cid == BROADCAST) && (cmd == INIT))) ≡ false
     → (cmd == INIT) ≡ false → (1 ≤ cid) × (cid ≤ given)
@@ -69,8 +58,4 @@ row_says given current work cid cmd len few =
     (λ other. let on = channel_given given cid cmd known other in begin_says given current work cid cmd len on.0 on.1))))
 
 pub continuation_says : (on len kept cid number : ℕ) → ContinuationSays len kept (continues on len kept cid number)
-continuation_says on len kept cid number =
-    let P = ContinuationSays len kept in
-    cond_case P (not (on == cid)) _ _ (λ _. tt)
-    (λ _. cond_case P (not (number == kept)) _ _ (λ _. tt)
-    (λ _. cond_case P (nat_lt (57 + 59 * (kept + 1)) len) _ _ (λ h. below _ _ h) (λ h. no_less _ _ h)))
+continuation_says on len kept cid number = grind (arith, nat_tests)

@@ -3,9 +3,9 @@ use Rattle.std.specs.Prelude.{◌≡◌, ℕ, ◌+◌, ◌≤◌, ◌<◌, ◌�
 use Rattle.hid_packet.specs.Commands.{PING, CBOR}
 use Rattle.hid_packet.specs.Packet.{Fields, channel_of, command_of, length_of, data_of}
 use Rattle.hid_assemble.specs.Table.{Open, Ruling, Begins, Continues, LAST_CHANNEL, ruling_of}
-use Rattle.hid_assemble.specs.declared.table.Row.TheVariants.{InitLength, InitNew, InitAgain, BrokenOff, Short, Long}
+use Rattle.hid_assemble.specs.declared.table.ReplyRow.TheVariants.{InitLength, InitNew, InitAgain, BrokenOff, Short, Long}
 use Rattle.hid_assemble.specs.declared.table.Continuation.TheVariants.{Stray, WrongNumber, Kept, Whole}
-use Rattle.hid_packet.specs.Limits.{data_room}
+use Rattle.hid_packet.specs.Limits.{data_capacity}
 use Rattle.hid_packet.specs.Limits.{INITIALIZATION_DATA, LONGEST_MESSAGE}
 use Rattle.hid_packet.specs.Limits.{MESSAGE_TIMEOUT}
 
@@ -33,7 +33,7 @@ still_open current at = if is_overdue current at then None else current
 -- how many data bytes are held of the open message: 57 of its initialization packet, and 59 of each continuation packet
 abbrev pub held_bytes : Option Open → ℕ
 held_bytes None = 0
-held_bytes (Some m) = data_room m.kept
+held_bytes (Some m) = data_capacity m.kept
 
 -- What a packet makes of the channels and of the open message.
 abbrev pub given_after : ℕ → Ruling → ℕ
@@ -115,11 +115,11 @@ pub record IsOpenMessage (given cid cmd len kept : ℕ) : Type 0 where
   pub served : (cmd ≡ PING) ⊎ (cmd ≡ CBOR)
   pub longer : INITIALIZATION_DATA < len
   pub longest : len ≤ LONGEST_MESSAGE
-  pub more : data_room kept < len
+  pub more : data_capacity kept < len
 
 abbrev pub OpenIsLawful : ℕ → Option Open → Type 0
 OpenIsLawful given None = Unit {0}
-OpenIsLawful given (Some m) = IsOpenMessage given m.cid m.cmd m.len m.kept × (length m.bytes ≡ data_room m.kept)
+OpenIsLawful given (Some m) = IsOpenMessage given m.cid m.cmd m.len m.kept × (length m.bytes ≡ data_capacity m.kept)
 
 -- what holds of everything that is kept
 pub record IsLawful (a : Assembly) : Type 0 where

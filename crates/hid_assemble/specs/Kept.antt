@@ -5,7 +5,7 @@ use Rattle.hid_assemble.specs.Assembly.{Assembly, IsOpenMessage}
 use Rattle.hid_assemble.specs.declared.assembler.OpenMessage.{OpenMessage}
 use Rattle.hid_assemble.specs.declared.assembler.Contents.{Contents}
 use Rattle.hid_assemble.specs.declared.assembler.Contents.TheVariants.{Nothing, Open as HoldsOpen, Finished}
-use Rattle.hid_packet.specs.Limits.{data_room}
+use Rattle.hid_packet.specs.Limits.{data_capacity}
 use Rattle.hid_packet.specs.Limits.{LONGEST_MESSAGE}
 
 -- the open message, whose data bytes are the first of the buffer
@@ -14,7 +14,7 @@ opened buffer m = record {
   cid = m.cid;
   cmd = m.cmd;
   len = m.len;
-  bytes = take (data_room m.kept) buffer;
+  bytes = take (data_capacity m.kept) buffer;
   kept = m.kept;
   last = m.last;
 }

@@ -4,11 +4,11 @@
 use Rattle.std.specs.Prelude.{ℕ, ◌+◌, Bool, true, false, not, ◌&&◌, ◌||◌, ◌==◌, nat_le, nat_lt, List, [], ◌∷◌, Option, Some, None, option_map, if◌then◌else◌}
 use Rattle.hid_packet.specs.Commands.{PING, INIT, CBOR, CANCEL, BROADCAST}
 use Rattle.hid_packet.specs.Packet.{Fields, initialization, continuation}
-use Rattle.hid_assemble.specs.declared.table.Row.{Row}
-use Rattle.hid_assemble.specs.declared.table.Row.TheVariants.{CancelsWork, CancelsNothing, NoSuchChannel, InitLength, InitFull, InitNew, InitAgain, BusyElsewhere, BusyHere, BrokenOff, NoSuchCommand, BadLength, Short, Long}
+use Rattle.hid_assemble.specs.declared.table.ReplyRow.{ReplyRow}
+use Rattle.hid_assemble.specs.declared.table.ReplyRow.TheVariants.{CancelsWork, CancelsNothing, NoSuchChannel, InitLength, InitFull, InitNew, InitAgain, BusyElsewhere, BusyHere, BrokenOff, NoSuchCommand, BadLength, Short, Long}
 use Rattle.hid_assemble.specs.declared.table.Continuation.{Continuation}
 use Rattle.hid_assemble.specs.declared.table.Continuation.TheVariants.{Stray, WrongNumber, Kept, Whole}
-use Rattle.hid_packet.specs.Limits.{data_room}
+use Rattle.hid_packet.specs.Limits.{data_capacity}
 use Rattle.hid_packet.specs.Limits.{INITIALIZATION_DATA, LONGEST_MESSAGE}
 
 -- An open message: what its initialization packet said, the data bytes so far, how many continuation packets brought
@@ -40,12 +40,12 @@ is_elsewhere None cid = false
 is_elsewhere (Some busy) cid = not (busy == cid)
 
 -- the first row whose test holds
-abbrev pub first_row : List (Bool × Row) → Row → Row
+abbrev pub first_row : List (Bool × ReplyRow) → ReplyRow → ReplyRow
 first_row [] else_row = else_row
 first_row (t ∷ ts) else_row = if t.0 then t.1 else first_row ts else_row
 
 -- `current` is the channel of the open message, `work` that of waiting work.
-unfoldable pub initialization_row : ℕ → Option ℕ → Option ℕ → ℕ → ℕ → ℕ → Row
+unfoldable pub initialization_row : ℕ → Option ℕ → Option ℕ → ℕ → ℕ → ℕ → ReplyRow
 initialization_row given current work cid cmd len =
     let asks_for_channel = (cid == BROADCAST) && (cmd == INIT) in
     first_row
@@ -70,7 +70,7 @@ abbrev pub continues : (on len kept cid number : ℕ) → Continuation
 continues on len kept cid number =
     if not (on == cid) then Stray
     else if not (number == kept) then WrongNumber
-    else if nat_lt (data_room (kept + 1)) len then Kept
+    else if nat_lt (data_capacity (kept + 1)) len then Kept
     else Whole
 
 -- the same where a message may be open: without one it is stray
@@ -80,7 +80,7 @@ continuation_row (Some m) cid number = continues m.cid m.len m.kept cid number
 
 -- What a packet with these fields is: under this row, or such a continuation packet.
 pub data Ruling : Type 0 where
-  Begins : Row → Ruling
+  Begins : ReplyRow → Ruling
   Continues : Continuation → Ruling
 
 -- the ruling on a packet, by how many channels were given out, the open message, and the channel of waiting work

@@ -5,7 +5,7 @@ use Rattle.hid_packet.specs.Packet.{Fields, channel_of, data_of}
 use Rattle.hid_assemble.specs.Table.{Ruling, Begins, Continues, is_on, ruling_of}
 use Rattle.hid_assemble.specs.Assembly.{Assembly, Message, message_after}
 use Rattle.hid_assemble.specs.declared.code.ErrorCode.TheVariants.{InvalidCommand, InvalidLength, InvalidSequence, ChannelBusy, InvalidChannel, Other}
-use Rattle.hid_assemble.specs.declared.table.Row.TheVariants.{CancelsWork, CancelsNothing, NoSuchChannel, InitLength, InitFull, InitNew, InitAgain, BusyElsewhere, BusyHere, BrokenOff, NoSuchCommand, BadLength, Short, Long}
+use Rattle.hid_assemble.specs.declared.table.ReplyRow.TheVariants.{CancelsWork, CancelsNothing, NoSuchChannel, InitLength, InitFull, InitNew, InitAgain, BusyElsewhere, BusyHere, BrokenOff, NoSuchCommand, BadLength, Short, Long}
 use Rattle.hid_assemble.specs.declared.table.Continuation.TheVariants.{Stray, WrongNumber, Kept as KeptOn, Whole}
 use Rattle.hid_assemble.specs.declared.verdict.Verdict.{Verdict}
 use Rattle.hid_assemble.specs.declared.verdict.Verdict.TheVariants.{Ignored, Kept, Finished, Refuse, Greet, GreetAndDrop, CancelWork}

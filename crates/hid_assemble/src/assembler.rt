@@ -8,7 +8,7 @@ ghost use Rattle.hid_assemble.specs.Verdicts.{verdict};
 ghost use Rattle.hid_packet.specs.Limits.{CONTINUATION_DATA, INITIALIZATION_DATA, LONGEST_HELD, LONGEST_MESSAGE};
 
 use crate::code::ErrorCode;
-use crate::table::{Continuation, Row, continuation_row, initialization_row};
+use crate::table::{Continuation, ReplyRow, continuation_row, initialization_row};
 use crate::verdict::Verdict;
 use hid_packet::{
     BROADCAST, CONTINUATION_DATA, INITIALIZATION_DATA, LONGEST_MESSAGE, Packet, View,
@@ -90,14 +90,14 @@ impl Model for Assembler {
 }
 
 impl Assembler {
-    /// No channel was given out, and nothing is open.
+    /// Returns one without an open message, by which no channel was given out.
     pub fn new() -> Self
         ensures value { result ≡ record { given = 0; current = None; finished = [] } }
     {
         Self::with_given(0)
     }
 
-    /// The same with channels 1 to `given` given out.
+    /// Returns the same with channels 1 to `given` given out.
     pub fn with_given(given: u32) -> Self
         requires { given ≤ LAST_CHANNEL }
         ensures { result ≡ record { given = given; current = None; finished = [] } }
@@ -109,7 +109,7 @@ impl Assembler {
         }
     }
 
-    /// Whether a message is open whose last packet came 500 ms or more before `at`.
+    /// Returns whether a message is open whose last packet came 500 ms or more before `at`.
     pub fn overdue(&self, at: u64) -> bool
         ensures { result ≡ is_overdue self.now.current at }
     {
@@ -157,8 +157,8 @@ impl Assembler {
         }
     }
 
-    /// Whether a packet that comes at `at`, while work waits on the channel `working` or none does, is noise: after
-    /// [`pass`](Self::pass) it would change nothing, and its host would be sent an ERROR or nothing.
+    /// Returns whether a packet that comes at `at`, while work waits on the channel `working` or none does, is noise:
+    /// after [`pass`](Self::pass) it would change nothing, and its host would be sent an ERROR or nothing.
     pub fn is_noise(&self, at: u64, packet: &Packet, working: Option<u32>) -> bool
         ensures { result ≡ is_noise (ruling_of self.now.given (still_open self.now.current at) working
             (fields packet.now.0)) }
@@ -209,35 +209,35 @@ impl Assembler {
         ensures state { self.new ≡ accepted self.old at working (initialization cid cmd len part.now) }
     {
         match initialization_row(self.given, self.open_on(), working, cid, cmd, len) {
-            Row::CancelsWork => Verdict::CancelWork,
-            Row::CancelsNothing => Verdict::Ignored,
-            Row::NoSuchChannel => refuse(cid, ErrorCode::InvalidChannel),
-            Row::InitLength => {
+            ReplyRow::CancelsWork => Verdict::CancelWork,
+            ReplyRow::CancelsNothing => Verdict::Ignored,
+            ReplyRow::NoSuchChannel => refuse(cid, ErrorCode::InvalidChannel),
+            ReplyRow::InitLength => {
                 self.drop_on(cid);
                 refuse(cid, ErrorCode::InvalidLength)
             }
-            Row::InitFull => refuse(cid, ErrorCode::Other),
-            Row::InitNew => {
+            ReplyRow::InitFull => refuse(cid, ErrorCode::Other),
+            ReplyRow::InitNew => {
                 self.given += 1;
                 greet(BROADCAST, self.given, part, None)
             }
-            Row::InitAgain => {
+            ReplyRow::InitAgain => {
                 self.drop_on(cid);
                 greet(cid, cid, part, working)
             }
-            Row::BusyElsewhere | Row::BusyHere => refuse(cid, ErrorCode::ChannelBusy),
-            Row::BrokenOff => {
+            ReplyRow::BusyElsewhere | ReplyRow::BusyHere => refuse(cid, ErrorCode::ChannelBusy),
+            ReplyRow::BrokenOff => {
                 self.contents = Contents::Nothing;
                 refuse(cid, ErrorCode::InvalidSequence)
             }
-            Row::NoSuchCommand => refuse(cid, ErrorCode::InvalidCommand),
-            Row::BadLength => refuse(cid, ErrorCode::InvalidLength),
-            Row::Short => {
+            ReplyRow::NoSuchCommand => refuse(cid, ErrorCode::InvalidCommand),
+            ReplyRow::BadLength => refuse(cid, ErrorCode::InvalidLength),
+            ReplyRow::Short => {
                 put_data(&mut self.buffer, 0, part);
                 self.contents = Contents::Finished(len);
                 Verdict::Finished { cid, cmd }
             }
-            Row::Long => {
+            ReplyRow::Long => {
                 put_data(&mut self.buffer, 0, part);
                 self.contents = Contents::Open(OpenMessage {
                     cid,
@@ -287,8 +287,7 @@ impl Assembler {
         }
     }
 
-    /// The bytes of the message that the last [`accept`](Self::accept) finished, none where it finished
-    /// none.
+    /// Returns the bytes of the message that the last [`accept`](Self::accept) finished, none where it finished none.
     pub fn message(&self) -> &[u8]
         ensures bytes { result.now ≡ self.now.finished }
         ensures limit { length self.now.finished ≤ LONGEST_MESSAGE }
@@ -299,7 +298,7 @@ impl Assembler {
         }
     }
 
-    /// How many data bytes are held of the open message, 0 without one.
+    /// Returns how many data bytes are held of the open message, 0 without one.
     pub fn held(&self) -> u16
         ensures lawful { IsLawful self.now }
         ensures bytes { result ≡ held_bytes self.now.current }
@@ -313,7 +312,7 @@ impl Assembler {
         }
     }
 
-    /// The channel of the open message.
+    /// Returns the channel of the open message.
     pub fn open_on(&self) -> Option<u32>
         ensures { result ≡ option_map (λ m. m.cid) self.now.current }
     {
@@ -323,7 +322,7 @@ impl Assembler {
         }
     }
 
-    /// How many channels were given out.
+    /// Returns how many channels were given out.
     pub fn given(&self) -> u32
         ensures count { result ≡ self.now.given }
         ensures limit { self.now.given ≤ LAST_CHANNEL }

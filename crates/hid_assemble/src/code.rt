@@ -22,7 +22,7 @@ pub enum ErrorCode {
 }
 
 impl ErrorCode {
-    /// The code's number.
+    /// Returns the code's number.
     pub fn number(self) -> u8
         ensures { result ≡ code_number self }
     {

@@ -9,8 +9,8 @@ ghost use Rattle.hid_assemble.specs.Assembly.{Assembly, accepted};
 ghost use Rattle.hid_assemble.specs.Receiving.{Arrival, packets_of, received, last_verdict, ComeInTime, IsServed};
 ghost use Rattle.hid_assemble.specs.declared.verdict.Verdict.TheVariants.{Finished};
 
-/// With nothing open, the packets of a message on a channel that was given out, each less than 500 ms
-/// after the one before, finish with just the message's bytes, where its command is served.
+/// States that with nothing open, the packets of a message on a channel that was given out, each less than 500 ms after
+/// the one before, finish with just the message's bytes, where its command is served.
 pub fn packets_of_a_message_finish_it()
     ensures told { (a : Assembly) (arrivals : List Arrival) (cid cmd : ℕ) (bytes : List ℕ) → a.current ≡ None
         → 1 ≤ cid → cid ≤ a.given → IsServed cmd bytes
@@ -22,7 +22,7 @@ pub fn packets_of_a_message_finish_it()
         → received a arrivals ≡ record { given = a.given; current = None; finished = bytes } }
 {}
 
-/// No packet of another channel changes an open message, whatever it is, and no CANCEL does.
+/// States that no packet of another channel changes an open message, whatever it is, and no CANCEL does.
 pub fn an_open_message_is_left_alone()
     ensures foreign { (a : Assembly) (at : ℕ) (work : Option ℕ) (f : Fields) (m : Open) → a.current ≡ Some m
         → (channel_of f ≡ m.cid → ⊥)

@@ -26,5 +26,5 @@ mod verdict;
 
 pub use assembler::{Assembler, MESSAGE_TIMEOUT};
 pub use code::ErrorCode;
-pub use table::{Continuation, LAST_CHANNEL, Row};
+pub use table::{Continuation, LAST_CHANNEL, ReplyRow};
 pub use verdict::Verdict;

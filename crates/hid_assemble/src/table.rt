@@ -11,7 +11,7 @@ pub const LAST_CHANNEL: u32 = 0xffff_fffe;
 
 /// The rows of the reply table for an initialization packet. The first that applies decides.
 #[derive(Clone, Copy, Debug, PartialEq, Eq)]
-pub enum Row {
+pub enum ReplyRow {
     /// CANCEL where work waits on its channel: the work ends.
     CancelsWork,
     /// Any other CANCEL: nothing changes or is sent.
@@ -42,15 +42,18 @@ pub enum Row {
     Long,
 }
 
-impl Row {
-    /// Whether a packet under this row is noise, which changes nothing. Other rows may change nothing too, where there
-    /// is nothing to change.
+impl ReplyRow {
+    /// Returns whether a packet under this row is noise, which changes nothing. Other rows may change nothing too,
+    /// where there is nothing to change.
     pub(crate) fn is_noise(self) -> bool
         ensures { result ≡ spec.is_noise (Begins self) }
     {
         matches!(
             self,
-            Row::CancelsNothing | Row::NoSuchChannel | Row::BusyElsewhere | Row::BusyHere
+            ReplyRow::CancelsNothing
+                | ReplyRow::NoSuchChannel
+                | ReplyRow::BusyElsewhere
+                | ReplyRow::BusyHere
         )
     }
 }
@@ -68,7 +71,7 @@ pub enum Continuation {
     Whole,
 }
 
-/// The row of an initialization packet.
+/// Returns the row of an initialization packet.
 #[tactic(auto, unfolding(crate::specs::Table::initialization_row))]
 pub(crate) fn initialization_row(
     given: u32,
@@ -77,45 +80,45 @@ pub(crate) fn initialization_row(
     cid: u32,
     cmd: u8,
     len: u16,
-) -> Row
+) -> ReplyRow
     ensures { result ≡ spec.initialization_row given current working cid cmd len }
 {
     let is_given = 1 <= cid && cid <= given;
     let asks_for_channel = cid == BROADCAST && cmd == INIT;
     if cmd == CANCEL && working == Some(cid) {
-        Row::CancelsWork
+        ReplyRow::CancelsWork
     } else if cmd == CANCEL {
-        Row::CancelsNothing
+        ReplyRow::CancelsNothing
     } else if !is_given && !asks_for_channel {
-        Row::NoSuchChannel
+        ReplyRow::NoSuchChannel
     } else if cmd == INIT && len != 8 {
-        Row::InitLength
+        ReplyRow::InitLength
     } else if asks_for_channel && given == LAST_CHANNEL {
-        Row::InitFull
+        ReplyRow::InitFull
     } else if asks_for_channel {
-        Row::InitNew
+        ReplyRow::InitNew
     } else if cmd == INIT {
-        Row::InitAgain
+        ReplyRow::InitAgain
     } else if current.is_some_and(|channel| channel != cid)
         || working.is_some_and(|channel| channel != cid)
     {
-        Row::BusyElsewhere
+        ReplyRow::BusyElsewhere
     } else if working == Some(cid) {
-        Row::BusyHere
+        ReplyRow::BusyHere
     } else if current == Some(cid) {
-        Row::BrokenOff
+        ReplyRow::BrokenOff
     } else if cmd != PING && cmd != CBOR {
-        Row::NoSuchCommand
+        ReplyRow::NoSuchCommand
     } else if len > LONGEST_MESSAGE || (cmd == CBOR && len == 0) {
-        Row::BadLength
+        ReplyRow::BadLength
     } else if usize::from(len) <= INITIALIZATION_DATA {
-        Row::Short
+        ReplyRow::Short
     } else {
-        Row::Long
+        ReplyRow::Long
     }
 }
 
-/// What a continuation packet is to this open message.
+/// Returns what a continuation packet is to this open message.
 pub(crate) fn continuation_row(message: &OpenMessage, cid: u32, number: u8) -> Continuation
     ensures { result ≡ spec.continues message.now.cid message.now.len message.now.kept cid number }
 {

@@ -1,6 +1,7 @@
 -- Numbers and the bytes that spell them, highest first.
-use Rattle.std.proofs.Common.{◌≡◌, ℕ, ◌+◌, ◌*◌, ◌/◌, ◌%◌, ◌^◌, ◌<◌, ◌≤◌, suc, zero, List, [], ◌∷◌, ◌++◌, length, take, drop, replicate, get_or, refl, sym, ◌∙◌, ap, ap₂, arith}
-use Rattle.std.proofs.Math.Nat.{div-one, mod-eq_of_lt, mod-lt, mul-add-div_right, mul-add-mod_self_right, mul_assoc, one-le-pow, pow-succ'}
+use Rattle.std.proofs.lemmas.Bool.Decides.{nat_tests}
+use Rattle.std.proofs.Common.{◌≡◌, ℕ, ◌+◌, ◌*◌, ◌/◌, ◌%◌, ◌^◌, ◌<◌, ◌≤◌, suc, zero, List, [], ◌∷◌, ◌++◌, length, take, drop, replicate, get_or, refl, ◌∙◌, ap, ap₂, arith}
+use Rattle.std.proofs.Math.Nat.{mod-eq_of_lt, mul-add-div_right, mul-add-mod_self_right, mul_assoc, one-le-pow, pow-succ'}
 use Rattle.std.proofs.lemmas.Nat.{div-mul-add}
 use Rattle.std.specs.Int.{byte_at}
 use Rattle.byteorder.specs.Endian.{big_bytes, big_number}
@@ -8,8 +9,7 @@ use Rattle.byteorder.specs.Numbers.{big_from-cons, big_from-lt}
 use Rattle.hid_packet.specs.Padding.{AreBytes}
 
 byte_at_is : (k x : ℕ) → byte_at k x ≡ x / 256 ^ k % 256
-byte_at_is zero x = ap (λ y. y % 256) (sym (div-one x))
-byte_at_is (suc k) x = refl
+byte_at_is x0 x = grind (arith, nat_tests)
 
 some_power : (n : ℕ) → 0 < 256 ^ n
 some_power n = let h = one-le-pow n 256 (omega arith) in omega arith
@@ -17,15 +17,7 @@ some_power n = let h = one-le-pow n 256 (omega arith) in omega arith
 -- what stands above a number's lowest n bytes doesn't change them
 low_bytes : (n above low : ℕ) → big_bytes n (above * 256 ^ n + low) ≡ big_bytes n low
 low_bytes zero above low = refl
-low_bytes (suc n) above low =
-    let split : above * 256 ^ suc n + low ≡ above * 256 * 256 ^ n + low =
-    ap (λ p. above * p + low) (pow-succ' 256 n) ∙ ap (λ p. p + low) (sym (mul_assoc above 256 (256 ^ n))) in
-    let top : byte_at n (above * 256 * 256 ^ n + low) ≡ byte_at n low =
-    byte_at_is n (above * 256 * 256 ^ n + low)
-    ∙ ap (λ q. q % 256) (mul-add-div_right (some_power n) (above * 256) low)
-    ∙ mul-add-mod_self_right above 256 (low / 256 ^ n)
-    ∙ sym (byte_at_is n low) in
-    ap (λ x. big_bytes (suc n) x) split ∙ ap₂ ◌∷◌ top (low_bytes n (above * 256) low)
+low_bytes (suc n) above low = grind (arith, byte_at_is, mul-add-div_right, mul-add-mod_self_right, mul_assoc, pow-succ', some_power, low_bytes n (above * 256) low)
 
 byte_below : (xs : List ℕ) → AreBytes xs → (k : ℕ) → get_or xs k 0 < 256
 byte_below [] all k = omega arith
@@ -66,6 +58,4 @@ bytes-zeros (suc n) = (omega arith, bytes-zeros n)
 
 pub bytes-big_bytes : (n x : ℕ) → AreBytes (big_bytes n x)
 bytes-big_bytes zero x = tt
-bytes-big_bytes (suc n) x =
-    let below : x / 256 ^ n % 256 < 256 = mod-lt (x / 256 ^ n) (omega arith) in
-    (rw (byte_at_is n x) below, bytes-big_bytes n x)
+bytes-big_bytes (suc n) x = grind (arith, nat_tests, bytes-big_bytes n x)

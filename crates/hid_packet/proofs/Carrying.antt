@@ -1,4 +1,5 @@
 -- The written packets carry their message.
+use Rattle.std.proofs.Common.{rules}
 use Rattle.std.proofs.Common.{◌≡◌, ℕ, ◌+◌, ◌-◌, ◌*◌, ◌/◌, ◌^◌, ◌<◌, ◌≤◌, true, false, inl, inr, suc, zero, List, [], ◌∷◌, ◌++◌, length, take, drop, replicate, flat_map, append_assoc, append-nil, zero-add, refl, sym, ◌∙◌, ap, ap₂, subst, arith, nat_le, length-append, length-drop}
 use Rattle.std.proofs.lemmas.Bool.Decides.{nat_tests}
 use Rattle.std.proofs.lemmas.Bool.{cases_lt}
@@ -13,7 +14,7 @@ use Rattle.hid_packet.specs.Carries.{Continue, IsLeast, joined, Carries, Carries
 
 -- data bytes and the zeros after them fill a packet
 all_data : (k : ℕ) (part : List ℕ) → length part ≤ k → take k (part ++ replicate (k - length part) 0) ≡ part ++ replicate (k - length part) 0
-all_data k part short = take_all k _ (omega (arith, length-append part (replicate (k - length part) 0), length-replicate {A = ℕ} (k - length part) 0))
+all_data k part short = grind (arith, length-append, length-replicate, take_all)
 
 -- The fields of the packets that are written.
 module _ (cid cmd len : ℕ) (part : List ℕ) where
@@ -132,10 +133,7 @@ data_written cid cmd bytes short =
     (_, ap₂ ◌++◌ part rest.1 ∙ fill_up 57 rest.0 bytes)
 
 least_of : (len count : ℕ) → (len - 57 ≤ 59 * count) → (59 * count < (len - 57) + 59) → IsLeast count len
-least_of len count enough few = elim (cases_lt len 58) [
-  | inl one ↦ inl (omega arith, omega arith)
-  | inr more ↦ inr (omega arith, omega arith)
-]
+least_of len count enough few = grind (arith, nat_tests)
 
 -- as many continuation packets as are needed
 pub least_continuations : (cid : ℕ) (bytes : List ℕ) → length bytes ≤ 7609
@@ -162,18 +160,12 @@ written_carries cid cmd bytes fits short =
 
 -- There is one least number.
 pub one_least : (a b len : ℕ) → IsLeast a len → IsLeast b len → a ≡ b
-one_least a b len (inl x) (inl y) = omega arith
-one_least a b len (inl x) (inr y) = omega arith
-one_least a b len (inr x) (inl y) = omega arith
-one_least a b len (inr x) (inr y) = omega arith
+one_least a b len x3 x4 = search (rules, arith)
 
 -- Packets carry at most one message.
 pub one_message : (packets : List (List ℕ)) (c d k l : ℕ) (a b : List ℕ) → CarriesMessage packets c k a → CarriesMessage packets d l b
     → (c ≡ d) × (k ≡ l) × (a ≡ b)
-one_message [] c d k l a b x y = absurd x
-one_message (first ∷ others) c d k l a b x y =
-    let same : length a ≡ length b = sym x.counts ∙ y.counts in
-    (sym x.on ∙ y.on, sym x.asks ∙ y.asks, x.joins ∙ ap (λ n. take n (joined first others)) same ∙ sym y.joins)
+one_message x0 c d k l a b x y = search (rules, arith)
 
 pub fewest_written : (cid cmd : ℕ) (bytes : List ℕ) → length bytes ≤ 7609 → IsLeast (length (written cid cmd bytes) - 1) (length bytes)
 unfolding written
@@ -183,13 +175,11 @@ fewest_written cid cmd bytes short =
 -- as many as `packets_for` counts
 pub length-written : (cid cmd count : ℕ) (bytes : List ℕ) → length bytes ≤ 7609 → 1 ≤ count → IsLeast (count - 1) (length bytes) → length (written cid cmd bytes) ≡ count
 unfolding written
-length-written cid cmd count bytes short some least =
-    let same = one_least _ _ _ (least_continuations cid bytes short) least in
-    omega arith
+length-written cid cmd count bytes short some least = grind (arith, least_continuations, one_least)
 
 -- one continuation packet for each 59 bytes after the first 57, rounded up
 pub least-rounded_up : (len : ℕ) → IsLeast (1 + (len + 1) / 59 - 1) len
-least-rounded_up len = elim (cases_lt len 58) [ inl one ↦ inl (omega arith, omega arith) | inr more ↦ inr (omega arith, omega arith) ]
+least-rounded_up len = grind (arith, nat_tests)
 
 -- A message has at most 129 packets.
 few_continuations : (most cid number : ℕ) (bytes : List ℕ) → length (continuation_packets most cid number bytes) ≤ most

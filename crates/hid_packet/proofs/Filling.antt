@@ -127,10 +127,10 @@ module _ (size first n m e : ℕ) (xs ys : List ℕ) (in_range : first < size) (
 -- the same of the bytes that wait as clauses see them, however they were written
 pub put_around : (size first n m e : ℕ) (xs ys now out : List ℕ) → first < size → n ≤ size → length xs ≡ size → window first n xs ≡ now → length now + length ys ≤ size → e ≡ (first + n) % size
     → m ≡ min (length ys) (size - e) → out ≡ overwritten e (take m ys) (drop m ys) xs → window first (n + length ys) out ≡ now ++ ys
-put_around size first n m e xs ys now out in_range fits length_xs view room end_is part is =
+put_around size first n m e xs ys now out in_range fits length_xs view space end_is part is =
     let waiting = length-window size first n xs in_range fits length_xs in
     let same = ap length view in
-    ap (window first (n + length ys)) is ∙ window-put size first n m e xs ys in_range (omega (arith, room)) length_xs end_is part ∙ ap (λ w. w ++ ys) view
+    ap (window first (n + length ys)) is ∙ window-put size first n m e xs ys in_range (omega (arith, space)) length_xs end_is part ∙ ap (λ w. w ++ ys) view
 
 module _ (size first n k : ℕ) (xs now : List ℕ) (in_range : first < size) (fits : n ≤ size) (length_xs : length xs ≡ size) (view : window first n xs ≡ now) (enough : k ≤ length now) where
   some : k ≤ n

@@ -6,19 +6,14 @@ use Rattle.std.proofs.lemmas.Slice.{drop-append-drop}
 use Rattle.hid_packet.specs.Message.{padded, initialization_packet, continuation_packet, continuation_packets}
 use Rattle.hid_packet.specs.Queue.{MayCome}
 use Rattle.hid_packet.specs.Remaining.{packets_left, CanCarry}
-use Rattle.hid_packet.specs.declared.fragments.Due.{Due}
-use Rattle.hid_packet.specs.declared.fragments.Due.TheVariants.{Initialization, Continuation}
+use Rattle.hid_packet.specs.declared.fragments.NextPacket.{NextPacket}
+use Rattle.hid_packet.specs.declared.fragments.NextPacket.TheVariants.{Initialization, Continuation}
 use Rattle.hid_packet.proofs.Writing.{filled, first_taken, next_taken}
 
 -- bytes that are written after a header in what is left of 64 zeros
 pub placed : (header out bytes packet : List ℕ) (h n : ℕ) → length header ≡ h → length bytes ≡ n → out ≡ header ++ drop h (replicate 64 0)
     → packet ≡ take h out ++ (bytes ++ drop (h + n) out) → packet ≡ padded (header ++ bytes)
-placed header out bytes packet h n hs ns o p =
-    let front : take h (header ++ drop h (replicate 64 0)) ≡ header = ap (λ k. take k (header ++ drop h (replicate 64 0))) (sym hs) ∙ take-append_seam header (drop h (replicate 64 0)) in
-    let back : drop (h + n) (header ++ drop h (replicate 64 0)) ≡ drop (h + n) (replicate 64 0) = drop-append-drop h (replicate 64 0) header (h + n) (omega arith) hs in
-    p ∙ ap₂ (λ x y. x ++ (bytes ++ y)) (ap (take h) o ∙ front) (ap (drop (h + n)) o ∙ back)
-    ∙ sym (append_assoc header bytes (drop (h + n) (replicate 64 0)))
-    ∙ filled (header ++ bytes) (h + n) (length-append header bytes ∙ omega (arith, hs, ns))
+placed header out bytes packet h n hs ns o p = grind (arith, append_assoc, drop-append-drop, filled, length-append, take-append_seam)
 
 -- the bytes of a message that are taken, and those that are left
 back_is : (left n : ℕ) (ring after : List ℕ) → n ≤ left → after ≡ drop n ring → drop n (take left ring) ≡ take (left - n) after
@@ -27,7 +22,7 @@ back_is left n ring after le e =
     ap (λ k. drop n (take k ring)) sum ∙ drop-take n (left - n) ring ∙ ap (take (left - n)) (sym e)
 
 -- the initialization packet of a message was made, and the rest is to come
-pub first_made : (cid cmd left n : ℕ) (due : Due) (ring after packet : List ℕ) → due ≡ Initialization cmd → left ≤ length ring → n ≡ min 57 left
+pub first_made : (cid cmd left n : ℕ) (due : NextPacket) (ring after packet : List ℕ) → due ≡ Initialization cmd → left ≤ length ring → n ≡ min 57 left
     → packet ≡ initialization_packet cid cmd left (take n ring) → after ≡ drop n ring
     → packets_left cid due (take left ring) ≡ packet ∷ continuation_packets 128 cid 0 (take (left - n) after)
 first_made cid cmd left n due ring after packet is there least p e =
@@ -38,7 +33,7 @@ first_made cid cmd left n due ring after packet is there least p e =
     ∙ ap (λ x. packet ∷ continuation_packets 128 cid 0 x) (back_is left n ring after le e)
 
 -- a continuation packet was made
-pub next_made : (cid number left n : ℕ) (due : Due) (ring after packet : List ℕ) → due ≡ Continuation number → left ≤ length ring → MayCome due left → n ≡ min 59 left
+pub next_made : (cid number left n : ℕ) (due : NextPacket) (ring after packet : List ℕ) → due ≡ Continuation number → left ≤ length ring → MayCome due left → n ≡ min 59 left
     → packet ≡ continuation_packet cid number (take n ring) → after ≡ drop n ring
     → packets_left cid due (take left ring) ≡ packet ∷ continuation_packets (128 - (number + 1)) cid (number + 1) (take (left - n) after)
 next_made cid number left n due ring after packet is there may least p e =

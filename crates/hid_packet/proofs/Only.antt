@@ -1,5 +1,6 @@
 -- No packets but the written ones carry their message with zeros after it.
-use Rattle.std.proofs.Common.{◌≡◌, ℕ, ◌+◌, ◌-◌, ◌*◌, ◌<◌, ◌≤◌, true, List, [], ◌∷◌, ◌++◌, length, take, drop, replicate, flat_map, get_or, sym, ◌∙◌, ap, ap₂, arith, inl, inr, length-append, length-drop}
+use Rattle.std.proofs.Common.{rules}
+use Rattle.std.proofs.Common.{◌≡◌, ℕ, ◌+◌, ◌-◌, ◌*◌, ◌<◌, ◌≤◌, true, List, [], ◌∷◌, ◌++◌, length, take, drop, replicate, flat_map, get_or, sym, ◌∙◌, ap, ap₂, arith, length-append, length-drop}
 use Rattle.std.proofs.lemmas.Bool.Decides.{nat_tests}
 use Rattle.std.proofs.lemmas.List.{take-append-drop, take_all, length-take, length-replicate, drop_more, drop-drop, take_at, drop_at}
 use Rattle.byteorder.specs.Endian.{big_bytes, big_number}
@@ -118,5 +119,4 @@ only_written (first ∷ others) cid cmd bytes carried whole zeros =
     ap₂ ◌∷◌ one (only_continuations 128 cid 0 _ (drop 57 bytes) others whole.1 carried.continues (omega arith) (omega arith) back)
   where
     few_others : (count len : ℕ) → IsLeast count len → 59 * count < len - 57 + 59
-    few_others count len (inl one) = omega arith
-    few_others count len (inr more) = omega arith
+    few_others count len x2 = search (rules, arith)

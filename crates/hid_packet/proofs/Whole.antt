@@ -1,5 +1,5 @@
 -- The written packets have 64 bytes.
-use Rattle.std.proofs.Common.{ℕ, ◌+◌, ◌-◌, ◌<◌, ◌≤◌, suc, zero, List, [], ◌∷◌, ◌++◌, length, take, drop, replicate, arith, length-append}
+use Rattle.std.proofs.Common.{ℕ, ◌+◌, ◌-◌, ◌<◌, ◌≤◌, suc, zero, List, [], ◌∷◌, ◌++◌, length, take, drop, arith, length-append}
 use Rattle.std.proofs.lemmas.List.{length-take, length-replicate}
 use Rattle.byteorder.specs.Endian.{big_bytes}
 use Rattle.hid_packet.specs.Message.{padded, initialization_packet, continuation_packet, continuation_packets, written}
@@ -9,10 +9,7 @@ use Rattle.hid_packet.proofs.Carrying.{data_written}
 
 whole_padded : (bytes : List ℕ) → length bytes ≤ 64 → AreBytes bytes → IsPacket (padded bytes)
 unfolding padded
-whole_padded bytes fits all = (
-  omega (arith, length-append bytes (replicate (64 - length bytes) 0), length-replicate {A = ℕ} (64 - length bytes) 0),
-  bytes-append bytes _ all (bytes-zeros (64 - length bytes)),
-)
+whole_padded bytes fits all = grind (arith, bytes-append, bytes-zeros, length-append, length-replicate)
 
 whole_initialization : (cid cmd len : ℕ) (part : List ℕ) → cmd < 128 → length part ≤ 57 → AreBytes part → IsPacket (initialization_packet cid cmd len part)
 unfolding initialization_packet

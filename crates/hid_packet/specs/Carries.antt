@@ -2,7 +2,7 @@
 use Rattle.std.specs.Prelude.{◌≡◌, ℕ, ◌+◌, ◌≤◌, ◌<◌, ◌⊎◌, true, false, List, [], ◌∷◌, ◌++◌, length, take, flat_map}
 use Rattle.hid_packet.specs.Packet.{channel, is_initialization, command, message_length, sequence, initialization_data, continuation_data}
 use Rattle.hid_packet.specs.Limits.{CONTINUATION_DATA, INITIALIZATION_DATA, LONGEST_MESSAGE}
-use Rattle.hid_packet.specs.Limits.{data_room}
+use Rattle.hid_packet.specs.Limits.{data_capacity}
 
 -- These are continuation packets on the channel, numbered one after the other from `number` on.
 abbrev pub Continue : ℕ → ℕ → List (List ℕ) → Type 0
@@ -14,7 +14,7 @@ Continue cid number (packet ∷ packets) =
 -- The least number of continuation packets with which so many bytes fit.
 abbrev pub IsLeast : (count len : ℕ) → Type 0
 IsLeast count len = ((len ≤ INITIALIZATION_DATA) × (count ≡ 0))
-    ⊎ ((len ≤ data_room count) × (data_room count < len + CONTINUATION_DATA))
+    ⊎ ((len ≤ data_capacity count) × (data_capacity count < len + CONTINUATION_DATA))
 
 -- the data of a message's packets, joined
 abbrev pub joined : List ℕ → List (List ℕ) → List ℕ

@@ -35,5 +35,5 @@ abbrev pub KEEPALIVE_PERIOD : ℕ
 KEEPALIVE_PERIOD = 100
 
 -- the data bytes of an initialization packet and `count` others
-abbrev pub data_room : ℕ → ℕ
-data_room count = INITIALIZATION_DATA + CONTINUATION_DATA * count
+abbrev pub data_capacity : ℕ → ℕ
+data_capacity count = INITIALIZATION_DATA + CONTINUATION_DATA * count

@@ -5,35 +5,35 @@ ghost use Rattle.hid_packet.specs.Queue.{MayCome};
 ghost use Rattle.hid_packet.specs.Remaining.{packets_left, CanCarry};
 ghost use Rattle.hid_packet.specs.Limits.{CONTINUATION_DATA, INITIALIZATION_DATA};
 
-use crate::fragments::{Due, put_continuation, put_initialization};
+use crate::fragments::{NextPacket, put_continuation, put_initialization};
 use crate::limit::{CONTINUATION_DATA, INITIALIZATION_DATA};
 use crate::packet::Packet;
 use crate::ring::Ring;
 
 /// What is left of a message: the packet that is due, and how many bytes of the ring are its.
 #[derive(Clone, Copy)]
-pub(crate) struct Message {
+pub(crate) struct QueuedMessage {
     pub(crate) cid: u32,
-    pub(crate) due: Due,
+    pub(crate) due: NextPacket,
     pub(crate) left: u16,
 }
 
 /// What waits, in the order in which it was put.
 #[derive(Clone, Copy)]
-pub(crate) enum Entry {
+pub(crate) enum Queued {
     /// A packet, whose 64 bytes are in the ring.
     Whole,
     /// A message, or the rest of one.
-    Part(Message),
+    Part(QueuedMessage),
 }
 
-impl Default for Entry {
+impl Default for Queued {
     fn default() -> Self {
-        Entry::Whole
+        Queued::Whole
     }
 }
 
-impl Message {
+impl QueuedMessage {
     /// Makes the packet that is due.
     pub(crate) fn make(&mut self, ring: &mut Ring) -> Packet
         requires due { MayCome self.old.due self.old.left }
@@ -48,19 +48,19 @@ impl Message {
         let left = self.left;
         let mut packet = [0; 64];
         match self.due {
-            Due::Initialization(cmd) => {
+            NextPacket::Initialization(cmd) => {
                 let part = INITIALIZATION_DATA.min(usize::from(left));
                 put_initialization(&mut packet, self.cid, cmd, left, &[]);
                 ring.take(&mut packet[7..7 + part]);
-                self.due = Due::Continuation(0);
+                self.due = NextPacket::Continuation(0);
                 self.left = left - part as u16;
                 Packet(packet)
             }
-            Due::Continuation(number) => {
+            NextPacket::Continuation(number) => {
                 let part = CONTINUATION_DATA.min(usize::from(left));
                 put_continuation(&mut packet, self.cid, number, &[]);
                 ring.take(&mut packet[5..5 + part]);
-                self.due = Due::Continuation(number + 1);
+                self.due = NextPacket::Continuation(number + 1);
                 self.left = left - part as u16;
                 Packet(packet)
             }

@@ -10,8 +10,8 @@ use crate::packet::Packet;
 use byteorder::{BigEndian, ByteOrder};
 use std::marker::Model;
 
-/// The number of packets that carry a message of `len` bytes: 1 for at most 57, else 1 and the
-/// least number of continuation packets of 59 data bytes that hold the rest, so at most 129.
+/// Returns the number of packets that carry a message of `len` bytes: 1 for at most 57, else 1 and the least number of
+/// continuation packets of 59 data bytes that hold the rest, so at most 129.
 pub fn packets_for(len: u16) -> u16
     requires { len ≤ LONGEST_MESSAGE }
     ensures some { 1 ≤ result }
@@ -33,7 +33,7 @@ pub(crate) fn put_at(out: &mut [u8], place: usize, bytes: &[u8])
 /// Writes an initialization packet with these data bytes; what is after them stays.
 pub(crate) fn put_initialization(out: &mut [u8], cid: u32, cmd: u8, len: u16, part: &[u8])
     requires command { cmd < 128 }
-    requires room { 7 + length part.now ≤ length out.old }
+    requires space { 7 + length part.now ≤ length out.old }
     ensures { out.new ≡ (((big_bytes 4 cid ++ (cmd + 128) ∷ []) ++ big_bytes 2 len) ++ part.now)
         ++ drop (7 + length part.now) out.old }
 {
@@ -53,7 +53,7 @@ pub(crate) fn put_continuation(out: &mut [u8], cid: u32, number: u8, part: &[u8]
     put_at(out, 5, part);
 }
 
-/// The initialization packet with these data bytes, and zeros after them.
+/// Returns the initialization packet with these data bytes, and zeros after them.
 fn initialization(cid: u32, cmd: u8, len: u16, part: &[u8]) -> Packet
     requires command { cmd < 128 }
     requires fits { length part.now ≤ INITIALIZATION_DATA }
@@ -64,7 +64,7 @@ fn initialization(cid: u32, cmd: u8, len: u16, part: &[u8]) -> Packet
     Packet(packet)
 }
 
-/// The continuation packet with these data bytes, and zeros after them.
+/// Returns the continuation packet with these data bytes, and zeros after them.
 fn continuation(cid: u32, number: u8, part: &[u8]) -> Packet
     requires { length part.now ≤ CONTINUATION_DATA }
     ensures { result.0 ≡ continuation_packet cid number part.now }
@@ -76,7 +76,7 @@ fn continuation(cid: u32, number: u8, part: &[u8]) -> Packet
 
 /// The packet that is to be made next.
 #[derive(Clone, Copy)]
-pub(crate) enum Due {
+pub(crate) enum NextPacket {
     /// The initialization packet, with this command.
     Initialization(u8),
     /// A continuation packet with this sequence number, if any byte is left.
@@ -88,7 +88,7 @@ pub(crate) enum Due {
 #[derive(Drop)]
 pub struct Fragments<'a> {
     cid: u32,
-    due: Due,
+    due: NextPacket,
     rest: &'a [u8],
 }
 
@@ -105,7 +105,7 @@ impl<'a> Model for Fragments<'a> {
 }
 
 impl<'a> Fragments<'a> {
-    /// The packets of the message `bytes` with the command `cmd` on the channel `cid`: those that
+    /// Returns the packets of the message `bytes` with the command `cmd` on the channel `cid`: those that
     /// [`packets_for`] counts.
     pub fn new(cid: u32, cmd: u8, bytes: &'a [u8]) -> Self
         requires short { length bytes.now ≤ LONGEST_MESSAGE }
@@ -114,7 +114,7 @@ impl<'a> Fragments<'a> {
     {
         Fragments {
             cid,
-            due: Due::Initialization(cmd),
+            due: NextPacket::Initialization(cmd),
             rest: bytes,
         }
     }
@@ -130,16 +130,16 @@ impl<'a> Iterator for Fragments<'a> {
     fn next(&mut self) -> Option<Packet> {
         let left: &'a [u8] = self.rest;
         match self.due {
-            Due::Initialization(cmd) => {
+            NextPacket::Initialization(cmd) => {
                 let (part, rest) = left.split_at(INITIALIZATION_DATA.min(left.len()));
-                self.due = Due::Continuation(0);
+                self.due = NextPacket::Continuation(0);
                 self.rest = rest;
                 Some(initialization(self.cid, cmd, left.len() as u16, part))
             }
-            Due::Continuation(_) if left.is_empty() => None,
-            Due::Continuation(number) => {
+            NextPacket::Continuation(_) if left.is_empty() => None,
+            NextPacket::Continuation(number) => {
                 let (part, rest) = left.split_at(CONTINUATION_DATA.min(left.len()));
-                self.due = Due::Continuation(number + 1);
+                self.due = NextPacket::Continuation(number + 1);
                 self.rest = rest;
                 Some(continuation(self.cid, number, part))
             }

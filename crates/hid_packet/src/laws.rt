@@ -7,14 +7,14 @@ ghost use Rattle.hid_packet.specs.Carries.{IsLeast, CarriesMessage};
 ghost use Rattle.hid_packet.specs.Padding.{AreBytes, ArePackets, FurtherDataIsZero};
 ghost use Rattle.hid_packet.specs.Limits.{LONGEST_MESSAGE};
 
-/// The packets that are written for a message carry it.
+/// States that the packets that are written for a message carry it.
 pub fn written_packets_carry_their_message()
     ensures { (cid cmd : ℕ) (bytes : List ℕ) → cid < 2 ^ 32 → length bytes ≤ LONGEST_MESSAGE
         → CarriesMessage (written cid cmd bytes) cid cmd bytes }
 {}
 
-/// They are one initialization packet and the least number of continuation packets, at most 129
-/// packets in all, and there is only one least number.
+/// States that the packets that are written for a message are one initialization packet and the least number of
+/// continuation packets, at most 129 packets in all, and there is only one least number.
 pub fn written_packets_are_the_fewest()
     ensures least { (cid cmd : ℕ) (bytes : List ℕ) → length bytes ≤ LONGEST_MESSAGE
         → IsLeast (length (written cid cmd bytes) - 1) (length bytes) }
@@ -22,21 +22,22 @@ pub fn written_packets_are_the_fewest()
     ensures one { (a b len : ℕ) → IsLeast a len → IsLeast b len → a ≡ b }
 {}
 
-/// They are packets of 64 bytes, and their data bytes after the message are zero.
+/// States that the packets that are written for a message have 64 bytes, and their data bytes after the message are
+/// zero.
 pub fn written_packets_end_in_zeros()
     ensures packets { (cid cmd : ℕ) (bytes : List ℕ) → cmd < 128 → AreBytes bytes → ArePackets (written cid cmd bytes) }
     ensures zeros { (cid cmd : ℕ) (bytes : List ℕ) → length bytes ≤ LONGEST_MESSAGE
         → FurtherDataIsZero bytes (written cid cmd bytes) }
 {}
 
-/// No other packets of 64 bytes carry the message with zeros after it.
+/// States that no other packets of 64 bytes carry the message with zeros after it.
 pub fn written_packets_are_the_only_ones()
     ensures { (packets : List (List ℕ)) (cid cmd : ℕ) (bytes : List ℕ)
         → CarriesMessage packets cid cmd bytes → ArePackets packets → FurtherDataIsZero bytes packets
         → packets ≡ written cid cmd bytes }
 {}
 
-/// A list of packets carries at most one message.
+/// States that a list of packets carries at most one message.
 pub fn packets_carry_one_message()
     ensures { (packets : List (List ℕ)) (c d k l : ℕ) (a b : List ℕ) → CarriesMessage packets c k a
         → CarriesMessage packets d l b → (c ≡ d) × (k ≡ l) × (a ≡ b) }

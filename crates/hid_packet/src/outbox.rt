@@ -6,15 +6,15 @@ ghost use Rattle.hid_packet.specs.Message.{written};
 ghost use Rattle.hid_packet.specs.Queue.{waiting, IsHeld};
 ghost use Rattle.hid_packet.specs.Limits.{LONGEST_MESSAGE, OUTBOX_CAPACITY};
 
-use crate::entry::{Entry, Message};
-use crate::fragments::{Due, packets_for, put_initialization};
+use crate::entry::{Queued, QueuedMessage};
+use crate::fragments::{NextPacket, packets_for, put_initialization};
 use crate::limit::{INITIALIZATION_DATA, OUTBOX_CAPACITY};
 use crate::packet::Packet;
 use crate::ring::Ring;
 use arrayvec::ArrayVec;
 use std::marker::Model;
 
-type Entries = ArrayVec<Entry, OUTBOX_CAPACITY>;
+type Entries = ArrayVec<Queued, OUTBOX_CAPACITY>;
 
 /// The packets that wait to be sent, first in, first out, at most [`OUTBOX_CAPACITY`] of them. It keeps a message's
 /// bytes and makes its packets as they are taken. It allocates nothing.
@@ -50,23 +50,23 @@ fn drop_first(entries: &mut Entries)
 }
 
 /// Takes the next packet of the first entry; with its last packet the entry is gone.
-fn take_first(entry: Entry, entries: &mut Entries, ring: &mut Ring) -> Packet
-    requires first { (more : List Entry) × (entries.old.items ≡ entry ∷ more) }
+fn take_first(entry: Queued, entries: &mut Entries, ring: &mut Ring) -> Packet
+    requires first { (more : List Queued) × (entries.old.items ≡ entry ∷ more) }
     requires held { IsHeld entries.old.items ring.old }
     ensures packets { waiting entries.old.items ring.old ≡ result.0 ∷ waiting entries.new.items ring.new }
     ensures held { IsHeld entries.new.items ring.new }
 {
     match entry {
-        Entry::Whole => {
+        Queued::Whole => {
             let mut packet = [0; 64];
             drop_first(entries);
             ring.take(&mut packet);
             Packet(packet)
         }
-        Entry::Part(mut message) => {
+        Queued::Part(mut message) => {
             let packet = message.make(ring);
             if message.left > 0 {
-                entries[0] = Entry::Part(message);
+                entries[0] = Queued::Part(message);
                 return packet;
             }
             drop_first(entries);
@@ -76,7 +76,7 @@ fn take_first(entry: Entry, entries: &mut Entries, ring: &mut Ring) -> Packet
 }
 
 impl Outbox {
-    /// An outbox with no packet.
+    /// Returns an outbox with no packet.
     pub fn new() -> Self
         ensures { result ≡ [] }
     {
@@ -87,7 +87,7 @@ impl Outbox {
         }
     }
 
-    /// How many packets wait.
+    /// Returns how many packets wait.
     pub fn len(&self) -> usize
         ensures count { result ≡ length self.now }
         ensures limit { length self.now ≤ OUTBOX_CAPACITY }
@@ -95,7 +95,7 @@ impl Outbox {
         self.len
     }
 
-    /// Whether no packet waits.
+    /// Returns whether no packet waits.
     pub fn is_empty(&self) -> bool
         ensures { IsTrue result ↔ (self.now ≡ []) }
     {
@@ -114,7 +114,7 @@ impl Outbox {
         requires { length self.old < OUTBOX_CAPACITY }
         ensures { self.new ≡ self.old ++ packet.0 ∷ [] }
     {
-        self.entries.push(Entry::Whole);
+        self.entries.push(Queued::Whole);
         self.ring.put(&packet.0);
         self.len += 1;
     }
@@ -124,7 +124,7 @@ impl Outbox {
     pub fn put_message(&mut self, cid: u32, cmd: u8, bytes: &[u8])
         requires short { length bytes.now ≤ LONGEST_MESSAGE }
         requires command { cmd < 128 }
-        requires room { length self.old + length (written cid cmd bytes.now) ≤ OUTBOX_CAPACITY }
+        requires space { length self.old + length (written cid cmd bytes.now) ≤ OUTBOX_CAPACITY }
         ensures { self.new ≡ self.old ++ written cid cmd bytes.now }
     {
         let left = bytes.len() as u16;
@@ -134,8 +134,9 @@ impl Outbox {
             put_initialization(&mut packet, cid, cmd, left, bytes);
             return self.put_packet(Packet(packet));
         }
-        let due = Due::Initialization(cmd);
-        self.entries.push(Entry::Part(Message { cid, due, left }));
+        let due = NextPacket::Initialization(cmd);
+        self.entries
+            .push(Queued::Part(QueuedMessage { cid, due, left }));
         self.ring.put(bytes);
         self.len += usize::from(packets_for(left));
     }

@@ -14,7 +14,7 @@ pub const BROADCAST: u32 = 0xffff_ffff;
 pub struct Packet(pub [u8; 64]);
 
 impl Default for Packet {
-    /// A packet of zeros.
+    /// Returns a packet of zeros.
     fn default() -> Self {
         Packet([0; 64])
     }

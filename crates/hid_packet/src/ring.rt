@@ -30,7 +30,7 @@ impl Model for Ring {
     ghost invariant = { λ r. (r.first < RING_SIZE) × (r.len ≤ RING_SIZE) × (length r.bytes ≡ RING_SIZE) };
 }
 
-/// The place in the ring, counted from its front again after its end.
+/// Returns the place in the ring, counted from its front again after its end.
 fn wrapped(place: usize) -> usize
     requires { place < 2 * RING_SIZE }
     ensures { result ≡ place % RING_SIZE }
@@ -43,7 +43,7 @@ fn wrapped(place: usize) -> usize
 }
 
 impl Ring {
-    /// No byte waits.
+    /// Returns a ring in which no byte waits.
     pub(crate) fn new() -> Self
         ensures { result ≡ [] }
     {

@@ -24,13 +24,13 @@ lacks_memory kind memory (inl lacks) = lacks
 lacks_memory kind memory (inr other) = absurd (other.0 memory)
 
 -- Where the words ask for something, memory was wanting.
-pub unasked : {A B L H Q : Type 0} (P : Ask × Manner → Type 0) (words : List (List ℕ)) (kind : ErrorKind) → A → B → IsAmong kind (OutOfMemory ∷ answers_to words)
-    → L ⊎ ((kind ≢ OutOfMemory) × H) → Q → MatchOption (asked_by words) Q (λ ask. P ask ⊎ (A × B × L))
-unasked {A} {B} {L} {H} {Q} P words kind a b among explained answer = go (asked_by words) refl
+pub unasked : {L H Q : Type 0} (P : Ask × Manner → Type 0) (words : List (List ℕ)) (kind : ErrorKind) → IsAmong kind (OutOfMemory ∷ answers_to words)
+    → L ⊎ ((kind ≢ OutOfMemory) × H) → Q → MatchOption (asked_by words) Q (λ ask. P ask ⊎ L)
+unasked {L} {H} {Q} P words kind among explained answer = go (asked_by words) refl
   where
-    go : (o : Option (Ask × Manner)) → asked_by words ≡ o → MatchOption o Q (λ ask. P ask ⊎ (A × B × L))
+    go : (o : Option (Ask × Manner)) → asked_by words ≡ o → MatchOption o Q (λ ask. P ask ⊎ L)
     go None is = answer
-    go (Some ask) is = inr (a, b, lacks_memory kind (only_memory kind (answers_to words) (faultless words ask is) among) explained)
+    go (Some ask) is = inr (lacks_memory kind (only_memory kind (answers_to words) (faultless words ask is) among) explained)
 
 -- Where the words ask for something, that is done.
 pub done : (Q : Type 0) (P : Ask × Manner → Type 0) (words : List (List ℕ)) (ask : Ask × Manner) → asked_by words ≡ Some ask → P ask → MatchOption (asked_by words) Q P

@@ -23,10 +23,10 @@ use Rattle.clap.specs.declared.error.kind.ErrorKind.TheVariants as kind
 use Rattle.hidlog.specs.declared.command_line.Form.TheVariants.{Lines}
 use Rattle.hidlog.specs.declared.command_line.Manner.{Manner}
 use Rattle.hidlog.specs.declared.command_line.Manner.TheVariants.{ByTerminal}
-use Rattle.hidlog.specs.declared.command_line.Name.{Name}
-use Rattle.hidlog.specs.declared.command_line.Parameter.{Parameter}
+use Rattle.hidlog.specs.declared.command_line.CommandName.{CommandName}
+use Rattle.hidlog.specs.declared.command_line.CommandParameter.{CommandParameter}
 use Rattle.hidlog.specs.CommandLine.{Ask, command, command_for, rule_for, ask_of, asked_by, grammar, answers_to, logs_of, manner_of, play, check, show, task_by}
-use Rattle.session_log.specs.declared.command.Command.TheVariants as playing
+use Rattle.session_log.specs.declared.command.LogCommand.TheVariants as playing
 
 -- the rules of which clap's clauses speak
 is_simple_grammar : is_simple_and_free grammar ≡ true
@@ -199,7 +199,7 @@ asked_some app words m is has faultless =
 -- ---- what the code meets
 
 -- a command with one more parameter
-pub one_more : (old new : Command) (argument : Arg) (name : Text) (before : List Parameter) (parameter : Parameter) → AddsArg old argument new
+pub one_more : (old new : Command) (argument : Arg) (name : Text) (before : List CommandParameter) (parameter : CommandParameter) → AddsArg old argument new
     → shape_of old ≡ command name (map rule_for before) → rule_of argument ≡ rule_for parameter → argument.global ≡ false
     → shape_of new ≡ command name (map rule_for (before ++ parameter ∷ []))
 one_more old new argument name before parameter adds so_far rule local =
@@ -212,10 +212,10 @@ one_more old new argument name before parameter adds so_far rule local =
 abbrev pub alone : App
 alone = on_top (λ top. record top { has_version = true; subcommand_required = true }) (new_app (codes "hidlog"))
 
-abbrev pub with_name : App → Name → App
+abbrev pub with_name : App → CommandName → App
 with_name app name = with_subcommand app (command_for name)
 
-pub one_command_more : (old sub new : Command) (names : List Name) (place : ℕ) (name : Name) → AddsSubcommand old sub new
+pub one_command_more : (old sub new : Command) (names : List CommandName) (place : ℕ) (name : CommandName) → AddsSubcommand old sub new
     → (fields_of sub).has_globals ≡ false → shape_of sub ≡ command_for (get_or names place name) → place < length names
     → app_of old ≡ fold with_name alone (take place names) → app_of new ≡ fold with_name alone (take (place + 1) names)
 one_command_more old sub new names place name adds local shape below so_far =

@@ -1,6 +1,5 @@
 pub mod CommandLine
 pub mod Asked
-pub mod Statuses
 mod Rows
 pub mod Unread
 pub mod Over

@@ -7,7 +7,7 @@ use Rattle.hidlog.specs.declared.command_line.Form.TheVariants.{Json, JsonSummar
 use Rattle.hidlog.specs.declared.command_line.Manner.{Manner}
 use Rattle.hidlog.specs.declared.command_line.Manner.TheVariants.{ByTerminal, Explained, Fixed}
 use Rattle.hidlog.specs.CommandLine.{Ask, play, check, show, answers_to, asked_by}
-use Rattle.session_log.specs.declared.command.Command.TheVariants as playing
+use Rattle.session_log.specs.declared.command.LogCommand.TheVariants as playing
 
 -- what clap answers to these words after the program's name
 answers : List (List ℕ) → Kinds

@@ -10,17 +10,17 @@ use Rattle.clap.specs.Walk.{Row, Rule, all_of, first_of}
 use Rattle.clap.specs.declared.builder.action.ArgAction.TheVariants.{Append, SetTrue}
 use Rattle.hidlog.specs.declared.command_line.Form.{Form}
 use Rattle.hidlog.specs.declared.command_line.Form.TheVariants.{Json, JsonSummary, Lines, Summary}
-use Rattle.hidlog.specs.declared.command_line.Parameter.{Parameter}
-use Rattle.hidlog.specs.declared.command_line.Parameter.TheVariants.{Load, Save, All, Summary as SummaryFlag, Json as JsonFlag, Wide, Explain, Plain, Log, Logs}
+use Rattle.hidlog.specs.declared.command_line.CommandParameter.{CommandParameter}
+use Rattle.hidlog.specs.declared.command_line.CommandParameter.TheVariants.{Load, Save, All, Summary as SummaryFlag, Json as JsonFlag, Wide, Explain, Plain, Log, Logs}
 use Rattle.hidlog.specs.declared.command_line.Manner.{Manner}
 use Rattle.hidlog.specs.declared.command_line.Manner.TheVariants.{ByTerminal, Explained, Fixed}
-use Rattle.hidlog.specs.declared.command_line.Asked.{Asked}
-use Rattle.hidlog.specs.declared.command_line.Name.{Name}
-use Rattle.hidlog.specs.declared.command_line.Name.TheVariants as name
-use Rattle.hidlog.specs.declared.command_line.Task.{Task}
-use Rattle.hidlog.specs.declared.command_line.Task.TheVariants.{Play, Check, Show}
-use Rattle.session_log.specs.declared.command.Command.{Command as LogCommand}
-use Rattle.session_log.specs.declared.command.Command.TheVariants as playing
+use Rattle.hidlog.specs.declared.command_line.Invocation.{Invocation}
+use Rattle.hidlog.specs.declared.command_line.CommandName.{CommandName}
+use Rattle.hidlog.specs.declared.command_line.CommandName.TheVariants as name
+use Rattle.hidlog.specs.declared.command_line.ProgramTask.{ProgramTask}
+use Rattle.hidlog.specs.declared.command_line.ProgramTask.TheVariants.{Play, Check, Show}
+use Rattle.session_log.specs.declared.command.LogCommand.{LogCommand}
+use Rattle.session_log.specs.declared.command.LogCommand.TheVariants as playing
 
 -- ---- the grammar
 
@@ -48,7 +48,7 @@ abbrev pub command : List ℕ → List Rule → Shape
 command name options = record (new_shape name) { rules = options }
 
 -- what may come after a command's name, as clap has it
-abbrev pub rule_for : Parameter → Rule
+abbrev pub rule_for : CommandParameter → Rule
 rule_for Load = path_option (codes "load")
 rule_for Save = path_option (codes "save")
 rule_for All = flag (codes "all")
@@ -61,21 +61,21 @@ rule_for Log = log_path
 rule_for Logs = log_paths
 
 -- the commands' words, and what may come after them
-abbrev pub word_for : Name → List ℕ
+abbrev pub word_for : CommandName → List ℕ
 word_for name.Replay = codes "replay"
 word_for name.Live = codes "live"
 word_for name.Check = codes "check"
 word_for name.Quiet = codes "quiet"
 word_for name.Show = codes "show"
 
-abbrev pub parameters_for : Name → List Parameter
+abbrev pub parameters_for : CommandName → List CommandParameter
 parameters_for name.Replay = Load ∷ Save ∷ Explain ∷ Plain ∷ Log ∷ []
 parameters_for name.Live = Load ∷ Save ∷ Explain ∷ Plain ∷ Log ∷ []
 parameters_for name.Check = Load ∷ All ∷ JsonFlag ∷ Explain ∷ Plain ∷ Logs ∷ []
 parameters_for name.Quiet = Load ∷ Explain ∷ Plain ∷ Log ∷ []
 parameters_for name.Show = SummaryFlag ∷ JsonFlag ∷ Wide ∷ Explain ∷ Plain ∷ Log ∷ []
 
-abbrev pub command_for : Name → Shape
+abbrev pub command_for : CommandName → Shape
 command_for name = command (word_for name) (map rule_for (parameters_for name))
 
 -- the five commands, of which one is required; clap adds `help` and `--version`
@@ -110,7 +110,7 @@ path_of = option_map (λ path. path.now)
 abbrev pub texts_of : List (Bor (List ℕ)) → List (List ℕ)
 texts_of words = map (λ word. word.now) words
 
-abbrev pub asks : Task → Ask
+abbrev pub asks : ProgramTask → Ask
 asks (Play p) = play p.command (path_of p.load) (path_of p.save) (path_of p.log)
 asks (Check load all json logs) = check (path_of load) all json (texts_of logs.items)
 asks (Show form wide log) = show form wide (path_of log)
@@ -141,7 +141,7 @@ abbrev pub logs_of : List Row → List (List ℕ)
 logs_of found = unwrap_or (all_of (codes "log") found) []
 
 -- what the code found to be asked
-abbrev pub asked_as : Asked → Ask × Manner
+abbrev pub asked_as : Invocation → Ask × Manner
 asked_as asked = (asks asked.task, asked.manner)
 
 -- what a command asks for, by its name and what was found for its options

@@ -1,5 +1,7 @@
 pub mod CommandLine
 pub mod Program
+pub mod Fault
+pub mod Model
 pub mod Saved
 pub mod Several
 pub mod Commands

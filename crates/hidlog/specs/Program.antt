@@ -1,13 +1,12 @@
 -- What the program answers, and what it writes. A pair is a source or a target before and after the call.
-use Rattle.std.specs.Prelude.{◌≡◌, ◌≢◌, ◌⊎◌, ◌<◌, ◌+◌, ◌-◌, ◌^◌, ℕ, Bool, true, false, List, [], ◌∷◌, ◌++◌, length, Option, Result, Ok, Err, MatchResult, codes}
+use Rattle.std.specs.Prelude.{◌≡◌, ◌⊎◌, ◌<◌, ◌+◌, ◌-◌, ◌^◌, ℕ, Bool, true, false, List, [], ◌∷◌, ◌++◌, length, Option, Result, Err, codes}
 use Rattle.std.specs.Bool.{MatchBool}
 use Rattle.clap.specs.declared.error.kind.ErrorKind.{ErrorKind}
-use Rattle.clap.specs.declared.error.kind.ErrorKind.TheVariants.{DisplayHelp, DisplayVersion, OutOfMemory}
+use Rattle.clap.specs.declared.error.kind.ErrorKind.TheVariants.{DisplayHelp, DisplayVersion}
 use Rattle.cred_table.specs.declared.fault.SnapshotFault.{SnapshotFault}
 use Rattle.cred_table.specs.declared.fault.SnapshotFault.TheVariants.{NotSnapshot, TooMany, RowBroken, Memory}
 use Rattle.std.specs.Io.KnownBytes.{Keeps}
-use Rattle.session_log.specs.Command.{Status}
-use Rattle.session_log.specs.Streams.{IsAllRead, IsTaken, IsBroken, PutsLine}
+use Rattle.session_log.specs.Streams.{IsAllRead, IsTaken, IsBroken}
 use Rattle.session_log.specs.declared.fault.LogFault.{LogFault}
 use Rattle.session_log.specs.declared.fault.LogFault.TheVariants.{Write}
 
@@ -83,29 +82,3 @@ abbrev pub is_help : ErrorKind → Bool
 is_help DisplayHelp = true
 is_help DisplayVersion = true
 is_help _ = false
-
--- Memory was refused, and that was written.
-abbrev pub LacksMemory : {O F : Type 0} → (F → Option (List ℕ)) → (F → ℕ) → Status → (O × O) → (F × F) → Type 0
-LacksMemory said unsaid status output faults =
-    (status ≡ Err 2) × (output.1 ≡ output.0) × IsGiven said unsaid faults no_memory
-
--- What is wrong with the words was written.
-abbrev pub Refuses : {O F : Type 0} → (F → Option (List ℕ)) → (F → ℕ) → Status → (O × O) → (F × F) → Type 0
-Refuses said unsaid status output faults =
-    (status ≡ Err 2) × (output.1 ≡ output.0) × ((text : List ℕ) × IsGiven said unsaid faults text)
-
--- Help was written; or it couldn't be, and that was.
-abbrev pub Helps : {O F : Type 0} → (O → Option (List ℕ)) → (O → ℕ) → (waits : O → List ℕ) → (F → Option (List ℕ)) → (F → ℕ)
-    → Status → (O × O) → (F × F) → Type 0
-Helps {O} taken failed waits said unsaid status output faults = (text : List ℕ) × (answer : Ended) × (ended : Ended) × (put : O)
-    × PutsLine taken failed (output.0, put) text answer × Settles taken failed waits answer (put, output.1) ended
-    × MatchResult ended (λ _. (status ≡ Ok tt) × (faults.1 ≡ faults.0))
-    (λ _. (status ≡ Err 2) × IsGiven said unsaid faults writing_failed)
-
--- An answer of clap's was given, of this kind, or there was no memory for it.
-abbrev pub Explains : {O F : Type 0} → ErrorKind → (O → Option (List ℕ)) → (O → ℕ) → (waits : O → List ℕ)
-    → (F → Option (List ℕ)) → (F → ℕ) → Status → (O × O) → (F × F) → Type 0
-Explains kind taken failed waits said unsaid status output faults =
-    LacksMemory said unsaid status output faults
-    ⊎ ((kind ≢ OutOfMemory) × MatchBool (is_help kind) (Helps taken failed waits said unsaid status output faults)
-    (Refuses said unsaid status output faults))

@@ -1,5 +1,5 @@
 -- Several logs that are compared, one after the other. A pair is a source before and after.
-use Rattle.std.specs.Prelude.{◌≡◌, ℕ, Bool, List, [], ◌∷◌, Option, Some, None, MatchOption}
+use Rattle.std.specs.Prelude.{◌≡◌, ℕ, List, [], ◌∷◌, Option, Some, None, MatchOption}
 use Rattle.std.specs.Io.KnownBytes.{Consumes}
 use Rattle.cred_table.specs.declared.row.Row.{Row}
 use Rattle.session_log.specs.Check.{begun, check_history}
@@ -7,21 +7,21 @@ use Rattle.session_log.specs.Command.{start_with}
 use Rattle.session_log.specs.Log.{fault_of, playing}
 use Rattle.session_log.specs.Streams.{IsAllRead}
 use Rattle.hidlog.specs.CommandLine.{named}
+use Rattle.hidlog.specs.Model.{Model}
 use Rattle.hidlog.specs.Saved.{Opens}
 
-module _ {D I : Type 0} (holds : D → List ℕ → List ℕ → Type 0) (opened : I → List ℕ → I → Type 0)
-    (left : I → Option (List ℕ)) (ended : I → Bool) where
+module _ {D I O F : Type 0} (model : Model D I O F) where
   -- All of a log was read, and it is what a key sends that begins with the credentials of the snapshot at the path.
   abbrev pub IsSame : Option (List ℕ) → D → (I × I) → Type 0
-  IsSame load files input = (rows : List Row) × (bytes : List ℕ) × Opens holds files load rows
-      × Consumes (left input.0) (left input.1) bytes
+  IsSame load files input = (rows : List Row) × (bytes : List ℕ) × Opens model.holds files load rows
+      × Consumes (model.left input.0) (model.left input.1) bytes
       × (fault_of (check_history (start_with rows)) (playing (check_history (start_with rows)) (begun []) bytes) ≡ None)
-      × IsAllRead left ended input.1
+      × IsAllRead model.left model.ended input.1
 
   -- The log at the path is, read from its front; or that on standard input.
   abbrev pub IsSameAt : Option (List ℕ) → D → (log : List ℕ) → (I × I) → Type 0
   IsSameAt load files log input = (start : I)
-      × MatchOption (named (Some log)) (Unit {0}) (λ path. opened input.0 path start) × IsSame load files (start, input.1)
+      × MatchOption (named (Some log)) (Unit {0}) (λ path. model.opened input.0 path start) × IsSame load files (start, input.1)
 
   -- Each of these logs is, one after the other.
   abbrev pub AreSame : Option (List ℕ) → D → (logs : List (List ℕ)) → (I × I) → Type 0

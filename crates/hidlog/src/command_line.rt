@@ -11,7 +11,7 @@ ghost use Rattle.clap.specs.Walk.{first_of, rows_of};
 use crate::commands::Play;
 use clap::error::ErrorKind;
 use clap::{Arg, ArgAction, ArgMatches, Command, Error};
-use session_log::Command as LogCommand;
+use session_log::LogCommand;
 use std::alloc::{AllocError, Global};
 
 /// The version, which CHANGELOG.md describes.
@@ -37,7 +37,7 @@ pub enum Form {
 
 /// What the program is asked to do, with the paths of snapshots and logs as they are.
 #[derive(Drop)]
-pub enum Task<'a> {
+pub enum ProgramTask<'a> {
     /// `hidlog replay [--load F] [--save F] [FILE]`, the same with `live`, and `hidlog quiet [--load F] [FILE]`
     Play(Play<'a>),
     /// `hidlog check [--load F] [--all] [--json] [FILE]..`
@@ -81,14 +81,14 @@ impl Manner {
 
 /// What the program is asked to do, and for whom it words its texts.
 #[derive(Drop)]
-pub struct Asked<'a> {
-    pub task: Task<'a>,
+pub struct Invocation<'a> {
+    pub task: ProgramTask<'a>,
     pub manner: Manner,
 }
 
 /// What may come after a command's name.
 #[derive(Clone, Copy)]
-enum Parameter {
+enum CommandParameter {
     /// `--load F`
     Load,
     /// `--save F`
@@ -111,29 +111,31 @@ enum Parameter {
     Logs,
 }
 
-impl Parameter {
+impl CommandParameter {
     /// Returns what help says of it.
     fn help<'a>(self) -> &'a str {
         match self {
-            Parameter::Load => "Starts with the credentials of the snapshot F, and not with none",
-            Parameter::Save => {
+            CommandParameter::Load =>
+                "Starts with the credentials of the snapshot F, and not with none",
+            CommandParameter::Save => {
                 "Writes a snapshot of the credentials to F at the end, unless the log has a fault; until that is \
                  done, a whole copy of it is in F.hidlog"
             }
-            Parameter::All => "Goes on after a difference, and counts them",
-            Parameter::Summary => {
+            CommandParameter::All => "Goes on after a difference, and counts them",
+            CommandParameter::Summary => {
                 "Writes a summary of the session: its transactions, credentials, noise"
             }
-            Parameter::Json => "Writes an object of JSON a line, for scripts",
-            Parameter::Wide => {
+            CommandParameter::Json => "Writes an object of JSON a line, for scripts",
+            CommandParameter::Wide => {
                 "Writes lines whole at a terminal, where they are cut at its width otherwise"
             }
-            Parameter::Explain => {
+            CommandParameter::Explain => {
                 "Explains: adds names, members, reasons and notes, as it does at a terminal without this word"
             }
-            Parameter::Plain => "Explains nothing at a terminal either: writes the fixed texts",
-            Parameter::Log => "The log; standard input where none is named, and for -",
-            Parameter::Logs => "The logs; standard input where none is named, and for -",
+            CommandParameter::Plain =>
+                "Explains nothing at a terminal either: writes the fixed texts",
+            CommandParameter::Log => "The log; standard input where none is named, and for -",
+            CommandParameter::Logs => "The logs; standard input where none is named, and for -",
         }
     }
 }
@@ -166,28 +168,28 @@ fn log<'a>(alloc: Global, help: &'a str) -> Arg<'a>
 }
 
 /// Returns a parameter as clap has it.
-fn argument<'a>(alloc: Global, parameter: Parameter) -> Arg<'a>
+fn argument<'a>(alloc: Global, parameter: CommandParameter) -> Arg<'a>
     ensures rule { rule_of result ≡ rule_for parameter }
     ensures local { result.global ≡ false }
 {
     let help = parameter.help();
     match parameter {
-        Parameter::Load => path_option(alloc, "load", help),
-        Parameter::Save => path_option(alloc, "save", help),
-        Parameter::All => flag(alloc, "all", help),
-        Parameter::Summary => flag(alloc, "summary", help),
-        Parameter::Json => flag(alloc, "json", help),
-        Parameter::Wide => flag(alloc, "wide", help),
-        Parameter::Explain => flag(alloc, "explain", help),
-        Parameter::Plain => flag(alloc, "plain", help),
-        Parameter::Log => log(alloc, help),
-        Parameter::Logs => log(alloc, help).action(ArgAction::Append),
+        CommandParameter::Load => path_option(alloc, "load", help),
+        CommandParameter::Save => path_option(alloc, "save", help),
+        CommandParameter::All => flag(alloc, "all", help),
+        CommandParameter::Summary => flag(alloc, "summary", help),
+        CommandParameter::Json => flag(alloc, "json", help),
+        CommandParameter::Wide => flag(alloc, "wide", help),
+        CommandParameter::Explain => flag(alloc, "explain", help),
+        CommandParameter::Plain => flag(alloc, "plain", help),
+        CommandParameter::Log => log(alloc, help),
+        CommandParameter::Logs => log(alloc, help).action(ArgAction::Append),
     }
 }
 
 /// The name of a command.
 #[derive(Clone, Copy)]
-enum Name {
+enum CommandName {
     Replay,
     Live,
     Check,
@@ -195,75 +197,76 @@ enum Name {
     Show,
 }
 
-impl Name {
+impl CommandName {
     /// Returns the command's word.
     fn word<'a>(self) -> &'a str
         ensures { result.now ≡ word_for self }
     {
         match self {
-            Name::Replay => "replay",
-            Name::Live => "live",
-            Name::Check => "check",
-            Name::Quiet => "quiet",
-            Name::Show => "show",
+            CommandName::Replay => "replay",
+            CommandName::Live => "live",
+            CommandName::Check => "check",
+            CommandName::Quiet => "quiet",
+            CommandName::Show => "show",
         }
     }
 
     /// Returns what help says of the command.
     fn about<'a>(self) -> &'a str {
         match self {
-            Name::Replay =>
+            CommandName::Replay =>
                 "Replays the log: writes it with the packets that the key sends, and what it counted",
-            Name::Live => {
+            CommandName::Live => {
                 "Replays the log line by line as it comes, and says what the key needs after each input"
             }
-            Name::Check =>
+            CommandName::Check =>
                 "Compares the packets that the log names as sent with those that the key sends",
-            Name::Quiet => "Writes the log's inputs, with a tick in place of each that is noise",
-            Name::Show => "Writes what the log's lines say, line by line",
+            CommandName::Quiet =>
+                "Writes the log's inputs, with a tick in place of each that is noise",
+            CommandName::Show => "Writes what the log's lines say, line by line",
         }
     }
 
     /// Returns the command's parameters.
-    fn parameters(self) -> &'static [Parameter]
+    fn parameters(self) -> &'static [CommandParameter]
         ensures { result.now ≡ parameters_for self }
     {
         match self {
-            Name::Replay | Name::Live => {
+            CommandName::Replay | CommandName::Live => {
                 &[
-                    Parameter::Load,
-                    Parameter::Save,
-                    Parameter::Explain,
-                    Parameter::Plain,
-                    Parameter::Log,
+                    CommandParameter::Load,
+                    CommandParameter::Save,
+                    CommandParameter::Explain,
+                    CommandParameter::Plain,
+                    CommandParameter::Log,
                 ]
             }
-            Name::Check => {
+            CommandName::Check => {
                 &[
-                    Parameter::Load,
-                    Parameter::All,
-                    Parameter::Json,
-                    Parameter::Explain,
-                    Parameter::Plain,
-                    Parameter::Logs,
+                    CommandParameter::Load,
+                    CommandParameter::All,
+                    CommandParameter::Json,
+                    CommandParameter::Explain,
+                    CommandParameter::Plain,
+                    CommandParameter::Logs,
                 ]
             }
-            Name::Quiet => {
+            CommandName::Quiet => {
                 &[
-                    Parameter::Load,
-                    Parameter::Explain,
-                    Parameter::Plain,
-                    Parameter::Log,
+                    CommandParameter::Load,
+                    CommandParameter::Explain,
+                    CommandParameter::Plain,
+                    CommandParameter::Log,
                 ]
             }
-            Name::Show => {
+            CommandName::Show => {
                 &[
-                    Parameter::Summary,
-                    Parameter::Json,
-                    Parameter::Wide,
-                    Parameter::Explain,
-                    Parameter::Plain,
-                    Parameter::Log,
+                    CommandParameter::Summary,
+                    CommandParameter::Json,
+                    CommandParameter::Wide,
+                    CommandParameter::Explain,
+                    CommandParameter::Plain,
+                    CommandParameter::Log,
                 ]
             }
         }
@@ -271,7 +274,7 @@ impl Name {
 }
 
 /// Returns a command, with its parameters.
-fn command<'a>(alloc: Global, name: Name) -> Result<Command<'a>, AllocError>
+fn command<'a>(alloc: Global, name: CommandName) -> Result<Command<'a>, AllocError>
     ensures shape { IfOk result (λ made. shape_of made ≡ command_for name) }
     ensures local { IfOk result (λ made. (fields_of made).has_globals ≡ false) }
 {
@@ -282,7 +285,7 @@ fn command<'a>(alloc: Global, name: Name) -> Result<Command<'a>, AllocError>
     Ok(command)
 }
 
-/// The command line's grammar.
+/// Returns the command line's grammar.
 fn program<'a>(alloc: Global) -> Result<Command<'a>, AllocError>
     ensures { IfOk result (λ program. app_of program ≡ grammar) }
 {
@@ -291,11 +294,11 @@ fn program<'a>(alloc: Global) -> Result<Command<'a>, AllocError>
         .about(ABOUT)
         .subcommand_required(true);
     for name in [
-        Name::Replay,
-        Name::Live,
-        Name::Check,
-        Name::Quiet,
-        Name::Show,
+        CommandName::Replay,
+        CommandName::Live,
+        CommandName::Check,
+        CommandName::Quiet,
+        CommandName::Show,
     ] {
         program = program.subcommand(command(alloc, name)?)?;
     }
@@ -351,11 +354,15 @@ fn logs_in<'a>(alloc: Global, options: &ArgMatches<'a>) -> Result<Vec<&'a str>, 
 }
 
 /// Returns what a command that plays a log asks for.
-fn play_in<'a>(command: LogCommand, options: &ArgMatches<'a>, save: Option<&'a str>) -> Task<'a>
+fn play_in<'a>(
+    command: LogCommand,
+    options: &ArgMatches<'a>,
+    save: Option<&'a str>,
+) -> ProgramTask<'a>
     ensures { asks result ≡ play command (first_of (codes "load") (rows_of (found_of options.now))) (path_of save.entry)
         (first_of (codes "log") (rows_of (found_of options.now))) }
 {
-    Task::Play(Play {
+    ProgramTask::Play(Play {
         command,
         load: options.get_str("load"),
         save,
@@ -368,7 +375,7 @@ fn task_named<'a>(
     alloc: Global,
     name: &str,
     options: &ArgMatches<'a>,
-) -> Result<Option<Task<'a>>, AllocError>
+) -> Result<Option<ProgramTask<'a>>, AllocError>
     ensures { IfOk result (λ task. option_map asks task ≡ task_asked name.now (rows_of (found_of options.now))) }
 {
     match name {
@@ -380,14 +387,14 @@ fn task_named<'a>(
             let save = options.get_str("save");
             Ok(Some(play_in(LogCommand::Live, options, save)))
         }
-        "check" => Ok(Some(Task::Check {
+        "check" => Ok(Some(ProgramTask::Check {
             load: options.get_str("load"),
             all: is_set(options, "all"),
             json: is_set(options, "json"),
             logs: logs_in(alloc, options)?,
         })),
         "quiet" => Ok(Some(play_in(LogCommand::Quiet, options, None))),
-        "show" => Ok(Some(Task::Show {
+        "show" => Ok(Some(ProgramTask::Show {
             form: form_in(options),
             wide: is_set(options, "wide"),
             log: options.get_str("log"),
@@ -397,14 +404,17 @@ fn task_named<'a>(
 }
 
 /// Returns what the command that was met asks for.
-fn task_in<'a>(alloc: Global, matches: &ArgMatches<'a>) -> Result<Option<Asked<'a>>, AllocError>
+fn task_in<'a>(
+    alloc: Global,
+    matches: &ArgMatches<'a>,
+) -> Result<Option<Invocation<'a>>, AllocError>
     ensures { IfOk result (λ asked. option_map asked_as asked ≡ option_and_then ask_of (subcommand_rows_of matches.now)) }
 {
     let Some((name, options)) = matches.subcommand() else {
         return Ok(None);
     };
     match task_named(alloc, name, options)? {
-        Some(task) => Ok(Some(Asked {
+        Some(task) => Ok(Some(Invocation {
             task,
             manner: manner_in(options),
         })),
@@ -413,10 +423,10 @@ fn task_in<'a>(alloc: Global, matches: &ArgMatches<'a>) -> Result<Option<Asked<'
 }
 
 /// Returns what a command that plays a log asks for where no word is behind it.
-fn plain_play<'a>(command: LogCommand) -> Task<'a>
+fn plain_play<'a>(command: LogCommand) -> ProgramTask<'a>
     ensures { asks result ≡ play command None None None }
 {
-    Task::Play(Play {
+    ProgramTask::Play(Play {
         command,
         load: None,
         save: None,
@@ -425,20 +435,20 @@ fn plain_play<'a>(command: LogCommand) -> Task<'a>
 }
 
 /// Returns what a word after the program's name asks for, where it is a command.
-fn plain_task<'a>(alloc: Global, program: &str, name: &str) -> Option<Task<'a>>
+fn plain_task<'a>(alloc: Global, program: &str, name: &str) -> Option<ProgramTask<'a>>
     ensures { IfSome result (λ task. asked_by (program.now ∷ name.now ∷ []) ≡ Some (asks task, by_terminal)) }
 {
     match name {
         "replay" => Some(plain_play(LogCommand::Replay)),
         "live" => Some(plain_play(LogCommand::Live)),
-        "check" => Some(Task::Check {
+        "check" => Some(ProgramTask::Check {
             load: None,
             all: false,
             json: false,
             logs: Vec::new(alloc),
         }),
         "quiet" => Some(plain_play(LogCommand::Quiet)),
-        "show" => Some(Task::Show {
+        "show" => Some(ProgramTask::Show {
             form: Form::Lines,
             wide: false,
             log: None,
@@ -449,14 +459,14 @@ fn plain_task<'a>(alloc: Global, program: &str, name: &str) -> Option<Task<'a>>
 
 /// Returns what the words ask for where they are a command alone. Clap isn't asked: it takes a fifth of the
 /// instructions to the first line.
-fn alone<'a>(alloc: Global, words: &[&str]) -> Option<Asked<'a>>
+fn alone<'a>(alloc: Global, words: &[&str]) -> Option<Invocation<'a>>
     ensures { IfSome result (λ asked. asked_by (texts_of words.now) ≡ Some (asked_as asked)) }
 {
     let [program, name] = words else {
         return None;
     };
     let task = plain_task(alloc, program, name)?;
-    Some(Asked {
+    Some(Invocation {
         task,
         manner: Manner::ByTerminal,
     })
@@ -467,7 +477,7 @@ fn task_by<'a>(
     alloc: Global,
     program: &mut Command<'a>,
     words: &'a [&'a str],
-) -> Result<Asked<'a>, Error>
+) -> Result<Invocation<'a>, Error>
     requires { app_of program.old ≡ grammar }
     ensures task { IfOk result (λ asked. asked_by (texts_of words.now) ≡ Some (asked_as asked)) }
     ensures answer { IfErr result (λ error. HasKind (answers_to (texts_of words.now)) error) }
@@ -479,10 +489,10 @@ fn task_by<'a>(
     }
 }
 
-/// What the words ask for, the first of them being the program's name; or clap's answer, which is help or
-/// says what is wrong with them.
+/// Returns what the words ask for, the first of them being the program's name; or clap's answer, which is help or says
+/// what is wrong with them.
 #[inline(never)]
-pub fn task_of<'a>(alloc: Global, words: &'a [&'a str]) -> Result<Asked<'a>, Error>
+pub fn task_of<'a>(alloc: Global, words: &'a [&'a str]) -> Result<Invocation<'a>, Error>
     ensures task { IfOk result (λ asked. asked_by (texts_of words.now) ≡ Some (asked_as asked)) }
     ensures answer { IfErr result (λ error. HasKind (answers_to (texts_of words.now)) error) }
 {

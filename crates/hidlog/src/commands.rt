@@ -1,93 +1,126 @@
-//! What the commands that play a log do on a session.
-ghost use Rattle.std.specs.Prelude.{◌≡◌, ◌<◌, ◌-◌, ◌^◌, ◌⊎◌, [], None, IfErr};
+//! The commands that play a log.
+ghost use Rattle.std.specs.Prelude.{◌≡◌, [], None, Some, IfErr, IsSomeAnd, MatchOption, OnOk};
 ghost use Rattle.session_log.specs.Command.{start_with};
 ghost use Rattle.token_session.specs.Meters.{session_of};
-ghost use Rattle.hidlog.specs.CommandLine.{path_of};
+ghost use Rattle.hidlog.specs.CommandLine.{named, path_of};
 ghost use Rattle.hidlog.specs.Commands.{RunsCommand, looked_at};
+ghost use Rattle.hidlog.specs.Fault.{came_of, reasoned, told_of};
+ghost use Rattle.hidlog.specs.Model.{CanFail};
+ghost use Rattle.hidlog.specs.Program.{cannot_read_log};
 
+use crate::fault::ProgramFault;
 use crate::files::Files;
-use crate::held::{Output, Texts, settled};
+use crate::held::{Output, WrittenLines, settled};
+use crate::host::{Host, Modeled};
 use crate::logs::Logs;
-use crate::process::{Reporting, status_of};
-use crate::program::{open_log, path_in};
-use crate::remarks::Remarks;
-use crate::snapshots::{begin, look, save_rows};
-use session_log::{CAPACITY, Command, Target};
+use crate::remarks::ComparisonEnd;
+use crate::snapshots::{load, look, save_rows};
+use session_log::{CAPACITY, LogCommand, Target};
 use token_session::Session;
 
 /// A command that plays a log, with the paths of the snapshots and of the log.
 #[derive(Clone, Copy)]
 pub struct Play<'a> {
-    pub command: Command,
+    pub command: LogCommand,
     pub load: Option<&'a str>,
     pub save: Option<&'a str>,
     pub log: Option<&'a str>,
 }
 
-impl Play<'_> {
+impl<'a> Play<'a> {
     /// Returns the path to save at, where it is looked at before the log is read.
-    fn looked_at(&self) -> Option<&str>
+    fn looked_at(&self) -> Option<&'a str>
         ensures { path_of result ≡ looked_at self.now.command (path_of self.now.save) }
     {
         match self.command {
-            Command::Live => self.save,
-            Command::Replay | Command::Check | Command::Quiet => None,
+            LogCommand::Live => self.save,
+            LogCommand::Replay | LogCommand::Check | LogCommand::Quiet => None,
         }
     }
 
     /// Returns of which texts the end is held back while more of the log is at hand. `live` answers line by line.
-    fn held_back(&self) -> Texts {
+    fn held_back(&self) -> WrittenLines {
         match self.command {
-            Command::Replay | Command::Quiet => Texts::OfComments,
-            Command::Live | Command::Check => Texts::AtOnce,
+            LogCommand::Replay | LogCommand::Quiet => WrittenLines::OfComments,
+            LogCommand::Live | LogCommand::Check => WrittenLines::AtOnce,
         }
     }
 }
 
-/// Plays the log, and saves the credentials that the session has after it, where there is a path for them. Where
-/// nothing differs from a log that was compared, the remarks have how it ended.
-#[inline(never)]
-pub fn play_on<D, L, O, E>(
-    session: &mut Session<CAPACITY>,
-    play: &Play<'_>,
-    files: &mut D,
-    reporting: Reporting,
-    input: &mut L,
-    output: &mut O,
-    remarks: &mut Remarks,
-    faults: &mut E,
-) -> Result<(), u8>
-where
-    D: Files,
-    L: Logs,
-    O: Output,
-    E: Target,
-    requires fresh { session.old ≡ session_of (start_with []) [] }
-    requires reads { L.failed input.old < 2 ^ 64 - 1 }
-    requires writes { O.failed output.old < 2 ^ 64 - 1 }
-    requires tells { E.failed faults.old < 2 ^ 64 - 1 }
-    ensures status { IfErr result (λ code. (code ≡ 1) ⊎ (code ≡ 2)) }
-    ensures does { RunsCommand D.holds D.unreadable D.written D.unwritten D.unwritable L.opened L.unopenable L.left L.failed L.ended
-        O.taken O.failed O.waits E.taken E.failed reporting.explains
-        play.now.command (path_of play.now.load) (path_of play.now.save) (path_of play.now.log) result
-        (files.old, files.new) (input.old, input.new) (output.old, output.new) (faults.old, faults.new) }
-    ensures kept { path_of play.now.save ≡ None → files.new ≡ files.old }
+/// Returns the path of the log, where it isn't on standard input.
+fn path_in<'a>(log: Option<&'a str>) -> Option<&'a str>
+    ensures { path_of result ≡ named (path_of log.entry) }
 {
-    open_log(input, reporting, play.log, faults)?;
-    let session = begin(session, files, reporting, play.load, faults)?;
-    look(
-        files,
-        reporting,
-        play.looked_at(),
-        path_in(play.log),
-        faults,
-    )?;
-    output.hold(play.held_back());
-    let answer = play.command.play(session, input, output);
-    status_of(faults, settled(output, answer))?;
-    remarks.look(play.command, session);
-    match play.save {
-        Some(path) => save_rows(files, reporting, path, path_in(play.log), session, faults),
-        None => Ok(()),
+    match log {
+        Some("-") | None => None,
+        Some(path) => Some(path),
+    }
+}
+
+/// Begins at the front of the log.
+pub fn open_log<'a, L: Logs>(input: &mut L, log: Option<&'a str>) -> Result<(), ProgramFault<'a>>
+    ensures opened { OnOk result (MatchOption (named (path_of log.entry)) (input.new ≡ input.old)
+        (λ path. L.opened input.old path input.new)) }
+    ensures fails { IfErr result (λ fault. (told_of fault ≡ reasoned 1 cannot_read_log)
+        × IsSomeAnd (named (path_of log.entry)) (L.unopenable input.old) × (input.new ≡ input.old)) }
+    ensures counted { L.failed input.new ≡ L.failed input.old }
+{
+    let Some(path) = path_in(log) else {
+        return Ok(());
+    };
+    match input.open(path) {
+        Ok(()) => Ok(()),
+        Err(error) => Err(ProgramFault::UnreadLog(path, error)),
+    }
+}
+
+// A session takes 29 kB. Each command makes one in a frame of its own, and does nothing else there, so that only one is
+// on the stack at a time, and it isn't copied.
+
+/// Returns the program's session at its start, without credentials.
+// By this function it is made where its caller keeps it. Of a call of `Session::bare` in its place there is a copy.
+pub fn fresh() -> Session<CAPACITY>
+    ensures { result ≡ session_of (start_with []) [] }
+{
+    Session::bare([0; 16], 0)
+}
+
+impl<D: Files, L: Logs, O: Output, E: Target> Host<D, L, O, E> {
+    /// Plays the log on a session of its own, and saves the credentials that the session has after it, where there is a
+    /// path for them. Returns how the log ended.
+    #[inline(never)]
+    pub fn play_log<'a>(&mut self, play: &Play<'a>) -> Result<ComparisonEnd, ProgramFault<'a>>
+        requires { CanFail ⟦<Self as Modeled>⟧.model self.old }
+        ensures { RunsCommand ⟦<Self as Modeled>⟧.model play.now.command (path_of play.now.load) (path_of play.now.save)
+            (path_of play.now.log) (came_of result) self.old self.new }
+    {
+        self.play_on(&mut fresh(), play)
+    }
+
+    /// Plays the log on a session, as [`Host::play_log`] does.
+    #[inline(never)]
+    fn play_on<'a>(
+        &mut self,
+        session: &mut Session<CAPACITY>,
+        play: &Play<'a>,
+    ) -> Result<ComparisonEnd, ProgramFault<'a>>
+        requires fresh { session.old ≡ session_of (start_with []) [] }
+        requires counts { CanFail ⟦<Self as Modeled>⟧.model self.old }
+        ensures { RunsCommand ⟦<Self as Modeled>⟧.model play.now.command (path_of play.now.load) (path_of play.now.save)
+            (path_of play.now.log) (came_of result) self.old self.new }
+    {
+        open_log(&mut self.input, play.log)?;
+        load(session, &self.files, play.load)?;
+        look(&self.files, play.looked_at(), path_in(play.log))?;
+        self.output.hold(play.held_back());
+        let answer = play
+            .command
+            .play(session, &mut self.input, &mut self.output);
+        if let Err(fault) = settled(&mut self.output, answer) {
+            return Err(ProgramFault::Log(fault));
+        }
+        let (files, log) = (&mut self.files, path_in(play.log));
+        save_rows(files, self.alloc, play.save, log, session)?;
+        Ok(ComparisonEnd::of(session))
     }
 }

@@ -1,16 +1,16 @@
 //! What a person reads of the packets in which a log differs from what the key sends.
-ghost use Rattle.std.specs.Prelude.{◌≡◌, ◌<◌, ◌-◌, ◌^◌, []};
+ghost use Rattle.std.specs.Prelude.{◌≡◌, []};
 ghost use Rattle.session_log.specs.Command.{start_with};
 ghost use Rattle.token_session.specs.Meters.{session_of};
 
+use crate::commands::fresh;
 use crate::files::Files;
 use crate::objects::{put_count, put_difference, put_note};
 use crate::pieces::{after, has_part};
 use crate::process::{Reporting, tell};
-use crate::program::fresh;
 use crate::screen::put_cut;
 use crate::sides::{lacks_credential, put_first, put_sides};
-use crate::snapshots::begin;
+use crate::snapshots::load;
 use session_log::{CAPACITY, LogFault, Source, Target, ToWrite};
 use session_show::{Comparison, Difference, put_transaction};
 use std::alloc::Global;
@@ -82,7 +82,7 @@ impl<'a> Wish<'a> {
 
 /// What is written for a difference: what the log has, what the key sends, why, and what may be done.
 #[derive(Drop)]
-pub struct Texts {
+pub struct DifferenceTexts {
     pub logged: Vec<u8>,
     pub sent: Vec<u8>,
     pub reason: Vec<u8>,
@@ -96,7 +96,7 @@ pub fn tell_differences<D: Files, S: Source + Drop, E: Target>(
     files: &D,
     wish: &Wish<'_>,
     again: Option<S>,
-    told: &[u8],
+    told: Option<LogFault>,
     faults: &mut E,
 ) {
     if !wish.reporting.explains && !wish.is_all && !wish.is_json {
@@ -145,7 +145,7 @@ fn compare_anew<D: Files, S: Source, E: Target>(
     files: &D,
     wish: &Wish<'_>,
     reader: &mut S,
-    told: &[u8],
+    told: Option<LogFault>,
     faults: &mut E,
 ) {
     compare_on(&mut fresh(), files, wish, reader, told, faults);
@@ -158,16 +158,15 @@ fn compare_on<D: Files, S: Source, E: Target>(
     files: &D,
     wish: &Wish<'_>,
     reader: &mut S,
-    told: &[u8],
+    told: Option<LogFault>,
     faults: &mut E,
 )
     requires { session.old ≡ session_of (start_with []) [] }
 {
     // The snapshot was loaded before, so nothing is wrong with it.
-    let mut unsaid = ToWrite::new(Vec::new(wish.reporting.alloc));
-    let Ok(session) = begin(session, files, wish.reporting, wish.load, &mut unsaid) else {
+    if load(session, files, wish.load).is_err() {
         return;
-    };
+    }
     if let Some(mut comparison) = begun(wish.reporting.alloc) {
         say_each(&mut *comparison, session, wish, reader, told, faults);
     }
@@ -186,14 +185,13 @@ fn say_each<S: Source, E: Target>(
     session: &mut Session<CAPACITY>,
     wish: &Wish<'_>,
     reader: &mut S,
-    told: &[u8],
+    told: Option<LogFault>,
     faults: &mut E,
 ) {
     let mut count = 0_u64;
     for _ in 0..u64::MAX {
         match comparison.find(reader, session) {
-            Ok(Some(difference))
-                if count == 0 && !is_told(wish.reporting.alloc, &difference, told) => {
+            Ok(Some(difference)) if count == 0 && told != Some(difference.fault()) => {
                 say_more(wish, CHANGED, faults);
                 return;
             }
@@ -233,15 +231,6 @@ fn say_signed<E: Target>(comparison: &Comparison, wish: &Wish<'_>, faults: &mut 
         "line {line}: what was signed there isn't what this key asks to be signed: {what}"
     ) {
         say_note(wish, text.as_str(), faults);
-    }
-}
-
-/// Returns whether a difference is the one of this text.
-fn is_told(alloc: Global, difference: &Difference, told: &[u8]) -> bool {
-    let fault = difference.fault();
-    match format!(in alloc; ": {fault}\n") {
-        Ok(text) => told.ends_with(text.as_bytes()),
-        Err(_) => false,
     }
 }
 
@@ -323,9 +312,9 @@ fn texts_of<S: Source>(
     wish: &Wish<'_>,
     reader: &mut S,
     difference: &Difference,
-) -> Texts {
+) -> DifferenceTexts {
     let alloc = wish.reporting.alloc;
-    let mut texts = Texts {
+    let mut texts = DifferenceTexts {
         logged: Vec::new(alloc),
         sent: Vec::new(alloc),
         reason: Vec::new(alloc),

@@ -24,24 +24,13 @@ pub enum Ahead {
 
 /// The lines of which a command writes a text.
 #[derive(Clone, Copy, Debug, PartialEq, Eq)]
-pub enum Texts {
+pub enum WrittenLines {
     /// Each text is out as soon as it is written.
     AtOnce,
     /// Those of inputs.
     OfInputs,
     /// Those of comments, too.
     OfComments,
-}
-
-impl Texts {
-    /// Returns whether one of these lines lies ahead.
-    fn lie(self, ahead: Ahead) -> bool {
-        match ahead {
-            Ahead::Nothing => false,
-            Ahead::Comment => self == Texts::OfComments,
-            Ahead::Input => self != Texts::AtOnce,
-        }
-    }
 }
 
 /// How far from the end of the bytes that were read the last whole lines begin, of which a text may be written; 0 where
@@ -121,7 +110,7 @@ pub trait Output: Target {
     ghost waits: { Self → List ℕ };
 
     /// Lets it hold back texts of a log that is played, while another of these lies ahead.
-    fn hold(&self, texts: Texts);
+    fn hold(&self, texts: WrittenLines);
 
     /// Hands on all that it holds back. A call that failed isn't made again.
     fn settle(&mut self) -> Result<(), Failed>
@@ -136,7 +125,7 @@ pub trait Output: Target {
 impl<W: Write> Output for ToWrite<W> {
     ghost waits = { λ _. [] };
 
-    fn hold(&self, _texts: Texts) {}
+    fn hold(&self, _texts: WrittenLines) {}
 
     fn settle(&mut self) -> Result<(), Failed> {
         Ok(())
@@ -161,36 +150,41 @@ pub fn settled<O: Output>(output: &mut O, answer: Result<(), LogFault>) -> Resul
 
 /// A target over another one, which holds back what it takes while a text lies ahead.
 #[derive(Drop)]
-pub struct Held<'a, T> {
+pub struct HeldOutput<'a, T> {
     inner: T,
     ahead: &'a Cell<Ahead>,
-    texts: Cell<Texts>,
+    texts: Cell<WrittenLines>,
     bytes: Vec<u8>,
     /// How many of the bytes were handed on.
     at: usize,
     ghost within: { at ≤ vec_len bytes },
 }
 
-impl<'a, T: Target> Held<'a, T> {
+impl<'a, T: Target> HeldOutput<'a, T> {
     /// Returns the target, which took nothing yet and hands all on at once.
     pub fn new(alloc: Global, inner: T, ahead: &'a Cell<Ahead>) -> Self
-        ensures counted { ⟦<Held<'a, T> as Target>⟧.failed result ≡ T.failed inner }
-        ensures waits { ⟦<Held<'a, T> as Output>⟧.waits result ≡ [] }
+        ensures counted { ⟦<HeldOutput<'a, T> as Target>⟧.failed result ≡ T.failed inner }
+        ensures waits { ⟦<HeldOutput<'a, T> as Output>⟧.waits result ≡ [] }
     {
-        Held {
+        HeldOutput {
             inner,
             ahead,
-            texts: Cell::new(Texts::AtOnce),
+            texts: Cell::new(WrittenLines::AtOnce),
             bytes: Vec::new(alloc),
             at: 0,
         }
     }
 }
 
-impl<T: Target> Held<'_, T> {
-    /// Returns whether so many bytes more are held back.
+impl<T: Target> HeldOutput<'_, T> {
+    /// Returns whether so many bytes more are held back: a line lies ahead of which a text is.
     fn holds(&self, more: usize) -> bool {
-        self.texts.get().lie(self.ahead.get()) && self.bytes.len().saturating_add(more) <= HELD
+        let lies_ahead = match self.ahead.get() {
+            Ahead::Nothing => false,
+            Ahead::Comment => self.texts.get() == WrittenLines::OfComments,
+            Ahead::Input => self.texts.get() != WrittenLines::AtOnce,
+        };
+        lies_ahead && self.bytes.len().saturating_add(more) <= HELD
     }
 
     /// Hands on all that is held back.
@@ -212,7 +206,7 @@ impl<T: Target> Held<'_, T> {
     }
 }
 
-impl<T: Target> Target for Held<'_, T> {
+impl<T: Target> Target for HeldOutput<'_, T> {
     ghost taken = { λ s. append_known (T.taken s.inner) (drop s.at s.bytes.items) };
 
     ghost failed = { λ s. T.failed s.inner };
@@ -230,10 +224,10 @@ impl<T: Target> Target for Held<'_, T> {
     }
 }
 
-impl<T: Target> Output for Held<'_, T> {
+impl<T: Target> Output for HeldOutput<'_, T> {
     ghost waits = { λ s. drop s.at s.bytes.items };
 
-    fn hold(&self, texts: Texts) {
+    fn hold(&self, texts: WrittenLines) {
         self.texts.set(texts);
     }
 

@@ -100,7 +100,16 @@ impl Opens for Stream<Stdin, File> {
     }
 
     fn open(rt: &HostRuntime, path: &str) -> io::Result<(Self, Option<u64>)> {
-        let (file, size) = open_file(rt, path)?;
+        let file = File::open(rt, path)?;
+        let found = file.metadata()?;
+        if found.is_dir() {
+            return Err(Error::from_raw_os_error(EISDIR));
+        }
+        let size = if found.is_file() {
+            Some(found.len())
+        } else {
+            None
+        };
         Ok((Stream::Named(file), size))
     }
 }
@@ -149,28 +158,6 @@ pub struct HostLog<'a, S> {
     ahead: &'a Cell<Ahead>,
     ended: bool,
     failures: u64,
-}
-
-/// Says what is awaited, where a terminal is read, to a person.
-fn say_awaited(rt: &HostRuntime, is_said: bool) {
-    if is_said && rt.stdin().is_terminal() {
-        let _ = rt.stderr().write_all(AWAITED);
-    }
-}
-
-/// Opens a file that isn't a folder. Returns how many bytes it has, where it can be read again.
-fn open_file(rt: &HostRuntime, path: &str) -> io::Result<(File, Option<u64>)> {
-    let file = File::open(rt, path)?;
-    let found = file.metadata()?;
-    if found.is_dir() {
-        return Err(Error::from_raw_os_error(EISDIR));
-    }
-    let size = if found.is_file() {
-        Some(found.len())
-    } else {
-        None
-    };
-    Ok((file, size))
 }
 
 /// Returns how many bytes standard input has, where it is a file.
@@ -254,7 +241,9 @@ impl<'a, S: Opens> HostLog<'a, S> {
         }
         if self.is_new {
             self.is_new = false;
-            say_awaited(self.rt, self.is_told);
+            if self.is_told && self.rt.stdin().is_terminal() {
+                let _ = self.rt.stderr().write_all(AWAITED);
+            }
             self.look(size_of_input(self.rt), STANDARD_INPUT);
         }
         let n = self.recent.fill(&mut self.stream)?;

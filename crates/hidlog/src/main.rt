@@ -4,14 +4,17 @@
 ghost use Rattle.std.specs.Prelude.{◌≡◌, ◌<◌, ◌-◌, ◌^◌, ◌⊎◌, IfErr};
 ghost use Rattle.hidlog.specs.CommandLine.{texts_of};
 ghost use Rattle.hidlog.specs.Commands.{Plays};
+ghost use Rattle.hidlog.specs.Model.{CanFail};
 
 mod command_line;
 mod commands;
 mod differing;
 mod disk;
 mod escaped;
+mod fault;
 mod files;
 mod held;
+mod host;
 mod logs;
 mod misfit;
 mod objects;
@@ -29,69 +32,72 @@ mod snapshots;
 mod streams;
 mod terminal;
 
-use command_line::{Asked, Task, task_of};
-use differing::{Wish, tell_differences};
+use differing::tell_differences;
 use disk::HostDisk;
 use escaped::Escaped;
 use files::{Files, HostFiles};
-use held::{Ahead, Held, Output};
+use held::{Ahead, HeldOutput, Output};
+use host::{Host, Modeled};
 use logs::{HostLog, Logs, ProcessLog};
 use misfit::first_reason;
-use process::{Reporting, no_memory, tell, words_of};
-use program::run;
-use remarks::{Remarks, Terminals};
+use process::{no_memory, tell, words_of};
+use program::RunOutcome;
 use screen::Screen;
-use session_log::{Target, ToWrite};
+use session_log::{LogFault, Target, ToWrite};
 use several::note_one;
 use std::alloc::Global;
 use std::cell::Cell;
-use std::io;
+use std::io::{self, Write};
 use std::process::ExitCode;
-use streams::{Faults, Noting, Told};
+use streams::Noting;
 use terminal::{audience_of, style_of, terminals_of, width_of_faults};
 
-/// Returns what more is said of a log that isn't one of several: what differs, where that is explained or all
-/// differences are wished for; and, explained, why a line of the log is none or why reading it failed and, where nothing
-/// is wrong, what may be.
-fn more_of<D: Files, L: Logs, E: Target>(
-    files: &D,
-    alloc: Global,
-    words: &[&str],
-    input: &mut L,
-    remarks: &Remarks,
-    faults: &mut Faults<E>,
-) -> Vec<u8>
-    ensures { faults.new.inner ≡ faults.old.inner }
-{
-    let mut more = Vec::new(alloc);
-    let mut target = ToWrite::new(&mut more);
-    let told = faults.difference();
-    if told.is_some() || remarks.ending.is_some() {
-        let told = told.unwrap_or(Told::new());
-        say_differences(files, alloc, words, input, remarks, &told, &mut target);
-    } else if remarks.explains {
-        say_why(alloc, input, faults, &mut target);
+impl<D: Files, L: Logs, O: Output, E: Target> Host<D, L, O, E> {
+    /// Returns what more is said of a log that isn't one of several: what differs, where that is explained or all
+    /// differences are wished for; and, explained, why a line of the log is none or why reading it failed and, where
+    /// nothing is wrong, what may be.
+    fn more_of(&mut self, outcome: &RunOutcome<'_>) -> Vec<u8>
+        ensures { self.new ≡ record self.old { input = self.new.input } }
+    {
+        let mut more = Vec::new(self.alloc);
+        let mut target = ToWrite::new(&mut more);
+        match (&outcome.wish, &outcome.ending, outcome.fault) {
+            (Some(wish), Some(ending), _) => {
+                note_one(&self.files, wish, &self.input, ending, &mut target);
+            }
+            (Some(wish), None, Some(LogFault::Differs { .. })) => {
+                let again = self.input.again();
+                tell_differences(&self.files, wish, again, outcome.fault, &mut target);
+            }
+            (_, None, Some(LogFault::BadLine(_))) if outcome.explains => {
+                if let Some(reason) = first_reason(self.alloc, self.input.lines()) {
+                    tell(&mut target, reason.as_bytes());
+                }
+            }
+            (_, None, Some(LogFault::Read(_))) if outcome.explains => {
+                if let Some(error) = self.input.failure() {
+                    say_failure(self.alloc, self.input.name(), error, &mut target);
+                }
+            }
+            _ => {}
+        }
+        more
     }
-    more
-}
 
-/// Says why a line of the log is none or why reading it failed.
-fn say_why<L: Logs, E: Target, T: Target>(
-    alloc: Global,
-    input: &L,
-    faults: &Faults<E>,
-    target: &mut T,
-)
-    requires { T.failed target.old < 2 ^ 64 - 1 }
-{
-    if faults.has_bad_line() {
-        if let Some(reason) = first_reason(alloc, input.lines()) {
-            tell(target, reason.as_bytes());
+    /// Runs the program on these words, and says more of what came of it.
+    fn play<'a>(&mut self, words: &'a [&'a str]) -> RunOutcome<'a>
+        requires { CanFail ⟦<Self as Modeled>⟧.model self.old }
+        ensures status { IfErr result.status (λ code. (code ≡ 1) ⊎ (code ≡ 2)) }
+        // What the words ask for is done. After that one text may be written to the faults, and nothing else.
+        ensures played { Plays ⟦<Self as Modeled>⟧.model (texts_of words.now) result.status self.old self.new }
+    {
+        let outcome = self.run(words);
+        if self.faults.failures() > 0 || self.output.failures() > 0 {
+            return outcome;
         }
-    } else if faults.has_failed_read() {
-        if let Some(error) = input.failure() {
-            say_failure(alloc, input.name(), error, target);
-        }
+        let more = self.more_of(&outcome);
+        tell(&mut self.faults, more.as_slice());
+        outcome
     }
 }
 
@@ -104,124 +110,59 @@ fn say_failure<T: Target>(alloc: Global, name: &str, error: &io::Error, target: 
     }
 }
 
-/// Says what differs in a log that isn't one of several; explained, where nothing does, what may be wrong all the same.
-fn say_differences<D: Files, L: Logs, T: Target>(
-    files: &D,
-    alloc: Global,
-    words: &[&str],
-    input: &mut L,
-    remarks: &Remarks,
-    told: &Told,
-    target: &mut T,
-) {
-    let Ok(
-        Asked {
-            task: Task::Check { load, all, .. },
-            ..
-        },
-    ) = task_of(alloc, words)
-    else {
-        return;
-    };
-    let explains = remarks.explains;
-    let wish = Wish::of(Reporting { alloc, explains }, load, all, remarks.width);
-    match &remarks.ending {
-        Some(ending) => note_one(files, &wish, input, ending, target),
-        None => tell_differences(files, &wish, input.again(), told.as_slice(), target),
-    }
-}
-
-/// Runs the program on these words, and says more of what came of it. An error holds the exit status.
-fn play<'a, D, L, O, E>(
-    files: &mut D,
-    alloc: Global,
+/// Runs the program on the streams and files of its process. Returns the faults, too.
+fn play_to<'a, W: Write, E: Target + Drop>(
+    rt: &HostRuntime,
     words: &'a [&'a str],
-    terminals: Terminals,
-    input: &mut L,
-    output: &mut O,
-    remarks: &mut Remarks,
-    faults: &mut Faults<E>,
-) -> Result<(), u8>
-where
-    D: Files,
-    L: Logs,
-    O: Output,
-    E: Target,
-    requires reads { L.failed input.old < 2 ^ 64 - 1 }
-    requires writes { O.failed output.old < 2 ^ 64 - 1 }
-    requires tells { E.failed faults.old.inner < 2 ^ 64 - 1 }
-    ensures status { IfErr result (λ code. (code ≡ 1) ⊎ (code ≡ 2)) }
-    // What the words ask for is done. After that one text may be written to the faults, and nothing else.
-    ensures played { Plays D.holds D.unreadable D.written D.unwritten D.unwritable L.opened L.unopenable L.left L.failed L.ended
-        O.taken O.failed O.waits ⟦<Faults<E> as Target>⟧.taken ⟦<Faults<E> as Target>⟧.failed (texts_of words.now) terminals result
-        (files.old, files.new) (input.old, input.new) (output.old, output.new) (faults.old, faults.new) }
+    writer: &mut Noting<W>,
+    mut faults: E,
+) -> (RunOutcome<'a>, E)
+    requires { E.failed faults < 2 ^ 64 - 1 }
 {
-    let ended = run(
-        files, alloc, words, terminals, input, output, remarks, faults,
-    );
-    if faults.failures() > 0 || output.failures() > 0 {
-        return ended;
-    }
-    let more = more_of(files, alloc, words, input, remarks, faults);
-    tell(faults, more.as_slice());
-    ended
-}
-
-/// Runs the program on the streams and files of its process. An error holds the exit status.
-fn play_here<E: Target>(rt: &HostRuntime, words: &[&str], faults: &mut Faults<E>) -> Result<(), u8>
-    requires { E.failed faults.old.inner < 2 ^ 64 - 1 }
-{
-    let alloc = rt.alloc();
-    let terminals = terminals_of(rt);
+    let (alloc, terminals) = (rt.alloc(), terminals_of(rt));
     let is_check = matches!(words.get(1), Some(word) if *word == "check");
     let audience = audience_of(rt, words, terminals, is_check);
     let ahead = Cell::new(Ahead::Nothing);
     let made: io::Result<ProcessLog<'_>> = HostLog::new(rt, is_check, audience, &ahead);
-    let Ok(mut input) = made else {
-        return Err(no_memory(faults));
+    let Ok(input) = made else {
+        return (RunOutcome::of(Err(no_memory(&mut faults)), false), faults);
     };
-    let mut remarks = Remarks {
-        explains: false,
-        width: width_of_faults(rt, terminals),
-        ending: None,
-    };
-    let mut writer = Noting::new(io::writer(rt));
     let style = style_of(rt, words, terminals);
-    let screen = Screen::new(alloc, ToWrite::new(&mut writer), style);
-    let ended = play(
-        &mut HostFiles(HostDisk(rt)),
-        alloc,
-        words,
-        terminals,
-        &mut input,
-        &mut Held::new(alloc, screen, &ahead),
-        &mut remarks,
+    let screen = Screen::new(alloc, ToWrite::new(writer), style);
+    let mut host = Host {
+        files: HostFiles(HostDisk(rt)),
+        input,
+        output: HeldOutput::new(alloc, screen, &ahead),
         faults,
-    );
-    if let Some(error) = writer.failure()
-        && remarks.explains
-        && faults.failures() == 0
-    {
-        say_failure(alloc, "standard output", error, faults);
-    }
-    ended
+        alloc,
+        terminals,
+        width: width_of_faults(rt, terminals),
+    };
+    let outcome = host.play(words);
+    (outcome, host.faults)
 }
 
 /// Runs the program on what its process hands to it. An error holds the exit status.
-fn start<E: Target>(rt: &HostRuntime, faults: &mut Faults<E>) -> Result<(), u8>
-    requires { E.failed faults.old.inner < 2 ^ 64 - 1 }
-{
-    let texts = words_of(rt, faults)?;
+fn start(rt: &HostRuntime) -> Result<(), u8> {
+    let mut faults = ToWrite::new(Noting::new(rt.stderr()));
+    let texts = words_of(rt, &mut faults)?;
     let words: Result<Vec<&str>, _> = texts.iter().map(|text| text.as_str()).collect(rt.alloc());
     let Ok(words) = words else {
-        return Err(no_memory(faults));
+        return Err(no_memory(&mut faults));
     };
-    play_here(rt, words.as_slice(), faults)
+    let mut writer = Noting::new(io::writer(rt));
+    let (outcome, mut faults) = play_to(rt, words.as_slice(), &mut writer, faults);
+    if let Some(error) = writer.failure()
+        && outcome.explains
+        && faults.failures() == 0
+    {
+        say_failure(rt.alloc(), "standard output", error, &mut faults);
+    }
+    outcome.status
 }
 
 fn main(rt: HostRuntime) -> ExitCode {
-    let mut faults = Faults::new(ToWrite::new(Noting::new(rt.stderr())));
-    match start(&rt, &mut faults) {
+    match start(&rt) {
         Ok(()) => ExitCode::SUCCESS,
         Err(status) => ExitCode::from(status),
     }

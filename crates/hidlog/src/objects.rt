@@ -1,11 +1,11 @@
 //! What `check` says of logs as objects of JSON (RFC 8259), one a line.
 
-use crate::differing::{Texts, Wish};
+use crate::differing::{DifferenceTexts, Wish};
+use crate::fault::ProgramFault;
 use crate::sides::members_of;
 use hid_packet::Packet;
-use session_log::{LogFault, ToWrite};
+use session_log::ToWrite;
 use session_show::{Difference, Transaction, is_hidden, put_json_fault};
-use std::alloc::Global;
 use std::fmt::{self, Display, Formatter};
 use std::io::{self, Write};
 
@@ -63,7 +63,7 @@ pub fn put_difference(
     wish: &Wish<'_>,
     difference: &Difference,
     transaction: Option<Transaction>,
-    texts: &Texts,
+    texts: &DifferenceTexts,
 ) -> io::Result<()> {
     put_front(out, "difference", wish)?;
     let (input, number, line) = (difference.input, difference.number, difference.line);
@@ -97,7 +97,7 @@ pub fn put_difference(
 }
 
 /// Writes the names of the members in which two messages differ first, that of the outermost first.
-fn put_members(out: &mut Vec<u8>, texts: &Texts) -> io::Result<()> {
+fn put_members(out: &mut Vec<u8>, texts: &DifferenceTexts) -> io::Result<()> {
     let mut front = ",\"members\":[";
     for name in members_of(&texts.logged, &texts.sent) {
         if let Ok(name) = std::str::from_utf8(name)
@@ -138,41 +138,16 @@ pub fn put_same(out: &mut Vec<u8>, wish: &Wish<'_>, text: &[u8]) -> io::Result<(
     Ok(())
 }
 
-/// Returns the fault of a log that a text says.
-fn fault_of(alloc: Global, text: &str) -> Option<LogFault> {
-    let mut words = text.split(' ');
-    let line = words.nth(2).unwrap_or("").trim_end_matches(':');
-    let line = line.parse::<u64>().unwrap_or(0);
-    let packet = words.last().unwrap_or("").trim_end();
-    let packet = packet.parse::<u64>().unwrap_or(0);
-    let faults = [
-        LogFault::Differs { line, packet },
-        LogFault::BadLine(line),
-        LogFault::TooLong(line),
-        LogFault::Read(line),
-        LogFault::TooManyLines,
-        LogFault::Write,
-    ];
-    for fault in faults {
-        let said = format!(in alloc; "hidlog: {fault}\n").ok()?;
-        if said.as_str() == text {
-            return Some(fault);
-        }
-    }
-    None
-}
-
-/// Writes what is wrong with a log, by the text that says it.
-pub fn put_fault(out: &mut Vec<u8>, wish: &Wish<'_>, text: &[u8]) -> io::Result<()> {
-    let text = std::str::from_utf8(text).unwrap_or("");
+/// Writes what is wrong with a log.
+pub fn put_fault(out: &mut Vec<u8>, wish: &Wish<'_>, fault: &ProgramFault<'_>) -> io::Result<()> {
     put_front(out, "fault", wish)?;
-    let Some(fault) = fault_of(wish.reporting.alloc, text) else {
-        let reason = text.split('\n').next().unwrap_or(text);
-        let reason = reason.strip_prefix("hidlog: ").unwrap_or(reason);
+    let ProgramFault::Log(fault) = fault else {
+        let text = std::str::from_utf8(fault.text()).unwrap_or("");
+        let reason = text.strip_prefix("hidlog: ").unwrap_or(text).trim_end();
         return writeln!(out, ",\"reason\":{}}}", Quoted(reason));
     };
     let mut object = Vec::new(wish.reporting.alloc);
-    let _ = put_json_fault(&mut ToWrite::new(&mut object), &fault);
+    let _ = put_json_fault(&mut ToWrite::new(&mut object), fault);
     out.extend_from_slice(object.strip_prefix(FAULT).unwrap_or(b"}\n"))?;
     Ok(())
 }

@@ -1,10 +1,9 @@
 //! What the program's process hands to it.
 ghost use Rattle.std.specs.Prelude.{◌≡◌, ◌<◌, ◌-◌, ◌^◌, ◌⊎◌, IfErr, OnOk, OnErr};
-ghost use Rattle.session_log.specs.Command.{status_of as status};
 ghost use Rattle.hidlog.specs.Program.{IsGiven, IsTold, no_memory as no_memory_text, not_text};
 
 use crate::escaped::Escaped;
-use session_log::{LogFault, Target, put_all, tell_fault};
+use session_log::{Target, put_all};
 use std::alloc::{AllocGlobal, Global};
 use std::env;
 use std::fmt::Display;
@@ -65,33 +64,12 @@ pub fn no_memory<E: Target>(faults: &mut E) -> u8
     2
 }
 
-/// Writes a fault of the log. The exit status, 1.
-pub fn log_fault<E: Target>(faults: &mut E, fault: &LogFault) -> u8
-    requires { E.failed faults.old < 2 ^ 64 - 1 }
-    ensures { result ≡ 1 }
-{
-    tell_fault(faults, fault);
-    1
-}
-
-/// Writes the fault of an answer, if it has one. An error holds the exit status, 1.
-pub fn status_of<E: Target>(faults: &mut E, answer: Result<(), LogFault>) -> Result<(), u8>
-    requires { E.failed faults.old < 2 ^ 64 - 1 }
-    ensures status { result ≡ status answer }
-    ensures silent { OnOk result (faults.new ≡ faults.old) }
-{
-    match answer {
-        Ok(()) => Ok(()),
-        Err(fault) => Err(log_fault(faults, &fault)),
-    }
-}
-
 fn arguments<R: Env + AllocGlobal>(rt: &R) -> io::Result<Vec<String>> {
     Ok(env::args(rt)?.collect(rt.alloc())?)
 }
 
-/// The program's arguments, the first of them its name. Where one isn't UTF-8, or memory is refused, that
-/// is written, and an error holds the exit status, 2.
+/// Returns the program's arguments, the first of them its name. Where one isn't UTF-8, or memory is refused, that is
+/// written, and an error holds the exit status, 2.
 pub fn words_of<R: Env + AllocGlobal, E: Target>(rt: &R, faults: &mut E) -> Result<Vec<String>, u8>
     requires { E.failed faults.old < 2 ^ 64 - 1 }
     ensures silent { OnOk result (faults.new ≡ faults.old) }

@@ -1,60 +1,60 @@
-//! The program over any source and targets.
-ghost use Rattle.std.specs.Prelude.{◌≡◌, ◌<◌, ◌-◌, ◌^◌, ◌⊎◌, ◌∷◌, ℕ, List, [], false, true, None, Some, Result, IfErr, IsSomeAnd, MatchOption, OnOk, OnErr, codes, option_and_then};
+//! The program over any files, log, output and faults.
+ghost use Rattle.std.specs.Prelude.{◌≡◌, ◌<◌, ◌-◌, ◌^◌, ◌⊎◌, ◌∷◌, ℕ, List, [], false, true, None, Some, Result, IfErr, OnOk, codes};
 ghost use Rattle.clap.specs.Words.{kind_of};
-ghost use Rattle.session_log.specs.Command.{IsCounted, start_with};
-ghost use Rattle.session_log.specs.Ending.{ending_of};
-ghost use Rattle.session_log.specs.Replay.{ReadsTo};
-ghost use Rattle.session_log.specs.Streams.{IsAllRead, PutsLine};
-ghost use Rattle.session_show.specs.Shown.{IsLineText, Shows, reading};
-ghost use Rattle.token_session.specs.Meters.{session_of};
-ghost use Rattle.hidlog.specs.CommandLine.{check, named, show as shown, path_of, texts_of};
-ghost use Rattle.hidlog.specs.Program.{Explains, IsGiven, IsTold, IsWhole, cannot_read_log};
+ghost use Rattle.session_log.specs.Streams.{PutsLine};
+ghost use Rattle.hidlog.specs.CommandLine.{check, show as shown, path_of, texts_of};
+ghost use Rattle.hidlog.specs.Fault.{came_of};
+ghost use Rattle.hidlog.specs.Model.{CanFail};
+ghost use Rattle.hidlog.specs.Program.{IsGiven, IsWhole};
+ghost use Rattle.session_log.specs.declared.command.LogCommand.TheVariants.{Check as comparing};
 ghost use Rattle.session_show.specs.declared.wording.Wording.TheVariants.{Fixed as fixed};
-ghost use Rattle.hidlog.specs.Commands.{Answers, Does, RunsCommand, wording_for};
+ghost use Rattle.hidlog.specs.Commands.{Answers, Does, DoesCommand, Explains, Reads, Reports, ShowsIn, ShowsLog, wording_for};
 
-use crate::command_line::{Asked, Form, Task, task_of};
-use crate::commands::{Play, play_on};
+use crate::command_line::{Form, ProgramTask, task_of};
+use crate::commands::{Play, open_log};
 use crate::differing::Wish;
 use crate::escaped::escaped_lines;
+use crate::fault::ProgramFault;
 use crate::files::Files;
-use crate::held::{Output, Texts, settled};
+use crate::held::{Output, WrittenLines, settled};
+use crate::host::{Host, Modeled};
 use crate::logs::Logs;
-use crate::process::{Reporting, WRITING_FAILED, no_memory, status_of, tell, tell_why};
-use crate::remarks::{Remarks, Terminals};
-use crate::several::check_each;
+use crate::process::{Reporting, WRITING_FAILED, no_memory, tell};
+use crate::remarks::ComparisonEnd;
 use clap::Error;
 use clap::error::ErrorKind;
-use session_log::{CAPACITY, Command, LogFault, Target, put_all};
+use session_log::{LogCommand, LogFault, Target, put_all};
 use session_show::{LogForm, LogWriter, Wording, explain, put_json_fault, show, write_log};
 use std::alloc::Global;
-use token_session::Session;
 
-/// Writes what clap answers: help to the output, what is wrong with the words to the faults. The status is 2 except for
-/// help that was written.
-fn answer_words<O: Output, E: Target>(
-    alloc: Global,
-    error: &Error,
-    output: &mut O,
-    faults: &mut E,
-) -> Result<(), u8>
-    requires writes { O.failed output.old < 2 ^ 64 - 1 }
-    requires tells { E.failed faults.old < 2 ^ 64 - 1 }
-    ensures { Explains (kind_of error.now) O.taken O.failed O.waits E.taken E.failed result (output.old, output.new)
-        (faults.old, faults.new) }
-{
-    let text = match error.to_string(alloc) {
-        Ok(text) if error.kind() != ErrorKind::OutOfMemory => text,
-        _ => return Err(no_memory(faults)),
-    };
-    if error.use_stderr() {
-        return Err(refuse_words(alloc, text.as_str(), faults));
+/// What came of the words, with what more may be said of a log that isn't one of several.
+#[derive(Drop)]
+pub struct RunOutcome<'a> {
+    /// An error holds the exit status.
+    pub status: Result<(), u8>,
+    /// Whether faults are explained.
+    pub explains: bool,
+    /// The log's fault.
+    pub fault: Option<LogFault>,
+    /// How the log ended that has none.
+    pub ending: Option<ComparisonEnd>,
+    /// How differences are said, where the log was compared.
+    pub wish: Option<Wish<'a>>,
+}
+
+impl RunOutcome<'_> {
+    /// Returns that of a status, of which no more is said.
+    pub fn of(status: Result<(), u8>, explains: bool) -> Self
+        ensures { result.status ≡ status }
+    {
+        RunOutcome {
+            status,
+            explains,
+            fault: None,
+            ending: None,
+            wish: None,
+        }
     }
-    let answer = put_text(output, text.as_bytes());
-    if settled(output, answer).is_err() {
-        tell(faults, WRITING_FAILED);
-        return Err(2);
-    }
-    Ok(())
 }
 
 /// Writes a text to the output.
@@ -79,100 +79,6 @@ fn refuse_words<E: Target>(alloc: Global, text: &str, faults: &mut E) -> u8
         Err(_) => tell(faults, b"hidlog: no memory\n"),
     }
     2
-}
-
-/// Returns the path of the log, where it isn't on standard input.
-pub fn path_in(log: Option<&str>) -> Option<&str>
-    ensures { path_of result ≡ named (path_of log.entry) }
-{
-    match log {
-        Some("-") | None => None,
-        Some(path) => Some(path),
-    }
-}
-
-/// Begins at the front of the log. Where it can't be opened, that is written, and an error holds the exit status, 1.
-pub fn open_log<L: Logs, E: Target>(
-    input: &mut L,
-    reporting: Reporting,
-    log: Option<&str>,
-    faults: &mut E,
-) -> Result<(), u8>
-    requires { E.failed faults.old < 2 ^ 64 - 1 }
-    ensures opened { OnOk result (MatchOption (named (path_of log.entry)) (input.new ≡ input.old)
-        (λ path. L.opened input.old path input.new)) }
-    ensures silent { OnOk result (faults.new ≡ faults.old) }
-    ensures status { IfErr result (λ code. code ≡ 1) }
-    ensures told { OnErr result (IsSomeAnd (named (path_of log.entry)) (L.unopenable input.old)
-        × IsTold reporting.explains E.taken E.failed (faults.old, faults.new) cannot_read_log) }
-    ensures unread { OnErr result (input.new ≡ input.old) }
-    ensures counted { L.failed input.new ≡ L.failed input.old }
-{
-    let Some(path) = path_in(log) else {
-        return Ok(());
-    };
-    match input.open(path) {
-        Ok(()) => Ok(()),
-        Err(error) => {
-            tell_why(
-                faults,
-                reporting,
-                b"hidlog: cannot read log\n",
-                path,
-                &error,
-            );
-            Err(1)
-        }
-    }
-}
-
-// A session takes 29 kB. Each command makes one in a frame of its own, and does nothing else there, so that only one is
-// on the stack at a time, and it isn't copied.
-
-/// Returns the program's session at its start, without credentials.
-// By this function it is made where its caller keeps it. Of a call of `Session::bare` in its place there is a copy.
-pub fn fresh() -> Session<CAPACITY>
-    ensures { result ≡ session_of (start_with []) [] }
-{
-    Session::bare([0; 16], 0)
-}
-
-/// Plays the log on a session of its own, as [`play_on`] does.
-#[inline(never)]
-pub fn play_log<D, L, O, E>(
-    play: &Play<'_>,
-    files: &mut D,
-    reporting: Reporting,
-    input: &mut L,
-    output: &mut O,
-    remarks: &mut Remarks,
-    faults: &mut E,
-) -> Result<(), u8>
-where
-    D: Files,
-    L: Logs,
-    O: Output,
-    E: Target,
-    requires reads { L.failed input.old < 2 ^ 64 - 1 }
-    requires writes { O.failed output.old < 2 ^ 64 - 1 }
-    requires tells { E.failed faults.old < 2 ^ 64 - 1 }
-    ensures status { IfErr result (λ code. (code ≡ 1) ⊎ (code ≡ 2)) }
-    ensures does { RunsCommand D.holds D.unreadable D.written D.unwritten D.unwritable L.opened L.unopenable L.left L.failed L.ended
-        O.taken O.failed O.waits E.taken E.failed reporting.explains
-        play.now.command (path_of play.now.load) (path_of play.now.save) (path_of play.now.log) result
-        (files.old, files.new) (input.old, input.new) (output.old, output.new) (faults.old, faults.new) }
-    ensures kept { path_of play.now.save ≡ None → files.new ≡ files.old }
-{
-    play_on(
-        &mut fresh(),
-        play,
-        files,
-        reporting,
-        input,
-        output,
-        remarks,
-        faults,
-    )
 }
 
 /// Writes the log in a form, also one with a fault, up to there. As JSON, the last object is that of the fault; what is
@@ -222,201 +128,192 @@ fn wording_of(explains: bool) -> Wording
     }
 }
 
-/// Shows the log line by line.
-fn show_lines<L: Logs, O: Target>(
+/// Shows the log in a form, line by line in words.
+fn show_in<L: Logs, O: Target>(
+    form: Form,
     wording: Wording,
     input: &mut L,
     output: &mut O,
 ) -> Result<(), LogFault>
     requires reads { L.failed input.old < 2 ^ 64 - 1 }
     requires writes { O.failed output.old < 2 ^ 64 - 1 }
-    ensures shown { Shows (IsLineText wording) (L.left input.old, L.left input.new) (O.taken output.old, O.taken output.new)
-        (ending_of result) }
-    ensures reach { ReadsTo reading tt (L.left input.old) (L.left input.new) (IsAllRead L.left L.ended input.new)
-        (ending_of result) }
-    ensures counted { IsCounted L.left L.failed L.ended O.failed result (input.old, input.new) (output.old, output.new) }
+    ensures { ShowsIn form wording L.left L.failed L.ended O.taken O.failed result (input.old, input.new)
+        (output.old, output.new) }
 {
-    match wording {
-        Wording::Fixed => show(input, output),
-        Wording::Explained => explain(input, output),
+    match (form, wording) {
+        (Form::Lines, Wording::Fixed) => show(input, output),
+        (Form::Lines, Wording::Explained) => explain(input, output),
+        (Form::Summary, _) => show_form(LogForm::Table, input, output),
+        (Form::JsonSummary, _) => show_form(LogForm::Summary, input, output),
+        (Form::Json, _) => show_form(LogForm::Objects, input, output),
     }
 }
 
-/// Shows the log.
-#[inline(never)]
-fn show_log<D, L, O, E>(
-    files: &D,
-    reporting: Reporting,
-    form: Form,
-    wording: Wording,
-    log: Option<&str>,
-    input: &mut L,
-    output: &mut O,
-    faults: &mut E,
-) -> Result<(), u8>
-where
-    D: Files,
-    L: Logs,
-    O: Output,
-    E: Target,
-    requires reads { L.failed input.old < 2 ^ 64 - 1 }
-    requires writes { O.failed output.old < 2 ^ 64 - 1 }
-    requires tells { E.failed faults.old < 2 ^ 64 - 1 }
-    ensures status { IfErr result (λ code. (code ≡ 1) ⊎ (code ≡ 2)) }
-    ensures does { Does D.holds D.unreadable D.written D.unwritten D.unwritable L.opened L.unopenable L.left L.failed L.ended
-        O.taken O.failed O.waits E.taken E.failed reporting.explains (shown form false (path_of log.entry)) wording result
-        (files.now, files.now) (input.old, input.new) (output.old, output.new) (faults.old, faults.new) }
-{
-    open_log(input, reporting, log, faults)?;
-    output.hold(Texts::OfInputs);
-    match form {
-        Form::Lines => {
-            let answer = show_lines(wording, input, output);
-            status_of(faults, settled(output, answer))
+impl<D: Files, L: Logs, O: Output, E: Target> Host<D, L, O, E> {
+    /// Writes what clap answers: help to the output, what is wrong with the words to the faults. The status is 2 except
+    /// for help that was written.
+    fn answer_words(&mut self, error: &Error) -> Result<(), u8>
+        requires { CanFail ⟦<Self as Modeled>⟧.model self.old }
+        ensures status { IfErr result (λ code. (code ≡ 1) ⊎ (code ≡ 2)) }
+        ensures explains { Explains ⟦<Self as Modeled>⟧.model (kind_of error.now) result self.old self.new }
+    {
+        let text = match error.to_string(self.alloc) {
+            Ok(text) if error.kind() != ErrorKind::OutOfMemory => text,
+            _ => return Err(no_memory(&mut self.faults)),
+        };
+        if error.use_stderr() {
+            let alloc = self.alloc;
+            return Err(refuse_words(alloc, text.as_str(), &mut self.faults));
         }
-        Form::Summary => {
-            let answer = show_form(LogForm::Table, input, output);
-            status_of(faults, settled(output, answer))
+        let answer = put_text(&mut self.output, text.as_bytes());
+        if settled(&mut self.output, answer).is_err() {
+            tell(&mut self.faults, WRITING_FAILED);
+            return Err(2);
         }
-        Form::JsonSummary => {
-            let answer = show_form(LogForm::Summary, input, output);
-            status_of(faults, settled(output, answer))
-        }
-        Form::Json => {
-            let answer = show_form(LogForm::Objects, input, output);
-            status_of(faults, settled(output, answer))
+        Ok(())
+    }
+
+    /// Shows the log.
+    #[inline(never)]
+    fn show_log<'a>(
+        &mut self,
+        form: Form,
+        wording: Wording,
+        log: Option<&'a str>,
+    ) -> Result<(), ProgramFault<'a>>
+        requires { CanFail ⟦<Self as Modeled>⟧.model self.old }
+        ensures { Reads ⟦<Self as Modeled>⟧.model (path_of log.entry)
+            (λ read. ShowsLog ⟦<Self as Modeled>⟧.model form wording (came_of result) read self.new)
+            (came_of result) self.old self.new }
+    {
+        open_log(&mut self.input, log)?;
+        self.output.hold(WrittenLines::OfInputs);
+        let answer = show_in(form, wording, &mut self.input, &mut self.output);
+        match settled(&mut self.output, answer) {
+            Ok(()) => Ok(()),
+            Err(fault) => Err(ProgramFault::Log(fault)),
         }
     }
-}
 
-/// Compares the logs at these paths, each on a session of its own. Of several it is said which is meant.
-fn check_logs<'a, D, L, O, E>(
-    files: &mut D,
-    wish: &Wish<'a>,
-    logs: &[&'a str],
-    input: &mut L,
-    output: &mut O,
-    remarks: &mut Remarks,
-    faults: &mut E,
-) -> Result<(), u8>
-where
-    D: Files,
-    L: Logs,
-    O: Output,
-    E: Target,
-    requires reads { L.failed input.old < 2 ^ 64 - 1 }
-    requires writes { O.failed output.old < 2 ^ 64 - 1 }
-    requires tells { E.failed faults.old < 2 ^ 64 - 1 }
-    ensures status { IfErr result (λ code. (code ≡ 1) ⊎ (code ≡ 2)) }
-    ensures does { Does D.holds D.unreadable D.written D.unwritten D.unwritable L.opened L.unopenable L.left L.failed L.ended
-        O.taken O.failed O.waits E.taken E.failed wish.now.reporting.explains
-        (check (path_of wish.now.load) wish.now.is_all false (texts_of logs.now)) fixed result
-        (files.old, files.new) (input.old, input.new) (output.old, output.new) (faults.old, faults.new) }
-{
-    let reporting = wish.reporting;
-    let play = Play {
-        command: Command::Check,
-        load: wish.load,
-        save: None,
-        log: None,
-    };
-    match logs {
-        [] => play_log(&play, files, reporting, input, output, remarks, faults),
-        [log] => {
-            let named = Play {
-                log: Some(*log),
-                ..play
-            };
-            play_log(&named, files, reporting, input, output, remarks, faults)
+    /// Reports what the work on a log came to.
+    fn conclude<'a, A>(
+        &mut self,
+        came: &Result<A, ProgramFault<'_>>,
+        explains: bool,
+    ) -> RunOutcome<'a>
+        requires { E.failed self.old.faults < 2 ^ 64 - 1 }
+        ensures status { IfErr result.status (λ code. (code ≡ 1) ⊎ (code ≡ 2)) }
+        ensures reports { Reports ⟦<Self as Modeled>⟧.model explains (came_of came.now) result.status self.old self.new }
+    {
+        let Err(fault) = came else {
+            return RunOutcome::of(Ok(()), explains);
+        };
+        self.tell(fault, explains);
+        let mut outcome = RunOutcome::of(Err(fault.status()), explains);
+        if let ProgramFault::Log(fault) = fault {
+            outcome.fault = Some(*fault);
         }
-        _ => check_each(files, wish, logs, input, output, remarks, faults),
+        outcome
     }
-}
 
-/// Compares the logs at these paths, or that on standard input where there is none, and says as JSON what differs.
-fn check_as_json<'a, D, L, O, E>(
-    files: &mut D,
-    wish: &Wish<'a>,
-    logs: &[&'a str],
-    input: &mut L,
-    output: &mut O,
-    remarks: &mut Remarks,
-    faults: &mut E,
-) -> Result<(), u8>
-where
-    D: Files,
-    L: Logs,
-    O: Output,
-    E: Target,
-    ensures status { IfErr result (λ code. (code ≡ 1) ⊎ (code ≡ 2)) }
-    ensures does { Does D.holds D.unreadable D.written D.unwritten D.unwritable L.opened L.unopenable L.left L.failed L.ended
-        O.taken O.failed O.waits E.taken E.failed wish.now.reporting.explains
-        (check (path_of wish.now.load) wish.now.is_all true (texts_of logs.now)) fixed result
-        (files.old, files.new) (input.old, input.new) (output.old, output.new) (faults.old, faults.new) }
-{
-    let wish = Wish {
-        is_json: true,
-        ..*wish
-    };
-    match logs {
-        [] => check_each(files, &wish, &["-"], input, output, remarks, faults),
-        _ => check_each(files, &wish, logs, input, output, remarks, faults),
+    /// Plays a log, and reports what that came to.
+    fn run_command<'a>(&mut self, play: &Play<'_>, explains: bool) -> RunOutcome<'a>
+        requires { CanFail ⟦<Self as Modeled>⟧.model self.old }
+        ensures status { IfErr result.status (λ code. (code ≡ 1) ⊎ (code ≡ 2)) }
+        ensures does { DoesCommand ⟦<Self as Modeled>⟧.model play.now.command (path_of play.now.load) (path_of play.now.save)
+            (path_of play.now.log) explains result.status self.old self.new }
+    {
+        let came = self.play_log(play);
+        let mut outcome = self.conclude(&came, explains);
+        outcome.ending = came.ok();
+        outcome
     }
-}
 
-/// Runs the program on these words, the first of them being its own name. An error holds the exit status: 1
-/// for a fault of the log, 2 for words that are no command, for a snapshot's file, and for refused memory
-/// outside the log. Its text was given to `faults`, if that could be. The remarks have whether faults are explained.
-pub fn run<'a, D, L, O, E>(
-    files: &mut D,
-    alloc: Global,
-    words: &'a [&'a str],
-    terminals: Terminals,
-    input: &mut L,
-    output: &mut O,
-    remarks: &mut Remarks,
-    faults: &mut E,
-) -> Result<(), u8>
-where
-    D: Files,
-    L: Logs,
-    O: Output,
-    E: Target,
-    requires reads { L.failed input.old < 2 ^ 64 - 1 }
-    requires writes { O.failed output.old < 2 ^ 64 - 1 }
-    requires tells { E.failed faults.old < 2 ^ 64 - 1 }
-    ensures status { IfErr result (λ code. (code ≡ 1) ⊎ (code ≡ 2)) }
-    // What the words ask for is done.
-    ensures answered { Answers D.holds D.unreadable D.written D.unwritten D.unwritable L.opened L.unopenable L.left L.failed L.ended
-        O.taken O.failed O.waits E.taken E.failed (texts_of words.now) terminals result
-        (files.old, files.new) (input.old, input.new) (output.old, output.new) (faults.old, faults.new) }
-{
-    let asked = match task_of(alloc, words) {
-        Ok(asked) => asked,
-        Err(error) => return answer_words(alloc, &error, output, faults),
-    };
-    let explains = asked.manner.explains(terminals.faults);
-    remarks.explains = explains;
-    let reporting = Reporting { alloc, explains };
-    match asked.task {
-        Task::Play(play) => play_log(&play, files, reporting, input, output, remarks, faults),
-        Task::Check {
-            load,
-            all,
-            json,
-            logs,
-        } => {
-            let wish = Wish::of(reporting, load, all, remarks.width);
-            if json {
-                check_as_json(files, &wish, &logs, input, output, remarks, faults)
-            } else {
-                check_logs(files, &wish, &logs, input, output, remarks, faults)
+    /// Compares the log at a path, or that on standard input.
+    fn check_log<'a>(&mut self, wish: Wish<'a>, log: Option<&'a str>) -> RunOutcome<'a>
+        requires { CanFail ⟦<Self as Modeled>⟧.model self.old }
+        ensures status { IfErr result.status (λ code. (code ≡ 1) ⊎ (code ≡ 2)) }
+        ensures does { DoesCommand ⟦<Self as Modeled>⟧.model comparing (path_of wish.entry.load) None (path_of log.entry)
+            wish.entry.reporting.explains result.status self.old self.new }
+    {
+        let play = Play {
+            command: LogCommand::Check,
+            load: wish.load,
+            save: None,
+            log,
+        };
+        let mut outcome = self.run_command(&play, wish.reporting.explains);
+        outcome.wish = Some(wish);
+        outcome
+    }
+
+    /// Compares the logs at these paths. Of several it is said which is meant.
+    fn check_logs<'a>(&mut self, wish: Wish<'a>, logs: &[&'a str]) -> RunOutcome<'a>
+        requires { CanFail ⟦<Self as Modeled>⟧.model self.old }
+        ensures status { IfErr result.status (λ code. (code ≡ 1) ⊎ (code ≡ 2)) }
+        ensures does { Does ⟦<Self as Modeled>⟧.model (check (path_of wish.entry.load) wish.entry.is_all false (texts_of logs.now))
+            fixed wish.entry.reporting.explains result.status self.old self.new }
+    {
+        match logs {
+            [] => self.check_log(wish, None),
+            [log] => self.check_log(wish, Some(*log)),
+            _ => RunOutcome::of(self.check_each(&wish, logs), wish.reporting.explains),
+        }
+    }
+
+    /// Compares the logs at these paths, or that on standard input where there is none, and says as JSON what differs.
+    fn check_as_json<'a>(&mut self, wish: &Wish<'_>, logs: &[&str]) -> RunOutcome<'a>
+        ensures status { IfErr result.status (λ code. (code ≡ 1) ⊎ (code ≡ 2)) }
+        ensures does { Does ⟦<Self as Modeled>⟧.model (check (path_of wish.now.load) wish.now.is_all true (texts_of logs.now))
+            fixed wish.now.reporting.explains result.status self.old self.new }
+    {
+        let explains = wish.reporting.explains;
+        let wish = Wish {
+            is_json: true,
+            ..*wish
+        };
+        match logs {
+            [] => RunOutcome::of(self.check_each(&wish, &["-"]), explains),
+            _ => RunOutcome::of(self.check_each(&wish, logs), explains),
+        }
+    }
+
+    /// Runs the program on these words, the first of them being its own name. The exit status is 1 for a fault of the
+    /// log, 2 for words that are no command, for a snapshot's file, and for refused memory outside the log. Its text was
+    /// given to the faults, if that could be.
+    pub fn run<'a>(&mut self, words: &'a [&'a str]) -> RunOutcome<'a>
+        requires { CanFail ⟦<Self as Modeled>⟧.model self.old }
+        ensures status { IfErr result.status (λ code. (code ≡ 1) ⊎ (code ≡ 2)) }
+        // What the words ask for is done.
+        ensures answered { Answers ⟦<Self as Modeled>⟧.model (texts_of words.now) result.status self.old self.new }
+    {
+        let alloc = self.alloc;
+        let asked = match task_of(alloc, words) {
+            Ok(asked) => asked,
+            Err(error) => return RunOutcome::of(self.answer_words(&error), false),
+        };
+        let explains = asked.manner.explains(self.terminals.faults);
+        match asked.task {
+            ProgramTask::Play(play) => self.run_command(&play, explains),
+            ProgramTask::Check {
+                load,
+                all,
+                json,
+                logs,
+            } => {
+                let wish = Wish::of(Reporting { alloc, explains }, load, all, self.width);
+                if json {
+                    self.check_as_json(&wish, &logs)
+                } else {
+                    self.check_logs(wish, &logs)
+                }
             }
-        }
-        // Whether lines are whole is a matter of the output.
-        Task::Show { form, wide: _, log } => {
-            let wording = wording_of(asked.manner.explains(terminals.output));
-            show_log(files, reporting, form, wording, log, input, output, faults)
+            // Whether lines are whole is a matter of the output.
+            ProgramTask::Show { form, wide: _, log } => {
+                let wording = wording_of(asked.manner.explains(self.terminals.output));
+                let came = self.show_log(form, wording, log);
+                self.conclude(&came, explains)
+            }
         }
     }
 }

@@ -1,7 +1,7 @@
 //! What is said beside the result of `check`.
 use crate::differing::{Wish, say_note};
 use crate::seen::Seen;
-use session_log::{CAPACITY, Command, Target};
+use session_log::{CAPACITY, Target};
 use session_show::Awaited;
 use std::alloc::{AllocError, Global};
 use std::fmt::Write;
@@ -9,7 +9,7 @@ use token_session::Session;
 
 /// What a session holds and waits for at the end of a log.
 #[derive(Clone, Copy)]
-pub struct Ending {
+pub struct ComparisonEnd {
     /// What the key needs of its caller.
     awaited: Option<Awaited>,
     /// How many bytes of an open message it holds.
@@ -21,12 +21,12 @@ pub struct Ending {
 /// The most bytes of a log that is read once more to see whether what was signed is what the key asks for.
 const READ_AGAIN_AT_MOST: u64 = 1 << 26;
 
-impl Ending {
+impl ComparisonEnd {
     /// Returns that of a session.
     pub fn of(session: &Session<CAPACITY>) -> Self {
         let need = session.need();
         let awaited = Awaited::of(&need);
-        Ending {
+        ComparisonEnd {
             awaited,
             held: session.held(),
             has_served: session.meters().requests > 0,
@@ -39,37 +39,8 @@ impl Ending {
     }
 }
 
-/// Which of the program's streams are terminals.
-#[derive(Clone, Copy)]
-pub struct Terminals {
-    /// Standard output.
-    pub output: bool,
-    /// Standard error.
-    pub faults: bool,
-}
-
-/// What is said beside a result, and where.
-#[derive(Clone, Copy)]
-pub struct Remarks {
-    /// Whether faults are explained, and notes are said.
-    pub explains: bool,
-    /// The columns of the terminal that faults are written to; none where they go elsewhere.
-    pub width: Option<usize>,
-    /// How the log ended in which nothing differs and of which nothing was said yet.
-    pub ending: Option<Ending>,
-}
-
-impl Remarks {
-    /// Looks at the session after a log without a fault that a command played.
-    pub fn look(&mut self, command: Command, session: &Session<CAPACITY>) {
-        if command == Command::Check {
-            self.ending = Some(Ending::of(session));
-        }
-    }
-}
-
 /// Returns what may be wrong with a log in which nothing differs: a line for each.
-fn notes(alloc: Global, seen: &Seen, ending: &Ending) -> Result<String, AllocError> {
+fn notes(alloc: Global, seen: &Seen, ending: &ComparisonEnd) -> Result<String, AllocError> {
     let mut text = String::new(alloc);
     if seen.len == 0 {
         writeln!(text, "the log is empty")?;
@@ -97,7 +68,7 @@ fn notes(alloc: Global, seen: &Seen, ending: &Ending) -> Result<String, AllocErr
 }
 
 /// Says what may be wrong with a log in which nothing differs. Where memory is refused, nothing is said.
-pub fn note<E: Target>(wish: &Wish<'_>, seen: &Seen, ending: &Ending, faults: &mut E) {
+pub fn note<E: Target>(wish: &Wish<'_>, seen: &Seen, ending: &ComparisonEnd, faults: &mut E) {
     if let Ok(notes) = notes(wish.reporting.alloc, seen, ending) {
         for text in notes.as_str().lines() {
             say_note(wish, text, faults);

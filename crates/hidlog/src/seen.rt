@@ -48,11 +48,6 @@ impl Seen {
             self.ends_line = *last == b'\n';
         }
         self.len = self.len.saturating_add(bytes.len() as u64);
-        self.keep_more(bytes);
-    }
-
-    /// Keeps some more bytes, unless there are too many.
-    fn keep_more(&mut self, bytes: &[u8]) {
         let Some(kept) = &mut self.kept else {
             return;
         };

@@ -1,26 +1,29 @@
 //! Several logs that are compared, one after the other.
-ghost use Rattle.std.specs.Prelude.{◌≡◌, ◌<◌, ◌-◌, ◌^◌, ◌⊎◌, Some, IfErr, MatchOption, OnOk};
+ghost use Rattle.std.specs.Prelude.{◌≡◌, ◌<◌, ◌-◌, ◌^◌, ◌⊎◌, [], Some, IfErr, MatchOption, OnOk};
+ghost use Rattle.session_log.specs.Command.{start_with};
+ghost use Rattle.token_session.specs.Meters.{session_of};
 ghost use Rattle.hidlog.specs.CommandLine.{named, path_of, texts_of};
-ghost use Rattle.hidlog.specs.Several.{AreSame, IsSameAt};
+ghost use Rattle.hidlog.specs.Commands.{Compares};
+ghost use Rattle.hidlog.specs.Model.{CanFail};
+ghost use Rattle.hidlog.specs.Several.{IsSameAt};
 
-use crate::commands::Play;
+use crate::commands::{fresh, open_log};
 use crate::differing::{Wish, tell_differences};
 use crate::escaped::Escaped;
+use crate::fault::ProgramFault;
 use crate::files::Files;
+use crate::held::Output;
+use crate::host::{Host, Modeled};
 use crate::logs::Logs;
 use crate::misfit::first_reason;
 use crate::objects::{put_fault, put_same};
-use crate::process::{Reporting, WRITING_FAILED, tell};
-use crate::program::play_log;
-use crate::remarks::{Ending, Remarks, note};
-use crate::streams::is_difference;
-use session_log::{Command, Failed, Target, ToWrite, put_all};
-use std::alloc::Global;
-
-/// The front of a fault's text that names a line. The log's path comes in place of the program's name.
-const FAULT: &[u8] = b"hidlog: line ";
-
-const OWN_NAME: &[u8] = b"hidlog: ";
+use crate::process::{WRITING_FAILED, tell};
+use crate::remarks::{ComparisonEnd, note};
+use crate::snapshots::load;
+use arrayvec::ArrayVec;
+use session_log::{CAPACITY, Failed, LogCommand, LogFault, Target, ToWrite, put_all};
+use std::io::Write;
+use token_session::Session;
 
 /// Writes what is said of a log, its name in front.
 fn put_about<T: Target>(target: &mut T, name: &str, text: &[u8]) -> Result<(), Failed>
@@ -30,42 +33,6 @@ fn put_about<T: Target>(target: &mut T, name: &str, text: &[u8]) -> Result<(), F
     put_all(target, name.as_bytes())?;
     put_all(target, b": ")?;
     put_all(target, text)
-}
-
-/// Writes the fault of a log of this name and, where it is explained, what more is known of it.
-fn tell_of<L: Logs, E: Target>(
-    faults: &mut E,
-    reporting: Reporting,
-    name: &str,
-    input: &L,
-    text: &[u8],
-)
-    requires { E.failed faults.old < 2 ^ 64 - 1 }
-{
-    if !text.starts_with(FAULT) {
-        tell(faults, text);
-        return;
-    }
-    let is_put = put_about(faults, name, text.split_at(OWN_NAME.len()).1).is_ok();
-    if !is_put || !reporting.explains {
-        return;
-    }
-    let more = if text.ends_with(b": not a log line\n") {
-        first_reason(reporting.alloc, input.lines())
-    } else if is_difference(text) {
-        None
-    } else {
-        reading_failed(reporting.alloc, input)
-    };
-    if let Some(more) = more {
-        tell(faults, more.as_bytes());
-    }
-}
-
-/// Returns why reading failed, where it did.
-fn reading_failed<L: Logs>(alloc: Global, input: &L) -> Option<String> {
-    let error = input.failure()?;
-    format!(in alloc; "  {error}\n").ok()
 }
 
 /// Begins with standard input, where the path names that. A file is opened later.
@@ -78,109 +45,12 @@ fn begin_with<L: Logs>(input: &mut L, path: &str)
     }
 }
 
-/// Compares one of several logs, and says what came of it with its path in front.
-fn check_one<'a, D, L, O, E>(
-    files: &mut D,
-    wish: &Wish<'a>,
-    path: &'a str,
-    input: &mut L,
-    output: &mut O,
-    remarks: &mut Remarks,
-    faults: &mut E,
-) -> Result<(), u8>
-where
-    D: Files,
-    L: Logs,
-    O: Target,
-    E: Target,
-    requires reads { L.failed input.old < 2 ^ 64 - 1 }
-    requires writes { O.failed output.old < 2 ^ 64 - 1 }
-    requires tells { E.failed faults.old < 2 ^ 64 - 1 }
-    ensures status { IfErr result (λ code. (code ≡ 1) ⊎ (code ≡ 2)) }
-    ensures kept { files.new ≡ files.old }
-    ensures same { OnOk result (IsSameAt D.holds L.opened L.left L.ended (path_of wish.now.load) files.old path.now
-        (input.old, input.new)) }
-{
-    let alloc = wish.reporting.alloc;
-    begin_with(input, path);
-    let (mut same, mut told) = (Vec::new(alloc), Vec::new(alloc));
-    let play = Play {
-        command: Command::Check,
-        load: wish.load,
-        save: None,
-        log: Some(path),
-    };
-    let ended = play_log(
-        &play,
-        files,
-        wish.reporting,
-        input,
-        &mut ToWrite::new(&mut same),
-        remarks,
-        &mut ToWrite::new(&mut told),
-    );
-    if ended.is_err() {
-        say_wrong(files, wish, input, &told, output, faults);
-    } else if say_same(output, wish, &same).is_err() {
-        if faults.failures() < u64::MAX {
-            tell(faults, WRITING_FAILED);
-        }
-        return Err(1);
-    }
-    ended
-}
-
-/// Writes that nothing differs in a log, by the text that says it.
-fn say_same<O: Target>(output: &mut O, wish: &Wish<'_>, same: &[u8]) -> Result<(), Failed>
-    requires { O.failed output.old < 2 ^ 64 - 1 }
-{
-    if !wish.is_json {
-        return put_about(output, wish.name, same);
-    }
-    let mut object = Vec::new(wish.reporting.alloc);
-    match put_same(&mut object, wish, same) {
-        Ok(()) => put_all(output, &object),
-        Err(_) => Err(Failed),
-    }
-}
-
-/// Says what is wrong with a log by the text that says it, and what differs; as objects, where these are wished for.
-fn say_wrong<D: Files, L: Logs, O: Target, E: Target>(
-    files: &D,
-    wish: &Wish<'_>,
-    input: &mut L,
-    told: &[u8],
-    output: &mut O,
-    faults: &mut E,
-)
-    requires { E.failed faults.old < 2 ^ 64 - 1 }
-{
-    tell_of(faults, wish.reporting, wish.name, input, told);
-    let is_difference = is_difference(told);
-    if !wish.is_json {
-        if is_difference {
-            tell_differences(files, wish, input.again(), told, faults);
-        }
-        return;
-    }
-    if is_difference {
-        tell_differences(files, wish, input.again(), told, output);
-    }
-    let mut object = Vec::new(wish.reporting.alloc);
-    if put_fault(&mut object, wish, told).is_ok() && output.failures() < u64::MAX {
-        tell(output, &object);
-    }
-    if output.failures() > 0 && faults.failures() < u64::MAX {
-        tell(faults, WRITING_FAILED);
-    }
-}
-
 /// Says what may be wrong with a log in which nothing differs, where that is explained or JSON is wished for.
 pub fn note_one<D: Files, L: Logs, E: Target>(
     files: &D,
     wish: &Wish<'_>,
     input: &L,
-    ending: &Ending,
+    ending: &ComparisonEnd,
     faults: &mut E,
 ) {
     if !wish.reporting.explains && !wish.is_json {
@@ -192,60 +62,217 @@ pub fn note_one<D: Files, L: Logs, E: Target>(
             is_same: true,
             ..*wish
         };
-        tell_differences(files, &same, input.reread(), b"", faults);
+        tell_differences(files, &same, input.reread(), None, faults);
     }
 }
 
-/// Compares each log at these paths, on a session of its own. An error holds the exit status, 1 where any of them
-/// differs or has a fault. After a snapshot that can't be loaded no further log is read.
-pub fn check_each<D, L, O, E>(
-    files: &mut D,
-    wished: &Wish<'_>,
-    paths: &[&str],
-    input: &mut L,
-    output: &mut O,
-    remarks: &mut Remarks,
-    faults: &mut E,
-) -> Result<(), u8>
-where
-    D: Files,
-    L: Logs,
-    O: Target,
-    E: Target,
-    ensures status { IfErr result (λ code. (code ≡ 1) ⊎ (code ≡ 2)) }
-    ensures kept { files.new ≡ files.old }
-    ensures same { OnOk result (AreSame D.holds L.opened L.left L.ended (path_of wished.now.load) files.old (texts_of paths.now)
-        (input.old, input.new)) }
-{
-    let mut has_failed = false;
-    for path in paths {
-        let is_spent = input.failures() == u64::MAX || faults.failures() == u64::MAX;
-        if is_spent || output.failures() > 0 {
-            return Err(1);
-        }
-        let shown = format!(in wished.reporting.alloc; "{}", Escaped(path)).ok();
-        let name = match &shown {
-            Some(text) => text.as_str(),
-            None => "a log",
-        };
-        let is_one = paths.len() == 1;
-        let wish = Wish {
-            name: if is_one { wished.name } else { name },
-            path: if is_one { None } else { Some(*path) },
-            ..*wished
-        };
-        let one = check_one(files, &wish, path, input, output, remarks, faults);
-        if let Some(ending) = remarks.ending.take() {
-            if wish.is_json {
-                note_one(files, &wish, input, &ending, output);
-            } else {
-                note_one(files, &wish, input, &ending, faults);
-            }
-        }
-        has_failed = has_failed || one.is_err();
-        if one == Err(2) {
-            return Err(2);
+impl<D: Files, L: Logs, O: Output, E: Target> Host<D, L, O, E> {
+    /// Compares the log at a path on a session of its own. What is said of one where nothing differs is written to `same`.
+    /// Returns how the log ended.
+    #[inline(never)]
+    fn compare<'a>(
+        &mut self,
+        wish: &Wish<'a>,
+        path: &'a str,
+        same: &mut Vec<u8>,
+    ) -> Result<ComparisonEnd, ProgramFault<'a>>
+        requires { L.failed self.old.input < 2 ^ 64 - 1 }
+        ensures only { self.new ≡ record self.old { input = self.new.input } }
+        ensures same { OnOk result (IsSameAt ⟦<Self as Modeled>⟧.model (path_of wish.now.load) self.old.files path.now
+            (self.old.input, self.new.input)) }
+    {
+        self.compare_on(&mut fresh(), wish, path, same)
+    }
+
+    /// Compares the log at a path on a session, as [`Host::compare`] does.
+    #[inline(never)]
+    fn compare_on<'a>(
+        &mut self,
+        session: &mut Session<CAPACITY>,
+        wish: &Wish<'a>,
+        path: &'a str,
+        same: &mut Vec<u8>,
+    ) -> Result<ComparisonEnd, ProgramFault<'a>>
+        requires fresh { session.old ≡ session_of (start_with []) [] }
+        requires reads { L.failed self.old.input < 2 ^ 64 - 1 }
+        ensures only { self.new ≡ record self.old { input = self.new.input } }
+        ensures same { OnOk result (IsSameAt ⟦<Self as Modeled>⟧.model (path_of wish.now.load) self.old.files path.now
+            (self.old.input, self.new.input)) }
+    {
+        begin_with(&mut self.input, path);
+        open_log(&mut self.input, Some(path))?;
+        load(session, &self.files, wish.load)?;
+        let mut writer = ToWrite::new(&mut *same);
+        match LogCommand::Check.play(session, &mut self.input, &mut writer) {
+            Ok(()) => Ok(ComparisonEnd::of(session)),
+            Err(fault) => Err(ProgramFault::Log(fault)),
         }
     }
-    if has_failed { Err(1) } else { Ok(()) }
+
+    /// Writes that nothing differs in a log, by the text that says it. An error holds the exit status.
+    fn say_same(&mut self, wish: &Wish<'_>, same: &[u8]) -> Result<(), u8>
+        requires { O.failed self.old.output < 2 ^ 64 - 1 }
+        ensures status { IfErr result (λ code. code ≡ 1) }
+        ensures files { self.new.files ≡ self.old.files }
+        ensures input { self.new.input ≡ self.old.input }
+    {
+        let mut object = Vec::new(self.alloc);
+        let said = if !wish.is_json {
+            put_about(&mut self.output, wish.name, same)
+        } else if put_same(&mut object, wish, same).is_ok() {
+            put_all(&mut self.output, &object)
+        } else {
+            Err(Failed)
+        };
+        if said.is_ok() {
+            return Ok(());
+        }
+        self.say_unwritten();
+        Err(1)
+    }
+
+    /// Says what may be wrong with a log in which nothing differs; as objects, where these are wished for.
+    fn say_notes(&mut self, wish: &Wish<'_>, ending: &ComparisonEnd)
+        ensures files { self.new.files ≡ self.old.files }
+        ensures input { self.new.input ≡ self.old.input }
+    {
+        if wish.is_json {
+            note_one(&self.files, wish, &self.input, ending, &mut self.output);
+        } else {
+            note_one(&self.files, wish, &self.input, ending, &mut self.faults);
+        }
+    }
+
+    /// Says that writing the result failed, unless too many writes of faults did.
+    fn say_unwritten(&mut self)
+        ensures { self.new ≡ record self.old { faults = self.new.faults } }
+    {
+        if self.faults.failures() < u64::MAX {
+            tell(&mut self.faults, WRITING_FAILED);
+        }
+    }
+
+    /// Writes the fault of a log of this name and, where it is explained, what more is known of it.
+    fn tell_named(&mut self, wish: &Wish<'_>, fault: &ProgramFault<'_>)
+        requires { E.failed self.old.faults < 2 ^ 64 - 1 }
+        ensures { self.new ≡ record self.old { faults = self.new.faults } }
+    {
+        let (explains, alloc) = (wish.reporting.explains, self.alloc);
+        let fault = match fault {
+            // The others name no line.
+            ProgramFault::Log(fault)
+                if !matches!(fault, LogFault::Write | LogFault::TooManyLines) => { *fault }
+            _ => {
+                self.tell(fault, explains);
+                return;
+            }
+        };
+        let mut text = ArrayVec::<u8, 96>::new();
+        let _ = writeln!(text, "{fault}");
+        let is_put = put_about(&mut self.faults, wish.name, text.as_slice()).is_ok();
+        if !is_put || !explains {
+            return;
+        }
+        let more = match fault {
+            LogFault::BadLine(_) => first_reason(alloc, self.input.lines()),
+            LogFault::Read(_) => {
+                match self.input.failure() {
+                    Some(error) => format!(in alloc; "  {error}\n").ok(),
+                    None => None,
+                }
+            }
+            _ => None,
+        };
+        if let Some(more) = more {
+            tell(&mut self.faults, more.as_bytes());
+        }
+    }
+
+    /// Says what is wrong with a log, and what differs; as objects, where these are wished for.
+    fn say_wrong(&mut self, wish: &Wish<'_>, fault: &ProgramFault<'_>)
+        requires { E.failed self.old.faults < 2 ^ 64 - 1 }
+        ensures { self.new.files ≡ self.old.files }
+    {
+        self.tell_named(wish, fault);
+        let difference = match fault {
+            ProgramFault::Log(LogFault::Differs { line, packet }) => Some(LogFault::Differs {
+                line: *line,
+                packet: *packet,
+            }),
+            _ => None,
+        };
+        if !wish.is_json {
+            if difference.is_some() {
+                let again = self.input.again();
+                tell_differences(&self.files, wish, again, difference, &mut self.faults);
+            }
+            return;
+        }
+        if difference.is_some() {
+            let again = self.input.again();
+            tell_differences(&self.files, wish, again, difference, &mut self.output);
+        }
+        let mut object = Vec::new(self.alloc);
+        if put_fault(&mut object, wish, fault).is_ok() && self.output.failures() < u64::MAX {
+            tell(&mut self.output, &object);
+        }
+        if self.output.failures() > 0 {
+            self.say_unwritten();
+        }
+    }
+
+    /// Compares one of several logs, and says what came of it with its path in front. An error holds the exit status.
+    fn check_one<'a>(&mut self, wish: &Wish<'a>, path: &'a str) -> Result<(), u8>
+        requires { CanFail ⟦<Self as Modeled>⟧.model self.old }
+        ensures status { IfErr result (λ code. (code ≡ 1) ⊎ (code ≡ 2)) }
+        ensures kept { self.new.files ≡ self.old.files }
+        ensures same { OnOk result (IsSameAt ⟦<Self as Modeled>⟧.model (path_of wish.now.load) self.old.files path.now
+            (self.old.input, self.new.input)) }
+    {
+        let mut same = Vec::new(self.alloc);
+        match self.compare(wish, path, &mut same) {
+            Ok(ending) => {
+                let said = self.say_same(wish, &same);
+                self.say_notes(wish, &ending);
+                said
+            }
+            Err(fault) => {
+                self.say_wrong(wish, &fault);
+                Err(fault.status())
+            }
+        }
+    }
+
+    /// Compares each log at these paths, on a session of its own. An error holds the exit status, 1 where any of them
+    /// differs or has a fault. After a snapshot that can't be loaded no further log is read.
+    pub fn check_each(&mut self, wished: &Wish<'_>, paths: &[&str]) -> Result<(), u8>
+        ensures status { IfErr result (λ code. (code ≡ 1) ⊎ (code ≡ 2)) }
+        ensures compares { Compares ⟦<Self as Modeled>⟧.model (path_of wished.now.load) (texts_of paths.now) result
+            self.old self.new }
+    {
+        let mut has_failed = false;
+        for path in paths {
+            let is_spent = self.input.failures() == u64::MAX || self.faults.failures() == u64::MAX;
+            if is_spent || self.output.failures() > 0 {
+                return Err(1);
+            }
+            let shown = format!(in self.alloc; "{}", Escaped(path)).ok();
+            let name = match &shown {
+                Some(text) => text.as_str(),
+                None => "a log",
+            };
+            let is_one = paths.len() == 1;
+            let wish = Wish {
+                name: if is_one { wished.name } else { name },
+                path: if is_one { None } else { Some(*path) },
+                ..*wished
+            };
+            let one = self.check_one(&wish, path);
+            has_failed = has_failed || one.is_err();
+            if one == Err(2) {
+                return Err(2);
+            }
+        }
+        if has_failed { Err(1) } else { Ok(()) }
+    }
 }

@@ -1,7 +1,7 @@
 //! The terminal of the program's process.
-use crate::command_line::{Asked, Form, Manner, Task, task_of};
+use crate::command_line::{Form, Invocation, Manner, ProgramTask, task_of};
+use crate::host::Terminals;
 use crate::logs::Audience;
-use crate::remarks::Terminals;
 use crate::screen::Style;
 use std::env;
 use std::io::IsTerminal;
@@ -49,8 +49,8 @@ pub fn style_of(rt: &HostRuntime, words: &[&str], terminals: Terminals) -> Optio
     }
     match task_of(rt.alloc(), words) {
         Ok(
-            Asked {
-                task: Task::Show {
+            Invocation {
+                task: ProgramTask::Show {
                     form: Form::Lines | Form::Summary,
                     wide,
                     ..
@@ -74,18 +74,6 @@ pub fn width_of_faults(rt: &HostRuntime, terminals: Terminals) -> Option<usize> 
     }
 }
 
-/// Returns whether something is said meanwhile: where faults are explained.
-fn is_told(rt: &HostRuntime, words: &[&str], terminals: Terminals) -> bool {
-    // Else nothing is said meanwhile, and the words need not be understood.
-    if !terminals.faults && !rt.stdin().is_terminal() {
-        return false;
-    }
-    match task_of(rt.alloc(), words) {
-        Ok(asked) => asked.manner.explains(terminals.faults),
-        Err(_) => false,
-    }
-}
-
 /// Returns what is said of a log while it is read: what is awaited and, at a terminal to which nothing else is written
 /// meanwhile, how much of a long one was read.
 pub fn audience_of(
@@ -94,7 +82,16 @@ pub fn audience_of(
     terminals: Terminals,
     is_check: bool,
 ) -> Audience {
-    let is_told = is_told(rt, words, terminals);
+    // Else nothing is said meanwhile, and the words need not be understood.
+    let asked = if terminals.faults || rt.stdin().is_terminal() {
+        task_of(rt.alloc(), words).ok()
+    } else {
+        None
+    };
+    let is_told = match asked {
+        Some(asked) => asked.manner.explains(terminals.faults),
+        None => false,
+    };
     Audience {
         is_told,
         sees_progress: is_told && terminals.faults && (is_check || !terminals.output),

@@ -4,29 +4,35 @@ use Rattle.std.proofs.lemmas.Int.{to_z_pos}
 use Rattle.std.proofs.lemmas.List.{drop-append-le}
 use Rattle.session_log.specs.declared.fault.LogFault.{LogFault}
 use Rattle.token_session.specs.Meters.{SessionState}
-use Rattle.hidlog_c.specs.declared.outcome.Outcome.{Outcome}
+use Rattle.hidlog_c.specs.declared.outcome.CallOutcome.{CallOutcome}
 use Rattle.hidlog_c.specs.Changed.{SavesLen}
 use Rattle.hidlog_c.specs.Key.{DeviceState}
 use Rattle.hidlog_c.specs.Lines.{ArePlayed, PlaysOn}
 use Rattle.hidlog_c.specs.Numbers.{outcome_of}
 
 -- the status of an outcome is a small number
-status_small : (answer : Result (Unit {0}) LogFault) (outcome : Outcome) (written : ℕ) → outcome ≡ outcome_of answer written → outcome.status ≤ 1
-status_small (Ok x) outcome written is = let e = ap (λ (o : Outcome). o.status) is in omega (arith, e)
-status_small (Err f) outcome written is = let e = ap (λ (o : Outcome). o.status) is in omega (arith, e)
+status_small : (answer : Result (Unit {0}) LogFault) (outcome : CallOutcome) (written : ℕ)
+    → outcome ≡ outcome_of answer written → outcome.status ≤ 1
+status_small (Ok x) outcome written is = let e = ap (λ (o : CallOutcome). o.status) is in omega (arith, e)
+status_small (Err f) outcome written is = let e = ap (λ (o : CallOutcome). o.status) is in omega (arith, e)
 
-pub status_as : (s t : SessionState) (log out : List ℕ) (outcome : Outcome) → ArePlayed s t log out outcome → to_z w32 outcome.status ≡ pos outcome.status
+pub status_as : (s t : SessionState) (log out : List ℕ) (outcome : CallOutcome) → ArePlayed s t log out outcome
+    → to_z w32 outcome.status ≡ pos outcome.status
 status_as s t log out outcome played =
     let small = status_small played.0 outcome outcome.written played.1 in
     to_z_pos w32 outcome.status (omega (arith, small))
 
 -- what lines do, they do to the device in which the session is
-pub plays_on : (aaguid : List ℕ) (s t : SessionState) (waiting : List (List ℕ)) (log : List ℕ) (out : List ℕ × List ℕ) (outcome : Outcome × Outcome) (result : ℤ) → waiting ≡ [] → ArePlayed s t log out.1 outcome.1 → result ≡ pos outcome.1.status
-    → PlaysOn (record { aaguid = aaguid; session = s; waiting = waiting }) waiting (Some (record { aaguid = aaguid; session = t; waiting = waiting })) log out outcome result
+pub plays_on : (aaguid : List ℕ) (s t : SessionState) (waiting : List (List ℕ)) (log : List ℕ) (out : List ℕ × List ℕ)
+    (outcome : CallOutcome × CallOutcome) (result : ℤ) → waiting ≡ [] → ArePlayed s t log out.1 outcome.1
+    → result ≡ pos outcome.1.status
+    → PlaysOn (record { aaguid = aaguid; session = s; waiting = waiting }) waiting
+    (Some (record { aaguid = aaguid; session = t; waiting = waiting })) log out outcome result
 plays_on aaguid s t waiting log out outcome result none played answer = rw none (t, refl, played, answer)
 
 -- a snapshot in the first bytes of a buffer is in its front
-pub saves_len : (n : ℕ) (d : DeviceState) (out front : List ℕ) (len : ℕ) → n ≤ length out → length front ≡ n → SavesLen d (take n out, front) len → SavesLen d (out, front ++ drop n out) len
+pub saves_len : (n : ℕ) (d : DeviceState) (out front : List ℕ) (len : ℕ) → n ≤ length out → length front ≡ n
+    → SavesLen d (take n out, front) len → SavesLen d (out, front ++ drop n out) len
 saves_len n d out front len within sized (rows, has, (space, saved, snapshot, is, new)) =
     let all = length-take-le n out within in
     let parts = ap length new ∙ length-append saved (drop len (take n out)) in
@@ -40,6 +46,7 @@ saves_len n d out front len within sized (rows, has, (space, saved, snapshot, is
         snapshot,
         is,
         ap (λ x. x ++ drop n out) new ∙ append_assoc saved (drop len (take n out)) (drop n out)
-            ∙ ap (λ x. saved ++ x) (sym (drop-append-le len (take n out) (drop n out) short) ∙ ap (drop len) (take-append-drop n out)),
+            ∙ ap (λ x. saved ++ x)
+            (sym (drop-append-le len (take n out) (drop n out) short) ∙ ap (drop len) (take-append-drop n out)),
       ),
     )

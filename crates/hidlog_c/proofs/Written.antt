@@ -11,11 +11,13 @@ use Rattle.session_log.specs.Command.{IsCounted, PlaysLog}
 use Rattle.session_log.specs.Session.{history, live_history, quiet_history}
 use Rattle.session_log.specs.Streams.{IsAllRead, Moves}
 use Rattle.session_log.specs.World.{World}
-use Rattle.session_log.specs.declared.command.Command.{Command}
-use Rattle.session_log.specs.declared.command.Command.TheVariants.{Check, Live, Quiet, Replay}
+use Rattle.session_log.specs.declared.command.LogCommand.{LogCommand}
+use Rattle.session_log.specs.declared.command.LogCommand.TheVariants.{Check, Live, Quiet, Replay}
 use Rattle.token_session.specs.Meters.{SessionState}
 use Rattle.token_session.specs.declared.input.Timed.{Timed}
 use Rattle.hidlog_c.specs.Commands.{IsWritten, PlaysSlice, PlaysSliceIn}
+use Rattle.session_log.specs.declared.source.SliceIn.{SliceIn}
+use Rattle.hidlog_c.specs.declared.lent.Lent.{Lent}
 use Rattle.hidlog_c.specs.Switched.{start_with}
 
 -- to what begins with the name of a borrow a text was appended
@@ -33,95 +35,90 @@ failed_once : (b : Bool) (old new : ℕ) → new ≡ (if b then old + 1 else old
 failed_once true old new e p = omega arith
 failed_once false old new e p = cc
 
--- that all was read, in other words
-all_so : {S : Type 0} (world : World S) (s : S) (bytes : List ℕ) (n : ℕ) (f : LogFault) (X Y : Type 0) → (X → Y) → IsShown world s bytes X n f → IsShown world s bytes Y n f
-all_so world s bytes n f X Y so (inl h) = inl h
-all_so world s bytes n f X Y so (inr h) = inr (so h)
+-- what the reader still holds, whether it ended, and what the writer has taken
+abbrev left : SliceIn → Option (List ℕ)
+left reader = Some reader.rest.now
 
-reaches_so : {S : Type 0} (world : World S) (s : S) (bytes : List ℕ) (f : LogFault) (X Y : Type 0) → (X → Y) → Reaches world s bytes X f → Reaches world s bytes Y f
-reaches_so world s bytes (BadLine n) X Y so h = (h.0, all_so world s bytes n (BadLine n) X Y so h.1)
-reaches_so world s bytes (TooLong n) X Y so h = h
-reaches_so world s bytes (Differs l k) X Y so (inl h) = inl (h.0, h.1, all_so world s bytes h.0 (Differs l k) X Y so h.2)
-reaches_so world s bytes (Differs l k) X Y so (inr h) = inr (h.0, so h.1)
-reaches_so world s bytes TooManyLines X Y so h = h
-reaches_so world s bytes (Read n) X Y so h = h
-reaches_so world s bytes Write X Y so h = h
-reaches_so world s bytes (Memory n) X Y so h = h
+abbrev ended : SliceIn → Bool
+ended reader = reader.ended
+
+abbrev taken : Lent → Option (List ℕ)
+taken writer = Some (writer.buffer.ghost_name ∷ take writer.len writer.buffer.now)
+
+-- that all was read, in other words
+module _ {S : Type 0} (world : World S) (s : S) (bytes : List ℕ) (X Y : Type 0) (so : X → Y) where
+  shown_so : (n : ℕ) (f : LogFault) → IsShown world s bytes X n f → IsShown world s bytes Y n f
+  shown_so n f (inl h) = inl h
+  shown_so n f (inr h) = inr (so h)
+
+  reaches_so : (f : LogFault) → Reaches world s bytes X f → Reaches world s bytes Y f
+  reaches_so (BadLine n) h = (h.0, shown_so n (BadLine n) h.1)
+  reaches_so (Differs l k) (inl h) = inl (h.0, h.1, shown_so h.0 (Differs l k) h.2)
+  reaches_so (Differs l k) (inr h) = inr (h.0, so h.1)
+  reaches_so Write h = h
+  reaches_so f h = h
 
 -- a known log was read to here
-finds : {S : Type 0} (world : World S) (s : S) (log bytes rest : List ℕ) (all : Type 0) (ending : Ending) → log ≡ bytes ++ rest → (all → rest ≡ []) → ReadsTo world s (Some log) (Some rest) all ending → Finds world s bytes (rest ≡ []) ending
-finds world s log bytes rest all Done e so h = tt
+finds : {S : Type 0} (world : World S) (s : S) (log bytes rest : List ℕ) (all : Type 0) (ending : Ending)
+    → log ≡ bytes ++ rest → (all → rest ≡ []) → ReadsTo world s (Some log) (Some rest) all ending
+    → Finds world s bytes (rest ≡ []) ending
 finds world s log bytes rest all (Refused f) e so h =
-    reaches_so world s bytes f all (rest ≡ []) so (subst (λ (b : List ℕ). Reaches world s b all f) (append_cancel_right h.0 bytes rest (sym h.1 ∙ e)) h.2)
-finds world s log bytes rest all (Unread n) e so h = tt
-finds world s log bytes rest all Unwritten e so h = tt
+    let same = append_cancel_right h.0 bytes rest (sym h.1 ∙ e) in
+    reaches_so world s bytes all (rest ≡ []) so f (subst (λ (b : List ℕ). Reaches world s b all f) same h.2)
+finds world s log bytes rest all Done e so h = tt
+finds world s log bytes rest all ending e so h = tt
 
-pub on_all : {A X Y : Type 0} (r : Result A LogFault) → (X → Y) → OnOk r X → OnOk r Y
+on_all : {A X Y : Type 0} (r : Result A LogFault) → (X → Y) → OnOk r X → OnOk r Y
 on_all (Ok x) so h = so h
 on_all (Err f) so h = tt
 
--- what a call promises of a log over a slice and of a lent buffer, as one that hands both in sees it
-pub written : {S : Type 0} (world : World S) (s : S) (Q : List ℕ → List ℕ → Ending → Type 0) (answer : Result (Unit {0}) LogFault) (all : Type 0) (log begun rest : List ℕ) (name name' len failed failed' : ℕ) (none buffer : List ℕ)
-    → Some begun ≡ Some log
-    → none ≡ []
-    → Moves (Some begun) (Some rest) (Some (name ∷ none)) (Some (name' ∷ take len buffer)) (λ bytes text. Q bytes text (ending_of answer))
-    → ReadsTo world s (Some begun) (Some rest) all (ending_of answer)
-    → (all → rest ≡ [])
-    → OnOk answer (rest ≡ [])
-    → 0 ≡ (if read_fails (ending_of answer) then 0 + 1 else 0)
-    → failed' ≡ (if write_fails (ending_of answer) then failed + 1 else failed)
-    → len ≤ length buffer
-    → (0 < failed' → len ≡ length buffer)
-    → IsWritten log buffer len answer (λ bytes rest text ending. Q bytes text ending × Finds world s bytes (rest ≡ []) ending)
-written world s Q answer all log begun rest name name' len failed failed' none buffer given e (bytes, text, reads, writes, p) reach so whole unfailed counted fits full = record {
-  bytes = bytes;
-  rest = rest;
-  log_is = sym (same_log begun log given) ∙ reads;
-  all = whole;
-  readable = unread (read_fails (ending_of answer)) unfailed;
-  fits = fits;
-  full = λ fails. full (failed_once (write_fails (ending_of answer)) failed failed' counted fails);
-  does = (
-    subst (λ t. Q bytes t (ending_of answer)) (sym (appended name name' none (take len buffer) text e writes)) p,
-    finds world s begun bytes rest all (ending_of answer) reads so reach,
-  );
-}
-
-pub plays : {S : Type 0} (world : World S) (s later : S) (answer : Result (Unit {0}) LogFault) (all : Type 0) (log begun rest : List ℕ) (name name' len failed failed' : ℕ) (none buffer : List ℕ)
-    → Some begun ≡ Some log
-    → none ≡ []
-    → Moves (Some begun) (Some rest) (Some (name ∷ none)) (Some (name' ∷ take len buffer)) (λ bytes text. Makes world s later bytes text (ending_of answer))
-    → ReadsTo world s (Some begun) (Some rest) all (ending_of answer)
-    → (all → rest ≡ [])
-    → OnOk answer (rest ≡ [])
-    → 0 ≡ (if read_fails (ending_of answer) then 0 + 1 else 0)
-    → failed' ≡ (if write_fails (ending_of answer) then failed + 1 else failed)
-    → len ≤ length buffer
-    → (0 < failed' → len ≡ length buffer)
-    → IsWritten log buffer len answer (λ bytes rest text ending. (later : S) × Makes world s later bytes text ending × Finds world s bytes (rest ≡ []) ending)
-plays world s later answer all log begun rest name name' len failed failed' none buffer given e moves reach so whole unfailed counted fits full =
-    let w = written world s (Makes world s later) answer all log begun rest name name' len failed failed' none buffer given e moves reach so whole unfailed counted fits full in record {
-      bytes = w.bytes;
-      rest = w.rest;
-      log_is = w.log_is;
-      all = w.all;
-      readable = w.readable;
-      fits = w.fits;
-      full = w.full;
-      does = (later, w.does.0, w.does.1);
+-- What a call promises of a log over a slice and of a lent buffer, as one that hands both in sees it, where Q holds of
+-- the
+-- bytes that were read and of the text. A pair is the reader before and after the call, or the writer.
+pub written : {S : Type 0} (world : World S) (s : S) (answer : Result (Unit {0}) LogFault) (log : List ℕ)
+    (reader : SliceIn × SliceIn) (writer : Lent × Lent) (Q : List ℕ → List ℕ → Ending → Type 0) (P : List ℕ → List ℕ
+    → List ℕ → Ending → Type 0) → ((bytes rest text : List ℕ) → Q bytes text (ending_of answer)
+    → Finds world s bytes (rest ≡ []) (ending_of answer) → P bytes rest text (ending_of answer))
+    → Some reader.0.rest.now ≡ Some log → take writer.0.len writer.0.buffer.now ≡ []
+    → Moves (left reader.0) (left reader.1) (taken writer.0) (taken writer.1) (λ bytes text. Q bytes text
+    (ending_of answer)) → ReadsTo world s (left reader.0) (left reader.1) (IsAllRead left ended reader.1)
+    (ending_of answer) → OnOk answer (IsAllRead left ended reader.1) → 0 ≡
+    (if read_fails (ending_of answer) then 0 + 1 else 0) → writer.1.failures ≡
+    (if write_fails (ending_of answer) then writer.0.failures + 1 else writer.0.failures)
+    → IsWritten log writer.1.buffer.now writer.1.len answer P
+written world s answer log reader writer Q P so given none (bytes, text, reads, writes, q) reach whole unfailed counted
+    =
+    let begun = reader.0.rest.now in
+    let rest = reader.1.rest.now in
+    let out = take writer.1.len writer.1.buffer.now in
+    let is : out ≡ text = appended writer.0.buffer.ghost_name writer.1.buffer.ghost_name _ out text none writes in
+    record {
+      bytes = bytes;
+      rest = rest;
+      log_is = sym (same_log begun log given) ∙ reads;
+      all = on_all answer (λ all. all.1) whole;
+      readable = unread (read_fails (ending_of answer)) unfailed;
+      fits = writer.1.fits;
+      full = λ fails. writer.1.full
+          (failed_once (write_fails (ending_of answer)) writer.0.failures writer.1.failures counted fails);
+      does = subst (λ t. P bytes rest t (ending_of answer)) (sym is)
+          (so bytes rest text q (finds world s begun bytes rest _ (ending_of answer) reads (λ all. all.1) reach));
     }
 
 -- What follows from a log that was played in some world follows from what a command did.
-pub by_command : (command : Command) (rows : List Row) {I O : Type 0} (left : I → Option (List ℕ)) (unread : I → ℕ) (ended : I → Bool) (taken : O → Option (List ℕ)) (unwritten : O → ℕ)
-    (answer : Result (Unit {0}) LogFault) (s : SessionState) (input : I × I) (output : O × O) (Q : (List ℕ → List ℕ → List ℕ → Ending → Type 0) → Type 0)
-    → ((S : Type 0) (world : World S) (x later : S)
-    → Moves (left input.0) (left input.1) (taken output.0) (taken output.1) (λ bytes text. Makes world x later bytes text (ending_of answer))
+pub by_command : (command : LogCommand) (rows : List Row) {I O : Type 0} (left : I → Option (List ℕ)) (unread : I → ℕ)
+    (ended : I → Bool) (taken : O → Option (List ℕ)) (unwritten : O → ℕ) (answer : Result (Unit {0}) LogFault)
+    (s : SessionState) (input : I × I) (output : O × O) (Q : (List ℕ → List ℕ → List ℕ → Ending → Type 0) → Type 0)
+    → ((S : Type 0) (world : World S) (x later : S) → Moves (left input.0) (left input.1) (taken output.0)
+    (taken output.1) (λ bytes text. Makes world x later bytes text (ending_of answer))
     → ReadsTo world x (left input.0) (left input.1) (IsAllRead left ended input.1) (ending_of answer)
-    → IsCounted left unread ended unwritten answer input output
-    → Q (PlaysSliceIn world x))
-    → PlaysLog command (start_with rows) [] left unread ended taken unwritten answer s input output
-    → Q (PlaysSlice command rows)
-by_command Replay rows left unread ended taken unwritten answer s input output Q so p = so (List Timed) (history (start_with rows)) [] p.0 p.2 p.3 p.4
-by_command Live rows left unread ended taken unwritten answer s input output Q so p = so (List Timed) (live_history (start_with rows)) [] p.0 p.2 p.3 p.4
-by_command Check rows left unread ended taken unwritten answer s input output Q so p = so (Compared (List Timed)) (check_history (start_with rows)) (begun []) p.0 p.2 p.3 p.4
-by_command Quiet rows left unread ended taken unwritten answer s input output Q so p = so (List Timed) (quiet_history (start_with rows)) [] p.0 p.2 p.3 p.4
+    → IsCounted left unread ended unwritten answer input output → Q (PlaysSliceIn world x)) → PlaysLog command
+    (start_with rows) [] left unread ended taken unwritten answer s input output → Q (PlaysSlice command rows)
+by_command Replay rows left unread ended taken unwritten answer s input output Q so p =
+    so (List Timed) (history (start_with rows)) [] p.0 p.2 p.3 p.4
+by_command Live rows left unread ended taken unwritten answer s input output Q so p =
+    so (List Timed) (live_history (start_with rows)) [] p.0 p.2 p.3 p.4
+by_command Check rows left unread ended taken unwritten answer s input output Q so p =
+    so (Compared (List Timed)) (check_history (start_with rows)) (begun []) p.0 p.2 p.3 p.4
+by_command Quiet rows left unread ended taken unwritten answer s input output Q so p =
+    so (List Timed) (quiet_history (start_with rows)) [] p.0 p.2 p.3 p.4

@@ -56,7 +56,8 @@ abbrev pub IsAdded : DeviceState → Option DeviceState → (at : ℕ) → Crede
 IsAdded d after at c = (row : Row) × (rows : List Row) × IsIdle d × Says c row × HasRows d rows
     × StartsWith d after at (with_row row rows)
 
--- Why a credential isn't put, the first of these: the key is busy; the struct says none; the key is full; another one is
+-- Why a credential isn't put, the first of these: the key is busy; the struct says none; the key is full; another one
+-- is
 -- discoverable with the same RP and user handle.
 abbrev pub IsNotAdded : DeviceState → Credential → ℤ → Type 0
 IsNotAdded d c result = IsBusy d result ⊎ (IsIdle d × ((SaysNone c × (result ≡ BAD_ARGUMENT))

@@ -4,15 +4,15 @@ use Rattle.cred_table.specs.declared.fault.SnapshotFault.{SnapshotFault}
 use Rattle.cred_table.specs.declared.row.Row.{Row}
 use Rattle.cred_table.specs.Snapshots.{Refuses}
 use Rattle.session_log.specs.declared.fault.LogFault.{LogFault}
-use Rattle.session_log.specs.declared.command.Command.{Command}
-use Rattle.session_log.specs.declared.command.Command.TheVariants.{Check, Live, Quiet, Replay}
+use Rattle.session_log.specs.declared.command.LogCommand.{LogCommand}
+use Rattle.session_log.specs.declared.command.LogCommand.TheVariants.{Check, Live, Quiet, Replay}
 use Rattle.session_log.specs.Check.{begun, check_history}
 use Rattle.session_log.specs.Ending.{Ending, ending_of, read_fails, write_fails}
 use Rattle.session_log.specs.Replay.{Finds, Makes}
 use Rattle.session_log.specs.Session.{history, live_history, quiet_history}
 use Rattle.session_log.specs.World.{World}
 use Rattle.hidlog_c.specs.declared.capacity.TheConstants.{CAPACITY}
-use Rattle.hidlog_c.specs.declared.outcome.Outcome.{Outcome}
+use Rattle.hidlog_c.specs.declared.outcome.CallOutcome.{CallOutcome}
 use Rattle.hidlog_c.specs.Begin.{Opens}
 use Rattle.hidlog_c.specs.Numbers.{outcome_of, refused}
 use Rattle.hidlog_c.specs.Switched.{start_with}
@@ -25,10 +25,11 @@ PlaysSliceIn {S} world x bytes rest text ending = (later : S) × Makes world x l
 
 -- A command played the log from the start with these credentials: it replayed the log, alone or with what is needed,
 -- compared it with what is sent, or made it quiet.
-abbrev pub PlaysSlice : Command → List Row → (bytes rest text : List ℕ) → Ending → Type 0
+abbrev pub PlaysSlice : LogCommand → List Row → (bytes rest text : List ℕ) → Ending → Type 0
 PlaysSlice Replay rows bytes rest text ending = PlaysSliceIn (history (start_with rows)) [] bytes rest text ending
 PlaysSlice Live rows bytes rest text ending = PlaysSliceIn (live_history (start_with rows)) [] bytes rest text ending
-PlaysSlice Check rows bytes rest text ending = PlaysSliceIn (check_history (start_with rows)) (begun []) bytes rest text ending
+PlaysSlice Check rows bytes rest text ending =
+    PlaysSliceIn (check_history (start_with rows)) (begun []) bytes rest text ending
 PlaysSlice Quiet rows bytes rest text ending = PlaysSliceIn (quiet_history (start_with rows)) [] bytes rest text ending
 
 -- Of the log `bytes` were read, all of it where there is no fault, and no read failed. The text is at the buffer's
@@ -47,7 +48,7 @@ pub record IsWritten (log out : List ℕ) (written : ℕ) (answer : Result (Unit
 
 -- The command played the log from the credentials of the snapshot, and the outcome is that of its answer; or the
 -- snapshot is refused, and the buffer is as it was. A pair is the buffer before and after the call.
-abbrev pub Answers : Command → (log snapshot : List ℕ) → (List ℕ × List ℕ) → Outcome → Type 0
+abbrev pub Answers : LogCommand → (log snapshot : List ℕ) → (List ℕ × List ℕ) → CallOutcome → Type 0
 Answers command log snapshot out outcome =
     ((rows : List Row) × (answer : Result (Unit {0}) LogFault) × Opens snapshot rows
     × (outcome ≡ outcome_of answer outcome.written)

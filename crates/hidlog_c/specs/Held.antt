@@ -1,8 +1,8 @@
 -- What a key holds.
 use Rattle.std.specs.Prelude.{Option, None, if◌then◌else◌, nat_eq}
 use Rattle.hidlog_c.specs.Key.{DeviceState}
-use Rattle.hidlog_c.specs.declared.key.Key.{Key}
+use Rattle.hidlog_c.specs.declared.key.KeyHandle.{KeyHandle}
 
 -- the device of a key that is made
-abbrev pub held : Key → Option DeviceState
+abbrev pub held : KeyHandle → Option DeviceState
 held k = if nat_eq k.state 1 then k.memory.device else None

@@ -8,7 +8,7 @@ use Rattle.session_log.specs.Ending.{Ending}
 use Rattle.session_log.specs.Replay.{Finds, Plays, Writes}
 use Rattle.session_log.specs.Session.{live_history, live_machine}
 use Rattle.hidlog_c.specs.declared.fault.TheConstants.{NOT_MADE, PACKETS_WAIT}
-use Rattle.hidlog_c.specs.declared.outcome.Outcome.{Outcome}
+use Rattle.hidlog_c.specs.declared.outcome.CallOutcome.{CallOutcome}
 use Rattle.hidlog_c.specs.Commands.{IsWritten}
 use Rattle.hidlog_c.specs.Key.{DeviceState}
 use Rattle.hidlog_c.specs.Numbers.{outcome_of}
@@ -30,7 +30,7 @@ abbrev pub FollowsLines : SessionState → SessionState → (log out : List ℕ)
 FollowsLines s t log out written answer = (start : Start) (h : List Timed) → StandsAfter s start h
     → (later : List Timed) × StandsAfter t start later × IsWritten log out written answer (HistoryDoes start h later)
 
-abbrev pub ArePlayed : SessionState → SessionState → (log out : List ℕ) → Outcome → Type 0
+abbrev pub ArePlayed : SessionState → SessionState → (log out : List ℕ) → CallOutcome → Type 0
 ArePlayed s t log out outcome = (answer : Result (Unit {0}) LogFault) × (outcome ≡ outcome_of answer outcome.written)
     × IsWritten log out outcome.written answer (LinesDo s t) × FollowsLines s t log out outcome.written answer
 
@@ -40,13 +40,13 @@ played_to d t = record { aaguid = d.aaguid; session = t; waiting = [] }
 
 -- A key takes lines while no packet waits. A pair is the caller's memory before and after the call.
 abbrev pub PlaysOn : DeviceState → List (List ℕ) → Option DeviceState → (log : List ℕ) → (List ℕ × List ℕ)
-    → (Outcome × Outcome) → ℤ → Type 0
+    → (CallOutcome × CallOutcome) → ℤ → Type 0
 PlaysOn d [] after log out outcome result = (t : SessionState) × (after ≡ Some (played_to d t))
     × ArePlayed d.session t log out.1 outcome.1 × (result ≡ pos outcome.1.status)
 PlaysOn d (packet ∷ more) after log out outcome result =
     (after ≡ Some d) × (out.1 ≡ out.0) × (outcome.1 ≡ outcome.0) × (result ≡ PACKETS_WAIT)
 
-abbrev pub TakesLines : (before after : Option DeviceState) → (log : List ℕ) → (List ℕ × List ℕ) → (Outcome × Outcome)
+abbrev pub TakesLines : (before after : Option DeviceState) → (log : List ℕ) → (List ℕ × List ℕ) → (CallOutcome × CallOutcome)
     → ℤ → Type 0
 TakesLines None after log out outcome result =
     (after ≡ None) × (out.1 ≡ out.0) × (outcome.1 ≡ outcome.0) × (result ≡ NOT_MADE)

@@ -5,7 +5,7 @@ use Rattle.cred_table.specs.Numbers.{refusal_number}
 use Rattle.session_log.specs.declared.fault.LogFault.{LogFault}
 use Rattle.session_log.specs.declared.fault.LogFault.TheVariants.{BadLine, TooLong, Differs, Read, Write, TooManyLines, Memory}
 use Rattle.session_log.specs.Numbers.{fault_number}
-use Rattle.hidlog_c.specs.declared.outcome.Outcome.{Outcome}
+use Rattle.hidlog_c.specs.declared.outcome.CallOutcome.{CallOutcome}
 
 -- the line that a fault names, and the packet; 0 where it names none
 abbrev pub line_of : LogFault → ℕ
@@ -22,7 +22,7 @@ packet_of (Differs line packet) = packet
 packet_of _ = 0
 
 -- a command with this answer, which wrote so many bytes
-abbrev pub outcome_of : {A : Type 0} → Result A LogFault → ℕ → Outcome
+abbrev pub outcome_of : {A : Type 0} → Result A LogFault → ℕ → CallOutcome
 outcome_of (Ok x) written = record { status = 0; fault = 0; line = 0; packet = 0; written = written }
 outcome_of (Err f) written = record {
   status = 1;
@@ -33,5 +33,5 @@ outcome_of (Err f) written = record {
 }
 
 -- a snapshot that was refused, where nothing was written
-abbrev pub refused : SnapshotFault → Outcome
+abbrev pub refused : SnapshotFault → CallOutcome
 refused f = record { status = 2; fault = refusal_number f; line = 0; packet = 0; written = 0 }

@@ -61,7 +61,8 @@ ReportsNeed (Some d) need result = (need.1 ≡ need_of (needs d.session.machine.
 -- The credential at a place is written, where there is one.
 abbrev pub ReportsRow : List Row → ℕ → Credential × Credential → ℤ → Type 0
 ReportsRow rows place credential result =
-    (place < length rows → ((row : Row) × (slice_index_or rows place row ≡ row) × (credential.1 ≡ credential_of row)) × (result ≡ pos 0))
+    (place < length rows → ((row : Row) × (slice_index_or rows place row ≡ row) × (credential.1 ≡ credential_of row))
+    × (result ≡ pos 0))
     × (length rows ≤ place → (credential.1 ≡ credential.0) × (result ≡ BAD_ARGUMENT))
 
 abbrev pub ReportsCredential : Option DeviceState → ℕ → Credential × Credential → ℤ → Type 0

@@ -6,7 +6,7 @@ use Rattle.session_log.specs.Replay.{Finds, Plays}
 use Rattle.session_show.specs.Shown.{IsLineText, IsTextTo, reading}
 use Rattle.session_show.specs.declared.wording.Wording.{Wording}
 use Rattle.session_show.specs.declared.wording.Wording.TheVariants.{Explained, Fixed}
-use Rattle.hidlog_c.specs.declared.outcome.Outcome.{Outcome}
+use Rattle.hidlog_c.specs.declared.outcome.CallOutcome.{CallOutcome}
 use Rattle.hidlog_c.specs.Commands.{IsWritten}
 use Rattle.hidlog_c.specs.Numbers.{outcome_of}
 
@@ -23,6 +23,6 @@ Shows wording bytes rest text ending =
     × Finds reading tt bytes (rest ≡ []) ending
 
 -- The log was shown, and the outcome is that of its answer.
-abbrev pub IsShown : Wording → (log out : List ℕ) → Outcome → Type 0
+abbrev pub IsShown : Wording → (log out : List ℕ) → CallOutcome → Type 0
 IsShown wording log out outcome = (answer : Result (Unit {0}) LogFault) × (outcome ≡ outcome_of answer outcome.written)
     × IsWritten log out outcome.written answer (Shows wording)

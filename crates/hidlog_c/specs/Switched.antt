@@ -13,7 +13,7 @@ use Rattle.hidlog_c.specs.Key.{DeviceState}
 
 -- the start of a session with capacity for as many credentials as a key of this library
 abbrev pub start_of : (aaguid : List ℕ) → (moment : ℕ) → List Row → Start
-start_of aaguid moment rows = record { aaguid = aaguid; moment = moment; room = CAPACITY; rows = rows }
+start_of aaguid moment rows = record { aaguid = aaguid; moment = moment; capacity = CAPACITY; rows = rows }
 
 -- the start of a session that a log is played on: an AAGUID of sixteen zero bytes, the moment 0, and these credentials
 abbrev pub start_with : List Row → Start

@@ -16,8 +16,8 @@ ghost use Rattle.hidlog_c.specs.Switched.{Makes};
 use crate::capacity::CAPACITY;
 use crate::device::Device;
 use crate::fault::{ALREADY_MADE, NO_MEMORY, NOT_MADE, NOT_SNAPSHOT, ROW_BROKEN, TOO_MANY_ROWS};
-use crate::key::Key;
-use crate::outcome::Outcome;
+use crate::key::KeyHandle;
+use crate::outcome::CallOutcome;
 use crate::reports::{Credential, MetersReport, NeedReport};
 use authn_core::{NewKey, Presence, Signature};
 use cred_table::SnapshotFault;
@@ -54,7 +54,12 @@ pub extern "C" fn hidlog_key_capacity() -> usize
 
 /// Makes a key that is switched on at `at`, with the credentials of the snapshot, or with none where it is empty.
 #[unsafe(no_mangle)]
-pub extern "C" fn hidlog_key_make(key: &mut Key, aaguid: &[u8; 16], at: u64, snapshot: &[u8]) -> i32
+pub extern "C" fn hidlog_key_make(
+    key: &mut KeyHandle,
+    aaguid: &[u8; 16],
+    at: u64,
+    snapshot: &[u8],
+) -> i32
     ensures { Makes (held key.old) (held key.new) aaguid.now at snapshot.now result }
 {
     if key.is_made() {
@@ -71,7 +76,7 @@ pub extern "C" fn hidlog_key_make(key: &mut Key, aaguid: &[u8; 16], at: u64, sna
 
 /// Lets time pass to `at`, in milliseconds. Returns how many packets wait to be sent.
 #[unsafe(no_mangle)]
-pub extern "C" fn hidlog_key_tick(key: &mut Key, at: u64) -> i32
+pub extern "C" fn hidlog_key_tick(key: &mut KeyHandle, at: u64) -> i32
     ensures { Answers (held key.old) (held key.new) (record { at = at; input = inputs.Tick }) result }
 {
     key.take(at, Input::Tick)
@@ -79,7 +84,7 @@ pub extern "C" fn hidlog_key_tick(key: &mut Key, at: u64) -> i32
 
 /// Takes a packet that came from a host at `at`. Returns how many packets wait to be sent.
 #[unsafe(no_mangle)]
-pub extern "C" fn hidlog_key_packet(key: &mut Key, at: u64, packet: &[u8; 64]) -> i32
+pub extern "C" fn hidlog_key_packet(key: &mut KeyHandle, at: u64, packet: &[u8; 64]) -> i32
     ensures { Answers (held key.old) (held key.new)
         (record { at = at; input = inputs.Packet (record { 0 = packet.now }) }) result }
 {
@@ -88,7 +93,7 @@ pub extern "C" fn hidlog_key_packet(key: &mut Key, at: u64, packet: &[u8; 64]) -
 
 /// Takes the next packet to send, and returns how many wait after it.
 #[unsafe(no_mangle)]
-pub extern "C" fn hidlog_key_next(key: &mut Key, packet: &mut [u8; 64]) -> i32
+pub extern "C" fn hidlog_key_next(key: &mut KeyHandle, packet: &mut [u8; 64]) -> i32
     ensures { Sends (held key.old) (held key.new) (packet.old, packet.new) result }
 {
     key.next(packet)
@@ -96,7 +101,7 @@ pub extern "C" fn hidlog_key_next(key: &mut Key, packet: &mut [u8; 64]) -> i32
 
 /// Takes the reply of a test of user presence: 0 the user consents, 1 refuses, 2 didn't answer in time.
 #[unsafe(no_mangle)]
-pub extern "C" fn hidlog_key_presence(key: &mut Key, at: u64, presence: u32) -> i32
+pub extern "C" fn hidlog_key_presence(key: &mut KeyHandle, at: u64, presence: u32) -> i32
     ensures { AnswersWord (held key.old) (held key.new) at (option_map inputs.Presence (presence_of presence)) result }
 {
     match presence_of(presence) {
@@ -108,7 +113,7 @@ pub extern "C" fn hidlog_key_presence(key: &mut Key, at: u64, presence: u32) -> 
 /// Takes a new key pair for the credential that is being made: its id, and the point of its public key.
 #[unsafe(no_mangle)]
 pub extern "C" fn hidlog_key_new_key(
-    key: &mut Key,
+    key: &mut KeyHandle,
     at: u64,
     id: &[u8; 32],
     x: &[u8; 32],
@@ -127,7 +132,7 @@ pub extern "C" fn hidlog_key_new_key(
 
 /// Takes it that no key pair can be made.
 #[unsafe(no_mangle)]
-pub extern "C" fn hidlog_key_no_key(key: &mut Key, at: u64) -> i32
+pub extern "C" fn hidlog_key_no_key(key: &mut KeyHandle, at: u64) -> i32
     ensures { Answers (held key.old) (held key.new) (record { at = at; input = inputs.Key None }) result }
 {
     key.take(at, Input::Key(None))
@@ -135,7 +140,7 @@ pub extern "C" fn hidlog_key_no_key(key: &mut Key, at: u64) -> i32
 
 /// Takes a signature over the bytes to sign, 1 to 72 bytes.
 #[unsafe(no_mangle)]
-pub extern "C" fn hidlog_key_signature(key: &mut Key, at: u64, signature: &[u8]) -> i32
+pub extern "C" fn hidlog_key_signature(key: &mut KeyHandle, at: u64, signature: &[u8]) -> i32
     ensures { AnswersWord (held key.old) (held key.new) at (signature_input signature.now) result }
 {
     match Signature::new(signature) {
@@ -146,7 +151,7 @@ pub extern "C" fn hidlog_key_signature(key: &mut Key, at: u64, signature: &[u8])
 
 /// Takes it that no signature can be made.
 #[unsafe(no_mangle)]
-pub extern "C" fn hidlog_key_no_signature(key: &mut Key, at: u64) -> i32
+pub extern "C" fn hidlog_key_no_signature(key: &mut KeyHandle, at: u64) -> i32
     ensures { Answers (held key.old) (held key.new) (record { at = at; input = inputs.Signature None }) result }
 {
     key.take(at, Input::Signature(None))
@@ -155,10 +160,10 @@ pub extern "C" fn hidlog_key_no_signature(key: &mut Key, at: u64) -> i32
 /// Plays lines of a log, and writes what `live` writes for each to the front of `out`.
 #[unsafe(no_mangle)]
 pub extern "C" fn hidlog_key_lines(
-    key: &mut Key,
+    key: &mut KeyHandle,
     log: &[u8],
     out: &mut [u8],
-    outcome: &mut Outcome,
+    outcome: &mut CallOutcome,
 ) -> i32
     ensures { TakesLines (held key.old) (held key.new) log.now (out.old, out.new) (outcome.old, outcome.new) result }
 {
@@ -167,7 +172,7 @@ pub extern "C" fn hidlog_key_lines(
 
 /// Returns how many packets wait.
 #[unsafe(no_mangle)]
-pub extern "C" fn hidlog_key_waiting(key: &mut Key) -> i32
+pub extern "C" fn hidlog_key_waiting(key: &mut KeyHandle) -> i32
     ensures same { held key.new ≡ held key.old }
     ensures count { result ≡ count_or waiting_packets (held key.old) }
 {
@@ -176,7 +181,7 @@ pub extern "C" fn hidlog_key_waiting(key: &mut Key) -> i32
 
 /// Writes what the key needs of its caller before its work goes on, and returns its kind.
 #[unsafe(no_mangle)]
-pub extern "C" fn hidlog_key_need(key: &mut Key, need: &mut NeedReport) -> i32
+pub extern "C" fn hidlog_key_need(key: &mut KeyHandle, need: &mut NeedReport) -> i32
     ensures same { held key.new ≡ held key.old }
     ensures need { ReportsNeed (held key.old) (need.old, need.new) result }
 {
@@ -185,7 +190,7 @@ pub extern "C" fn hidlog_key_need(key: &mut Key, need: &mut NeedReport) -> i32
 
 /// Returns how many credentials the key holds.
 #[unsafe(no_mangle)]
-pub extern "C" fn hidlog_key_credentials(key: &mut Key) -> i32
+pub extern "C" fn hidlog_key_credentials(key: &mut KeyHandle) -> i32
     ensures same { held key.new ≡ held key.old }
     ensures count { result ≡ count_or credential_count (held key.old) }
 {
@@ -195,7 +200,7 @@ pub extern "C" fn hidlog_key_credentials(key: &mut Key) -> i32
 /// Writes the credential at a place, from 0, in order of making.
 #[unsafe(no_mangle)]
 pub extern "C" fn hidlog_key_credential(
-    key: &mut Key,
+    key: &mut KeyHandle,
     place: usize,
     credential: &mut Credential,
 ) -> i32
@@ -207,7 +212,7 @@ pub extern "C" fn hidlog_key_credential(
 
 /// Returns how many assertions wait for authenticatorGetNextAssertion.
 #[unsafe(no_mangle)]
-pub extern "C" fn hidlog_key_pending(key: &mut Key) -> i32
+pub extern "C" fn hidlog_key_pending(key: &mut KeyHandle) -> i32
     ensures same { held key.new ≡ held key.old }
     ensures count { result ≡ count_or pending_assertions (held key.old) }
 {
@@ -216,7 +221,7 @@ pub extern "C" fn hidlog_key_pending(key: &mut Key) -> i32
 
 /// Writes what the session has held and served.
 #[unsafe(no_mangle)]
-pub extern "C" fn hidlog_key_meters(key: &mut Key, meters: &mut MetersReport) -> i32
+pub extern "C" fn hidlog_key_meters(key: &mut KeyHandle, meters: &mut MetersReport) -> i32
     ensures same { held key.new ≡ held key.old }
     ensures meters { ReportsMeters (held key.old) (meters.old, meters.new) result }
 {
@@ -225,7 +230,7 @@ pub extern "C" fn hidlog_key_meters(key: &mut Key, meters: &mut MetersReport) ->
 
 /// Puts a credential after the others, in the place of one with the same id. That begins a new session at `at`.
 #[unsafe(no_mangle)]
-pub extern "C" fn hidlog_key_add(key: &mut Key, at: u64, credential: &Credential) -> i32
+pub extern "C" fn hidlog_key_add(key: &mut KeyHandle, at: u64, credential: &Credential) -> i32
     ensures { Adds (held key.old) (held key.new) at credential.now result }
 {
     key.add(at, credential)
@@ -233,7 +238,7 @@ pub extern "C" fn hidlog_key_add(key: &mut Key, at: u64, credential: &Credential
 
 /// Takes out the credential with an id. That begins a new session at `at`.
 #[unsafe(no_mangle)]
-pub extern "C" fn hidlog_key_remove(key: &mut Key, at: u64, id: &[u8; 32]) -> i32
+pub extern "C" fn hidlog_key_remove(key: &mut KeyHandle, at: u64, id: &[u8; 32]) -> i32
     ensures { Removes (held key.old) (held key.new) at id.now result }
 {
     key.remove(at, id)
@@ -241,7 +246,7 @@ pub extern "C" fn hidlog_key_remove(key: &mut Key, at: u64, id: &[u8; 32]) -> i3
 
 /// Takes out all credentials. That begins a new session at `at`.
 #[unsafe(no_mangle)]
-pub extern "C" fn hidlog_key_clear(key: &mut Key, at: u64) -> i32
+pub extern "C" fn hidlog_key_clear(key: &mut KeyHandle, at: u64) -> i32
     ensures { Clears (held key.old) (held key.new) at result }
 {
     key.clear(at)
@@ -249,7 +254,7 @@ pub extern "C" fn hidlog_key_clear(key: &mut Key, at: u64) -> i32
 
 /// Writes a snapshot of the credentials to the front of `out`, and returns how many bytes it has.
 #[unsafe(no_mangle)]
-pub extern "C" fn hidlog_key_save(key: &mut Key, out: &mut [u8]) -> i32
+pub extern "C" fn hidlog_key_save(key: &mut KeyHandle, out: &mut [u8]) -> i32
     ensures same { held key.new ≡ held key.old }
     ensures saves { SavesKey (held key.old) (out.old, out.new) result }
 {
@@ -258,7 +263,7 @@ pub extern "C" fn hidlog_key_save(key: &mut Key, out: &mut [u8]) -> i32
 
 /// Ends the key. Its memory is the caller's again.
 #[unsafe(no_mangle)]
-pub extern "C" fn hidlog_key_free(key: &mut Key) -> i32
+pub extern "C" fn hidlog_key_free(key: &mut KeyHandle) -> i32
     ensures none { held key.new ≡ None }
     ensures made { result ≡ count_or (λ d. 0) (held key.old) }
 {

@@ -7,14 +7,14 @@ ghost use Rattle.hidlog_c.specs.Switched.{start_with};
 
 use crate::capacity::CAPACITY;
 use crate::lent::Lent;
-use crate::outcome::Outcome;
+use crate::outcome::CallOutcome;
 use crate::started::{fresh, open};
-use session_log::{Command, LogFault, SliceIn};
+use session_log::{LogCommand, LogFault, SliceIn};
 use token_session::Session;
 
 /// Plays the log on the session. The target stays over its buffer.
 fn play(
-    command: Command,
+    command: LogCommand,
     session: &mut Session<CAPACITY>,
     log: &[u8],
     writer: &mut Lent<'_>,
@@ -34,11 +34,11 @@ fn play(
 #[inline(never)]
 fn play_on(
     session: &mut Session<CAPACITY>,
-    command: Command,
+    command: LogCommand,
     log: &[u8],
     snapshot: &[u8],
     out: &mut [u8],
-) -> Outcome
+) -> CallOutcome
     requires fresh { session.old ≡ session_of (start_with []) [] }
     ensures { Answers command log.now snapshot.now (out.old, out.new) result }
 {
@@ -46,15 +46,15 @@ fn play_on(
         Ok(()) => {
             let mut writer = Lent::new(out);
             let answer = play(command, session, log, &mut writer);
-            Outcome::new(answer, writer.len())
+            CallOutcome::new(answer, writer.len())
         }
-        Err(fault) => Outcome::refused(fault),
+        Err(fault) => CallOutcome::refused(fault),
     }
 }
 
 /// Runs a command on a session with the credentials of the snapshot, or with none where the snapshot is empty.
 /// What it writes goes to the front of `out`.
-pub fn run(command: Command, log: &[u8], snapshot: &[u8], out: &mut [u8]) -> Outcome
+pub fn run(command: LogCommand, log: &[u8], snapshot: &[u8], out: &mut [u8]) -> CallOutcome
     ensures { Answers command log.now snapshot.now (out.old, out.new) result }
 {
     play_on(&mut fresh(), command, log, snapshot, out)

@@ -16,10 +16,8 @@ use crate::fault::{
     BAD_ARGUMENT, CLASHES, NO_PACKET, PACKETS_WAIT, TOO_MANY_ROWS, TOO_SMALL, WORK_WAITS,
 };
 use crate::lines::play_lines;
-use crate::outcome::Outcome;
-use crate::reports::{
-    Credential, MetersReport, NeedReport, credential_report, meters_report, need_report,
-};
+use crate::outcome::CallOutcome;
+use crate::reports::{Credential, MetersReport, NeedReport, credential_of, meters_of, need_of};
 use crate::rows::row_of;
 use crate::started::session_with;
 use authn_core::{Config, Need};
@@ -96,7 +94,7 @@ impl Device {
     }
 
     /// Plays lines of a log, unless packets wait.
-    pub fn play(&mut self, log: &[u8], out: &mut [u8], outcome: &mut Outcome) -> i32
+    pub fn play(&mut self, log: &[u8], out: &mut [u8], outcome: &mut CallOutcome) -> i32
         ensures { TakesLines (Some self.old) (Some self.new) log.now (out.old, out.new) (outcome.old, outcome.new) result }
     {
         if !self.outbox.is_empty() {
@@ -118,7 +116,7 @@ impl Device {
     pub fn need(&self) -> NeedReport
         ensures { result ≡ need_of (needs self.now.session.machine.core.state.work) }
     {
-        need_report(self.session.need())
+        need_of(self.session.need())
     }
 
     /// Returns how many credentials are held.
@@ -144,7 +142,7 @@ impl Device {
         if place >= self.session.credentials() {
             return BAD_ARGUMENT;
         }
-        *credential = credential_report(self.session.table().row(place));
+        *credential = credential_of(self.session.table().row(place));
         0
     }
 
@@ -152,7 +150,7 @@ impl Device {
     pub fn meters(&self) -> MetersReport
         ensures { result ≡ meters_of self.now.session.meters }
     {
-        meters_report(self.session.meters())
+        meters_of(self.session.meters())
     }
 
     /// Returns what keeps the key from beginning anew: packets that wait, or work.

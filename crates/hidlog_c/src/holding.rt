@@ -12,13 +12,13 @@ ghost use Rattle.hidlog_c.specs.Reports.{ReportsCredential, ReportsMeters, Repor
 use crate::capacity::CAPACITY;
 use crate::device::Device;
 use crate::fault::{BAD_ARGUMENT, NOT_MADE};
-use crate::key::{EMPTY, FREED, Key, MADE};
-use crate::outcome::Outcome;
+use crate::key::{EMPTY, FREED, KeyHandle, MADE};
+use crate::outcome::CallOutcome;
 use crate::reports::{Credential, MetersReport, NeedReport};
 use cred_table::SnapshotFault;
 use token_session::Input;
 
-impl Key {
+impl KeyHandle {
     /// Returns whether it is made.
     pub fn is_made(&self) -> bool
         ensures { result ≡ is_some (held self.now) }
@@ -90,7 +90,7 @@ impl Key {
     }
 
     /// Plays lines of a log, unless packets wait.
-    pub fn play(&mut self, log: &[u8], out: &mut [u8], outcome: &mut Outcome) -> i32
+    pub fn play(&mut self, log: &[u8], out: &mut [u8], outcome: &mut CallOutcome) -> i32
         ensures { TakesLines (held self.old) (held self.new) log.now (out.old, out.new) (outcome.old, outcome.new) result }
     {
         if !self.is_made() {

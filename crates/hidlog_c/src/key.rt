@@ -14,7 +14,7 @@ pub const FREED: u32 = 2;
 
 /// A key: a device in memory of the caller's. A struct of zeros with that memory is a key that was never made.
 #[repr(C)]
-pub struct Key {
+pub struct KeyHandle {
     pub memory: Memory,
     pub state: u32,
     ghost empty: { state ≡ 0 → memory.device ≡ None },

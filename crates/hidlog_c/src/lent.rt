@@ -17,7 +17,7 @@ pub struct Lent<'a> {
 }
 
 impl<'a> Lent<'a> {
-    /// A target that fills this buffer.
+    /// Returns a target that fills this buffer.
     pub fn new(buffer: &'a mut [u8]) -> Self
         ensures same_reference { result.buffer.ghost_name ≡ buffer.entry.ghost_name }
         ensures none { result.len ≡ 0 }
@@ -30,7 +30,7 @@ impl<'a> Lent<'a> {
         }
     }
 
-    /// How many bytes it has taken.
+    /// Returns how many bytes it has taken.
     pub fn len(&self) -> usize
         ensures { result ≡ self.now.len }
     {

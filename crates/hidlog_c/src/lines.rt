@@ -5,7 +5,7 @@ ghost use Rattle.hidlog_c.specs.Lines.{ArePlayed, FollowsLines, LinesDo};
 
 use crate::capacity::CAPACITY;
 use crate::lent::Lent;
-use crate::outcome::Outcome;
+use crate::outcome::CallOutcome;
 use session_log::{LogFault, SliceIn, live_lines};
 use token_session::Session;
 
@@ -21,10 +21,10 @@ fn play(session: &mut Session<CAPACITY>, log: &[u8], writer: &mut Lent<'_>) -> R
 }
 
 /// Plays the lines, and writes what [`live_lines`] writes for them to the front of `out`.
-pub fn play_lines(session: &mut Session<CAPACITY>, log: &[u8], out: &mut [u8]) -> Outcome
+pub fn play_lines(session: &mut Session<CAPACITY>, log: &[u8], out: &mut [u8]) -> CallOutcome
     ensures { ArePlayed session.old session.new log.now out.new result }
 {
     let mut writer = Lent::new(out);
     let answer = play(session, log, &mut writer);
-    Outcome::new(answer, writer.len())
+    CallOutcome::new(answer, writer.len())
 }

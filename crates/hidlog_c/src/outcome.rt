@@ -8,7 +8,7 @@ use session_log::LogFault;
 /// What came of a command.
 #[derive(Clone, Copy)]
 #[repr(C)]
-pub struct Outcome {
+pub struct CallOutcome {
     /// 0 where the command was done to its end, 1 at a fault of the log, 2 where the snapshot was refused.
     pub status: u32,
     /// The number of the log's fault, or of the snapshot's refusal; 0 where there is none.
@@ -21,7 +21,7 @@ pub struct Outcome {
     pub written: u64,
 }
 
-/// The line and the packet that a fault names, 0 where it names none.
+/// Returns the line and the packet that a fault names, 0 where it names none.
 fn place_of(fault: &LogFault) -> (u64, u64)
     ensures line { result.0 ≡ line_of fault.now }
     ensures packet { result.1 ≡ packet_of fault.now }
@@ -36,12 +36,12 @@ fn place_of(fault: &LogFault) -> (u64, u64)
     }
 }
 
-impl Outcome {
-    /// That of a command with this answer, which wrote so many bytes.
+impl CallOutcome {
+    /// Returns that of a command with this answer, which wrote so many bytes.
     pub fn new<A: Drop>(answer: Result<A, LogFault>, written: usize) -> Self
         ensures { result ≡ outcome_of answer written }
     {
-        let mut outcome = Outcome {
+        let mut outcome = CallOutcome {
             status: 0,
             fault: 0,
             line: 0,
@@ -56,11 +56,11 @@ impl Outcome {
         outcome
     }
 
-    /// That of a snapshot that was refused.
+    /// Returns that of a snapshot that was refused.
     pub fn refused(fault: SnapshotFault) -> Self
         ensures { result ≡ refused fault }
     {
-        Outcome {
+        CallOutcome {
             status: 2,
             fault: u32::from(fault.number()),
             line: 0,

@@ -93,7 +93,7 @@ fn plain_need(kind: u32) -> NeedReport
 }
 
 /// Returns what is needed.
-pub fn need_report(need: Need<'_>) -> NeedReport
+pub fn need_of(need: Need<'_>) -> NeedReport
     requires { IsNeed (needed need) }
     ensures { result ≡ need_of (needed need.entry) }
 {
@@ -111,7 +111,7 @@ pub fn need_report(need: Need<'_>) -> NeedReport
 }
 
 /// Returns the credential of a row.
-pub fn credential_report(row: &Row) -> Credential
+pub fn credential_of(row: &Row) -> Credential
     ensures { result ≡ credential_of row.now }
 {
     let user = row.user.as_slice();
@@ -131,7 +131,7 @@ pub fn credential_report(row: &Row) -> Credential
 }
 
 /// Returns the meters.
-pub fn meters_report(meters: Meters) -> MetersReport
+pub fn meters_of(meters: Meters) -> MetersReport
     ensures { result ≡ meters_of meters }
 {
     MetersReport {

@@ -5,7 +5,7 @@ ghost use Rattle.hidlog_c.specs.Shown.{IsShown, Shows};
 ghost use Rattle.session_show.specs.declared.wording.Wording.TheVariants.{Explained as explained, Fixed as fixed};
 
 use crate::lent::Lent;
-use crate::outcome::Outcome;
+use crate::outcome::CallOutcome;
 use session_log::{LogFault, SliceIn};
 use session_show::{Wording, explain, show};
 
@@ -30,7 +30,7 @@ fn play_explained(log: &[u8], writer: &mut Lent<'_>) -> Result<(), LogFault>
 }
 
 /// Shows the log, and writes what [`show`] or [`explain`] writes to the front of `out`.
-pub fn show_log(wording: Wording, log: &[u8], out: &mut [u8]) -> Outcome
+pub fn show_log(wording: Wording, log: &[u8], out: &mut [u8]) -> CallOutcome
     ensures { IsShown wording log.now out.new result }
 {
     let mut writer = Lent::new(out);
@@ -38,5 +38,5 @@ pub fn show_log(wording: Wording, log: &[u8], out: &mut [u8]) -> Outcome
         Wording::Fixed => play_fixed(log, &mut writer),
         Wording::Explained => play_explained(log, &mut writer),
     };
-    Outcome::new(answer, writer.len())
+    CallOutcome::new(answer, writer.len())
 }

@@ -3,13 +3,13 @@ ghost use Rattle.std.specs.Prelude.{◌≡◌, ◌≤◌, ℕ, Some, Err, length
 ghost use Rattle.session_log.specs.declared.fault.LogFault.{LogFault as AnyFault};
 ghost use Rattle.hidlog_c.specs.Numbers.{outcome_of};
 
-use crate::outcome::Outcome;
+use crate::outcome::CallOutcome;
 use arrayvec::ArrayVec;
 use session_log::LogFault;
 use std::io::Write;
 
 /// Returns the fault of the log that an outcome has.
-fn fault_in(outcome: &Outcome) -> Option<LogFault>
+fn fault_in(outcome: &CallOutcome) -> Option<LogFault>
     ensures { (fault : AnyFault) (written : ℕ) → outcome.now ≡ outcome_of {A = Unit {0}} (Err fault) written → result ≡ Some fault }
 {
     let line = outcome.line;
@@ -40,7 +40,7 @@ fn refusal(number: u32) -> &'static [u8] {
 
 /// Writes the line that the program writes for what an outcome has, or its front, to the front of `out`; nothing where a
 /// command was done to its end. Returns how many bytes it wrote.
-pub fn put_fault(outcome: &Outcome, out: &mut [u8]) -> usize
+pub fn put_fault(outcome: &CallOutcome, out: &mut [u8]) -> usize
     ensures { result ≤ length out.new }
 {
     let mut text = ArrayVec::<u8, 96>::new();

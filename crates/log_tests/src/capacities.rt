@@ -2,7 +2,7 @@
 ghost use Rattle.std.specs.Prelude.{◌≤◌};
 
 use crate::cases::texts;
-use session_log::{Command, SliceIn, ToWrite};
+use session_log::{LogCommand, SliceIn, ToWrite};
 use std::alloc::{AllocError, Global};
 use std::process::Abort;
 use token_session::Session;
@@ -155,7 +155,7 @@ const GREETING: &str = "\
 |< 00000001810003616263..
 |= held 0 rows 0 pending 0 requests 0 bytes 0 steps 0";
 
-/// A session writes the log again, and its packets are those of the log.
+/// Checks that a session writes the log again, and that its packets are those of the log.
 fn assert_worked<const C: usize>(
     rt: &impl Abort,
     alloc: Global,
@@ -166,12 +166,12 @@ fn assert_worked<const C: usize>(
 {
     let (log, _) = texts(alloc, lines)?;
     let mut written = Vec::new(alloc);
-    for command in [Command::Replay, Command::Check] {
+    for command in [LogCommand::Replay, LogCommand::Check] {
         written.clear();
         let mut session = Session::<C>::bare([0; 16], 0);
         let reader = &mut SliceIn::new(log.as_bytes());
         let answer = command.play(&mut session, reader, &mut ToWrite::new(&mut written));
-        let is_same = written.as_slice() == log.as_bytes() || command == Command::Check;
+        let is_same = written.as_slice() == log.as_bytes() || command == LogCommand::Check;
         assert!(rt; answer.is_ok() && is_same, "{C}");
     }
     Ok(())

@@ -65,7 +65,7 @@ fn push_line(text: &mut String, line: &str) -> Result<(), AllocError> {
     text.push('\n')
 }
 
-/// The log of a case, and what is written for it.
+/// Returns the log of a case, and what is written for it.
 pub fn texts(alloc: Global, lines: &str) -> Result<(String, String), AllocError> {
     let (mut log, mut text) = (String::new(alloc), String::new(alloc));
     for marked in lines.split('\n') {

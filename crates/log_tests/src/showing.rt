@@ -28,13 +28,13 @@ const INFO: &str = "\
 
 #[test]
 fn an_item_as_text(rt: HostRuntime) {
-    let mut room = [0; 32];
-    let mut target = SliceOut::new(&mut room);
+    let mut space = [0; 32];
+    let mut target = SliceOut::new(&mut space);
     let answer = show_item(&mut target, b"\x82\x61a\xa1\x61b\x61c");
     assert!(rt; answer.is_ok() && target.written() == b"[\"a\", {\"b\": \"c\"}]".as_slice());
 }
 
-/// What was written has to be the text of the lines before this one.
+/// Checks that what was written is the text of the lines before this one.
 fn assert_stops_before<R: Abort>(rt: &R, text: &[u8], written: &[u8], line: u64) {
     let mut front = ArrayVec::<u8, 32>::new();
     let _ = write!(front, "{line} ");
@@ -50,8 +50,8 @@ fn streams_fail(rt: HostRuntime) -> Result<(), AllocError> {
     let (log, text) = texts(alloc, INFO)?;
     let starts = [0, 133, 264, 397, 528, 659];
     for given in 0..659usize {
-        let mut room = [0; 1024];
-        let mut target = SliceOut::new(&mut room);
+        let mut space = [0; 1024];
+        let mut target = SliceOut::new(&mut space);
         let mut source = FromRead::new(Drip {
             rest: log.as_bytes().get(..given).unwrap_or(b""),
             step: 1,

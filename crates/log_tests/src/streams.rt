@@ -150,7 +150,7 @@ impl Write for Watched<'_> {
     }
 }
 
-/// Of a log whose first so many bytes come one by one, this is answered, and this much of the text written.
+/// Checks that of a log whose first so many bytes come one by one this is answered, and this much of the text written.
 fn assert_read<R: Abort>(
     rt: &R,
     alloc: Global,
@@ -187,7 +187,8 @@ fn readers_fail(rt: HostRuntime) -> Result<(), AllocError> {
     assert_read(&rt, alloc, "check", 200, true, (Err(fault), 0))
 }
 
-/// Into a writer that takes a byte a call and fails after any number of calls, so much of the text is written.
+/// Checks that into a writer that takes a byte a call and fails after any number of calls, so much of the text is
+/// written.
 pub fn assert_written<R: Abort>(
     rt: &R,
     alloc: Global,
@@ -228,7 +229,7 @@ fn writers_fail(rt: HostRuntime) -> Result<(), AllocError> {
     assert_written(&rt, alloc, "json", ticked)
 }
 
-/// When so many pieces of a log were asked for, so much was written, and all in so many calls.
+/// Checks that when so many pieces of a log were asked for, so much was written, and all in so many calls.
 fn assert_watched<R: Abort>(
     rt: &R,
     alloc: Global,
@@ -270,8 +271,8 @@ fn a_line_is_answered_before_more_is_read(rt: HostRuntime) -> Result<(), AllocEr
 
 #[test]
 fn failed_writes_are_counted(rt: HostRuntime) {
-    let mut room = [0; 4];
-    let mut target = SliceOut::new(&mut room);
+    let mut space = [0; 4];
+    let mut target = SliceOut::new(&mut space);
     let (some, few) = (target.put(b"abc").ok(), target.put(b"def").ok());
     let (none, full) = (target.put(b"").ok(), target.put(b"ef").ok());
     let failed = target.failures();

@@ -13,7 +13,7 @@ use Rattle.session_log.specs.Log.{Played, prefixed, played, playing, log_of, log
 use Rattle.session_log.specs.Said.{said}
 use Rattle.session_log.specs.Sent.{SendsPackets, AllSend, FitsMeters}
 use Rattle.session_log.specs.Text.{IsPacket, ArePackets, ended, sent_text, meters_line}
-use Rattle.session_log.specs.World.{World, Course, replaying, living, writes_needs}
+use Rattle.session_log.specs.World.{World, Course, replaying, living}
 use Rattle.session_log.proofs.Feeds.{feedless, AreLines, feedless-append, AreLines-append, lines_joined, lines_are_lines, decimal_feedless, hex_feedless, IsSound, sound_line, sound_first}
 use Rattle.session_log.proofs.Spelled.{count_rest, spelled_is_read}
 use Rattle.session_log.proofs.Through.{played_sound, prefixed_twice, said_fault, log_is}
@@ -26,7 +26,8 @@ use Rattle.token_session.specs.Meters.{SessionState}
 use Rattle.session_log.specs.Replay.{IsDone}
 use Rattle.session_log.specs.Session.{RepeatsIn}
 
--- A world in which no line is faulty but for its text. What was sent and counted in an earlier run is dropped, and at the end
+-- A world in which no line is faulty but for its text. What was sent and counted in an earlier run is dropped, and at
+-- the end
 -- stand the meters.
 pub record IsLogging {S : Type 0} (w : World S) (counts : S → Meters) : Type 0 where
   pub stops : (s : S) (l : Line) → w.stops s l ≡ None
@@ -48,7 +49,8 @@ sents_text (packet ∷ more) = ap (λ (t : List ℕ). sent_text packet ++ t) (se
 abbrev counts_of : Meters → List ℕ
 counts_of m =
     codes " held " ++ decimal m.held ++ codes " rows " ++ decimal m.rows ++ codes " pending " ++ decimal m.pending
-    ++ codes " requests " ++ decimal m.requests ++ codes " bytes " ++ decimal m.bytes ++ codes " steps " ++ decimal m.steps
+    ++ codes " requests " ++ decimal m.requests ++ codes " bytes " ++ decimal m.bytes ++ codes " steps " ++ decimal
+    m.steps
 
 -- A line that sends is read as one that was sent.
 
@@ -56,12 +58,14 @@ sent_digits : (packet : List ℕ) → IsPacket packet → decode_sized (encode_l
 sent_digits packet h = decode_sized-encode_lower packet 64 h.0 h.1
 
 sent_said : (packet : List ℕ) → IsPacket packet → said (sent_line packet) ≡ Some (Sent (record { 0 = packet }))
-sent_said packet h = spelled_is_read (sent_line packet) (Sent (record { 0 = packet })) (encode_lower packet, refl, sent_digits packet h)
+sent_said packet h =
+    spelled_is_read (sent_line packet) (Sent (record { 0 = packet })) (encode_lower packet, refl, sent_digits packet h)
 
 sent_sound : (packet : List ℕ) → IsPacket packet → IsSound (sent_line packet)
 sent_sound packet h =
     record {
-      short = omega (arith, h.0, length-append (codes "< ") (encode_lower packet), length-encode_with lower_digits packet);
+      short =
+          omega (arith, h.0, length-append (codes "< ") (encode_lower packet), length-encode_with lower_digits packet);
       says = λ e. cc (sym e ∙ sent_said packet h);
     }
 
@@ -79,329 +83,388 @@ sents_are (packet ∷ more) h = (sent_feedless packet h.0, sents_are more h.1)
 pub add_zero : (n : ℕ) → n ≡ n + 0
 add_zero n = omega arith
 
-faultless : {S : Type 0} (w : World S) (counts : S → Meters) → IsLogging w counts → (n : ℕ) (s : S) (l : Option Line) → l ≢ None → fault_by w n s l ≡ None
-faultless w counts is n s None h = absurd (h refl)
-faultless w counts is n s (Some l) h = is.stops s l
+module _ {S : Type 0} {w : World S} {counts : S → Meters} (is : IsLogging w counts) where
+  faultless : (n : ℕ) (s : S) (l : Option Line) → l ≢ None → fault_by w n s l ≡ None
+  faultless n s None h = absurd (h refl)
+  faultless n s (Some l) h = is.stops s l
 
-pub sound_step : {S : Type 0} (w : World S) (counts : S → Meters) → IsLogging w counts → (m : ℕ) (s : S) (line : List ℕ) (more : List (List ℕ)) (l : Option Line) → m < 2 ^ 32 → IsSound line → said line ≡ l
-    → played w m s (line ∷ more) ≡ prefixed (text_by w s line l) (played w (m + 1) (after_by w s l) more)
-sound_step w counts is m s line more l few sound e =
-    played_sound w m s line more (said_fault w m s line few sound.short ∙ faultless w counts is m s (said line) sound.says)
-    ∙ ap (λ (o : Option Line). prefixed (text_by w s line o) (played w (m + 1) (after_by w s o) more)) e
+  pub sound_step : (m : ℕ) (s : S) (line : List ℕ) (more : List (List ℕ)) (l : Option Line) → m < 2 ^ 32 → IsSound line
+      → said line ≡ l → played w m s (line ∷ more)
+      ≡ prefixed (text_by w s line l) (played w (m + 1) (after_by w s l) more)
+  sound_step m s line more l few sound e =
+      played_sound w m s line more (said_fault w m s line few sound.short ∙ faultless m s (said line) sound.says)
+      ∙ ap (λ (o : Option Line). prefixed (text_by w s line o) (played w (m + 1) (after_by w s o) more)) e
 
-pub sents_again : {S : Type 0} (w : World S) (counts : S → Meters) → IsLogging w counts → (m : ℕ) (s : S) (packets rest : List (List ℕ)) → ArePackets packets → m + length packets ≤ 2 ^ 32
-    → played w m s (map sent_line packets ++ rest) ≡ played w (m + length packets) s rest
-sents_again w counts is m s [] rest h few = ap (λ (k : ℕ). played w k s rest) (add_zero m)
-sents_again w counts is m s (packet ∷ more) rest h few =
-    let next : m + 1 + length more ≡ m + suc (length more) = omega arith in
-    let sent : Packet = record { 0 = packet } in
-    sound_step w counts is m s (sent_line packet) (map sent_line more ++ rest) (Some (Sent sent)) (omega (arith, few)) (sent_sound packet h.0) (sent_said packet h.0)
-    ∙ (λ i. prefixed (is.drops_sent s (sent_line packet) sent i) (played w (m + 1) (is.stays_at_sent s sent i) (map sent_line more ++ rest)))
-    ∙ sents_again w counts is (m + 1) s more rest h.1 (omega (arith, few, next))
-    ∙ ap (λ (k : ℕ). played w k s rest) next
+  pub sents_again : (m : ℕ) (s : S) (packets rest : List (List ℕ)) → ArePackets packets → m + length packets ≤ 2 ^ 32
+      → played w m s (map sent_line packets ++ rest) ≡ played w (m + length packets) s rest
+  sents_again m s [] rest h few = ap (λ (k : ℕ). played w k s rest) (add_zero m)
+  sents_again m s (packet ∷ more) rest h few =
+      let next : m + 1 + length more ≡ m + suc (length more) = omega arith in
+      let sent : Packet = record { 0 = packet } in
+      rw (
+        sound_step m s (sent_line packet) (map sent_line more ++ rest) (Some (Sent sent)) (omega (arith, few))
+            (sent_sound packet h.0) (sent_said packet h.0),
+        is.drops_sent s (sent_line packet) sent,
+        is.stays_at_sent s sent,
+      )
+      (sents_again (m + 1) s more rest h.1 (omega (arith, few, next)) ∙ ap (λ (k : ℕ). played w k s rest) next)
 
--- What v writes, w gives again: these are the lines that v writes for a line, without their line feeds.
-pub record GivesAgain {S : Type 0} (v w : World S) (wrote : S → List ℕ → Option Line → List (List ℕ)) : Type 0 where
+-- the lines that v writes for a line, without their line feeds
+pub record WritesLines {S : Type 0} (v : World S) (wrote : S → List ℕ → Option Line → List (List ℕ)) : Type 0 where
   pub texts : (s : S) (line : List ℕ) (l : Option Line) → text_by v s line l ≡ flat_map ended (wrote s line l)
-  pub are : (s : S) (line : List ℕ) (l : Option Line) → feedless line ≡ true → SendsPackets v s l → AreLines (wrote s line l)
-  pub again : (m : ℕ) (s : S) (line : List ℕ) (l : Option Line) (rest : List (List ℕ)) → IsSound line → said line ≡ l → SendsPackets v s l → m + length (wrote s line l) ≤ 2 ^ 32
-      → played w m s (wrote s line l ++ rest) ≡ prefixed (text_by v s line l) (played w (m + length (wrote s line l)) (after_by v s l) rest)
+  pub are : (s : S) (line : List ℕ) (l : Option Line) → said line ≡ l → feedless line ≡ true → SendsPackets v s l
+      → AreLines (wrote s line l)
 
-abbrev written : {S : Type 0} (v : World S) → (S → List ℕ → Option Line → List (List ℕ)) → S → List (List ℕ) → List (List ℕ)
+abbrev pub written : {S : Type 0} (v : World S) → (S → List ℕ → Option Line → List (List ℕ)) → S → List (List ℕ)
+    → List (List ℕ)
 written v wrote s [] = []
 written v wrote s (line ∷ more) = wrote s line (said line) ++ written v wrote (after v s line) more
 
-lines_again : {S : Type 0} (v w : World S) (wrote : S → List ℕ → Option Line → List (List ℕ)) → GivesAgain v w wrote → (n m : ℕ) (s : S) (ls rest : List (List ℕ)) → (played v n s ls).fault ≡ None → AllSend v s ls → m + length (written v wrote s ls) ≤ 2 ^ 32
-    → played w m s (written v wrote s ls ++ rest) ≡ prefixed (played v n s ls).text (played w (m + length (written v wrote s ls)) (played v n s ls).state rest)
-lines_again v w wrote g n m s [] rest h sends few = ap (λ (k : ℕ). played w k s rest) (add_zero m)
-lines_again {S} v w wrote g n m s (line ∷ more) rest h sends few =
-    let t = after v s line in
-    let first = wrote s line (said line) in
-    let others = written v wrote t more in
-    let both = length-append first others in
-    let sound = sound_first v n s line more h in
-    let step = played_sound v n s line more sound in
-    let later : (played v (n + 1) t more).fault ≡ None = sym (ap (λ (p : Played S). p.fault) step) ∙ h in
-    let count : m + length first + length others ≡ m + length (first ++ others) = omega (arith, both) in
-    let final = played w (m + length first + length others) (played v (n + 1) t more).state rest in
-    ap (played w m s) (append_assoc first others rest)
-    ∙ g.again m s line (said line) (others ++ rest) (sound_line v n s line sound) refl sends.0 (omega (arith, few, both))
-    ∙ ap (prefixed (text_of v s line)) (lines_again v w wrote g (n + 1) (m + length first) t more rest later sends.1 (omega (arith, few, both)))
-    ∙ prefixed_twice (text_of v s line) (played v (n + 1) t more).text final
-    ∙ λ i. prefixed (sym step i).text (played w (count i) (sym step i).state rest)
+module _ {S : Type 0} {v : World S} {wrote : S → List ℕ → Option Line → List (List ℕ)} (g : WritesLines v wrote) where
+  pub written_text : (n : ℕ) (s : S) (ls : List (List ℕ)) → (played v n s ls).fault ≡ None
+      → (played v n s ls).text ≡ flat_map ended (written v wrote s ls)
+  written_text n s [] h = refl
+  written_text n s (line ∷ more) h =
+      let t = after v s line in
+      let step = played_sound v n s line more (sound_first v n s line more h) in
+      let later : (played v (n + 1) t more).fault ≡ None = sym (ap (λ (p : Played S). p.fault) step) ∙ h in
+      rw (step, g.texts s line (said line), written_text (n + 1) t more later)
+      (sym (flat_map-append ended (wrote s line (said line)) (written v wrote t more)))
 
-written_text : {S : Type 0} (v w : World S) (wrote : S → List ℕ → Option Line → List (List ℕ)) → GivesAgain v w wrote → (n : ℕ) (s : S) (ls : List (List ℕ)) → (played v n s ls).fault ≡ None → (played v n s ls).text ≡ flat_map ended (written v wrote s ls)
-written_text v w wrote g n s [] h = refl
-written_text {S} v w wrote g n s (line ∷ more) h =
-    let t = after v s line in
-    let step = played_sound v n s line more (sound_first v n s line more h) in
-    let later : (played v (n + 1) t more).fault ≡ None = sym (ap (λ (p : Played S). p.fault) step) ∙ h in
-    ap (λ (p : Played S). p.text) step
-    ∙ ap (λ (a : List ℕ). a ++ (played v (n + 1) t more).text) (g.texts s line (said line))
-    ∙ ap (λ (a : List ℕ). flat_map ended (wrote s line (said line)) ++ a) (written_text v w wrote g (n + 1) t more later)
-    ∙ sym (flat_map-append ended (wrote s line (said line)) (written v wrote t more))
+  pub written_are : (s : S) (ls : List (List ℕ)) → AreLines ls → AllSend v s ls → AreLines (written v wrote s ls)
+  written_are s [] h sends = tt
+  written_are s (line ∷ more) h sends =
+      AreLines-append (wrote s line (said line)) (written v wrote (after v s line) more)
+      (g.are s line (said line) refl h.0 sends.0) (written_are (after v s line) more h.1 sends.1)
 
-written_are : {S : Type 0} (v w : World S) (wrote : S → List ℕ → Option Line → List (List ℕ)) → GivesAgain v w wrote → (s : S) (ls : List (List ℕ)) → AreLines ls → AllSend v s ls → AreLines (written v wrote s ls)
-written_are v w wrote g s [] h sends = tt
-written_are v w wrote g s (line ∷ more) h sends =
-    AreLines-append (wrote s line (said line)) (written v wrote (after v s line) more) (g.are s line (said line) h.0 sends.0) (written_are v w wrote g (after v s line) more h.1 sends.1)
+-- what v writes, w gives again
+pub record GivesAgain {S : Type 0} (v w : World S) (wrote : S → List ℕ → Option Line → List (List ℕ)) : Type 0 where
+  pub writes : WritesLines v wrote
+  pub again : (m : ℕ) (s : S) (line : List ℕ) (l : Option Line) (rest : List (List ℕ)) → IsSound line → said line ≡ l
+      → SendsPackets v s l → m + length (wrote s line l) ≤ 2 ^ 32 → played w m s (wrote s line l ++ rest)
+      ≡ prefixed (text_by v s line l) (played w (m + length (wrote s line l)) (after_by v s l) rest)
 
--- Six words, each with a number after it.
-words_feedless : (a h b r c p d q e y f s : List ℕ) → feedless a ≡ true → feedless h ≡ true → feedless b ≡ true → feedless r ≡ true → feedless c ≡ true → feedless p ≡ true → feedless d ≡ true → feedless q ≡ true → feedless e ≡ true → feedless y ≡ true → feedless f ≡ true → feedless s ≡ true
-    → feedless (a ++ h ++ b ++ r ++ c ++ p ++ d ++ q ++ e ++ y ++ f ++ s) ≡ true
-words_feedless a h b r c p d q e y f s is_a is_h is_b is_r is_c is_p is_d is_q is_e is_y is_f is_s =
-    let glue = feedless-append in
-    glue (a ++ h ++ b ++ r ++ c ++ p ++ d ++ q ++ e ++ y ++ f) s
-    (glue (a ++ h ++ b ++ r ++ c ++ p ++ d ++ q ++ e ++ y) f
-    (glue (a ++ h ++ b ++ r ++ c ++ p ++ d ++ q ++ e) y
-    (glue (a ++ h ++ b ++ r ++ c ++ p ++ d ++ q) e
-    (glue (a ++ h ++ b ++ r ++ c ++ p ++ d) q
-    (glue (a ++ h ++ b ++ r ++ c ++ p) d
-    (glue (a ++ h ++ b ++ r ++ c) p
-    (glue (a ++ h ++ b ++ r) c
-    (glue (a ++ h ++ b) r
-    (glue (a ++ h) b
-    (glue a h is_a is_h) is_b) is_r) is_c) is_p) is_d) is_q) is_e) is_y) is_f) is_s
+module _ {S : Type 0} {v w : World S} {wrote : S → List ℕ → Option Line → List (List ℕ)} (g : GivesAgain v w wrote)
+  where
+    lines_again : (n m : ℕ) (s : S) (ls rest : List (List ℕ)) → (played v n s ls).fault ≡ None → AllSend v s ls
+        → m + length (written v wrote s ls) ≤ 2 ^ 32 → played w m s (written v wrote s ls ++ rest)
+        ≡ prefixed (played v n s ls).text (played w (m + length (written v wrote s ls)) (played v n s ls).state rest)
+    lines_again n m s [] rest h sends few = ap (λ (k : ℕ). played w k s rest) (add_zero m)
+    lines_again n m s (line ∷ more) rest h sends few =
+        let t = after v s line in
+        let first = wrote s line (said line) in
+        let others = written v wrote t more in
+        let both = length-append first others in
+        let sound = sound_first v n s line more h in
+        let step = played_sound v n s line more sound in
+        let later : (played v (n + 1) t more).fault ≡ None = sym (ap (λ (p : Played S). p.fault) step) ∙ h in
+        let count : m + length first + length others ≡ m + length (first ++ others) = omega (arith, both) in
+        let final = played w (m + length first + length others) (played v (n + 1) t more).state rest in
+        ap (played w m s) (append_assoc first others rest)
+        ∙ g.again m s line (said line) (others ++ rest) (sound_line v n s line sound) refl sends.0
+        (omega (arith, few, both)) ∙ ap (prefixed (text_of v s line))
+        (lines_again (n + 1) (m + length first) t more rest later sends.1 (omega (arith, few, both)))
+        ∙ prefixed_twice (text_of v s line) (played v (n + 1) t more).text final
+        ∙ λ i. prefixed (sym step i).text (played w (count i) (sym step i).state rest)
+
+-- one more word, and the number after it
+number_more : (front word : List ℕ) (n : ℕ) → feedless front ≡ true → feedless word ≡ true → n < 2 ^ 64
+    → feedless (front ++ word ++ decimal n) ≡ true
+number_more front word n is_front is_word fits =
+    feedless-append (front ++ word) (decimal n) (feedless-append front word is_front is_word) (decimal_feedless n fits)
 
 counts_feedless : (m : Meters) → FitsMeters m → feedless (61 ∷ counts_of m) ≡ true
 counts_feedless m h =
-    words_feedless (codes "= held ") (decimal m.held) (codes " rows ") (decimal m.rows) (codes " pending ") (decimal m.pending)
-    (codes " requests ") (decimal m.requests) (codes " bytes ") (decimal m.bytes) (codes " steps ") (decimal m.steps)
-    refl (decimal_feedless m.held h.held) refl (decimal_feedless m.rows h.rows) refl (decimal_feedless m.pending h.pending)
-    refl (decimal_feedless m.requests h.requests) refl (decimal_feedless m.bytes h.bytes) refl (decimal_feedless m.steps h.steps)
+    let held = codes "= held " ++ decimal m.held in
+    let rows = held ++ codes " rows " ++ decimal m.rows in
+    let pending = rows ++ codes " pending " ++ decimal m.pending in
+    let requests = pending ++ codes " requests " ++ decimal m.requests in
+    let bytes = requests ++ codes " bytes " ++ decimal m.bytes in
+    number_more bytes (codes " steps ") m.steps
+    (number_more requests (codes " bytes ") m.bytes
+    (number_more pending (codes " requests ") m.requests
+    (number_more rows (codes " pending ") m.pending
+    (number_more held (codes " rows ") m.rows (number_more [] (codes "= held ") m.held refl refl h.held) refl h.rows)
+    refl h.pending) refl h.requests) refl h.bytes) refl h.steps
 
 counts_short : (m : Meters) → FitsMeters m → length (61 ∷ counts_of m) < 256
 counts_short m h =
-    let sum : length (61 ∷ counts_of m) ≡ suc (6 + length (decimal m.held) + 6 + length (decimal m.rows) + 9 + length (decimal m.pending) + 10 + length (decimal m.requests) + 7 + length (decimal m.bytes) + 7 + length (decimal m.steps)) =
+    let sum : length (61 ∷ counts_of m)
+    ≡ suc
+    (6 + length (decimal m.held) + 6 + length (decimal m.rows) + 9 + length (decimal m.pending) + 10 + length
+    (decimal m.requests) + 7 + length (decimal m.bytes) + 7 + length (decimal m.steps)) =
     simp length-append refl in
     let short = λ (n : ℕ) (fits : n < 2 ^ 64). length-decimal-le 20 n (omega arith) (omega (arith, fits)) fits in
-    omega (arith, sum, short m.held h.held, short m.rows h.rows, short m.pending h.pending, short m.requests h.requests, short m.bytes h.bytes, short m.steps h.steps)
+    omega (
+      arith,
+      sum,
+      short m.held h.held,
+      short m.rows h.rows,
+      short m.pending h.pending,
+      short m.requests h.requests,
+      short m.bytes h.bytes,
+      short m.steps h.steps,
+    )
 
 -- Where no line is faulty, the log that v writes is its own log in w.
-pub log_again : {S : Type 0} (v w : World S) (counts : S → Meters) (wrote : S → List ℕ → Option Line → List (List ℕ)) → IsLogging v counts → IsLogging w counts → GivesAgain v w wrote
-    → (s : S) (bytes : List ℕ) → (playing v s bytes).fault ≡ None → AllSend v s (lines bytes) → FitsMeters (counts (playing v s bytes).state)
-    → length (lines (log v s bytes)) < 2 ^ 32 → log w s (log v s bytes) ≡ log v s bytes
-log_again {S} v w counts wrote writes gives g s bytes h sends fits few =
+pub log_again : {S : Type 0} {v w : World S} {counts : S → Meters} {wrote : S → List ℕ → Option Line → List (List ℕ)}
+    → (writes : IsLogging v counts) → (gives : IsLogging w counts) → (g : GivesAgain v w wrote)
+    → (s : S) (bytes : List ℕ) → (playing v s bytes).fault ≡ None → AllSend v s (lines bytes)
+    → FitsMeters (counts (playing v s bytes).state) → length (lines (log v s bytes)) < 2 ^ 32
+    → log w s (log v s bytes) ≡ log v s bytes
+log_again {S = S} {v = v} {w = w} {counts = counts} {wrote = wrote} writes gives g s bytes h sends fits few =
     let p = playing v s bytes in
     let m = counts p.state in
     let last = 61 ∷ counts_of m in
     let first = written v wrote s (lines bytes) in
-    let whole : log v s bytes ≡ p.text ++ meters_line m = log_is v p p.state p.text h refl refl ∙ ap (λ (t : List ℕ). p.text ++ t) (writes.ends p.state) in
+    let whole : log v s bytes ≡ p.text ++ meters_line m =
+    log_is v p p.state p.text h refl refl ∙ ap (λ (t : List ℕ). p.text ++ t) (writes.ends p.state) in
     let text : log v s bytes ≡ flat_map ended (first ++ last ∷ []) =
-    whole ∙ ap (λ (t : List ℕ). t ++ meters_line m) (written_text v w wrote g 1 s (lines bytes) h)
-    ∙ ap (λ (t : List ℕ). flat_map ended first ++ t) (sym (append-nil (ended last))) ∙ sym (flat_map-append ended first (last ∷ [])) in
-    let are : AreLines (first ++ last ∷ []) = AreLines-append first (last ∷ []) (written_are v w wrote g s (lines bytes) (lines_are_lines bytes) sends) (counts_feedless m fits, tt) in
+    whole ∙ ap (λ (t : List ℕ). t ++ meters_line m) (written_text g.writes 1 s (lines bytes) h)
+    ∙ ap (λ (t : List ℕ). flat_map ended first ++ t) (sym (append-nil (ended last)))
+    ∙ sym (flat_map-append ended first (last ∷ [])) in
+    let are : AreLines (first ++ last ∷ []) =
+    AreLines-append first (last ∷ []) (written_are g.writes s (lines bytes) (lines_are_lines bytes) sends)
+    (counts_feedless m fits, tt) in
     let cut : lines (log v s bytes) ≡ first ++ last ∷ [] = ap lines text ∙ lines_joined (first ++ last ∷ []) are in
-    let room : length first + 1 < 2 ^ 32 = omega (arith, few, ap length cut, length-append first (last ∷ [])) in
-    let sound : IsSound last = record { short = counts_short m fits; says = λ e. cc (sym e ∙ count_rest (counts_of m)) } in
+    let space : length first + 1 < 2 ^ 32 = omega (arith, few, ap length cut, length-append first (last ∷ [])) in
+    let sound : IsSound last =
+    record { short = counts_short m fits; says = λ e. cc (sym e ∙ count_rest (counts_of m)) } in
     let end : Played S = record { text = []; fault = None; state = p.state } in
     let ends : played w (1 + length first) p.state (last ∷ []) ≡ end =
-    sound_step w counts gives (1 + length first) p.state last [] (Some Count) (omega (arith, room)) sound (count_rest (counts_of m))
-    ∙ (λ i. prefixed (gives.drops_count p.state last i) (record { text = []; fault = None; state = gives.stays_at_count p.state i })) in
+    sound_step gives (1 + length first) p.state last [] (Some Count) (omega (arith, space)) sound
+    (count_rest (counts_of m)) ∙ (λ i. prefixed (gives.drops_count p.state last i)
+    (record { text = []; fault = None; state = gives.stays_at_count p.state i })) in
     let plays : playing w s (log v s bytes) ≡ prefixed p.text end =
-    ap (played w 1 s) cut ∙ lines_again v w wrote g 1 1 s (lines bytes) (last ∷ []) h sends (omega (arith, room)) ∙ ap (prefixed p.text) ends in
-    ap (log_of w) plays ∙ ap (λ (t : List ℕ). t ++ last_text w p.state) (append-nil p.text) ∙ ap (λ (t : List ℕ). p.text ++ t) (gives.ends p.state) ∙ sym whole
+    ap (played w 1 s) cut ∙ lines_again g 1 1 s (lines bytes) (last ∷ []) h sends (omega (arith, space))
+    ∙ ap (prefixed p.text) ends in
+    ap (log_of w) plays ∙ ap (λ (t : List ℕ). t ++ last_text w p.state) (append-nil p.text)
+    ∙ ap (λ (t : List ℕ). p.text ++ t) (gives.ends p.state) ∙ sym whole
 
 -- What a replay writes, a replay gives again.
 
-abbrev pub lines_by : {S : Type 0} → Course S → S → List ℕ → Option Line → List (List ℕ)
-lines_by course s line None = []
-lines_by course s line (Some Count) = []
-lines_by course s line (Some (Sent packet)) = []
-lines_by course s line (Some Comment) = line ∷ []
-lines_by course s line (Some (Input timed)) = line ∷ map sent_line (course.sends s timed)
+module _ {S : Type 0} (course : Course S) where
+  abbrev replays : World S
+  replays = replaying course
 
-pub replay_logs : {S : Type 0} (course : Course S) → IsLogging (replaying course) course.counts
-replay_logs course = record {
-  stops = λ s l. refl;
-  drops_sent = λ s line packet. refl;
-  stays_at_sent = λ s packet. refl;
-  drops_count = λ s line. refl;
-  stays_at_count = λ s. refl;
-  ends = λ s. refl;
-}
+  abbrev pub lines_by : S → List ℕ → Option Line → List (List ℕ)
+  lines_by s line (Some Comment) = line ∷ []
+  lines_by s line (Some (Input timed)) = line ∷ map sent_line (course.sends s timed)
+  lines_by s line l = []
 
-text_lines : {S : Type 0} (course : Course S) (s : S) (line : List ℕ) (l : Option Line) → text_by (replaying course) s line l ≡ flat_map ended (lines_by course s line l)
-text_lines course s line None = refl
-text_lines course s line (Some Count) = refl
-text_lines course s line (Some (Sent packet)) = refl
-text_lines course s line (Some Comment) = sym (append-nil (ended line))
-text_lines course s line (Some (Input timed)) = ap (λ (t : List ℕ). ended line ++ t) (sents_text (course.sends s timed))
+  pub replay_logs : IsLogging replays course.counts
+  replay_logs = record {
+    stops = λ s l. refl;
+    drops_sent = λ s line packet. refl;
+    stays_at_sent = λ s packet. refl;
+    drops_count = λ s line. refl;
+    stays_at_count = λ s. refl;
+    ends = λ s. refl;
+  }
 
-line_are : {S : Type 0} (course : Course S) (s : S) (line : List ℕ) (l : Option Line) → feedless line ≡ true → SendsPackets (replaying course) s l → AreLines (lines_by course s line l)
-line_are course s line None h sends = tt
-line_are course s line (Some Count) h sends = tt
-line_are course s line (Some (Sent packet)) h sends = tt
-line_are course s line (Some Comment) h sends = (h, tt)
-line_are course s line (Some (Input timed)) h sends = (h, sents_are (course.sends s timed) sends)
+  text_lines : (s : S) (line : List ℕ) (l : Option Line) → text_by replays s line l ≡ flat_map ended (lines_by s line l)
+  text_lines s line (Some Comment) = sym (append-nil (ended line))
+  text_lines s line (Some (Input timed)) = ap (λ (t : List ℕ). ended line ++ t) (sents_text (course.sends s timed))
+  text_lines s line l = refl
 
-line_again : {S : Type 0} (course : Course S) (m : ℕ) (s : S) (line : List ℕ) (l : Option Line) (rest : List (List ℕ)) → IsSound line → said line ≡ l → SendsPackets (replaying course) s l → m + length (lines_by course s line l) ≤ 2 ^ 32
-    → played (replaying course) m s (lines_by course s line l ++ rest) ≡ prefixed (text_by (replaying course) s line l) (played (replaying course) (m + length (lines_by course s line l)) (after_by (replaying course) s l) rest)
-line_again course m s line None rest sound e h few = absurd (sound.says e)
-line_again course m s line (Some Count) rest sound e h few = ap (λ (k : ℕ). played (replaying course) k s rest) (add_zero m)
-line_again course m s line (Some (Sent packet)) rest sound e h few = ap (λ (k : ℕ). played (replaying course) k s rest) (add_zero m)
-line_again course m s line (Some Comment) rest sound e h few = sound_step (replaying course) course.counts (replay_logs course) m s line rest (Some Comment) (omega (arith, few)) sound e
-line_again course m s line (Some (Input timed)) rest sound e h few =
-    let packets = course.sends s timed in
-    let same : length (map sent_line packets) ≡ length packets = simp length-map refl in
-    let next : m + 1 + length packets ≡ m + suc (length (map sent_line packets)) = omega (arith, same) in
-    sound_step (replaying course) course.counts (replay_logs course) m s line (map sent_line packets ++ rest) (Some (Input timed)) (omega (arith, few)) sound e
-    ∙ ap (prefixed (text_by (replaying course) s line (Some (Input timed))))
-    (sents_again (replaying course) course.counts (replay_logs course) (m + 1) (course.turned s timed) packets rest h (omega (arith, few, next)) ∙ ap (λ (k : ℕ). played (replaying course) k (course.turned s timed) rest) next)
+  line_are : (s : S) (line : List ℕ) (l : Option Line) → said line ≡ l → feedless line ≡ true → SendsPackets replays s l
+      → AreLines (lines_by s line l)
+  line_are s line (Some Comment) e h sends = (h, tt)
+  line_are s line (Some (Input timed)) e h sends = (h, sents_are (course.sends s timed) sends)
+  line_are s line l e h sends = tt
 
-pub replay_again : {S : Type 0} (course : Course S) → GivesAgain (replaying course) (replaying course) (lines_by course)
-replay_again course = record { texts = text_lines course; are = line_are course; again = line_again course }
+  line_again : (m : ℕ) (s : S) (line : List ℕ) (l : Option Line) (rest : List (List ℕ)) → IsSound line → said line ≡ l
+      → SendsPackets replays s l → m + length (lines_by s line l) ≤ 2 ^ 32
+      → played replays m s (lines_by s line l ++ rest)
+      ≡ prefixed (text_by replays s line l)
+      (played replays (m + length (lines_by s line l)) (after_by replays s l) rest)
+  line_again m s line None rest sound e h few = absurd (sound.says e)
+  line_again m s line (Some Comment) rest sound e h few =
+      sound_step replay_logs m s line rest (Some Comment) (omega (arith, few)) sound e
+  line_again m s line (Some (Input timed)) rest sound e h few =
+      let packets = course.sends s timed in
+      let same : length (map sent_line packets) ≡ length packets = simp length-map refl in
+      let next : m + 1 + length packets ≡ m + suc (length (map sent_line packets)) = omega (arith, same) in
+      rw (
+        sound_step replay_logs m s line (map sent_line packets ++ rest) (Some (Input timed)) (omega (arith, few))
+            sound e,
+        sents_again replay_logs (m + 1) (course.turned s timed) packets rest h (omega (arith, few, next)),
+        next,
+      ) refl
+  line_again m s line l rest sound e h few = ap (λ (k : ℕ). played replays k s rest) (add_zero m)
+
+  pub replay_again : GivesAgain replays replays lines_by
+  replay_again = record { writes = record { texts = text_lines; are = line_are }; again = line_again }
 
 -- What is written with what is needed is its own log: replayed, and with what is needed again.
-
-pub live_logs : {S : Type 0} (course : Course S) (needs : S → Needed) → IsLogging (living course needs) course.counts
-live_logs course needs = record {
-  stops = λ s l. refl;
-  drops_sent = λ s line packet. refl;
-  stays_at_sent = λ s packet. refl;
-  drops_count = λ s line. refl;
-  stays_at_count = λ s. refl;
-  ends = λ s. refl;
-}
-
-abbrev pub needs_of : {S : Type 0} → Course S → (S → Needed) → S → List ℕ → Option Line → List (List ℕ)
-needs_of course needs s line None = []
-needs_of course needs s line (Some Count) = []
-needs_of course needs s line (Some (Sent packet)) = []
-needs_of course needs s line (Some Comment) = cond (is_need_line line) [] (line ∷ [])
-needs_of course needs s line (Some (Input timed)) = line ∷ map sent_line (course.sends s timed) ++ need_lines (needs (course.turned s timed))
 
 comment_lines : (line : List ℕ) (b : Bool) → cond b [] (ended line) ≡ flat_map ended (cond b [] (line ∷ []))
 comment_lines line true = refl
 comment_lines line false = sym (append-nil (ended line))
 
-lived_lines : {S : Type 0} (course : Course S) (needs : S → Needed) (s : S) (line : List ℕ) (l : Option Line) → text_by (living course needs) s line l ≡ flat_map ended (needs_of course needs s line l)
-lived_lines course needs s line None = refl
-lived_lines course needs s line (Some Count) = refl
-lived_lines course needs s line (Some (Sent packet)) = refl
-lived_lines course needs s line (Some Comment) = comment_lines line (is_need_line line)
-lived_lines course needs s line (Some (Input timed)) =
-    let packets = course.sends s timed in
-    let told = need_lines (needs (course.turned s timed)) in
-    append_assoc (ended line) (flat_map sent_text packets) (flat_map ended told)
-    ∙ ap (λ (t : List ℕ). ended line ++ t)
-    (ap (λ (t : List ℕ). t ++ flat_map ended told) (sents_text packets) ∙ sym (flat_map-append ended (map sent_line packets) told))
-
 comment_are : (line : List ℕ) (b : Bool) → feedless line ≡ true → AreLines (cond b [] (line ∷ []))
 comment_are line true h = tt
 comment_are line false h = (h, tt)
 
-lived_are : {S : Type 0} (course : Course S) (needs : S → Needed) (s : S) (line : List ℕ) (l : Option Line) → feedless line ≡ true → SendsPackets (living course needs) s l → AreLines (needs_of course needs s line l)
-lived_are course needs s line None h sends = tt
-lived_are course needs s line (Some Count) h sends = tt
-lived_are course needs s line (Some (Sent packet)) h sends = tt
-lived_are course needs s line (Some Comment) h sends = comment_are line (is_need_line line) h
-lived_are course needs s line (Some (Input timed)) h sends =
-    let told = need_lines (needs (course.turned s timed)) in
-    (h, AreLines-append (map sent_line (course.sends s timed)) told (sents_are (course.sends s timed) sends.0) (told_are told (needs_told (needs (course.turned s timed)) sends.1)))
-
--- the lines that tell what is needed are dropped, or replayed as they are
-
-told_dropped : {S : Type 0} (course : Course S) (needs : S → Needed) (m : ℕ) (s : S) (ls rest : List (List ℕ)) → AreTold ls → m + length ls ≤ 2 ^ 32
-    → played (living course needs) m s (ls ++ rest) ≡ played (living course needs) (m + length ls) s rest
-told_dropped course needs m s [] rest h few = ap (λ (k : ℕ). played (living course needs) k s rest) (add_zero m)
-told_dropped course needs m s (line ∷ more) rest h few =
-    let next : m + 1 + length more ≡ m + suc (length more) = omega arith in
-    sound_step (living course needs) course.counts (live_logs course needs) m s line (more ++ rest) (Some Comment) (omega (arith, few)) h.0.sound h.0.said
-    ∙ ap (λ (b : Bool). prefixed (cond b [] (ended line)) (played (living course needs) (m + 1) s (more ++ rest))) h.0.tells
-    ∙ told_dropped course needs (m + 1) s more rest h.1 (omega (arith, few, next))
-    ∙ ap (λ (k : ℕ). played (living course needs) k s rest) next
-
-needs_copied : {S : Type 0} (course : Course S) (m : ℕ) (s : S) (ls rest : List (List ℕ)) → AreTold ls → m + length ls ≤ 2 ^ 32
-    → played (replaying course) m s (ls ++ rest) ≡ prefixed (flat_map ended ls) (played (replaying course) (m + length ls) s rest)
-needs_copied course m s [] rest h few = ap (λ (k : ℕ). played (replaying course) k s rest) (add_zero m)
-needs_copied course m s (line ∷ more) rest h few =
-    let next : m + 1 + length more ≡ m + suc (length more) = omega arith in
-    sound_step (replaying course) course.counts (replay_logs course) m s line (more ++ rest) (Some Comment) (omega (arith, few)) h.0.sound h.0.said
-    ∙ ap (prefixed (ended line)) (needs_copied course (m + 1) s more rest h.1 (omega (arith, few, next)))
-    ∙ prefixed_twice (ended line) (flat_map ended more) (played (replaying course) (m + 1 + length more) s rest)
-    ∙ ap (λ (k : ℕ). prefixed (ended line ++ flat_map ended more) (played (replaying course) k s rest)) next
-
--- a comment is kept where it tells nothing
-
-comment_kept : {S : Type 0} (w : World S) (m : ℕ) (s : S) (line : List ℕ) (rest : List (List ℕ)) (b : Bool) → (b ≡ false → m < 2 ^ 32 → played w m s (line ∷ rest) ≡ prefixed (ended line) (played w (m + 1) s rest))
-    → m + length (cond b [] (line ∷ [])) ≤ 2 ^ 32
-    → played w m s (cond b [] (line ∷ []) ++ rest) ≡ prefixed (cond b [] (ended line)) (played w (m + length (cond b [] (line ∷ []))) s rest)
+comment_kept : {S : Type 0} (w : World S) (m : ℕ) (s : S) (line : List ℕ) (rest : List (List ℕ)) (b : Bool)
+    → (b ≡ false → m < 2 ^ 32 → played w m s (line ∷ rest) ≡ prefixed (ended line) (played w (m + 1) s rest))
+    → m + length (cond b [] (line ∷ [])) ≤ 2 ^ 32 → played w m s (cond b [] (line ∷ []) ++ rest)
+    ≡ prefixed (cond b [] (ended line)) (played w (m + length (cond b [] (line ∷ []))) s rest)
 comment_kept w m s line rest true step few = ap (λ (k : ℕ). played w k s rest) (add_zero m)
 comment_kept w m s line rest false step few = step refl (omega (arith, few))
 
--- an input line, its packets and what is needed
-
-counted : (m : ℕ) (packets told : List (List ℕ)) → m + 1 + length packets + length told ≡ m + suc (length (map sent_line packets ++ told))
+counted : (m : ℕ) (packets told : List (List ℕ)) → m + 1 + length packets + length told
+    ≡ m + suc (length (map sent_line packets ++ told))
 counted m packets told =
     let same : length (map sent_line packets) ≡ length packets = simp length-map refl in
     omega (arith, same, length-append (map sent_line packets) told)
 
-lived_again : {S : Type 0} (course : Course S) (needs : S → Needed) (m : ℕ) (s : S) (line : List ℕ) (l : Option Line) (rest : List (List ℕ)) → IsSound line → said line ≡ l → SendsPackets (living course needs) s l
-    → m + length (needs_of course needs s line l) ≤ 2 ^ 32
-    → played (living course needs) m s (needs_of course needs s line l ++ rest)
-    ≡ prefixed (text_by (living course needs) s line l) (played (living course needs) (m + length (needs_of course needs s line l)) (after_by (living course needs) s l) rest)
-lived_again course needs m s line None rest sound e h few = absurd (sound.says e)
-lived_again course needs m s line (Some Count) rest sound e h few = ap (λ (k : ℕ). played (living course needs) k s rest) (add_zero m)
-lived_again course needs m s line (Some (Sent packet)) rest sound e h few = ap (λ (k : ℕ). played (living course needs) k s rest) (add_zero m)
-lived_again course needs m s line (Some Comment) rest sound e h few =
-    comment_kept (living course needs) m s line rest (is_need_line line)
-    (λ keeps room. sound_step (living course needs) course.counts (live_logs course needs) m s line rest (Some Comment) room sound e
-    ∙ ap (λ (b : Bool). prefixed (cond b [] (ended line)) (played (living course needs) (m + 1) s rest)) keeps) few
-lived_again course needs m s line (Some (Input timed)) rest sound e h few =
-    let w = living course needs in
-    let packets = course.sends s timed in
-    let t = course.turned s timed in
-    let told = need_lines (needs t) in
-    let count = counted m packets told in
-    sound_step w course.counts (live_logs course needs) m s line ((map sent_line packets ++ told) ++ rest) (Some (Input timed)) (omega (arith, few)) sound e
-    ∙ ap (prefixed (text_by w s line (Some (Input timed))))
-    (ap (played w (m + 1) t) (append_assoc (map sent_line packets) told rest)
-    ∙ sents_again w course.counts (live_logs course needs) (m + 1) t packets (told ++ rest) h.0 (omega (arith, few, count))
-    ∙ told_dropped course needs (m + 1 + length packets) t told rest (needs_told (needs t) h.1) (omega (arith, few, count))
-    ∙ ap (λ (k : ℕ). played w k t rest) count)
+module _ {S : Type 0} (course : Course S) (needs : S → Needed) where
+  abbrev lives : World S
+  lives = living course needs
 
-replayed_again : {S : Type 0} (course : Course S) (needs : S → Needed) (m : ℕ) (s : S) (line : List ℕ) (l : Option Line) (rest : List (List ℕ)) → IsSound line → said line ≡ l → SendsPackets (living course needs) s l
-    → m + length (needs_of course needs s line l) ≤ 2 ^ 32
-    → played (replaying course) m s (needs_of course needs s line l ++ rest)
-    ≡ prefixed (text_by (living course needs) s line l) (played (replaying course) (m + length (needs_of course needs s line l)) (after_by (living course needs) s l) rest)
-replayed_again course needs m s line None rest sound e h few = absurd (sound.says e)
-replayed_again course needs m s line (Some Count) rest sound e h few = ap (λ (k : ℕ). played (replaying course) k s rest) (add_zero m)
-replayed_again course needs m s line (Some (Sent packet)) rest sound e h few = ap (λ (k : ℕ). played (replaying course) k s rest) (add_zero m)
-replayed_again course needs m s line (Some Comment) rest sound e h few =
-    comment_kept (replaying course) m s line rest (is_need_line line)
-    (λ keeps room. sound_step (replaying course) course.counts (replay_logs course) m s line rest (Some Comment) room sound e) few
-replayed_again course needs m s line (Some (Input timed)) rest sound e h few =
-    let w = replaying course in
-    let packets = course.sends s timed in
-    let t = course.turned s timed in
-    let told = need_lines (needs t) in
-    let count = counted m packets told in
-    let first = ended line ++ flat_map sent_text packets in
-    let later = played w (m + 1 + length packets + length told) t rest in
-    sound_step w course.counts (replay_logs course) m s line ((map sent_line packets ++ told) ++ rest) (Some (Input timed)) (omega (arith, few)) sound e
-    ∙ ap (prefixed first)
-    (ap (played w (m + 1) t) (append_assoc (map sent_line packets) told rest)
-    ∙ sents_again w course.counts (replay_logs course) (m + 1) t packets (told ++ rest) h.0 (omega (arith, few, count))
-    ∙ needs_copied course (m + 1 + length packets) t told rest (needs_told (needs t) h.1) (omega (arith, few, count)))
-    ∙ prefixed_twice first (flat_map ended told) later
-    ∙ ap (λ (k : ℕ). prefixed (writes_needs course needs s line (Input timed)) (played w k t rest)) count
+  abbrev copies : World S
+  copies = replaying course
 
-pub live_again : {S : Type 0} (course : Course S) (needs : S → Needed) → GivesAgain (living course needs) (living course needs) (needs_of course needs)
-live_again course needs = record { texts = lived_lines course needs; are = lived_are course needs; again = lived_again course needs }
+  pub live_logs : IsLogging lives course.counts
+  live_logs = record {
+    stops = λ s l. refl;
+    drops_sent = λ s line packet. refl;
+    stays_at_sent = λ s packet. refl;
+    drops_count = λ s line. refl;
+    stays_at_count = λ s. refl;
+    ends = λ s. refl;
+  }
 
-pub live_replayed : {S : Type 0} (course : Course S) (needs : S → Needed) → GivesAgain (living course needs) (replaying course) (needs_of course needs)
-live_replayed course needs = record { texts = lived_lines course needs; are = lived_are course needs; again = replayed_again course needs }
+  abbrev pub needs_of : S → List ℕ → Option Line → List (List ℕ)
+  needs_of s line (Some Comment) = cond (is_need_line line) [] (line ∷ [])
+  needs_of s line (Some (Input timed)) =
+      line ∷ map sent_line (course.sends s timed) ++ need_lines (needs (course.turned s timed))
+  needs_of s line l = []
+
+  lived_lines : (s : S) (line : List ℕ) (l : Option Line) → text_by lives s line l ≡ flat_map ended (needs_of s line l)
+  lived_lines s line (Some Comment) = comment_lines line (is_need_line line)
+  lived_lines s line (Some (Input timed)) =
+      let packets = course.sends s timed in
+      let told = need_lines (needs (course.turned s timed)) in
+      rw (
+        append_assoc (ended line) (flat_map sent_text packets) (flat_map ended told),
+        sents_text packets,
+        flat_map-append ended (map sent_line packets) told,
+      ) refl
+  lived_lines s line l = refl
+
+  lived_are : (s : S) (line : List ℕ) (l : Option Line) → said line ≡ l → feedless line ≡ true → SendsPackets lives s l
+      → AreLines (needs_of s line l)
+  lived_are s line (Some Comment) e h sends = comment_are line (is_need_line line) h
+  lived_are s line (Some (Input timed)) e h sends =
+      let told = need_lines (needs (course.turned s timed)) in (
+        h,
+        AreLines-append (map sent_line (course.sends s timed)) told (sents_are (course.sends s timed) sends.0)
+            (told_are told (needs_told (needs (course.turned s timed)) sends.1)),
+      )
+  lived_are s line l e h sends = tt
+
+  -- the lines that tell what is needed are dropped, or replayed as they are
+
+  told_dropped : (m : ℕ) (s : S) (ls rest : List (List ℕ)) → AreTold ls → m + length ls ≤ 2 ^ 32
+      → played lives m s (ls ++ rest) ≡ played lives (m + length ls) s rest
+  told_dropped m s [] rest h few = ap (λ (k : ℕ). played lives k s rest) (add_zero m)
+  told_dropped m s (line ∷ more) rest h few =
+      let next : m + 1 + length more ≡ m + suc (length more) = omega arith in
+      rw (
+        sound_step live_logs m s line (more ++ rest) (Some Comment) (omega (arith, few)) h.0.sound h.0.said,
+        h.0.tells,
+      )
+      (told_dropped (m + 1) s more rest h.1 (omega (arith, few, next)) ∙ ap (λ (k : ℕ). played lives k s rest) next)
+
+  needs_copied : (m : ℕ) (s : S) (ls rest : List (List ℕ)) → AreTold ls → m + length ls ≤ 2 ^ 32
+      → played copies m s (ls ++ rest) ≡ prefixed (flat_map ended ls) (played copies (m + length ls) s rest)
+  needs_copied m s [] rest h few = ap (λ (k : ℕ). played copies k s rest) (add_zero m)
+  needs_copied m s (line ∷ more) rest h few =
+      let next : m + 1 + length more ≡ m + suc (length more) = omega arith in
+      rw (
+        sound_step (replay_logs course) m s line (more ++ rest) (Some Comment) (omega (arith, few)) h.0.sound
+            h.0.said,
+        needs_copied (m + 1) s more rest h.1 (omega (arith, few, next)),
+        next,
+      )
+      (prefixed_twice (ended line) (flat_map ended more) (played copies (m + suc (length more)) s rest))
+
+  -- a comment is kept where it tells nothing
+
+  -- an input line, its packets and what is needed
+
+  lived_again : (m : ℕ) (s : S) (line : List ℕ) (l : Option Line) (rest : List (List ℕ)) → IsSound line → said line ≡ l
+      → SendsPackets lives s l → m + length (needs_of s line l) ≤ 2 ^ 32
+      → played lives m s (needs_of s line l ++ rest)
+      ≡ prefixed (text_by lives s line l) (played lives (m + length (needs_of s line l)) (after_by lives s l) rest)
+  lived_again m s line None rest sound e h few = absurd (sound.says e)
+  lived_again m s line (Some Comment) rest sound e h few =
+      comment_kept lives m s line rest (is_need_line line)
+      (λ keeps space. sound_step live_logs m s line rest (Some Comment) space sound e
+      ∙ ap (λ (b : Bool). prefixed (cond b [] (ended line)) (played lives (m + 1) s rest)) keeps) few
+  lived_again m s line (Some (Input timed)) rest sound e h few =
+      let packets = course.sends s timed in
+      let t = course.turned s timed in
+      let told = need_lines (needs t) in
+      let count = counted m packets told in
+      rw (
+        sound_step live_logs m s line ((map sent_line packets ++ told) ++ rest) (Some (Input timed))
+            (omega (arith, few))
+            sound e,
+        append_assoc (map sent_line packets) told rest,
+        sents_again live_logs (m + 1) t packets (told ++ rest) h.0 (omega (arith, few, count)),
+        told_dropped (m + 1 + length packets) t told rest (needs_told (needs t) h.1) (omega (arith, few, count)),
+        count,
+      )
+      refl
+  lived_again m s line l rest sound e h few = ap (λ (k : ℕ). played lives k s rest) (add_zero m)
+
+  replayed_again : (m : ℕ) (s : S) (line : List ℕ) (l : Option Line) (rest : List (List ℕ)) → IsSound line
+      → said line ≡ l → SendsPackets lives s l → m + length (needs_of s line l) ≤ 2 ^ 32
+      → played copies m s (needs_of s line l ++ rest)
+      ≡ prefixed (text_by lives s line l) (played copies (m + length (needs_of s line l)) (after_by lives s l) rest)
+  replayed_again m s line None rest sound e h few = absurd (sound.says e)
+  replayed_again m s line (Some Comment) rest sound e h few =
+      comment_kept copies m s line rest (is_need_line line)
+      (λ keeps space. sound_step (replay_logs course) m s line rest (Some Comment) space sound e) few
+  replayed_again m s line (Some (Input timed)) rest sound e h few =
+      let packets = course.sends s timed in
+      let t = course.turned s timed in
+      let told = need_lines (needs t) in
+      let count = counted m packets told in
+      let logs = replay_logs course in
+      rw (
+        sound_step logs m s line ((map sent_line packets ++ told) ++ rest) (Some (Input timed)) (omega (arith, few))
+            sound e,
+        append_assoc (map sent_line packets) told rest,
+        sents_again logs (m + 1) t packets (told ++ rest) h.0 (omega (arith, few, count)),
+        needs_copied (m + 1 + length packets) t told rest (needs_told (needs t) h.1) (omega (arith, few, count)),
+        count,
+      )
+      (prefixed_twice (ended line ++ flat_map sent_text packets) (flat_map ended told) _)
+  replayed_again m s line l rest sound e h few = ap (λ (k : ℕ). played copies k s rest) (add_zero m)
+
+  pub live_again : GivesAgain lives lives needs_of
+  live_again = record { writes = record { texts = lived_lines; are = lived_are }; again = lived_again }
+
+  pub live_replayed : GivesAgain lives copies needs_of
+  live_replayed = record { writes = record { texts = lived_lines; are = lived_are }; again = replayed_again }
 
 -- What was written is its own log.
 
 -- what v wrote, w gives again
-pub repeats_in : (v w : World SessionState) (wrote : SessionState → List ℕ → Option Line → List (List ℕ)) → IsLogging v (λ s. s.meters) → IsLogging w (λ s. s.meters) → GivesAgain v w wrote
-    → (taken taken' : Option (List ℕ)) (s0 s : SessionState) (bytes text : List ℕ) → Appends taken taken' text → IsDone v s0 s bytes text → (playing v s0 bytes).fault ≡ None → AllSend v s0 (lines bytes) → FitsMeters s.meters
+pub repeats_in : {v w : World SessionState} {wrote : SessionState → List ℕ → Option Line → List (List ℕ)}
+    → (writes : IsLogging v (λ s. s.meters)) → (gives : IsLogging w (λ s. s.meters)) → (again : GivesAgain v w wrote)
+    → (taken taken' : Option (List ℕ)) (s0 s : SessionState) (bytes text : List ℕ) → Appends taken taken' text
+    → IsDone v s0 s bytes text → (playing v s0 bytes).fault ≡ None → AllSend v s0 (lines bytes) → FitsMeters s.meters
     → RepeatsIn w taken taken' s0
-repeats_in v w wrote writes gives again taken taken' s0 s bytes text q whole faultless sends fits = (
+repeats_in {w = w} writes gives again taken taken' s0 s bytes text q whole faultless sends fits = (
   text,
   q,
-  λ few. subst (λ (t : List ℕ). log w s0 t ≡ t) (sym whole.written)
-      (log_again v w (λ s. s.meters) wrote writes gives again s0 bytes faultless sends (subst (λ (z : SessionState). FitsMeters z.meters) whole.stands fits) (subst (λ (t : List ℕ). length (lines t) < 2 ^ 32) whole.written few)),
+  λ few. rw whole.written
+      (log_again writes gives again s0 bytes faultless sends
+      (subst (λ (z : SessionState). FitsMeters z.meters) whole.stands fits)
+      (subst (λ (t : List ℕ). length (lines t) < 2 ^ 32) whole.written few)),
 )

@@ -1,27 +1,21 @@
 -- What is said of an answer with meters is said of it without them.
-use Rattle.std.proofs.Common.{◌≡◌, ℕ, Bool, List, Option, Result, Ok, Err, sym, subst}
-use Rattle.session_log.specs.Command.{PlaysLog, PlaysThrough, unmetered}
-use Rattle.session_log.specs.declared.command.Command.{Command}
+use Rattle.std.proofs.Common.{ℕ, Bool, List, Option, Result, Ok, Err}
+use Rattle.session_log.specs.Command.{PlaysThrough, unmetered}
 use Rattle.session_log.specs.Ending.{ending_of}
 use Rattle.session_log.specs.Replay.{Logs, Makes}
 use Rattle.session_log.specs.World.{World}
 use Rattle.session_log.specs.declared.fault.LogFault.{LogFault}
 use Rattle.token_session.specs.declared.input.Meters.{Meters}
 use Rattle.token_session.specs.declared.input.Timed.{Timed}
-use Rattle.token_session.specs.Meters.{SessionState}
-use Rattle.authn_core.specs.Turn.{Start}
 
-pub plays_unmetered : {I O : Type 0} (world : World (List Timed)) (h later : List Timed) (left : I → Option (List ℕ)) (unread : I → ℕ) (ended : I → Bool) (taken : O → Option (List ℕ)) (unwritten : O → ℕ)
-    (answer : Result Meters LogFault) (input : I × I) (output : O × O)
-    → PlaysThrough world h (λ bytes text. Logs world h later bytes text answer) left unread ended taken unwritten answer input output
-    → PlaysThrough world h (λ bytes text. Makes world h later bytes text (ending_of (unmetered answer))) left unread ended taken unwritten (unmetered answer) input output
-plays_unmetered world h later left unread ended taken unwritten (Ok meters) input output p = ((p.0.0, p.0.1, p.0.2, p.0.3, p.0.4.0), p.1, p.2)
-plays_unmetered world h later left unread ended taken unwritten (Err fault) input output p = ((p.0.0, p.0.1, p.0.2, p.0.3, p.0.4.0), p.1, p.2)
-
--- What is said of a command and an answer is said of those that equal them.
-pub plays_as : {I O : Type 0} (start : Start) (h : List Timed) (left : I → Option (List ℕ)) (unread : I → ℕ) (ended : I → Bool) (taken : O → Option (List ℕ)) (unwritten : O → ℕ)
-    (command named : Command) (answer r : Result (Unit {0}) LogFault) (s : SessionState) (input : I × I) (output : O × O)
-    → command ≡ named → r ≡ answer → PlaysLog named start h left unread ended taken unwritten answer s input output → PlaysLog command start h left unread ended taken unwritten r s input output
-plays_as start h left unread ended taken unwritten command named answer r s input output is same plays =
-    subst (λ (c : Command). PlaysLog c start h left unread ended taken unwritten r s input output) (sym is)
-    (subst (λ (a : Result (Unit {0}) LogFault). PlaysLog named start h left unread ended taken unwritten a s input output) (sym same) plays)
+pub plays_unmetered : {I O : Type 0} (world : World (List Timed)) (h later : List Timed) (left : I
+    → Option (List ℕ)) (unread : I → ℕ) (ended : I → Bool) (taken : O → Option (List ℕ)) (unwritten : O
+    → ℕ) (answer : Result Meters LogFault) (input : I × I) (output : O × O)
+    → PlaysThrough world h (λ bytes text. Logs world h later bytes text answer) left unread ended taken unwritten answer
+    input output
+    → PlaysThrough world h (λ bytes text. Makes world h later bytes text (ending_of (unmetered answer))) left unread
+    ended taken unwritten (unmetered answer) input output
+plays_unmetered world h later left unread ended taken unwritten (Ok meters) input output p =
+    ((p.0.0, p.0.1, p.0.2, p.0.3, p.0.4.0), p.1, p.2)
+plays_unmetered world h later left unread ended taken unwritten (Err fault) input output p =
+    ((p.0.0, p.0.1, p.0.2, p.0.3, p.0.4.0), p.1, p.2)

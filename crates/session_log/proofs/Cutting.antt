@@ -11,15 +11,18 @@ use Rattle.std.specs.List.{onto_first, position_or_len}
 use Rattle.session_log.specs.Text.{ended}
 use Rattle.session_log.specs.Lines.{is_feed, pieces, all_but_last, last_of, lines_of_pieces, lines}
 
-cut_at : (w : List ℕ) (end : ℕ) (tail : List ℕ) → end < length w → is_feed (get_or w end 0) ≡ true → ((k : ℕ) → k < end → is_feed (get_or w k 0) ≡ false)
-    → pieces (take (suc end) w ++ tail) ≡ take end w ∷ pieces tail
+cut_at : (w : List ℕ) (end : ℕ) (tail : List ℕ) → end < length w → is_feed (get_or w end 0) ≡ true
+    → ((k : ℕ) → k < end → is_feed (get_or w k 0) ≡ false) → pieces (take (suc end) w ++ tail)
+    ≡ take end w ∷ pieces tail
 cut_at [] end tail h p q = absurd (omega arith)
 cut_at (x ∷ xs) zero tail h p q = slice_split-cons_yes is_feed x tail p
 cut_at (x ∷ xs) (suc e) tail h p q =
-    slice_split-cons_no is_feed x (take (suc e) xs ++ tail) (q 0 (omega arith)) ∙ ap (onto_first x) (cut_at xs e tail (omega arith) p (λ k l. q (suc k) (omega arith)))
+    slice_split-cons_no is_feed x (take (suc e) xs ++ tail) (q 0 (omega arith))
+    ∙ ap (onto_first x) (cut_at xs e tail (omega arith) p (λ k l. q (suc k) (omega arith)))
 
 -- a line and its line feed are cut off
-pub first_piece : (w : List ℕ) (end : ℕ) (tail : List ℕ) → position is_feed w ≡ Some end → pieces (take (end + 1) w ++ tail) ≡ take end w ∷ pieces tail
+pub first_piece : (w : List ℕ) (end : ℕ) (tail : List ℕ) → position is_feed w ≡ Some end
+    → pieces (take (end + 1) w ++ tail) ≡ take end w ∷ pieces tail
 first_piece w end tail e =
     let at = position-Some is_feed w end 0 e in
     rw add-one (cut_at w end tail at.0 at.1 at.2)
@@ -31,17 +34,20 @@ ends_in_feed w end e =
     rw add-one (take-suc w end 0 at.0 ∙ ap (λ (b : ℕ). take end w ++ b ∷ []) (eqb-true (get_or w end 0) 10 at.1))
 
 -- what stands in a window was cut after a line feed, and before it
-pub cut_twice : (w held text line : List ℕ) (end : ℕ) → held ≡ w → text ≡ take (end + 1) held → line ≡ take end text → (text ≡ take (end + 1) w) × (line ≡ take end w)
+pub cut_twice : (w held text line : List ℕ) (end : ℕ) → held ≡ w → text ≡ take (end + 1) held → line ≡ take end text
+    → (text ≡ take (end + 1) w) × (line ≡ take end w)
 cut_twice w held text line end is whole front =
     let text_is : text ≡ take (end + 1) w = whole ∙ ap (take (end + 1)) is in
     (text_is, front ∙ ap (take end) text_is ∙ take-take end (end + 1) w (omega arith))
 
 -- that is the line with its line feed
-pub text_of_line : (w text line : List ℕ) (end : ℕ) → position is_feed w ≡ Some end → (text ≡ take (end + 1) w) × (line ≡ take end w) → text ≡ ended line
+pub text_of_line : (w text line : List ℕ) (end : ℕ) → position is_feed w ≡ Some end
+    → (text ≡ take (end + 1) w) × (line ≡ take end w) → text ≡ ended line
 text_of_line w text line end e cut = cut.0 ∙ ends_in_feed w end e ∙ ap ended (sym cut.1)
 
 -- a last line was given its line feed
-pub last_line_of : (w held text line : List ℕ) (n : ℕ) → n ≡ length w → held ≡ ended w → text ≡ held → line ≡ take n text → (text ≡ ended w) × (line ≡ w)
+pub last_line_of : (w held text line : List ℕ) (n : ℕ) → n ≡ length w → held ≡ ended w → text ≡ held
+    → line ≡ take n text → (text ≡ ended w) × (line ≡ w)
 last_line_of w held text line n count is same front =
     let text_is : text ≡ ended w = same ∙ is in
     (text_is, front ∙ (λ i. take (count i) (text_is i)) ∙ take-append_seam w (10 ∷ []))
@@ -53,7 +59,9 @@ none_is false n e = refl
 -- what has no line feed is one piece
 pub one_piece : (w : List ℕ) → position is_feed w ≡ None → pieces w ≡ w ∷ []
 one_piece w e =
-    let far : length w ≤ position_or_len is_feed w = ltb-false (position_or_len is_feed w) (length w) (none_is (nat_lt (position_or_len is_feed w) (length w)) (position_or_len is_feed w) e) in
+    let far : length w ≤ position_or_len is_feed w =
+    ltb-false (position_or_len is_feed w) (length w)
+    (none_is (nat_lt (position_or_len is_feed w) (length w)) (position_or_len is_feed w) e) in
     slice_split_none is_feed w (λ k d l. fails_before_first is_feed w k d (omega arith))
 
 -- there is a piece
@@ -61,12 +69,14 @@ pub pieces_some : (w : List ℕ) → (p : List ℕ) × (ps : List (List ℕ)) ×
 pieces_some [] = ([], [], refl)
 pieces_some (x ∷ xs) = go (pieces_some xs) (is_feed x) refl
   where
-    go : ((p : List ℕ) × (ps : List (List ℕ)) × (pieces xs ≡ p ∷ ps)) → (b : Bool) → is_feed x ≡ b → (p : List ℕ) × (ps : List (List ℕ)) × (pieces (x ∷ xs) ≡ p ∷ ps)
+    go : ((p : List ℕ) × (ps : List (List ℕ)) × (pieces xs ≡ p ∷ ps)) → (b : Bool) → is_feed x ≡ b
+        → (p : List ℕ) × (ps : List (List ℕ)) × (pieces (x ∷ xs) ≡ p ∷ ps)
     go more true e = ([], pieces xs, slice_split-cons_yes is_feed x xs e)
     go more false e = (x ∷ more.0, more.1, slice_split-cons_no is_feed x xs e ∙ ap (onto_first x) more.2)
 
 -- lines before pieces
-pub lines_beyond : (done : List (List ℕ)) (p : List ℕ) (ps : List (List ℕ)) → lines_of_pieces (done ++ p ∷ ps) ≡ done ++ lines_of_pieces (p ∷ ps)
+pub lines_beyond : (done : List (List ℕ)) (p : List ℕ) (ps : List (List ℕ))
+    → lines_of_pieces (done ++ p ∷ ps) ≡ done ++ lines_of_pieces (p ∷ ps)
 lines_beyond [] p ps = refl
 lines_beyond (d ∷ []) p ps = refl
 lines_beyond (d ∷ e ∷ ds) p ps = ap (λ (l : List (List ℕ)). d ∷ l) (lines_beyond (e ∷ ds) p ps)
@@ -82,13 +92,16 @@ last_is (d ∷ []) p = refl
 last_is (d ∷ e ∷ ds) p = last_is (e ∷ ds) p
 
 -- the lines of a window
-pub line_in_front : (w : List ℕ) (end : ℕ) → position is_feed w ≡ Some end → lines w ≡ take end w ∷ lines (drop (end + 1) w)
+pub line_in_front : (w : List ℕ) (end : ℕ) → position is_feed w ≡ Some end
+    → lines w ≡ take end w ∷ lines (drop (end + 1) w)
 line_in_front w end e =
     let rest = drop (end + 1) w in
     let some = pieces_some rest in
-    let cut : pieces w ≡ take end w ∷ pieces rest = ap pieces (sym (take-append-drop (end + 1) w)) ∙ first_piece w end rest e in
+    let cut : pieces w ≡ take end w ∷ pieces rest =
+    ap pieces (sym (take-append-drop (end + 1) w)) ∙ first_piece w end rest e in
     ap lines_of_pieces (cut ∙ ap (λ (ps : List (List ℕ)). take end w ∷ ps) some.2)
-    ∙ lines_beyond (take end w ∷ []) some.0 some.1 ∙ ap (λ (ps : List (List ℕ)). take end w ∷ lines_of_pieces ps) (sym some.2)
+    ∙ lines_beyond (take end w ∷ []) some.0 some.1
+    ∙ ap (λ (ps : List (List ℕ)). take end w ∷ lines_of_pieces ps) (sym some.2)
 
 not_zero : (n : ℕ) → (suc n == 0) ≡ false
 not_zero n = grind (arith, nat_tests)
@@ -101,7 +114,8 @@ pub last_line : (w : List ℕ) → position is_feed w ≡ None → 0 < length w 
 last_line [] e h = absurd (omega arith)
 last_line (x ∷ xs) e h = ap lines_of_pieces (one_piece (x ∷ xs) e) ∙ one_line x xs
 
-first_line : (x : ℕ) (p : List ℕ) (ps : List (List ℕ)) → (l : List ℕ) × (more : List (List ℕ)) × (lines_of_pieces ((x ∷ p) ∷ ps) ≡ l ∷ more)
+first_line : (x : ℕ) (p : List ℕ) (ps : List (List ℕ)) → (l : List ℕ) × (more : List (List ℕ))
+    × (lines_of_pieces ((x ∷ p) ∷ ps) ≡ l ∷ more)
 first_line x p [] = (x ∷ p, [], one_line x p)
 first_line x p (q ∷ qs) = (x ∷ p, lines_of_pieces (q ∷ qs), refl)
 
@@ -111,8 +125,11 @@ some_line (x ∷ xs) h = go (is_feed x) refl
   where
     go : (b : Bool) → is_feed x ≡ b → (l : List ℕ) × (more : List (List ℕ)) × (lines (x ∷ xs) ≡ l ∷ more)
     go true e =
-        let rest = pieces_some xs in
-        ([], lines_of_pieces (rest.0 ∷ rest.1), ap lines_of_pieces (slice_split-cons_yes is_feed x xs e ∙ ap (λ (ps : List (List ℕ)). [] ∷ ps) rest.2))
+        let rest = pieces_some xs in (
+          [],
+          lines_of_pieces (rest.0 ∷ rest.1),
+          ap lines_of_pieces (slice_split-cons_yes is_feed x xs e ∙ ap (λ (ps : List (List ℕ)). [] ∷ ps) rest.2),
+        )
     go false e =
         let rest = pieces_some xs in
         let first = first_line x rest.0 rest.1 in

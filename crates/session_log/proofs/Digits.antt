@@ -26,7 +26,9 @@ module _ (ds : List ℕ) (i n : ℕ) (so_far : SoFar ds (drop i ds) n) where
 
     -- what is written is no less than with one digit more
     pub at_least : n * 10 + digit_value (get_or ds i 0) ≤ digits_value 10 ds
-    at_least = subst (λ (v : ℕ). n * 10 + digit_value (get_or ds i 0) ≤ v) opened.value (grows (n * 10 + digit_value (get_or ds i 0)) (drop (i + 1) ds))
+    at_least =
+        subst (λ (v : ℕ). n * 10 + digit_value (get_or ds i 0) ≤ v) opened.value
+        (grows (n * 10 + digit_value (get_or ds i 0)) (drop (i + 1) ds))
 
 -- where no zero stands before other digits, the number that is read has this text
 pub moment_read : (ds : List ℕ) (r : Option ℕ) → 0 < length ds → ((2 ≤ length ds) × (get_or ds 0 0 ≡ 48) → ⊥)
@@ -37,7 +39,8 @@ moment_read ds None some padded h = sym (no_moment ds (λ n fits e.
     h (subst (AllDigits 10) (sym e) read.0.1, omega (arith, value))))
 moment_read ds (Some n) some padded h =
     let fits : digits_value 10 ds < 2 ^ 64 = omega (arith, h.0.1) in
-    let single : get_or ds 0 0 ≡ 48 → length ds ≡ 1 = λ zero_first. omega (arith, some, λ (two : 2 ≤ length ds). padded (two, zero_first)) in
+    let single : get_or ds 0 0 ≡ 48 → length ds ≡ 1 =
+    λ zero_first. omega (arith, some, λ (two : 2 ≤ length ds). padded (two, zero_first)) in
     let text = decimal-digits_value (numerals_by_value _ tells_digits) ds h.0.0 some single fits in
     sym (moment_of ds n (omega (arith, h.1)) (sym text ∙ ap decimal (sym h.1)))
 
@@ -49,11 +52,14 @@ pub no_padded_moment : (ds : List ℕ) → get_or ds 0 0 ≡ 48 → 2 ≤ length
 no_padded_moment ds zero_first two = no_moment ds (λ n fits e. go n fits e)
   where
     go : (n : ℕ) → n < 2 ^ 64 → ds ≡ decimal n → ⊥
-    go zero fits e = let one : length (decimal 0) ≡ 1 = ap length (decimal_digit 0 (omega arith)) in omega (arith, ap length e, one)
-    go (suc n) fits e = omega (arith, first_decimal (suc n) (omega arith) fits, zero_first, ap (λ (l : List ℕ). get_or l 0 0) e)
+    go zero fits e = let one : length (decimal 0) ≡ 1 = ap length (decimal_digit 0 (omega arith)) in
+        omega (arith, ap length e, one)
+    go (suc n) fits e =
+        omega (arith, first_decimal (suc n) (omega arith) fits, zero_first, ap (λ (l : List ℕ). get_or l 0 0) e)
 
 -- at the end all digits are read
-pub all_read : (ds : List ℕ) (i n : ℕ) → SoFar ds (drop i ds) n → length ds ≤ i → (AllDigits 10 ds × (digits_value 10 ds ≤ 2 ^ 64 - 1)) × (n ≡ digits_value 10 ds)
+pub all_read : (ds : List ℕ) (i n : ℕ) → SoFar ds (drop i ds) n → length ds ≤ i
+    → (AllDigits 10 ds × (digits_value 10 ds ≤ 2 ^ 64 - 1)) × (n ≡ digits_value 10 ds)
 all_read ds i n so_far end =
     let read : SoFar ds [] n = subst (λ (rest : List ℕ). SoFar ds rest n) (drop_of_length-le ds end) so_far in
     ((read.back tt, omega (arith, read.fits, read.value)), read.value)

@@ -1,7 +1,7 @@
 -- Of each way in which the playing of lines ends: what holds at Ok alone, and the failures that it counts.
-use Rattle.std.proofs.Common.{◌≡◌, ℕ, ◌+◌, Bool, false, OnOk, cond, List, Option, Result, Ok, Err, refl, sym, ap, ◌∙◌, subst}
+use Rattle.std.proofs.Common.{◌≡◌, ℕ, ◌+◌, Bool, false, OnOk, cond, List, Option, Result, Ok, Err, refl, sym, ap, ◌∙◌}
 use Rattle.session_log.specs.declared.fault.LogFault.{LogFault}
-use Rattle.session_log.specs.declared.fault.LogFault.TheVariants.{BadLine, TooLong, Differs, Read, Write, TooManyLines, Memory}
+use Rattle.session_log.specs.declared.fault.LogFault.TheVariants.{Write}
 use Rattle.session_log.specs.Ending.{Ending, Done, Refused, Unread, Unwritten, ended_by, read_fails, write_fails}
 use Rattle.session_log.specs.Replay.{PlaysLine}
 use Rattle.session_log.specs.Window.{Stops}
@@ -21,7 +21,7 @@ on_ok (Err e) f h = tt
 
 -- a count of failures goes on from where it stood before
 pub counts_on : (a b k : ℕ) (fails : Bool) → a ≡ b → k ≡ cond fails (a + 1) a → k ≡ cond fails (b + 1) b
-counts_on a b k fails is h = subst (λ (n : ℕ). k ≡ cond fails (n + 1) n) is h
+counts_on a b k fails is h = rw (sym is) h
 
 -- nothing failed, so the count stays
 pub counts_none : (a b : ℕ) (fails : Bool) → fails ≡ false → b ≡ a → b ≡ cond fails (a + 1) a
@@ -29,24 +29,20 @@ counts_none a b fails none is = is ∙ ap (λ (f : Bool). cond f (a + 1) a) (sym
 
 -- where no line can be read, no write failed
 pub stops_unwritten : (n : ℕ) (w : List ℕ) (e : LogFault) → Stops n w e → write_fails (ended_by e) ≡ false
-stops_unwritten n w TooManyLines h = refl
-stops_unwritten n w (TooLong m) h = refl
-stops_unwritten n w (Read m) h = refl
-stops_unwritten n w (BadLine m) h = refl
-stops_unwritten n w (Differs l k) h = refl
-stops_unwritten n w (Memory m) h = refl
 stops_unwritten n w Write h = absurd h
+stops_unwritten n w e h = refl
 
 -- where a line is played, no read fails, and a write fails exactly where its text breaks off
-pub plays_unread : {S F : Type 0} (world : World S) (taken : F → Option (List ℕ)) (failed : F → ℕ) (n : ℕ) (s t : S) (line : List ℕ) (target : F × F) (q : Ending)
+pub plays_unread : {S F : Type 0} (world : World S) (taken : F → Option (List ℕ)) (failed : F
+    → ℕ) (n : ℕ) (s t : S) (line : List ℕ) (target : F × F) (q : Ending)
     → PlaysLine world taken failed n s t line target q → read_fails q ≡ false
-plays_unread world taken failed n s t line target Done h = refl
-plays_unread world taken failed n s t line target (Refused f) h = refl
 plays_unread world taken failed n s t line target (Unread m) h = absurd h
-plays_unread world taken failed n s t line target Unwritten h = refl
+plays_unread world taken failed n s t line target q h = refl
 
-pub plays_counts : {S F : Type 0} (world : World S) (taken : F → Option (List ℕ)) (failed : F → ℕ) (n : ℕ) (s t : S) (line : List ℕ) (target : F × F) (q : Ending)
-    → PlaysLine world taken failed n s t line target q → failed target.1 ≡ cond (write_fails q) (failed target.0 + 1) (failed target.0)
+pub plays_counts : {S F : Type 0} (world : World S) (taken : F → Option (List ℕ)) (failed : F
+    → ℕ) (n : ℕ) (s t : S) (line : List ℕ) (target : F × F) (q : Ending)
+    → PlaysLine world taken failed n s t line target q → failed target.1
+    ≡ cond (write_fails q) (failed target.0 + 1) (failed target.0)
 plays_counts world taken failed n s t line target Done h = h.3.1
 plays_counts world taken failed n s t line target (Refused f) h = h.3
 plays_counts world taken failed n s t line target (Unread m) h = absurd h

@@ -6,10 +6,11 @@ use Rattle.std.specs.Char.{digit_value}
 use Rattle.std.specs.List.{AllPass, onto_first}
 use Rattle.std.specs.Str.Parse.{AllDigits}
 use Rattle.hex.specs.Hex.{is_hex_digit}
+use Rattle.session_log.proofs.Cases.{no_some}
 use Rattle.session_log.specs.Lines.{is_feed, pieces, lines_of_pieces, lines}
 use Rattle.session_log.specs.Text.{ended}
 use Rattle.session_log.proofs.Cutting.{pieces_some, lines_beyond}
-use Rattle.std.proofs.lemmas.Bool.{eqb-true, ltb-false}
+use Rattle.std.proofs.lemmas.Bool.{ltb-false, ne_eqb}
 use Rattle.session_log.specs.declared.fault.LogFault.{LogFault}
 use Rattle.session_log.specs.Log.{Played, played, fault_by, fault_at}
 use Rattle.session_log.specs.Said.{said}
@@ -52,7 +53,8 @@ cut_line (x ∷ xs) tail h =
 pieces_joined : (ls : List (List ℕ)) → AreLines ls → pieces (flat_map ended ls) ≡ ls ++ [] ∷ []
 pieces_joined [] h = refl
 pieces_joined (line ∷ more) h =
-    ap pieces (append_assoc line (10 ∷ []) (flat_map ended more)) ∙ cut_line line (flat_map ended more) h.0 ∙ ap (λ (ps : List (List ℕ)). line ∷ ps) (pieces_joined more h.1)
+    ap pieces (append_assoc line (10 ∷ []) (flat_map ended more)) ∙ cut_line line (flat_map ended more) h.0
+    ∙ ap (λ (ps : List (List ℕ)). line ∷ ps) (pieces_joined more h.1)
 
 pub lines_joined : (ls : List (List ℕ)) → AreLines ls → lines (flat_map ended ls) ≡ ls
 lines_joined ls h = ap lines_of_pieces (pieces_joined ls h) ∙ lines_beyond ls [] [] ∙ append-nil ls
@@ -63,11 +65,13 @@ pieces_are : (bytes : List ℕ) → AreLines (pieces bytes)
 pieces_are [] = (refl, tt)
 pieces_are (x ∷ xs) = go (pieces_some xs) (pieces_are xs) (is_feed x) refl
   where
-    go : ((p : List ℕ) × (ps : List (List ℕ)) × (pieces xs ≡ p ∷ ps)) → AreLines (pieces xs) → (b : Bool) → is_feed x ≡ b → AreLines (pieces (x ∷ xs))
+    go : ((p : List ℕ) × (ps : List (List ℕ)) × (pieces xs ≡ p ∷ ps)) → AreLines (pieces xs) → (b : Bool)
+        → is_feed x ≡ b → AreLines (pieces (x ∷ xs))
     go some h true e = subst AreLines (sym (slice_split-cons_yes is_feed x xs e)) (refl, h)
     go some h false e =
         let parts = subst AreLines some.2 h in
-        subst AreLines (sym (slice_split-cons_no is_feed x xs e ∙ ap (onto_first x) some.2)) (joined (is_feed x) (feedless some.0) e parts.0, parts.1)
+        subst AreLines (sym (slice_split-cons_no is_feed x xs e ∙ ap (onto_first x) some.2))
+        (joined (is_feed x) (feedless some.0) e parts.0, parts.1)
 
 last_are : (line : List ℕ) (b : Bool) → feedless line ≡ true → AreLines (cond b [] (line ∷ []))
 last_are line true h = tt
@@ -84,11 +88,8 @@ lines_are_lines bytes = whole_are (pieces bytes) (pieces_are bytes)
 -- digits are no line feeds
 
 digit_no_feed : (c : ℕ) → digit_value c < 10 → is_feed c ≡ false
-digit_no_feed c h = go (is_feed c) refl
-  where
-    go : (b : Bool) → is_feed c ≡ b → is_feed c ≡ false
-    go false e = e
-    go true e = let at : digit_value 10 < 10 = subst (λ (x : ℕ). digit_value x < 10) (eqb-true c 10 e) h in absurd (omega arith)
+digit_no_feed c h = ne_eqb c 10 (λ e.
+    let at : digit_value 10 < 10 = subst (λ (x : ℕ). digit_value x < 10) e h in omega arith)
 
 digits_feedless : (ds : List ℕ) → AllDigits 10 ds → feedless ds ≡ true
 digits_feedless [] h = refl
@@ -98,22 +99,22 @@ pub decimal_feedless : (n : ℕ) → n < 2 ^ 64 → feedless (decimal n) ≡ tru
 decimal_feedless n fits = digits_feedless (decimal n) (decimal_is_IsNumeral n fits).0.1
 
 hex_no_feed : (c : ℕ) → is_hex_digit c ≡ true → is_feed c ≡ false
-hex_no_feed c h = go (is_feed c) refl
-  where
-    go : (b : Bool) → is_feed c ≡ b → is_feed c ≡ false
-    go false e = e
-    go true e = let at : is_hex_digit 10 ≡ true = subst (λ (x : ℕ). is_hex_digit x ≡ true) (eqb-true c 10 e) h in cc
+hex_no_feed c h = ne_eqb c 10 (λ e.
+    let at : is_hex_digit 10 ≡ true = subst (λ (x : ℕ). is_hex_digit x ≡ true) e h in cc)
 
 pub hex_feedless : (ds : List ℕ) → AllPass is_hex_digit ds → feedless ds ≡ true
 hex_feedless [] h = refl
-hex_feedless (c ∷ cs) h = joined (is_feed c) (feedless cs) (hex_no_feed c (h 0 0 (omega arith))) (hex_feedless cs (λ k d l. h (suc k) d (omega arith)))
+hex_feedless (c ∷ cs) h =
+    joined (is_feed c) (feedless cs) (hex_no_feed c (h 0 0 (omega arith)))
+    (hex_feedless cs (λ k d l. h (suc k) d (omega arith)))
 
 -- Lines that aren't faulty.
 
-none_chosen : (a b : Bool) (x y : LogFault) (o : Option LogFault) → cond a (Some x) (cond b (Some y) o) ≡ None → (b ≡ false) × (o ≡ None)
+pub none_chosen : (a b : Bool) (x y : LogFault) (o : Option LogFault) → cond a (Some x) (cond b (Some y) o) ≡ None
+    → (a ≡ false) × (b ≡ false) × (o ≡ None)
 none_chosen true b x y o h = cc
 none_chosen false true x y o h = cc
-none_chosen false false x y o h = (refl, h)
+none_chosen false false x y o h = (refl, refl, h)
 
 short_is : (n : ℕ) → nat_lt 255 n ≡ false → n < 256
 short_is n h = omega (arith, ltb-false 255 n h)
@@ -122,14 +123,13 @@ pub record IsSound (line : List ℕ) : Type 0 where
   pub short : length line < 256
   pub says : said line ≢ None
 
-pub sound_line : {S : Type 0} (world : World S) (n : ℕ) (s : S) (line : List ℕ) → fault_at world n s line ≡ None → IsSound line
+pub sound_line : {S : Type 0} (world : World S) (n : ℕ) (s : S) (line : List ℕ) → fault_at world n s line ≡ None
+    → IsSound line
 sound_line world n s line h =
     let tests = none_chosen _ (nat_lt 255 (length line)) _ _ (fault_by world n s (said line)) h in
-    record { short = short_is (length line) tests.0; says = λ e. cc (sym (ap (fault_by world n s) e) ∙ tests.1) }
+    record { short = short_is (length line) tests.1; says = λ e. cc (sym (ap (fault_by world n s) e) ∙ tests.2) }
 
-pub sound_first : {S : Type 0} (world : World S) (n : ℕ) (s : S) (line : List ℕ) (more : List (List ℕ)) → (played world n s (line ∷ more)).fault ≡ None → fault_at world n s line ≡ None
-sound_first {S} world n s line more h = go (fault_at world n s line) refl
-  where
-    go : (o : Option LogFault) → fault_at world n s line ≡ o → fault_at world n s line ≡ None
-    go None e = e
-    go (Some f) e = absurd (cc (sym (ap (λ (p : Played S). p.fault) (played_faulty world n s line more f e)) ∙ h))
+pub sound_first : {S : Type 0} (world : World S) (n : ℕ) (s : S) (line : List ℕ) (more : List (List ℕ))
+    → (played world n s (line ∷ more)).fault ≡ None → fault_at world n s line ≡ None
+sound_first {S} world n s line more h = no_some (fault_at world n s line) (λ f e.
+    cc (sym (ap (λ (p : Played S). p.fault) (played_faulty world n s line more f e)) ∙ h))

@@ -10,9 +10,9 @@ use Rattle.token_session.proofs.Noise.{noise_is_named}
 use Rattle.token_session.proofs.Follows.{step_sends}
 use Rattle.session_log.specs.declared.fault.LogFault.{LogFault}
 use Rattle.session_log.specs.declared.line.Line.{Line}
-use Rattle.session_log.specs.declared.line.Line.TheVariants.{Input, Sent, Comment, Count}
+use Rattle.session_log.specs.declared.line.Line.TheVariants.{Input, Sent}
 use Rattle.session_log.specs.Command.{PlaysLog, PlaysThrough}
-use Rattle.session_log.specs.declared.command.Command.TheVariants.{Check, Quiet}
+use Rattle.session_log.specs.declared.command.LogCommand.TheVariants.{Check, Quiet}
 use Rattle.session_log.specs.Check.{Compared, begun, difference, missing, differs_from, stops_compared, moves_compared, check_machine, check_history}
 use Rattle.session_log.specs.Ending.{Ending, ending_of}
 use Rattle.session_log.specs.Replay.{Logs, Makes, Plays, ReadsTo, Writes}
@@ -25,104 +25,116 @@ use Rattle.session_log.specs.World.{World, moves_input, writes_again}
 use Rattle.session_log.proofs.Whole.{there}
 use Rattle.session_log.proofs.Worlds.{Follows, makes_alike, logs_alike, plays_alike, reads_alike}
 
-counted : (s : SessionState) (start : Start) (h : List Timed) → StandsAfter s start h → s.meters ≡ (history start).counts h
-unfolding session_of
-counted s start h r = ap (λ (z : SessionState). z.meters) r
+module _ (start : Start) where
+  counted : (s : SessionState) (h : List Timed) → StandsAfter s start h → s.meters ≡ (history start).counts h
+  unfolding session_of
+  counted s h r = ap (λ (z : SessionState). z.meters) r
 
-moved : (start : Start) (s : SessionState) (h : List Timed) (l : Line) → StandsAfter s start h → StandsAfter (moves_input sessions s l) start (moves_input (histories start) h l)
-moved start s h (Input timed) r = stands_longer s start h timed r
-moved start s h (Sent packet) r = r
-moved start s h Comment r = r
-moved start s h Count r = r
+  moved : (s : SessionState) (h : List Timed) (l : Line) → StandsAfter s start h
+      → StandsAfter (moves_input sessions s l) start (moves_input (histories start) h l)
+  moved s h (Input timed) r = stands_longer s start h timed r
+  moved s h l r = r
 
-wrote : (start : Start) (s : SessionState) (h : List Timed) (line : List ℕ) (l : Line) → StandsAfter s start h → writes_again sessions s line l ≡ writes_again (histories start) h line l
-wrote start s h line (Input timed) r = ap (λ (ps : List (List ℕ)). ended line ++ flat_map sent_text ps) (step_sends s.machine start h timed (machine_after s start h r))
-wrote start s h line (Sent packet) r = refl
-wrote start s h line Comment r = refl
-wrote start s h line Count r = refl
+  wrote : (s : SessionState) (h : List Timed) (line : List ℕ) (l : Line) → StandsAfter s start h
+      → writes_again sessions s line l ≡ writes_again (histories start) h line l
+  wrote s h line (Input timed) r =
+      ap (λ (ps : List (List ℕ)). ended line ++ flat_map sent_text ps)
+      (step_sends s.machine start h timed (machine_after s start h r))
+  wrote s h line l r = refl
 
-pub follows : (start : Start) → Follows machine (history start) (λ s h. StandsAfter s start h)
-follows start = record {
-  stops = λ s h l r. refl;
-  moves = λ s h l r. moved start s h l r;
-  writes = λ s h line l r. wrote start s h line l r;
-  lacks = λ s h r. refl;
-  ending = λ s h r. ap meters_line (counted s start h r);
-  counts = λ s h r. counted s start h r;
-}
+  pub follows : Follows machine (history start) (λ s h. StandsAfter s start h)
+  follows = record {
+    stops = λ s h l r. refl;
+    moves = moved;
+    writes = wrote;
+    lacks = λ s h r. refl;
+    ending = λ s h r. ap meters_line (counted s h r);
+    counts = counted;
+  }
 
--- Made quiet.
+  -- Made quiet.
 
-noised : (start : Start) (s : SessionState) (h : List Timed) (line : List ℕ) (l : Line) → StandsAfter s start h → quiet_machine.writes s line l ≡ (quiet_history start).writes h line l
-noised start s h line (Input timed) r = ap (λ (b : Bool). ended (cond b (tick_text timed.at) line)) (noise_is_named s.machine start h timed (machine_after s start h r))
-noised start s h line (Sent packet) r = refl
-noised start s h line Comment r = refl
-noised start s h line Count r = refl
+  noised : (s : SessionState) (h : List Timed) (line : List ℕ) (l : Line) → StandsAfter s start h
+      → quiet_machine.writes s line l ≡ (quiet_history start).writes h line l
+  noised s h line (Input timed) r =
+      ap (λ (b : Bool). ended (cond b (tick_text timed.at) line))
+      (noise_is_named s.machine start h timed (machine_after s start h r))
+  noised s h line l r = refl
 
-quiet_follows : (start : Start) → Follows quiet_machine (quiet_history start) (λ s h. StandsAfter s start h)
-quiet_follows start = record {
-  stops = λ s h l r. refl;
-  moves = λ s h l r. moved start s h l r;
-  writes = λ s h line l r. noised start s h line l r;
-  lacks = λ s h r. refl;
-  ending = λ s h r. refl;
-  counts = λ s h r. counted s start h r;
-}
+  quiet_follows : Follows quiet_machine (quiet_history start) (λ s h. StandsAfter s start h)
+  quiet_follows = record {
+    stops = λ s h l r. refl;
+    moves = moved;
+    writes = noised;
+    lacks = λ s h r. refl;
+    ending = λ s h r. refl;
+    counts = counted;
+  }
 
--- With what is needed.
+  -- With what is needed.
 
-needed_after : (start : Start) (s : SessionState) (h : List Timed) → StandsAfter s start h → session_needs s ≡ history_needs start h
-unfolding session_of named
-needed_after start s h r = ap session_needs r
+  needed_after : (s : SessionState) (h : List Timed) → StandsAfter s start h → session_needs s ≡ history_needs start h
+  unfolding session_of named
+  needed_after s h r = ap session_needs r
 
-told : (start : Start) (s : SessionState) (h : List Timed) (line : List ℕ) (l : Line) → StandsAfter s start h → live_machine.writes s line l ≡ (live_history start).writes h line l
-told start s h line (Input timed) r =
-    let sends = step_sends s.machine start h timed (machine_after s start h r) in
-    let needs = needed_after start (sessions.turned s timed) (timed ∷ h) (stands_longer s start h timed r) in
-    λ i. ended line ++ flat_map sent_text (sends i) ++ flat_map ended (need_lines (needs i))
-told start s h line (Sent packet) r = refl
-told start s h line Comment r = refl
-told start s h line Count r = refl
+  told : (s : SessionState) (h : List Timed) (line : List ℕ) (l : Line) → StandsAfter s start h
+      → live_machine.writes s line l ≡ (live_history start).writes h line l
+  told s h line (Input timed) r =
+      let sends = step_sends s.machine start h timed (machine_after s start h r) in
+      let needs = needed_after (sessions.turned s timed) (timed ∷ h) (stands_longer s start h timed r) in
+      λ i. ended line ++ flat_map sent_text (sends i) ++ flat_map ended (need_lines (needs i))
+  told s h line l r = refl
 
-pub live_follows : (start : Start) → Follows live_machine (live_history start) (λ s h. StandsAfter s start h)
-live_follows start = record {
-  stops = λ s h l r. refl;
-  moves = λ s h l r. moved start s h l r;
-  writes = λ s h line l r. told start s h line l r;
-  lacks = λ s h r. refl;
-  ending = λ s h r. ap meters_line (counted s start h r);
-  counts = λ s h r. counted s start h r;
-}
+  pub live_follows : Follows live_machine (live_history start) (λ s h. StandsAfter s start h)
+  live_follows = record {
+    stops = λ s h l r. refl;
+    moves = moved;
+    writes = told;
+    lacks = λ s h r. refl;
+    ending = λ s h r. ap meters_line (counted s h r);
+    counts = counted;
+  }
 
-pub lines_history : (left left' taken taken' : Option (List ℕ)) (s t : SessionState) (ending : Ending) (all : Type 0) → Moves left left' taken taken' (λ bytes text. Plays live_machine s t bytes text ending) → ReadsTo live_machine s left left' all ending
-    → (start : Start) (h : List Timed) → StandsAfter s start h
-    → (later : List Timed) × StandsAfter t start later × Moves left left' taken taken' (λ bytes text. Writes (live_history start) h later bytes text ending) × ReadsTo (live_history start) h left left' all ending
+pub lines_history : (left left' taken taken' : Option (List ℕ)) (s t : SessionState) (ending : Ending) (all : Type 0)
+    → Moves left left' taken taken' (λ bytes text. Plays live_machine s t bytes text ending)
+    → ReadsTo live_machine s left left' all ending → (start : Start) (h : List Timed) → StandsAfter s start h
+    → (later : List Timed) × StandsAfter t start later
+    × Moves left left' taken taken' (λ bytes text. Writes (live_history start) h later bytes text ending)
+    × ReadsTo (live_history start) h left left' all ending
 lines_history left left' taken taken' s t ending all m reach start h stands =
-    let found = plays_alike live_machine (live_history start) (λ s h. StandsAfter s start h) (live_follows start) s t h stands m.0 m.1 ending m.4 in
-    (found.0, found.1, (m.0, m.1, m.2, m.3, found.2), reads_alike live_machine (live_history start) (λ s h. StandsAfter s start h) (live_follows start) s h stands left left' all ending reach)
+    let found = plays_alike (live_follows start) s t h stands m.0 m.1 ending m.4 in (
+      found.0,
+      found.1,
+      (m.0, m.1, m.2, m.3, found.2),
+      reads_alike (live_follows start) s h stands left left' all ending reach,
+    )
 
 -- What a log means of a session, it means of each history that the session stands after.
-module _ {I O : Type 0} (left : I → Option (List ℕ)) (unread : I → ℕ) (ended : I → Bool) (taken : O → Option (List ℕ)) (unwritten : O → ℕ)
-    (input : I × I) (output : O × O) where
-  pub logs_history : (v : World SessionState) (w : Start → World (List Timed)) → ((start : Start) → Follows v (w start) (λ s h. StandsAfter s start h))
+module _ {I O : Type 0} (left : I → Option (List ℕ)) (unread : I → ℕ) (ended : I → Bool) (taken : O → Option (List ℕ))
+    (unwritten : O → ℕ) (input : I × I) (output : O × O) where
+  pub logs_history : (v : World SessionState) (w : Start → World (List Timed))
+      → ((start : Start) → Follows v (w start) (λ s h. StandsAfter s start h))
       → (s t : SessionState) (r : Result Meters LogFault)
       → PlaysThrough v s (λ bytes text. Logs v s t bytes text r) left unread ended taken unwritten r input output
-      → (start : Start) (h : List Timed) → StandsAfter s start h
-      → (later : List Timed) × StandsAfter t start later
-      × PlaysThrough (w start) h (λ bytes text. Logs (w start) h later bytes text r) left unread ended taken unwritten r input output
+      → (start : Start) (h : List Timed) → StandsAfter s start h → (later : List Timed) × StandsAfter t start later
+      × PlaysThrough (w start) h (λ bytes text. Logs (w start) h later bytes text r) left unread ended taken unwritten r
+      input output
   logs_history v w f s t r through start h stands =
-      there v (w start) (λ s h. StandsAfter s start h) (f start) s h stands (λ bytes text. Logs v s t bytes text r) (StandsAfter t start)
-      (λ later bytes text. Logs (w start) h later bytes text r) (λ bytes text m. logs_alike v (w start) (λ s h. StandsAfter s start h) (f start) s t h stands bytes text r m)
+      there (f start) s h stands (λ bytes text. Logs v s t bytes text r) (StandsAfter t start)
+      (λ later bytes text. Logs (w start) h later bytes text r)
+      (λ bytes text m. logs_alike (f start) s t h stands bytes text r m)
       left unread ended taken unwritten r input output through
 
   pub quiets_history : {A : Type 0} (s t : SessionState) (r : Result A LogFault)
-      → PlaysThrough quiet_machine s (λ bytes text. Makes quiet_machine s t bytes text (ending_of r)) left unread ended taken unwritten r input output
+      → PlaysThrough quiet_machine s (λ bytes text. Makes quiet_machine s t bytes text (ending_of r)) left unread ended
+      taken unwritten r input output
       → (start : Start) (h : List Timed) → StandsAfter s start h
       → PlaysLog Quiet start h left unread ended taken unwritten r t input output
   quiets_history s t r through start h stands =
-      let q = there quiet_machine (quiet_history start) (λ s h. StandsAfter s start h) (quiet_follows start) s h stands
-      (λ bytes text. Makes quiet_machine s t bytes text (ending_of r)) (StandsAfter t start) (λ later bytes text. Makes (quiet_history start) h later bytes text (ending_of r))
-      (λ bytes text m. makes_alike quiet_machine (quiet_history start) (λ s h. StandsAfter s start h) (quiet_follows start) s t h stands bytes text (ending_of r) m)
+      let q = there (quiet_follows start) s h stands
+      (λ bytes text. Makes quiet_machine s t bytes text (ending_of r)) (StandsAfter t start)
+      (λ later bytes text. Makes (quiet_history start) h later bytes text (ending_of r))
+      (λ bytes text m. makes_alike (quiet_follows start) s t h stands bytes text (ending_of r) m)
       left unread ended taken unwritten r input output through in
       (q.0, q.1, q.2.0, q.2.1, q.2.2)
 
@@ -130,50 +142,65 @@ module _ {I O : Type 0} (left : I → Option (List ℕ)) (unread : I → ℕ) (e
 
 -- all but what the session holds is the same
 abbrev onto_history : List Timed → Compared SessionState → Compared (List Timed)
-onto_history h c = record { session = h; lines = c.lines; input = c.input; found = c.found; due = c.due; inputs = c.inputs; packets = c.packets }
+onto_history h c =
+    record {
+      session = h;
+      lines = c.lines;
+      input = c.input;
+      found = c.found;
+      due = c.due;
+      inputs = c.inputs;
+      packets = c.packets;
+    }
 
-abbrev IsBeside : Start → Compared SessionState → Compared (List Timed) → Type 0
-IsBeside start c d = StandsAfter c.session start d.session × (d ≡ onto_history d.session c)
+module _ (start : Start) where
+  abbrev IsBeside : Compared SessionState → Compared (List Timed) → Type 0
+  IsBeside c d = StandsAfter c.session start d.session × (d ≡ onto_history d.session c)
 
-same_stops : (start : Start) (c : Compared SessionState) (d : Compared (List Timed)) (l : Line) → IsBeside start c d → stops_compared c l ≡ stops_compared d l
-same_stops start c d (Input timed) r = sym (ap missing r.1)
-same_stops start c d (Sent packet) r = sym (ap (λ (z : Compared (List Timed)). differs_from z.due packet.0 (difference z)) r.1)
-same_stops start c d Comment r = refl
-same_stops start c d Count r = refl
+  same_stops : (c : Compared SessionState) (d : Compared (List Timed)) (l : Line) → IsBeside c d
+      → stops_compared c l ≡ stops_compared d l
+  same_stops c d (Input timed) r = sym (ap missing r.1)
+  same_stops c d (Sent packet) r =
+      sym (ap (λ (z : Compared (List Timed)). differs_from z.due packet.0 (difference z)) r.1)
+  same_stops c d l r = refl
 
-same_moves : (start : Start) (c : Compared SessionState) (d : Compared (List Timed)) (l : Line) → IsBeside start c d → IsBeside start (moves_compared sessions c l) (moves_compared (histories start) d l)
-same_moves start c d (Input timed) r =
-    let sends = step_sends c.session.machine start d.session timed (machine_after c.session start d.session r.0) in (
-      stands_longer c.session start d.session timed r.0,
-      ap (λ (z : Compared (List Timed)). moves_compared (histories start) z (Input timed)) r.1
-          ∙ ap (λ (due : List (List ℕ)). record (moves_compared (histories start) (onto_history d.session c) (Input timed)) { due = due }) (sym sends),
-    )
-same_moves start c d (Sent packet) r = (r.0, ap (λ (z : Compared (List Timed)). moves_compared (histories start) z (Sent packet)) r.1)
-same_moves start c d Comment r = (r.0, ap (λ (z : Compared (List Timed)). moves_compared (histories start) z Comment) r.1)
-same_moves start c d Count r = (r.0, ap (λ (z : Compared (List Timed)). moves_compared (histories start) z Count) r.1)
+  same_moves : (c : Compared SessionState) (d : Compared (List Timed)) (l : Line) → IsBeside c d
+      → IsBeside (moves_compared sessions c l) (moves_compared (histories start) d l)
+  same_moves c d (Input timed) r =
+      let sends = step_sends c.session.machine start d.session timed (machine_after c.session start d.session r.0) in (
+        stands_longer c.session start d.session timed r.0,
+        ap (λ (z : Compared (List Timed)). moves_compared (histories start) z (Input timed)) r.1
+            ∙ ap
+            (λ (due : List (List ℕ)). record (moves_compared (histories start) (onto_history d.session c) (Input timed))
+            { due = due }) (sym sends),
+      )
+  same_moves c d l r = (r.0, ap (λ (z : Compared (List Timed)). moves_compared (histories start) z l) r.1)
 
-check_follows : (start : Start) → Follows check_machine (check_history start) (IsBeside start)
-check_follows start = record {
-  stops = λ c d l r. same_stops start c d l r;
-  moves = λ c d l r. same_moves start c d l r;
-  writes = λ c d line l r. refl;
-  lacks = λ c d r. sym (ap missing r.1);
-  ending = λ c d r. sym (ap (λ (z : Compared (List Timed)). (check_history start).ending z) r.1);
-  counts = λ c d r. counted c.session start d.session r.0;
-}
+  check_follows : Follows check_machine (check_history start) (IsBeside)
+  check_follows = record {
+    stops = same_stops;
+    moves = same_moves;
+    writes = λ c d line l r. refl;
+    lacks = λ c d r. sym (ap missing r.1);
+    ending = λ c d r. sym (ap (λ (z : Compared (List Timed)). (check_history start).ending z) r.1);
+    counts = λ c d r. counted start c.session d.session r.0;
+  }
 
-pub checks_history : {A I O : Type 0} (left : I → Option (List ℕ)) (unread : I → ℕ) (ended : I → Bool) (taken : O → Option (List ℕ)) (unwritten : O → ℕ)
-    (input : I × I) (output : O × O) (s : SessionState) (t : Compared SessionState) (r : Result A LogFault)
-    → PlaysThrough check_machine (begun s) (λ bytes text. Makes check_machine (begun s) t bytes text (ending_of r)) left unread ended taken unwritten r input output
+pub checks_history : {A I O : Type 0} (left : I → Option (List ℕ)) (unread : I → ℕ) (ended : I → Bool) (taken : O
+    → Option (List ℕ)) (unwritten : O → ℕ) (input : I × I) (output : O
+    × O) (s : SessionState) (t : Compared SessionState) (r : Result A LogFault)
+    → PlaysThrough check_machine (begun s) (λ bytes text. Makes check_machine (begun s) t bytes text (ending_of r)) left
+    unread ended taken unwritten r input output
     → (start : Start) (h : List Timed) → StandsAfter s start h
     → PlaysLog Check start h left unread ended taken unwritten r t.session input output
 checks_history left unread ended taken unwritten input output s t r through start h stands =
-    let q = there check_machine (check_history start) (IsBeside start) (check_follows start) (begun s) (begun h) (stands, refl)
-    (λ bytes text. Makes check_machine (begun s) t bytes text (ending_of r)) (λ later. StandsAfter t.session start later.session)
+    let q = there (check_follows start) (begun s) (begun h) (stands, refl)
+    (λ bytes text. Makes check_machine (begun s) t bytes text (ending_of r))
+    (λ later. StandsAfter t.session start later.session)
     (λ later bytes text. Makes (check_history start) (begun h) later bytes text (ending_of r))
-    (λ bytes text m. let found = makes_alike check_machine (check_history start) (IsBeside start) (check_follows start) (begun s) t (begun h) (stands, refl) bytes text (ending_of r) m in
-    (found.0, found.1.0, found.2))
-    left unread ended taken unwritten r input output through in
+    (λ bytes text m. let found = makes_alike (check_follows start) (begun s) t (begun h) (stands, refl) bytes text
+    (ending_of r) m in
+    (found.0, found.1.0, found.2)) left unread ended taken unwritten r input output through in
     (q.0, q.1, q.2.0, q.2.1, q.2.2)
 
 -- a session at its start stands after the empty history

@@ -1,3 +1,4 @@
+pub mod Cases
 pub mod Sends
 pub mod Digits
 pub mod Zeros

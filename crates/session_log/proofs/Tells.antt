@@ -17,18 +17,20 @@ use Rattle.session_log.proofs.Feeds.{feedless, AreLines, both, joined, feedless-
 pub one_less : (n m : ℕ) → 0 < n → m ≡ n - 96 → (n + 95) / 96 ≡ suc ((m + 95) / 96)
 one_less n m some less = omega (arith, some, less)
 
-pub pieces_more : (bytes : List ℕ) → 0 < length bytes
-    → pieces_of bytes ≡ take (min 96 (length bytes)) bytes ∷ pieces_of (drop (min 96 (length bytes)) bytes)
+pub pieces_more : (bytes : List ℕ) → 0 < length bytes → pieces_of bytes
+    ≡ take (min 96 (length bytes)) bytes ∷ pieces_of (drop (min 96 (length bytes)) bytes)
 pieces_more bytes some =
     ap (λ k. first_chunks 96 k bytes) (one_less (length bytes) (length (drop 96 bytes)) some (length-drop 96 bytes))
     ∙ (λ i. sym (take_min 96 bytes) i ∷ pieces_of (sym (drop_min 96 bytes) i))
 
 -- joined they are the bytes
-chunks_joined : (k : ℕ) (bytes : List ℕ) → length bytes ≤ 96 * k → flat_map (λ piece. piece) (first_chunks 96 k bytes) ≡ bytes
+chunks_joined : (k : ℕ) (bytes : List ℕ) → length bytes ≤ 96 * k → flat_map (λ piece. piece) (first_chunks 96 k bytes)
+    ≡ bytes
 chunks_joined zero [] fits = refl
 chunks_joined zero (b ∷ more) fits = absurd (omega (arith, fits))
 chunks_joined (suc k) bytes fits =
-    ap (λ t. take 96 bytes ++ t) (chunks_joined k (drop 96 bytes) (omega (arith, fits, length-drop 96 bytes))) ∙ take-append-drop 96 bytes
+    ap (λ t. take 96 bytes ++ t) (chunks_joined k (drop 96 bytes) (omega (arith, fits, length-drop 96 bytes)))
+    ∙ take-append-drop 96 bytes
 
 pub pieces_joined : (bytes : List ℕ) → flat_map (λ piece. piece) (pieces_of bytes) ≡ bytes
 pieces_joined bytes = chunks_joined ((length bytes + 95) / 96) bytes (omega arith)
@@ -36,7 +38,8 @@ pieces_joined bytes = chunks_joined ((length bytes + 95) / 96) bytes (omega arit
 chunks_short : (k : ℕ) (bytes : List ℕ) → All (λ piece. length piece ≤ 96) (first_chunks 96 k bytes)
 chunks_short zero bytes = All-nil (λ piece. length piece ≤ 96)
 chunks_short (suc k) bytes =
-    All-cons (λ piece. length piece ≤ 96) (take 96 bytes) (first_chunks 96 k (drop 96 bytes)) (omega (arith, length-take 96 bytes)) (chunks_short k (drop 96 bytes))
+    All-cons (λ piece. length piece ≤ 96) (take 96 bytes) (first_chunks 96 k (drop 96 bytes))
+    (omega (arith, length-take 96 bytes)) (chunks_short k (drop 96 bytes))
 
 pub pieces_short : (bytes : List ℕ) → All (λ piece. length piece ≤ 96) (pieces_of bytes)
 pieces_short bytes = chunks_short ((length bytes + 95) / 96) bytes
@@ -44,13 +47,14 @@ pieces_short bytes = chunks_short ((length bytes + 95) / 96) bytes
 -- their lines don't say what is needed
 none_says : (pieces : List (List ℕ)) → All (λ line. says_need line ≡ false) (map signed_line pieces)
 none_says [] = All-nil (λ line. says_need line ≡ false)
-none_says (piece ∷ more) = All-cons (λ line. says_need line ≡ false) (signed_line piece) (map signed_line more) refl (none_says more)
+none_says (piece ∷ more) =
+    All-cons (λ line. says_need line ≡ false) (signed_line piece) (map signed_line more) refl (none_says more)
 
-pub last_says : (n : Needed) → (before : List (List ℕ)) × (last : List ℕ) × (need_lines n ≡ before ++ last ∷ []) × (says_need last ≡ true) × All (λ line. says_need line ≡ false) before
-last_says nothing = ([], _, refl, refl, All-nil (λ line. says_need line ≡ false))
-last_says presence = ([], _, refl, refl, All-nil (λ line. says_need line ≡ false))
-last_says key = ([], _, refl, refl, All-nil (λ line. says_need line ≡ false))
-last_says (sign id signed) = (map signed_line (pieces_of signed), signature_line id, refl, refl, none_says (pieces_of signed))
+pub last_says : (n : Needed) → (before : List (List ℕ)) × (last : List ℕ) × (need_lines n ≡ before ++ last ∷ [])
+    × (says_need last ≡ true) × All (λ line. says_need line ≡ false) before
+last_says (sign id signed) =
+    (map signed_line (pieces_of signed), signature_line id, refl, refl, none_says (pieces_of signed))
+last_says n = ([], _, refl, refl, All-nil (λ line. says_need line ≡ false))
 
 -- The lines that tell what is needed are comments, and short.
 
@@ -61,14 +65,16 @@ from_digits [] h n = refl
 from_digits (d ∷ ds) h zero = (both (is_feed d) (feedless ds) h).0
 from_digits (d ∷ ds) h (suc n) = from_digits ds (both (is_feed d) (feedless ds) h).1 n
 
-two_more : (a b : ℕ) (xs : List ℕ) → is_feed a ≡ false → is_feed b ≡ false → feedless xs ≡ true → feedless (a ∷ b ∷ xs) ≡ true
+two_more : (a b : ℕ) (xs : List ℕ) → is_feed a ≡ false → is_feed b ≡ false → feedless xs ≡ true
+    → feedless (a ∷ b ∷ xs) ≡ true
 two_more a b xs h k l = joined (is_feed a) (feedless (b ∷ xs)) h (joined (is_feed b) (feedless xs) k l)
 
 pub encoded_feedless : (bytes : List ℕ) → feedless (encode_lower bytes) ≡ true
 unfolding encode_with
 encoded_feedless [] = refl
 encoded_feedless (b ∷ more) =
-    two_more (slice_index lower_digits (b / 16)) (slice_index lower_digits (b % 16)) (encode_lower more) (from_digits lower_digits refl (b / 16)) (from_digits lower_digits refl (b % 16)) (encoded_feedless more)
+    two_more (slice_index lower_digits (b / 16)) (slice_index lower_digits (b % 16)) (encode_lower more)
+    (from_digits lower_digits refl (b / 16)) (from_digits lower_digits refl (b % 16)) (encoded_feedless more)
 
 -- each is a line of a log
 
@@ -86,28 +92,35 @@ AreTold-append : (xs ys : List (List ℕ)) → AreTold xs → AreTold ys → Are
 AreTold-append [] ys h k = k
 AreTold-append (x ∷ xs) ys h k = (h.0, AreTold-append xs ys h.1 k)
 
-told : (line : List ℕ) → feedless line ≡ true → length line < 256 → said line ≡ Some Comment → is_need_line line ≡ true → IsTold line
-told line whole short is tells = record { feedless = whole; sound = record { short = short; says = λ e. cc (sym e ∙ is) }; said = is; tells = tells }
+told : (line : List ℕ) → feedless line ≡ true → length line < 256 → said line ≡ Some Comment → is_need_line line ≡ true
+    → IsTold line
+told line whole short is tells =
+    record { feedless = whole; sound = record { short = short; says = λ e. cc (sym e ∙ is) }; said = is; tells = tells }
 
 signed_told : (bytes : List ℕ) → length bytes ≤ 96 → IsTold (signed_line bytes)
 signed_told bytes few =
     told (signed_line bytes) (feedless-append (codes "# signed ") (encode_lower bytes) refl (encoded_feedless bytes))
-    (omega (arith, few, length-append (codes "# signed ") (encode_lower bytes), length-encode_with lower_digits bytes)) refl refl
+    (omega (arith, few, length-append (codes "# signed ") (encode_lower bytes), length-encode_with lower_digits bytes))
+    refl refl
 
 signature_told : (id : List ℕ) → length id ≡ 32 → IsTold (signature_line id)
 signature_told id is =
     told (signature_line id) (feedless-append (codes "# need signature ") (encode_lower id) refl (encoded_feedless id))
-    (omega (arith, is, length-append (codes "# need signature ") (encode_lower id), length-encode_with lower_digits id)) refl refl
+    (omega (arith, is, length-append (codes "# need signature ") (encode_lower id), length-encode_with lower_digits id))
+    refl refl
 
 chunks_told : (k : ℕ) (bytes : List ℕ) → AreTold (map signed_line (first_chunks 96 k bytes))
 chunks_told zero bytes = tt
-chunks_told (suc k) bytes = (signed_told (take 96 bytes) (omega (arith, length-take 96 bytes)), chunks_told k (drop 96 bytes))
+chunks_told (suc k) bytes =
+    (signed_told (take 96 bytes) (omega (arith, length-take 96 bytes)), chunks_told k (drop 96 bytes))
 
 pub needs_told : (n : Needed) → IsNeed n → AreTold (need_lines n)
 needs_told nothing h = (told (codes "# need nothing") refl (omega arith) refl refl, tt)
 needs_told presence h = (told (codes "# need presence") refl (omega arith) refl refl, tt)
 needs_told key h = (told (codes "# need key") refl (omega arith) refl refl, tt)
-needs_told (sign id signed) h = AreTold-append (map signed_line (pieces_of signed)) (signature_line id ∷ []) (chunks_told ((length signed + 95) / 96) signed) (signature_told id h.0, tt)
+needs_told (sign id signed) h =
+    AreTold-append (map signed_line (pieces_of signed)) (signature_line id ∷ [])
+    (chunks_told ((length signed + 95) / 96) signed) (signature_told id h.0, tt)
 
 pub told_are : (ls : List (List ℕ)) → AreTold ls → AreLines ls
 told_are [] h = tt

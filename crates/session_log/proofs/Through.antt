@@ -1,18 +1,19 @@
 -- What has been played when lines were read and played one by one.
-use Rattle.std.proofs.Common.{◌≡◌, ℕ, ◌+◌, ◌≤◌, ◌<◌, ◌^◌, nat_le, nat_lt, Bool, true, false, cond, List, [], ◌∷◌, ◌++◌, length, take, position, Option, Some, None, is_some, is_none, refl, sym, ap, ◌∙◌, subst, arith, append_assoc, append-nil, length-append}
+use Rattle.std.proofs.Common.{◌≡◌, ℕ, ◌+◌, ◌≤◌, ◌<◌, ◌^◌, nat_le, nat_lt, Bool, true, false, cond, List, [], ◌∷◌, ◌++◌, length, take, position, Option, Some, None, is_none, refl, sym, ap, ◌∙◌, subst, arith, append_assoc, append-nil, length-append}
 use Rattle.std.proofs.lemmas.Bool.{le-leb, le-ltb, lt-leb, lt-ltb}
 use Rattle.session_log.specs.declared.fault.LogFault.{LogFault}
 use Rattle.session_log.specs.declared.fault.LogFault.TheVariants.{TooLong, TooManyLines}
 use Rattle.session_log.specs.Said.{said}
 use Rattle.session_log.specs.World.{World}
-use Rattle.session_log.specs.Lines.{is_feed, pieces, all_but_last, last_of, lines_of_pieces, lines, whole_lines, last_piece}
+use Rattle.session_log.specs.Lines.{is_feed, pieces, all_but_last, last_of, lines, whole_lines, last_piece}
 use Rattle.session_log.specs.Log.{Played, prefixed, played, playing, log_of, log, first_fault, fault_of, fault_by, fault_at, text_of, last_text, after}
 use Rattle.session_log.specs.Sent.{SendsPackets, AllSend}
 use Rattle.session_log.specs.Window.{IsUnfinished}
 use Rattle.session_log.specs.Replay.{IsRefused, IsUnread, IsUnwritten, IsPlayed}
 use Rattle.session_log.proofs.Cutting.{first_piece, one_piece, pieces_some, lines_beyond, front_of, last_is}
 
--- The bytes read are whole lines, none of them faulty: this text was written for them, and the session stands at s before line n.
+-- The bytes read are whole lines, none of them faulty: this text was written for them, and the session stands at s
+-- before line n.
 pub record Through {S : Type 0} (world : World S) (s0 : S) (read text : List ℕ) (s : S) (n : ℕ) : Type 0 where
   pub done : List (List ℕ)
   pub cut : (tail : List ℕ) → pieces (read ++ tail) ≡ done ++ pieces tail
@@ -23,120 +24,144 @@ pub record Through {S : Type 0} (world : World S) (s0 : S) (read text : List ℕ
 pub through_none : {S : Type 0} (world : World S) (s : S) → Through world s [] [] s 1
 through_none world s = record { done = []; cut = λ tail. refl; count = refl; plays = λ more. refl; sends = λ more h. h }
 
--- a line that isn't faulty is played
-pub played_sound : {S : Type 0} (world : World S) (n : ℕ) (s : S) (line : List ℕ) (more : List (List ℕ)) → fault_at world n s line ≡ None → played world n s (line ∷ more) ≡ prefixed (text_of world s line) (played world (n + 1) (after world s line) more)
-played_sound world n s line more e =
-    ap (λ (o : Option LogFault). cond (is_some o) (record { text = []; fault = o; state = s }) (prefixed (text_of world s line) (played world (n + 1) (after world s line) more))) e
+module _ {S : Type 0} (world : World S) (n : ℕ) (s : S) (line : List ℕ) (more : List (List ℕ)) where
+  -- a line that isn't faulty is played
+  pub played_sound : fault_at world n s line ≡ None → played world n s (line ∷ more)
+      ≡ prefixed (text_of world s line) (played world (n + 1) (after world s line) more)
+  played_sound e = rw e refl
 
--- a faulty one ends the log
-pub played_faulty : {S : Type 0} (world : World S) (n : ℕ) (s : S) (line : List ℕ) (more : List (List ℕ)) (f : LogFault) → fault_at world n s line ≡ Some f → played world n s (line ∷ more) ≡ record { text = []; fault = Some f; state = s }
-played_faulty world n s line more f e =
-    ap (λ (o : Option LogFault). cond (is_some o) (record { text = []; fault = o; state = s }) (prefixed (text_of world s line) (played world (n + 1) (after world s line) more))) e
+  -- a faulty one ends the log
+  pub played_faulty : (f : LogFault) → fault_at world n s line ≡ Some f
+      → played world n s (line ∷ more) ≡ record { text = []; fault = Some f; state = s }
+  played_faulty f e = rw e refl
 
 pub prefixed_twice : {S : Type 0} (a b : List ℕ) (p : Played S) → prefixed a (prefixed b p) ≡ prefixed (a ++ b) p
 prefixed_twice a b p = λ i. record { text = sym (append_assoc a b p.text) i; fault = p.fault; state = p.state }
 
-pub through_line : {S : Type 0} (world : World S) (s0 : S) (read text : List ℕ) (s : S) (n : ℕ) (w : List ℕ) (end : ℕ) → Through world s0 read text s n → position is_feed w ≡ Some end → fault_at world n s (take end w) ≡ None → SendsPackets world s (said (take end w))
-    → Through world s0 (read ++ take (end + 1) w) (text ++ text_of world s (take end w)) (after world s (take end w)) (n + 1)
-through_line world s0 read text s n w end t feed sound packets =
-    let line = take end w in
-    let front = take (end + 1) w in
-    record {
-      done = t.done ++ line ∷ [];
-      cut = λ tail. ap pieces (append_assoc read front tail) ∙ t.cut (front ++ tail) ∙ ap (λ (l : List (List ℕ)). t.done ++ l) (first_piece w end tail feed) ∙ sym (append_assoc t.done (line ∷ []) (pieces tail));
-      count = omega (arith, t.count, length-append t.done (line ∷ []));
-      plays = λ more. ap (played world 1 s0) (append_assoc t.done (line ∷ []) more) ∙ t.plays (line ∷ more) ∙ ap (prefixed text) (played_sound world n s line more sound) ∙ prefixed_twice text (text_of world s line) (played world (n + 1) (after world s line) more);
-      sends = λ more h. subst (AllSend world s0) (sym (append_assoc t.done (line ∷ []) more)) (t.sends (line ∷ more) (packets, h));
-    }
+module _ {S : Type 0} {world : World S} {s0 : S} {read text : List ℕ} {s : S} {n : ℕ}
+    (t : Through world s0 read text s n) where
+  pub through_line : (w : List ℕ) (end : ℕ) → position is_feed w ≡ Some end → fault_at world n s (take end w) ≡ None
+      → SendsPackets world s (said (take end w))
+      → Through world s0 (read ++ take (end + 1) w) (text ++ text_of world s (take end w)) (after world s (take end w))
+      (n + 1)
+  through_line w end feed sound packets =
+      let line = take end w in
+      let front = take (end + 1) w in
+      record {
+        done = t.done ++ line ∷ [];
+        cut = λ tail. rw (append_assoc read front tail, t.cut (front ++ tail), first_piece w end tail feed)
+            (sym (append_assoc t.done (line ∷ []) (pieces tail)));
+        count = omega (arith, t.count, length-append t.done (line ∷ []));
+        plays =
+            λ more. rw
+            (append_assoc t.done (line ∷ []) more, t.plays (line ∷ more), played_sound world n s line more sound)
+            (prefixed_twice text (text_of world s line) (played world (n + 1) (after world s line) more));
+        sends = λ more h. rw (append_assoc t.done (line ∷ []) more) (t.sends (line ∷ more) (packets, h));
+      }
 
--- the lines of all that was read
-pub lines_are : {S : Type 0} (world : World S) (s0 : S) (read text : List ℕ) (s : S) (n : ℕ) (w : List ℕ) → (t : Through world s0 read text s n) → lines (read ++ w) ≡ t.done ++ lines w
-lines_are world s0 read text s n w t =
-    let some = pieces_some w in
-    ap lines_of_pieces (t.cut w ∙ ap (λ (l : List (List ℕ)). t.done ++ l) some.2) ∙ lines_beyond t.done some.0 some.1 ∙ ap (λ (l : List (List ℕ)). t.done ++ lines_of_pieces l) (sym some.2)
+  -- the lines of all that was read
+  pub lines_are : (w : List ℕ) → lines (read ++ w) ≡ t.done ++ lines w
+  lines_are w = let some = pieces_some w in rw (t.cut w, some.2) (lines_beyond t.done some.0 some.1)
 
-pub playing_is : {S : Type 0} (world : World S) (s0 : S) (read text : List ℕ) (s : S) (n : ℕ) (w : List ℕ) → Through world s0 read text s n → playing world s0 (read ++ w) ≡ prefixed text (played world n s (lines w))
-playing_is world s0 read text s n w t = ap (played world 1 s0) (lines_are world s0 read text s n w t) ∙ t.plays (lines w)
+  pub playing_is : (w : List ℕ) → playing world s0 (read ++ w) ≡ prefixed text (played world n s (lines w))
+  playing_is w = ap (played world 1 s0) (lines_are w) ∙ t.plays (lines w)
 
 -- the fault of a line is the first, and what is wrong after the last line is where no line is faulty
 pub first_is_line : (last : Option LogFault) (f : LogFault) → first_fault last (Some f) ≡ Some f
 first_is_line None f = refl
 first_is_line (Some e) f = refl
 
-pub first_is_last : {S : Type 0} (world : World S) (s0 s : S) (bytes text : List ℕ) (o : Option LogFault) → IsPlayed world s0 s bytes text → world.lacks s ≡ o → fault_of world (playing world s0 bytes) ≡ o
+pub first_is_last : {S : Type 0} (world : World S) (s0 s : S) (bytes text : List ℕ) (o : Option LogFault)
+    → IsPlayed world s0 s bytes text → world.lacks s ≡ o → fault_of world (playing world s0 bytes) ≡ o
 first_is_last {S} world s0 s bytes text o p is =
-    ap (λ (f : Option LogFault). first_fault (world.lacks (playing world s0 bytes).state) f) p.faultless ∙ ap (λ (l : Option LogFault). first_fault l None) (ap (λ (z : S). world.lacks z) (sym p.stands) ∙ is) ∙ whole o
+    ap (λ (f : Option LogFault). first_fault (world.lacks (playing world s0 bytes).state) f) p.faultless
+    ∙ ap (λ (l : Option LogFault). first_fault l None) (ap (λ (z : S). world.lacks z) (sym p.stands) ∙ is) ∙ whole o
   where
     whole : (o : Option LogFault) → first_fault o None ≡ o
     whole None = refl
     whole (Some f) = refl
 
--- the first line of the window is faulty
-pub refused : {S : Type 0} (world : World S) (s0 : S) (read text : List ℕ) (s : S) (n : ℕ) (w : List ℕ) (line : List ℕ) (more : List (List ℕ)) (f : LogFault) → Through world s0 read text s n → lines w ≡ line ∷ more → fault_at world n s line ≡ Some f
-    → IsRefused world s0 s (read ++ w) text f
-refused {S} world s0 read text s n w line more f t e bad =
-    let is : playing world s0 (read ++ w) ≡ prefixed text (record { text = []; fault = Some f; state = s }) =
-    playing_is world s0 read text s n w t ∙ ap (λ (ls : List (List ℕ)). prefixed text (played world n s ls)) e ∙ ap (prefixed text) (played_faulty world n s line more f bad) in
-    record {
-      faulty = ap (fault_of world) is ∙ first_is_line (world.lacks s) f;
-      written = sym (ap (λ (p : Played S). p.text) is ∙ append-nil text);
-      stands = sym (ap (λ (p : Played S). p.state) is);
-    }
+module _ {S : Type 0} {world : World S} {s0 : S} {read text : List ℕ} {s : S} {n : ℕ}
+    (t : Through world s0 read text s n) where
+  -- the first line of the window is faulty
+  pub refused : (w line : List ℕ) (more : List (List ℕ)) (f : LogFault) → lines w ≡ line ∷ more
+      → fault_at world n s line ≡ Some f → IsRefused world s0 s (read ++ w) text f
+  refused w line more f e bad =
+      let is : playing world s0 (read ++ w) ≡ prefixed text (record { text = []; fault = Some f; state = s }) =
+      playing_is t w ∙ rw (e, played_faulty world n s line more f bad) refl in
+      record {
+        faulty = ap (fault_of world) is ∙ first_is_line (world.lacks s) f;
+        written = sym (ap (λ (p : Played S). p.text) is ∙ append-nil text);
+        stands = sym (ap (λ (p : Played S). p.state) is);
+      }
 
--- reading failed in the window's line
-pub unread : {S : Type 0} (world : World S) (s0 : S) (read text : List ℕ) (s : S) (n : ℕ) (w : List ℕ) → Through world s0 read text s n → IsUnfinished n w → IsUnread world s0 s (read ++ w) text n
-unread {S} world s0 read text s n w t u =
-    let cut : pieces (read ++ w) ≡ t.done ++ w ∷ [] = t.cut w ∙ ap (λ (l : List (List ℕ)). t.done ++ l) (one_piece w u.no_feed) in
-    let whole : whole_lines (read ++ w) ≡ t.done = ap all_but_last cut ∙ front_of t.done w in
-    let last : last_piece (read ++ w) ≡ w = ap last_of cut ∙ last_is t.done w in
-    let is : played world 1 s0 (whole_lines (read ++ w)) ≡ prefixed text (played world n s []) = ap (played world 1 s0) (whole ∙ sym (append-nil t.done)) ∙ t.plays [] in
-    record {
-      faultless = ap (λ (p : Played S). p.fault) is;
-      written = sym (ap (λ (p : Played S). p.text) is ∙ append-nil text);
-      stands = sym (ap (λ (p : Played S). p.state) is);
-      named = t.count ∙ ap (λ (l : List (List ℕ)). length l + 1) (sym whole);
-      short = subst (λ (l : List ℕ). length l < 256) (sym last) u.short;
-      counted = λ many. last ∙ u.counted many;
-    }
+  -- reading failed in the window's line
+  pub unread : (w : List ℕ) → IsUnfinished n w → IsUnread world s0 s (read ++ w) text n
+  unread w u =
+      let cut : pieces (read ++ w) ≡ t.done ++ w ∷ [] =
+      t.cut w ∙ ap (λ (l : List (List ℕ)). t.done ++ l) (one_piece w u.no_feed) in
+      let whole : whole_lines (read ++ w) ≡ t.done = ap all_but_last cut ∙ front_of t.done w in
+      let last : last_piece (read ++ w) ≡ w = ap last_of cut ∙ last_is t.done w in
+      let is : played world 1 s0 (whole_lines (read ++ w)) ≡ prefixed text (played world n s []) =
+      ap (played world 1 s0) (whole ∙ sym (append-nil t.done)) ∙ t.plays [] in
+      record {
+        faultless = ap (λ (p : Played S). p.fault) is;
+        written = sym (ap (λ (p : Played S). p.text) is ∙ append-nil text);
+        stands = sym (ap (λ (p : Played S). p.state) is);
+        named = t.count ∙ ap (λ (l : List (List ℕ)). length l + 1) (sym whole);
+        short = rw last u.short;
+        counted = λ many. last ∙ u.counted many;
+      }
 
--- the text of the window's first line broke off
-pub unwritten : {S : Type 0} (world : World S) (s0 : S) (read text : List ℕ) (s : S) (n : ℕ) (w : List ℕ) (line : List ℕ) (more : List (List ℕ)) (front rest : List ℕ) → Through world s0 read text s n → lines w ≡ line ∷ more → fault_at world n s line ≡ None
-    → text_of world s line ≡ front ++ rest → 0 < length rest → IsUnwritten world s0 (after world s line) (read ++ w) (text ++ front)
-unwritten {S} world s0 read text s n w line more front rest t e sound broken missing =
-    let is : played world 1 s0 t.done ≡ prefixed text (played world n s []) = ap (played world 1 s0) (sym (append-nil t.done)) ∙ t.plays [] in
-    let stood : (played world 1 s0 t.done).state ≡ s = ap (λ (p : Played S). p.state) is in
-    let others = played world (n + 1) (after world s line) more in
-    let all : playing world s0 (read ++ w) ≡ prefixed text (prefixed (text_of world s line) others) =
-    playing_is world s0 read text s n w t ∙ ap (λ (ls : List (List ℕ)). prefixed text (played world n s ls)) e ∙ ap (prefixed text) (played_sound world n s line more sound) in
-    let tail = cond (is_none others.fault) (last_text world others.state) [] in
-    record {
-      first = t.done;
-      others = line ∷ more;
-      front = front;
-      rest = rest;
-      cut = lines_are world s0 read text s n w t ∙ ap (λ (l : List (List ℕ)). t.done ++ l) e;
-      faultless = ap (λ (p : Played S). p.fault) is;
-      written = ap (λ (l : List ℕ). l ++ front) (sym (ap (λ (p : Played S). p.text) is ∙ append-nil text));
-      broken = ap (λ (z : S). text_of world z line) stood ∙ broken;
-      missing = missing;
-      stands = ap (λ (z : S). after world z line) (sym stood);
-      beginning = ((rest ++ others.text) ++ tail, ap (log_of world) all ∙ regroup text (text_of world s line) front rest others.text tail broken);
-    }
-  where
-    regroup : (a t x y b c : List ℕ) → t ≡ x ++ y → (a ++ (t ++ b)) ++ c ≡ (a ++ x) ++ ((y ++ b) ++ c)
-    regroup a t x y b c e = rw e (simp append_assoc)
+  -- the text of the window's first line broke off
+  pub unwritten : (w line : List ℕ) (more : List (List ℕ)) (front rest : List ℕ) → lines w ≡ line ∷ more
+      → fault_at world n s line ≡ None → text_of world s line ≡ front ++ rest → 0 < length rest
+      → IsUnwritten world s0 (after world s line) (read ++ w) (text ++ front)
+  unwritten w line more front rest e sound broken missing =
+      let is : played world 1 s0 t.done ≡ prefixed text (played world n s []) =
+      ap (played world 1 s0) (sym (append-nil t.done)) ∙ t.plays [] in
+      let stood : (played world 1 s0 t.done).state ≡ s = ap (λ (p : Played S). p.state) is in
+      let others = played world (n + 1) (after world s line) more in
+      let all : playing world s0 (read ++ w) ≡ prefixed text (prefixed (text_of world s line) others) =
+      playing_is t w ∙ rw (e, played_sound world n s line more sound) refl in
+      let tail = cond (is_none others.fault) (last_text world others.state) [] in
+      record {
+        first = t.done;
+        others = line ∷ more;
+        front = front;
+        rest = rest;
+        cut = lines_are t w ∙ ap (λ (l : List (List ℕ)). t.done ++ l) e;
+        faultless = ap (λ (p : Played S). p.fault) is;
+        written = ap (λ (l : List ℕ). l ++ front) (sym (ap (λ (p : Played S). p.text) is ∙ append-nil text));
+        broken = ap (λ (z : S). text_of world z line) stood ∙ broken;
+        missing = missing;
+        stands = ap (λ (z : S). after world z line) (sym stood);
+        beginning = (
+          (rest ++ others.text) ++ tail,
+          ap (log_of world) all
+              ∙ regroup text (text_of world s line) front rest others.text tail broken,
+        );
+      }
+    where
+      regroup : (a t x y b c : List ℕ) → t ≡ x ++ y → (a ++ (t ++ b)) ++ c ≡ (a ++ x) ++ ((y ++ b) ++ c)
+      regroup a t x y b c e = rw e (simp append_assoc)
 
-pub log_is : {S : Type 0} (world : World S) (q : Played S) (s : S) (text : List ℕ) → q.fault ≡ None → text ≡ q.text → s ≡ q.state → log_of world q ≡ text ++ last_text world s
+pub log_is : {S : Type 0} (world : World S) (q : Played S) (s : S) (text : List ℕ) → q.fault ≡ None → text ≡ q.text
+    → s ≡ q.state → log_of world q ≡ text ++ last_text world s
 log_is {S} world q s text faultless written stands =
     ap (λ (o : Option LogFault). q.text ++ cond (is_none o) (last_text world q.state) []) faultless
-    ∙ ap (λ (l : List ℕ). l ++ last_text world q.state) (sym written) ∙ ap (λ (z : S). text ++ last_text world z) (sym stands)
+    ∙ ap (λ (l : List ℕ). l ++ last_text world q.state) (sym written)
+    ∙ ap (λ (z : S). text ++ last_text world z) (sym stands)
 
 -- the log of what was played whole
-pub whole_log : {S : Type 0} (world : World S) (s0 s : S) (bytes text : List ℕ) → IsPlayed world s0 s bytes text → log world s0 bytes ≡ text ++ last_text world s
+pub whole_log : {S : Type 0} (world : World S) (s0 s : S) (bytes text : List ℕ) → IsPlayed world s0 s bytes text
+    → log world s0 bytes ≡ text ++ last_text world s
 whole_log world s0 s bytes text p = log_is world (playing world s0 bytes) s text p.faultless p.written p.stands
 
 -- all was played, and the meters line broke off
-pub unwritten_end : {S : Type 0} (world : World S) (s0 s : S) (bytes text front rest : List ℕ) → IsPlayed world s0 s bytes text → last_text world s ≡ front ++ rest → 0 < length rest → IsUnwritten world s0 s bytes (text ++ front)
+pub unwritten_end : {S : Type 0} (world : World S) (s0 s : S) (bytes text front rest : List ℕ)
+    → IsPlayed world s0 s bytes text → last_text world s ≡ front ++ rest → 0 < length rest
+    → IsUnwritten world s0 s bytes (text ++ front)
 unwritten_end {S} world s0 s bytes text front rest p broken missing =
     record {
       first = lines bytes;
@@ -149,45 +174,58 @@ unwritten_end {S} world s0 s bytes text front rest p broken missing =
       broken = ap (λ (z : S). last_text world z) (sym p.stands) ∙ broken;
       missing = missing;
       stands = p.stands;
-      beginning = (rest, whole_log world s0 s bytes text p ∙ ap (λ (l : List ℕ). text ++ l) broken ∙ sym (append_assoc text front rest));
+      beginning = (
+        rest,
+        whole_log world s0 s bytes text p ∙ ap (λ (l : List ℕ). text ++ l) broken
+            ∙ sym (append_assoc text front rest),
+      );
     }
 
--- the last line was played
-pub played_last : {S : Type 0} (world : World S) (s0 : S) (read text : List ℕ) (s : S) (n : ℕ) (w : List ℕ) → Through world s0 read text s n → lines w ≡ w ∷ [] → fault_at world n s w ≡ None → SendsPackets world s (said w) → IsPlayed world s0 (after world s w) (read ++ w) (text ++ text_of world s w)
-played_last {S} world s0 read text s n w t e sound packets =
-    let is : playing world s0 (read ++ w) ≡ prefixed text (prefixed (text_of world s w) (played world (n + 1) (after world s w) [])) =
-    playing_is world s0 read text s n w t ∙ ap (λ (ls : List (List ℕ)). prefixed text (played world n s ls)) e ∙ ap (prefixed text) (played_sound world n s w [] sound) in
-    record {
-      sends = subst (AllSend world s0) (sym (lines_are world s0 read text s n w t ∙ ap (λ (ls : List (List ℕ)). t.done ++ ls) e)) (t.sends (w ∷ []) (packets, tt));
-      faultless = ap (λ (p : Played S). p.fault) is;
-      written = sym (ap (λ (p : Played S). p.text) is ∙ ap (λ (l : List ℕ). text ++ l) (append-nil (text_of world s w)));
-      stands = sym (ap (λ (p : Played S). p.state) is);
-    }
+module _ {S : Type 0} {world : World S} {s0 : S} {read text : List ℕ} {s : S} {n : ℕ}
+    (t : Through world s0 read text s n) where
+  -- the last line was played
+  pub played_last : (w : List ℕ) → lines w ≡ w ∷ [] → fault_at world n s w ≡ None → SendsPackets world s (said w)
+      → IsPlayed world s0 (after world s w) (read ++ w) (text ++ text_of world s w)
+  played_last w e sound packets =
+      let is : playing world s0 (read ++ w)
+      ≡ prefixed text (prefixed (text_of world s w) (played world (n + 1) (after world s w) [])) =
+      playing_is t w ∙ rw (e, played_sound world n s w [] sound) refl in
+      record {
+        sends =
+            subst (AllSend world s0) (sym (lines_are t w ∙ ap (λ (ls : List (List ℕ)). t.done ++ ls) e))
+            (t.sends (w ∷ []) (packets, tt));
+        faultless = ap (λ (p : Played S). p.fault) is;
+        written =
+            sym (ap (λ (p : Played S). p.text) is ∙ ap (λ (l : List ℕ). text ++ l) (append-nil (text_of world s w)));
+        stands = sym (ap (λ (p : Played S). p.state) is);
+      }
 
--- nothing was left to play
-pub played_none : {S : Type 0} (world : World S) (s0 : S) (read text : List ℕ) (s : S) (n : ℕ) → Through world s0 read text s n → IsPlayed world s0 s (read ++ []) text
-played_none {S} world s0 read text s n t =
-    let is : playing world s0 (read ++ []) ≡ prefixed text (played world n s []) = playing_is world s0 read text s n [] t in
-    record {
-      sends = subst (AllSend world s0) (sym (lines_are world s0 read text s n [] t)) (t.sends [] tt);
-      faultless = ap (λ (p : Played S). p.fault) is;
-      written = sym (ap (λ (p : Played S). p.text) is ∙ append-nil text);
-      stands = sym (ap (λ (p : Played S). p.state) is);
-    }
+  -- nothing was left to play
+  pub played_none : IsPlayed world s0 s (read ++ []) text
+  played_none =
+      let is : playing world s0 (read ++ []) ≡ prefixed text (played world n s []) = playing_is t [] in
+      record {
+        sends = subst (AllSend world s0) (sym (lines_are t [])) (t.sends [] tt);
+        faultless = ap (λ (p : Played S). p.fault) is;
+        written = sym (ap (λ (p : Played S). p.text) is ∙ append-nil text);
+        stands = sym (ap (λ (p : Played S). p.state) is);
+      }
 
 -- which fault a line has
 abbrev chosen : ℕ → Bool → Bool → Option LogFault → Option LogFault
 chosen n many long other = cond many (Some TooManyLines) (cond long (Some (TooLong n)) other)
 
-tests : {S : Type 0} (world : World S) (n : ℕ) (s : S) (line : List ℕ) (many long : Bool) → nat_le (2 ^ 32) n ≡ many → nat_lt 255 (length line) ≡ long → fault_at world n s line ≡ chosen n many long (fault_by world n s (said line))
-tests world n s line many long p q = λ i. chosen n (p i) (q i) (fault_by world n s (said line))
+module _ {S : Type 0} (world : World S) (n : ℕ) (s : S) (line : List ℕ) where
+  tests : (many long : Bool) → nat_le (2 ^ 32) n ≡ many → nat_lt 255 (length line) ≡ long
+      → fault_at world n s line ≡ chosen n many long (fault_by world n s (said line))
+  tests many long p q = λ i. chosen n (p i) (q i) (fault_by world n s (said line))
 
--- a line that is in the count and short has the fault of what it says
-pub said_fault : {S : Type 0} (world : World S) (n : ℕ) (s : S) (line : List ℕ) → n < 2 ^ 32 → length line < 256 → fault_at world n s line ≡ fault_by world n s (said line)
-said_fault world n s line few short = tests world n s line false false (lt-leb (2 ^ 32) n few) (le-ltb 255 (length line) (omega arith))
+  -- a line that is in the count and short has the fault of what it says
+  pub said_fault : n < 2 ^ 32 → length line < 256 → fault_at world n s line ≡ fault_by world n s (said line)
+  said_fault few short = tests false false (lt-leb (2 ^ 32) n few) (le-ltb 255 (length line) (omega arith))
 
-pub too_long : {S : Type 0} (world : World S) (n : ℕ) (s : S) (line : List ℕ) → n < 2 ^ 32 → 256 ≤ length line → fault_at world n s line ≡ Some (TooLong n)
-too_long world n s line few long = tests world n s line false true (lt-leb (2 ^ 32) n few) (lt-ltb 255 (length line) (omega arith))
+  pub too_long : n < 2 ^ 32 → 256 ≤ length line → fault_at world n s line ≡ Some (TooLong n)
+  too_long few long = tests false true (lt-leb (2 ^ 32) n few) (lt-ltb 255 (length line) (omega arith))
 
-pub too_many : {S : Type 0} (world : World S) (n : ℕ) (s : S) (line : List ℕ) → 2 ^ 32 ≤ n → fault_at world n s line ≡ Some TooManyLines
-too_many world n s line many = tests world n s line true (nat_lt 255 (length line)) (le-leb (2 ^ 32) n many) refl
+  pub too_many : 2 ^ 32 ≤ n → fault_at world n s line ≡ Some TooManyLines
+  too_many many = tests true (nat_lt 255 (length line)) (le-leb (2 ^ 32) n many) refl

@@ -1,5 +1,5 @@
 -- Lines that were played, and then the end of their log. A source is i and then j, a target o and then p.
-use Rattle.std.proofs.Common.{◌≡◌, ◌∙◌, ℕ, ◌+◌, Bool, IfErr, List, Option, Result, Ok, Err, Some, inr, sym, ap, subst}
+use Rattle.std.proofs.Common.{◌≡◌, ◌∙◌, ℕ, ◌+◌, Bool, IfErr, List, Option, Result, Ok, Err, Some, inr, ap}
 use Rattle.std.proofs.KnownBytes.{Appends-kept}
 use Rattle.token_session.specs.declared.input.Meters.{Meters}
 use Rattle.session_log.specs.Command.{PlaysThrough}
@@ -10,7 +10,7 @@ use Rattle.session_log.specs.Sent.{AllSend}
 use Rattle.session_log.specs.Streams.{Counts, IsAllRead, Moves}
 use Rattle.session_log.specs.World.{World}
 use Rattle.session_log.specs.declared.fault.LogFault.{LogFault}
-use Rattle.session_log.specs.declared.fault.LogFault.TheVariants.{BadLine, TooLong, Differs, Read, Write, TooManyLines, Memory}
+use Rattle.session_log.specs.declared.fault.LogFault.TheVariants.{Differs, Write}
 use Rattle.session_log.proofs.Exits.{closes, closes_not, passed_on}
 use Rattle.session_log.proofs.Through.{first_is_last}
 use Rattle.session_log.proofs.Worlds.{Follows, reads_alike}
@@ -19,7 +19,9 @@ module _ {S I O : Type 0} (world : World S) (s t : S) (left : I → Option (List
     (taken : O → Option (List ℕ)) (unwritten : O → ℕ) (i j : I) (o p : O) where
   -- what is said of an ending, and this where it is none
   abbrev Ends : Ending → (List ℕ → List ℕ → Type 0) → Type 0 → Type 0
-  Ends ending Says All = Moves (left i) (left j) (taken o) (taken p) Says × ReadsTo world s (left i) (left j) (IsAllRead left ended j) ending
+  Ends ending Says All =
+      Moves (left i) (left j) (taken o) (taken p) Says × ReadsTo world s (left i) (left j) (IsAllRead left ended j)
+      ending
       × (Counts unread (i, j) (read_fails ending) × Counts unwritten (o, p) (write_fails ending) × All)
 
   -- a fault that was passed on
@@ -27,42 +29,49 @@ module _ {S I O : Type 0} (world : World S) (s t : S) (left : I → Option (List
       → Moves (left i) (left j) (taken o) (taken p) (λ bytes text. Plays world s t bytes text (ended_by e))
       → ReadsTo world s (left i) (left j) (IsAllRead left ended j) (ended_by e)
       → Counts unread (i, j) (read_fails (ended_by e)) → Counts unwritten (o, p) (write_fails (ended_by e))
-      → PlaysThrough world s (λ bytes text. Plays world s t bytes text (ending_of r)) left unread ended taken unwritten r (i, j) (o, p)
-  stops r e is moves reach reads writes =
-      subst (λ q. PlaysThrough world s (λ bytes text. Plays world s t bytes text (ending_of q)) left unread ended taken unwritten q (i, j) (o, p)) (sym is)
-      (moves, reach, (reads, writes, tt))
+      → PlaysThrough world s (λ bytes text. Plays world s t bytes text (ending_of r)) left unread ended taken unwritten
+      r (i, j) (o, p)
+  stops r e is moves reach reads writes = rw is (moves, reach, (reads, writes, tt))
 
   -- a fault ends a log as it ended its lines
-  pub fails_with : {A X : Type 0} (r : Result A LogFault) (e : LogFault) → r ≡ Err e → Ends (ended_by e) (λ bytes text. Plays world s t bytes text (ended_by e)) X
-      → PlaysThrough world s (λ bytes text. MakesSoundly world s t bytes text r) left unread ended taken unwritten r (i, j) (o, p)
+  pub fails_with : {A X : Type 0} (r : Result A LogFault) (e : LogFault) → r ≡ Err e
+      → Ends (ended_by e) (λ bytes text. Plays world s t bytes text (ended_by e)) X
+      → PlaysThrough world s (λ bytes text. MakesSoundly world s t bytes text r) left unread ended taken unwritten r
+      (i, j) (o, p)
   fails_with r e is h =
-      subst (λ q. PlaysThrough world s (λ bytes text. MakesSoundly world s t bytes text q) left unread ended taken unwritten q (i, j) (o, p)) (sym is)
-      ((h.0.0, h.0.1, h.0.2, h.0.3, (passed_on world s t h.0.0 h.0.1 _ _ e h.0.4, tt)), h.1, (h.2.0, h.2.1, tt))
+      rw is ((h.0.0, h.0.1, h.0.2, h.0.3, (passed_on world s t h.0.0 h.0.1 _ _ e h.0.4, tt)), h.1, (h.2.0, h.2.1, tt))
 
   -- What is said of a whole log, without what is known of the packets that were sent.
-  pub makes : {A : Type 0} (r : Result A LogFault) → PlaysThrough world s (λ bytes text. MakesSoundly world s t bytes text r) left unread ended taken unwritten r (i, j) (o, p)
-      → PlaysThrough world s (λ bytes text. Makes world s t bytes text (ending_of r)) left unread ended taken unwritten r (i, j) (o, p)
+  pub makes : {A : Type 0} (r : Result A LogFault)
+      → PlaysThrough world s (λ bytes text. MakesSoundly world s t bytes text r) left unread ended taken unwritten r
+      (i, j) (o, p) → PlaysThrough world s (λ bytes text. Makes world s t bytes text (ending_of r)) left unread ended
+      taken unwritten
+      r (i, j) (o, p)
   makes r h = ((h.0.0, h.0.1, h.0.2, h.0.3, h.0.4.0), h.1, h.2)
 
   -- the same, where what was counted is answered
-  pub logs_fault : {X Y : Type 0} (r : Result Meters LogFault) (e : LogFault) → r ≡ Err e → Ends (ended_by e) (λ bytes text. Makes world s t bytes text (ended_by e) × X) Y
-      → PlaysThrough world s (λ bytes text. Logs world s t bytes text r) left unread ended taken unwritten r (i, j) (o, p)
-  logs_fault r e is h =
-      subst (λ q. PlaysThrough world s (λ bytes text. Logs world s t bytes text q) left unread ended taken unwritten q (i, j) (o, p)) (sym is)
-      ((h.0.0, h.0.1, h.0.2, h.0.3, (h.0.4.0, tt)), h.1, (h.2.0, h.2.1, tt))
+  pub logs_fault : {X Y : Type 0} (r : Result Meters LogFault) (e : LogFault) → r ≡ Err e
+      → Ends (ended_by e) (λ bytes text. Makes world s t bytes text (ended_by e) × X) Y
+      → PlaysThrough world s (λ bytes text. Logs world s t bytes text r) left unread ended taken unwritten r (i, j)
+      (o, p)
+  logs_fault r e is h = rw is ((h.0.0, h.0.1, h.0.2, h.0.3, (h.0.4.0, tt)), h.1, (h.2.0, h.2.1, tt))
 
-  pub logs_whole : (m : Meters) → m ≡ world.counts t → Ends Done (λ bytes text. Makes world s t bytes text Done × AllSend world s (lines bytes)) (IsAllRead left ended j)
-      → PlaysThrough world s (λ bytes text. Logs world s t bytes text (Ok m)) left unread ended taken unwritten (Ok m) (i, j) (o, p)
+  pub logs_whole : (m : Meters) → m ≡ world.counts t
+      → Ends Done (λ bytes text. Makes world s t bytes text Done
+      × AllSend world s (lines bytes)) (IsAllRead left ended j)
+      → PlaysThrough world s (λ bytes text. Logs world s t bytes text (Ok m)) left unread ended taken unwritten (Ok m)
+      (i, j) (o, p)
   logs_whole m is h = ((h.0.0, h.0.1, h.0.2, h.0.3, (h.0.4.0, is)), h.1, h.2)
 
 -- what comes after the last line ends a log without a fault in its lines
-pub ends_with : {S A I O : Type 0} (world : World S) (s t : S) (left : I → Option (List ℕ)) (unread : I → ℕ) (ended : I → Bool)
-    (taken : O → Option (List ℕ)) (unwritten : O → ℕ) (i j : I) (o between p : O) (r : Result A LogFault)
+pub ends_with : {S A I O : Type 0} (world : World S) (s t : S) (left : I → Option (List ℕ)) (unread : I → ℕ) (ended : I
+    → Bool) (taken : O → Option (List ℕ)) (unwritten : O → ℕ) (i j : I) (o between p : O) (r : Result A LogFault)
     → IfErr r IsOfEnd → Closes world taken unwritten t (between, p) (ending_of r)
     → Ends world s t left unread ended taken unwritten i j o between Done (IsPlayed world s t) (IsAllRead left ended j)
-    → PlaysThrough world s (λ bytes text. MakesSoundly world s t bytes text r) left unread ended taken unwritten r (i, j) (o, p)
+    → PlaysThrough world s (λ bytes text. MakesSoundly world s t bytes text r) left unread ended taken unwritten r
+    (i, j) (o, p)
 ends_with world s t left unread ended taken unwritten i j o between p (Ok x) own close h =
-    let m = closes world taken unwritten (left i) (left j) (taken o) (between, p) s t h.0.0 h.0.1 h.0.2 h.0.3 h.0.4 close.0 close.1 in
+    let m = closes taken unwritten _ _ _ (between, p) h.0.2 h.0.3 h.0.4 close.0 close.1 in
     (m, tt, (h.2.0, close.1.1 ∙ h.2.1, h.2.2))
 ends_with world s t left unread ended taken unwritten i j o between p (Err (Differs line packet)) own close h =
     let faulty = first_is_last world s t h.0.0 h.0.1 (Some (Differs line packet)) h.0.4 close.0 in (
@@ -77,29 +86,25 @@ ends_with world s t left unread ended taken unwritten i j o between p (Err (Diff
       (h.2.0, close.2 ∙ h.2.1, tt),
     )
 ends_with world s t left unread ended taken unwritten i j o between p (Err Write) own close h =
-    let m = closes_not world taken unwritten (left i) (left j) (taken o) (between, p) s t h.0.0 h.0.1 h.0.2 h.0.3 h.0.4 close.0 close.1 in
+    let m = closes_not taken unwritten _ _ _ (between, p) h.0.2 h.0.3 h.0.4 close.0 close.1 in
     ((m.0, m.1, m.2, m.3, (m.4, tt)), tt, (h.2.0, close.1.1 ∙ ap (λ k. k + 1) h.2.1, tt))
-ends_with world s t left unread ended taken unwritten i j o between p (Err (BadLine n)) own close h = absurd own
-ends_with world s t left unread ended taken unwritten i j o between p (Err (TooLong n)) own close h = absurd own
-ends_with world s t left unread ended taken unwritten i j o between p (Err (Read n)) own close h = absurd own
-ends_with world s t left unread ended taken unwritten i j o between p (Err TooManyLines) own close h = absurd own
-ends_with world s t left unread ended taken unwritten i j o between p (Err (Memory n)) own close h = absurd own
+ends_with world s t left unread ended taken unwritten i j o between p (Err e) own close h = absurd own
 
 -- What a log means in one world, it means in the other.
-pub there : {A B Q I O : Type 0} (v : World A) (w : World B) (R : A → B → Type 0) → Follows v w R → (s : A) (b : B) → R s b
-    → (V : List ℕ → List ℕ → Type 0) (T : B → Type 0) (W : B → List ℕ → List ℕ → Type 0)
+pub there : {A B Q I O : Type 0} {v : World A} {w : World B} {R : A → B → Type 0} → (f : Follows v w R)
+    → (s : A) (b : B) → R s b → (V : List ℕ → List ℕ → Type 0) (T : B → Type 0) (W : B → List ℕ → List ℕ → Type 0)
     → ((bytes text : List ℕ) → V bytes text → (c : B) × T c × W c bytes text)
     → (left : I → Option (List ℕ)) (unread : I → ℕ) (ended : I → Bool) (taken : O → Option (List ℕ)) (unwritten : O → ℕ)
     → (r : Result Q LogFault) (input : I × I) (output : O × O)
     → PlaysThrough v s V left unread ended taken unwritten r input output
     → (c : B) × T c × PlaysThrough w b (W c) left unread ended taken unwritten r input output
-there v w R f s b k V T W alike left unread ended taken unwritten r input output h =
+there f s b k V T W alike left unread ended taken unwritten r input output h =
     let found = alike h.0.0 h.0.1 h.0.4 in (
       found.0,
       found.1,
       (
         (h.0.0, h.0.1, h.0.2, h.0.3, found.2),
-        reads_alike v w R f s b k (left input.0) (left input.1) (IsAllRead left ended input.1) (ending_of r) h.1,
+        reads_alike f s b k (left input.0) (left input.1) (IsAllRead left ended input.1) (ending_of r) h.1,
         h.2,
       ),
     )

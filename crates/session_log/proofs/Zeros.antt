@@ -1,12 +1,12 @@
 -- Digits of bytes that end in zeros.
-use Rattle.std.proofs.Common.{◌≡◌, ◌+◌, ◌*◌, ◌/◌, ◌%◌, ◌++◌, ◌∷◌, [], ℕ, zero, suc, List, length, take, drop, replicate, refl, sym, ap, ◌∙◌, arith, append-nil, ◌-◌, ◌≤◌, Some, None, Ok, Err, Result}
+use Rattle.std.proofs.Common.{◌≡◌, ◌+◌, ◌*◌, ◌/◌, ◌%◌, ◌++◌, ◌∷◌, [], ℕ, zero, suc, List, length, take, drop, replicate, refl, sym, ap, ◌∙◌, arith, append_assoc, ◌-◌, ◌≤◌, Some, None, Ok, Err, Result}
 use Rattle.std.specs.Prelude.{slice_index, slice_index_or}
 use Rattle.std.specs.Option.{option_map}
 use Rattle.std.specs.Result.{result_ok, IsOk, MatchResult, OnOk}
 use Rattle.hex.specs.Hex.{decode_pairs, decode_sized, encode_lower, encode_with, lower_digits, pair_value, ◌>>=◌, IsBytes}
 use Rattle.hex.specs.declared.error.FromHexError.{FromHexError}
 use Rattle.hex.proofs.HexLemmas.{decode_pairs-encode_with, IsDigits-lower_digits, decode_sized-twice, decode_of-even, length-encode_with}
-use Rattle.std.proofs.lemmas.List.{take-append-drop, drop_more, drop-replicate, length-replicate, length-append, length-take}
+use Rattle.std.proofs.lemmas.List.{replicate-append-replicate, take-append-drop, drop_more, drop-replicate, length-replicate, length-append, length-take}
 use Rattle.std.proofs.Math.ListN.{drop_of_length-le}
 
 encode-append : (xs ys : List ℕ) → encode_lower (xs ++ ys) ≡ encode_lower xs ++ encode_lower ys
@@ -15,7 +15,7 @@ encode-append [] ys = refl
 encode-append (b ∷ xs) ys =
     ap (λ (t : List ℕ). slice_index lower_digits (b / 16) ∷ slice_index lower_digits (b % 16) ∷ t) (encode-append xs ys)
 
-encode-zeros : (n : ℕ) → encode_lower (replicate n 0) ≡ replicate (2 * n) 48
+pub encode-zeros : (n : ℕ) → encode_lower (replicate n 0) ≡ replicate (2 * n) 48
 unfolding encode_with
 encode-zeros zero = refl
 encode-zeros (suc n) =
@@ -116,10 +116,6 @@ last_two_are xs x y some first second =
     let last : drop (i + 1) xs ≡ y ∷ [] = drop_more xs (i + 1) 0 (omega (arith, some)) ∙ (λ j. (ap (λ k. slice_index_or xs k 0) (sym next) ∙ second) j ∷ none j) in
     sym (take-append-drop i xs) ∙ ap (λ (t : List ℕ). take i xs ++ t) (drop_more xs i 0 (omega (arith, some)) ∙ (λ j. first j ∷ last j))
 
-pub no_zeros : (xs : List ℕ) → xs ≡ xs ++ encode_lower (replicate 0 0)
-unfolding encode_with
-no_zeros xs = sym (append-nil xs)
-
 pub zero_pair : (n : ℕ) → 48 ∷ 48 ∷ encode_lower (replicate n 0) ≡ encode_lower (replicate (suc n) 0)
 unfolding encode_with
 zero_pair n = refl
@@ -138,3 +134,16 @@ written bytes used digits out n r is zeros fits wrote_all =
     let space : length (take (2 * length used) digits) ≡ 2 * length used = omega (arith, length-take (2 * length used) digits, lens, all) in
     ap (λ (t : List ℕ). t ++ drop (2 * length used) digits) (of_ok r (out ≡ encode_lower used) (fits space) wrote_all)
     ∙ encode-without_zeros bytes used digits n is zeros
+
+-- eight bytes more at the end are all the same
+pub eight_more : (used front last : List ℕ) (k n byte : ℕ) → front ≡ take k used → last ≡ drop k used
+    → last ≡ replicate 8 byte → used ++ replicate (8 * n) byte ≡ front ++ replicate (8 * (n + 1)) byte
+eight_more used front last k n byte is_front is_last same =
+    let whole : used ≡ front ++ replicate 8 byte =
+    sym (take-append-drop k used) ∙ (λ i. sym is_front i ++ (sym is_last ∙ same) i) in
+    ap (λ (t : List ℕ). t ++ replicate (8 * n) byte) whole ∙ append_assoc front (replicate 8 byte) (replicate (8 * n) byte)
+    ∙ ap (λ (t : List ℕ). front ++ t) (replicate-append-replicate 8 (8 * n) byte ∙ ap (λ (m : ℕ). replicate m byte) (omega arith))
+
+-- zeros as digits, eight at a time
+pub digits_of_eights : (n : ℕ) → replicate (8 * n) 48 ≡ encode_lower (replicate (4 * n) 0)
+digits_of_eights n = ap (λ (m : ℕ). replicate m 48) (omega arith) ∙ sym (encode-zeros (4 * n))

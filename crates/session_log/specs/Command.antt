@@ -1,12 +1,12 @@
 -- What the commands of the program answer.
-use Rattle.std.specs.Prelude.{◌≡◌, ℕ, Bool, List, [], Option, OnOk, Result, Ok, Err, replicate}
+use Rattle.std.specs.Prelude.{ℕ, Bool, List, [], Option, OnOk, Result, Ok, Err, replicate}
 use Rattle.authn_core.specs.Turn.{Start}
 use Rattle.cred_table.specs.declared.row.Row.{Row}
 use Rattle.token_session.specs.declared.input.Meters.{Meters}
 use Rattle.token_session.specs.declared.input.Timed.{Timed}
 use Rattle.token_session.specs.Meters.{SessionState, StandsAfter}
-use Rattle.session_log.specs.declared.command.Command.{Command}
-use Rattle.session_log.specs.declared.command.Command.TheVariants.{Check, Live, Quiet, Replay}
+use Rattle.session_log.specs.declared.command.LogCommand.{LogCommand}
+use Rattle.session_log.specs.declared.command.LogCommand.TheVariants.{Check, Live, Quiet, Replay}
 use Rattle.session_log.specs.declared.fault.LogFault.{LogFault}
 use Rattle.session_log.specs.Check.{begun, check_history}
 use Rattle.session_log.specs.Ending.{ending_of, read_fails, write_fails}
@@ -18,7 +18,7 @@ use Rattle.session_log.specs.World.{World}
 -- the start of the program's session: an AAGUID of sixteen zero bytes, the moment 0, and space for 64 credentials, none
 -- of which is there
 abbrev pub program_start : Start
-program_start = record { aaguid = replicate 16 0; moment = 0; room = 64; rows = [] }
+program_start = record { aaguid = replicate 16 0; moment = 0; capacity = 64; rows = [] }
 
 -- the same, with these credentials
 abbrev pub start_with : List Row → Start
@@ -71,7 +71,7 @@ PlaysIn {S} world history_in x start left unread ended taken unwritten answer s 
 
 -- A command played a log on a session that was after this history of this start: it replayed the log, alone or with
 -- what is needed, compared it with what is sent, or made it quiet.
-abbrev pub PlaysLog : {A I O : Type 0} → Command → Start → List Timed
+abbrev pub PlaysLog : {A I O : Type 0} → LogCommand → Start → List Timed
     → (left : I → Option (List ℕ)) → (unread : I → ℕ) → (ended : I → Bool) → (taken : O → Option (List ℕ))
     → (unwritten : O → ℕ)
     → Result A LogFault → SessionState → (I × I) → (O × O) → Type 0
@@ -84,12 +84,3 @@ PlaysLog Check start h left unread ended taken unwritten answer s input output =
     input output
 PlaysLog Quiet start h left unread ended taken unwritten answer s input output =
     PlaysIn (quiet_history start) (λ later. later) h start left unread ended taken unwritten answer s input output
-
--- The same with the exit status.
-abbrev pub RunsLog : {I O : Type 0} → Command → Start → List Timed
-    → (left : I → Option (List ℕ)) → (unread : I → ℕ) → (ended : I → Bool) → (taken : O → Option (List ℕ))
-    → (unwritten : O → ℕ)
-    → Status → SessionState → (I × I) → (O × O) → Type 0
-RunsLog command start h left unread ended taken unwritten status s input output =
-    (answer : Result (Unit {0}) LogFault) × (status ≡ status_of answer)
-    × PlaysLog command start h left unread ended taken unwritten answer s input output

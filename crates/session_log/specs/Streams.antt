@@ -6,8 +6,8 @@ use Rattle.session_log.specs.declared.fault.LogFault.TheVariants.{Write}
 
 -- whether a read that had space returned nothing
 abbrev pub gave_nothing : {E : Type 0} → Result ℕ E → ℕ → Bool
-gave_nothing (Ok n) room = (n == 0) && nat_lt 0 room
-gave_nothing (Err e) room = false
+gave_nothing (Ok n) space = (n == 0) && nat_lt 0 space
+gave_nothing (Err e) space = false
 
 -- a source returned 0 into a buffer that had space, and holds nothing more
 abbrev pub IsAllRead : {I : Type 0} → (I → Option (List ℕ)) → (I → Bool) → I → Type 0

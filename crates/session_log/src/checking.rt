@@ -2,7 +2,7 @@
 ghost use Rattle.std.specs.Prelude.{◌≡◌, ◌<◌, ◌≤◌, ◌+◌, ◌-◌, ◌^◌, ℕ, List, [], ◌∷◌, ◌++◌, None, Some, OnOk};
 ghost use Rattle.session_log.specs.Check.{Compared, begun, check_machine, compared, due_packets};
 ghost use Rattle.session_log.specs.Command.{PlaysLog, PlaysThrough};
-ghost use Rattle.session_log.specs.declared.command.Command.TheVariants as commands;
+ghost use Rattle.session_log.specs.declared.command.LogCommand.TheVariants as commands;
 ghost use Rattle.session_log.specs.Ending.{ending_of};
 ghost use Rattle.session_log.specs.Replay.{Makes};
 ghost use Rattle.token_session.specs.declared.input.Timed.{Timed as OneInput};
@@ -57,7 +57,7 @@ impl Checking {
         }
     }
 
-    /// The packet that comes next differs, is missing or is one too many.
+    /// Returns the fault that the next packet differs, is missing or is one too many.
     fn difference(&self) -> LogFault
         requires { self.now.found < 2 ^ 64 - 1 }
         ensures { result ≡ LogFault.Differs self.now.input (self.now.found + 1) }
@@ -86,7 +86,7 @@ impl Checking {
         self.packets += 1;
     }
 
-    /// The packets in the outbox are those of the input in this line.
+    /// Begins to compare with the packets in the outbox, which are those of the input in this line.
     fn begin_input(&mut self, number: u64)
         requires { self.old.inputs < 2 ^ 64 - 1 }
         ensures lines { self.new.lines ≡ number }

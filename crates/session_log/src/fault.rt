@@ -41,7 +41,7 @@ pub enum LogFault {
 }
 
 impl LogFault {
-    /// The number of the fault.
+    /// Returns the number of the fault.
     pub fn number(&self) -> u8
         ensures { result ≡ fault_number self.now }
     {

@@ -17,15 +17,15 @@ ghost use Rattle.session_log.specs.Said.{said};
 ghost use Rattle.session_log.specs.Session.{histories, quiet_history};
 ghost use Rattle.session_log.specs.declared.fault.LogFault.TheVariants.{Differs};
 
-/// What a line says is what the grammar lets it spell: a line is read exactly where it spells something,
+/// States that what a line says is what the grammar lets it spell: a line is read exactly where it spells something,
 /// and spells nothing else.
 pub fn the_grammar_is_read()
     ensures read { (line : List ℕ) (l : AnyLine) → (said line ≡ Some l) ↔ Spells line l }
     ensures refused { (line : List ℕ) → (said line ≡ None) ↔ ((l : AnyLine) → ¬ Spells line l) }
 {}
 
-/// What is written as a log is made quiet says the inputs of that log, but ticks in place of noise: after histories
-/// of which the second has ticks in place of noise, so have the longer ones.
+/// States that what is written as a log is made quiet says the inputs of that log, but ticks in place of noise: after
+/// histories of which the second has ticks in place of noise, so have the longer ones.
 pub fn a_log_made_quiet_is_quiet()
     ensures { (start : Start) (h g : List OneInput) (bytes : List ℕ)
         → (playing (quiet_history start) h bytes).fault ≡ None → Quiet start h g
@@ -33,8 +33,8 @@ pub fn a_log_made_quiet_is_quiet()
         (onto (inputs (lines (playing (quiet_history start) h bytes).text)) g) }
 {}
 
-/// Made quiet again, after the same history, what was written is written again: no line of it is faulty, and the
-/// text is the same.
+/// States that made quiet again, after the same history, what was written is written again: no line of it is faulty,
+/// and the text is the same.
 pub fn a_quiet_log_stays_as_it_is()
     ensures faultless { (start : Start) (h : List OneInput) (bytes : List ℕ)
         → (playing (quiet_history start) h bytes).fault ≡ None
@@ -45,8 +45,9 @@ pub fn a_quiet_log_stays_as_it_is()
         ≡ (playing (quiet_history start) h bytes).text }
 {}
 
-/// Where nothing is wrong with a log that is compared, the packets that are in it before any input and after each
-/// input are just those that the history says are sent for it. As many inputs and packets were counted as there are.
+/// States that where nothing is wrong with a log that is compared, the packets that are in it before any input and
+/// after each input are just those that the history says are sent for it. As many inputs and packets were counted as
+/// there are.
 pub fn a_checked_log_has_what_is_sent()
     ensures same { (start : Start) (h : List OneInput) (bytes : List ℕ)
         → fault_of (check_history start) (playing (check_history start) (begun h) bytes) ≡ None
@@ -62,8 +63,8 @@ pub fn a_checked_log_has_what_is_sent()
         → (playing (check_history start) (begun h) bytes).text ≡ [] }
 {}
 
-/// A difference names the first place where the packets that are in a log aren't those that the history says are
-/// sent.
+/// States that a difference names the first place where the packets that are in a log aren't those that the history
+/// says are sent.
 pub fn a_difference_is_the_first()
     ensures { (start : Start) (h : List OneInput) (bytes : List ℕ) (line packet : ℕ)
         → fault_of (check_history start) (playing (check_history start) (begun h) bytes) ≡ Some (Differs line packet)
@@ -71,8 +72,8 @@ pub fn a_difference_is_the_first()
         ([] ∷ sent_groups (histories start) h (inputs (lines bytes))) (0 ∷ input_lines 1 (lines bytes)) line packet }
 {}
 
-/// Of the lines that say what is needed just the last begins with `# need `. The bytes to sign are cut into pieces of
-/// at most 96, which joined are those bytes.
+/// States that of the lines that say what is needed just the last begins with `# need `. The bytes to sign are cut into
+/// pieces of at most 96, which joined are those bytes.
 pub fn what_is_needed_is_said_once()
     ensures last { (n : Needed) → (before : List (List ℕ)) × (last : List ℕ) × (need_lines n ≡ before ++ last ∷ [])
         × (says_need last ≡ true) × All (λ line. says_need line ≡ false) before }

@@ -33,7 +33,7 @@ mod text;
 mod window;
 
 pub use checking::check;
-pub use command::{CAPACITY, Command, tell_fault};
+pub use command::{CAPACITY, LogCommand, tell_fault};
 pub use fault::{Failed, LogFault};
 pub use line::{Line, read_line};
 pub use lines::next_line;

@@ -36,7 +36,7 @@ enum LineKind<'a> {
     Count,
 }
 
-/// The number below 2^64 that decimal digits write, however many zeros are in front.
+/// Returns the number below 2^64 that decimal digits write, however many zeros are in front.
 fn read_digits(digits: &[u8]) -> Option<u64>
     ensures { SomeIff result (AllDigits 10 digits.now × (digits_value 10 digits.now ≤ 2 ^ 64 - 1))
         (digits_value 10 digits.now) }
@@ -49,14 +49,14 @@ fn read_digits(digits: &[u8]) -> Option<u64>
     Some(number)
 }
 
-/// Whether a zero is before other digits.
+/// Returns whether a zero is before other digits.
 fn is_padded(digits: &[u8]) -> bool
     ensures { IsTrue result ↔ ((2 ≤ length digits.now) × (slice_index digits.now 0 ≡ 48)) }
 {
     digits.len() > 1 && digits[0] == b'0'
 }
 
-/// The number whose decimal text this is. It has one text: no zero is in front of other digits.
+/// Returns the number whose decimal text this is. It has one text: no zero is in front of other digits.
 fn read_moment(digits: &[u8]) -> Option<u64>
     ensures { result ≡ moment digits.now }
 {
@@ -66,7 +66,7 @@ fn read_moment(digits: &[u8]) -> Option<u64>
     read_digits(digits)
 }
 
-/// Where the first space is.
+/// Returns where the first space is.
 fn first_space(fields: &[u8]) -> Option<usize>
     ensures value { result ≡ position (λ b. b == space) fields.now }
     ensures within { IfSome result (λ end. end < length fields.now) }
@@ -74,7 +74,7 @@ fn first_space(fields: &[u8]) -> Option<usize>
     memchr(b' ', fields)
 }
 
-/// The parts before and after the first space.
+/// Returns the parts before and after the first space.
 fn split_field(fields: &[u8]) -> Option<(&[u8], &[u8])>
     ensures { MatchOption result (first_field fields.now ≡ None) (λ parts.
         first_field fields.now ≡ Some record { 0 = parts.0.now; 1 = parts.1.now }) }
@@ -83,7 +83,7 @@ fn split_field(fields: &[u8]) -> Option<(&[u8], &[u8])>
     Some((fields.split_at(end).0, fields.split_at(end + 1).1))
 }
 
-/// The reply that a word says.
+/// Returns the reply that a word says.
 fn read_presence(word: &[u8]) -> Option<Input>
     ensures { result ≡ presence_said word.now }
 {
@@ -98,7 +98,7 @@ fn read_presence(word: &[u8]) -> Option<Input>
     }
 }
 
-/// The new key pair that the fields of its id and coordinates say.
+/// Returns the new key pair that the fields of its id and coordinates say.
 fn read_new_key(fields: &[u8]) -> Option<NewKey>
     ensures { result ≡ key_of fields.now }
 {
@@ -111,7 +111,7 @@ fn read_new_key(fields: &[u8]) -> Option<NewKey>
     })
 }
 
-/// The new key pair, or that there is none.
+/// Returns the new key pair, or that there is none.
 fn read_key(field: &[u8]) -> Option<Input>
     ensures { result ≡ key_said field.now }
 {
@@ -122,7 +122,7 @@ fn read_key(field: &[u8]) -> Option<Input>
     Some(Input::Key(Some(key)))
 }
 
-/// The signature of as many bytes as there is space for.
+/// Returns the signature of as many bytes as there is space for.
 fn read_into(digits: &[u8], out: &mut [u8]) -> Option<Signature>
     requires { length out.old ≡ length digits.now / 2 }
     ensures { result ≡ signature_of digits.now }
@@ -133,7 +133,7 @@ fn read_into(digits: &[u8], out: &mut [u8]) -> Option<Signature>
     }
 }
 
-/// The signature that the digits write.
+/// Returns the signature that the digits write.
 fn read_signature_bytes(digits: &[u8]) -> Option<Signature>
     ensures { result ≡ signature_of digits.now }
 {
@@ -145,7 +145,7 @@ fn read_signature_bytes(digits: &[u8]) -> Option<Signature>
     read_into(digits, &mut bytes[..len])
 }
 
-/// The signature, or that there is none.
+/// Returns the signature, or that there is none.
 fn read_signature(field: &[u8]) -> Option<Input>
     ensures { result ≡ signature_said field.now }
 {
@@ -156,7 +156,7 @@ fn read_signature(field: &[u8]) -> Option<Input>
     Some(Input::Signature(Some(signature)))
 }
 
-/// What the field after the moment says, by the letter at the line's front.
+/// Returns what the field after the moment says, by the letter at the line's front.
 fn read_input(letter: u8, field: &[u8]) -> Option<Input>
     ensures { result ≡ input_by letter field.now }
 {
@@ -169,14 +169,14 @@ fn read_input(letter: u8, field: &[u8]) -> Option<Input>
     }
 }
 
-/// The packet that the field of a `<` line says.
+/// Returns the packet that the field of a `<` line says.
 fn read_packet(field: &[u8]) -> Option<Packet>
     ensures { MatchOption result (sent_line field.now ≡ None) (λ packet. sent_line field.now ≡ Some (Line.Sent packet)) }
 {
     Some(Packet(read_bytes(field)?))
 }
 
-/// The moment that the field of a `t` line says.
+/// Returns the moment that the field of a `t` line says.
 fn read_tick(field: &[u8]) -> Option<Timed>
     ensures { MatchOption result (tick_line field.now ≡ None) (λ timed. tick_line field.now ≡ Some (Line.Input timed)) }
 {
@@ -187,7 +187,7 @@ fn read_tick(field: &[u8]) -> Option<Timed>
     })
 }
 
-/// The input and its moment that the fields of a line with another letter say.
+/// Returns the input and its moment that the fields of a line with another letter say.
 // It isn't inlined, so that a tick and a comment don't pay for the space of other lines.
 #[inline(never)]
 fn read_other(letter: u8, fields: &[u8]) -> Option<Timed>
@@ -200,7 +200,7 @@ fn read_other(letter: u8, fields: &[u8]) -> Option<Timed>
     Some(Timed { at, input })
 }
 
-/// The input and its moment that the fields of a line with this letter say.
+/// Returns the input and its moment that the fields of a line with this letter say.
 fn read_timed(letter: u8, fields: &[u8]) -> Option<Timed>
     ensures { MatchOption result (timed_line letter fields.now ≡ None)
         (λ timed. timed_line letter fields.now ≡ Some (Line.Input timed)) }
@@ -211,7 +211,7 @@ fn read_timed(letter: u8, fields: &[u8]) -> Option<Timed>
     }
 }
 
-/// What kind of line it is, if it begins as a log line does. The line comes without its line feed.
+/// Returns what kind of line it is, if it begins as a log line does. The line comes without its line feed.
 fn kind_of(line: &[u8]) -> Option<LineKind<'_>>
     ensures { MatchOption result (said line.now ≡ None) (λ kind. said line.now ≡ says kind) }
 {
@@ -224,7 +224,7 @@ fn kind_of(line: &[u8]) -> Option<LineKind<'_>>
     }
 }
 
-/// What the line says, if it is a log line. The line comes without its line feed.
+/// Returns what the line says, if it is a log line. The line comes without its line feed.
 pub fn read_line(line: &[u8]) -> Option<Line>
     ensures { result ≡ said line.now }
 {

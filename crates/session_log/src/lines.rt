@@ -12,7 +12,7 @@ use crate::window::Window;
 /// The most lines of a log.
 const MOST_LINES: u64 = 0xFFFF_FFFF;
 
-/// Whether something is in the window as a line too many.
+/// Returns whether something is in the window as a line too many.
 fn is_too_many(window: &Window, number: u64) -> bool
     ensures value { MatchBool result
         ((2 ^ 32 ≤ number) × (0 < length window.now))

@@ -38,7 +38,7 @@ impl Living {
     }
 }
 
-/// Whether a comment says what an earlier run needed.
+/// Returns whether a comment says what an earlier run needed.
 fn is_need_line(comment: &[u8]) -> bool
     ensures { result ≡ is_one comment.now }
 {

@@ -1,7 +1,7 @@
 //! A log made quiet.
 ghost use Rattle.std.specs.Prelude.{◌≡◌, ◌<◌, ◌-◌, ◌^◌, List, []};
 ghost use Rattle.session_log.specs.Command.{PlaysLog, PlaysThrough};
-ghost use Rattle.session_log.specs.declared.command.Command.TheVariants as commands;
+ghost use Rattle.session_log.specs.declared.command.LogCommand.TheVariants as commands;
 ghost use Rattle.session_log.specs.Ending.{ending_of};
 ghost use Rattle.session_log.specs.Replay.{Makes};
 ghost use Rattle.session_log.specs.Session.{quiet_history, quiet_machine};

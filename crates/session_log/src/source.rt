@@ -27,7 +27,7 @@ pub trait Source {
         ensures end { ended self.new ≡ (ended self.old || gave_nothing result (length out.new)) }
         ensures counted { failed self.new ≡ (if is_ok result then failed self.old else failed self.old + 1) };
 
-    /// How many calls failed so far.
+    /// Returns how many calls failed so far.
     fn failures(&self) -> u64
         ensures { result ≡ failed self.now };
 }
@@ -40,7 +40,7 @@ pub struct SliceIn<'a> {
 }
 
 impl<'a> SliceIn<'a> {
-    /// A source that yields these bytes.
+    /// Returns a source that yields these bytes.
     pub fn new(bytes: &'a [u8]) -> Self
         ensures left { ⟦<SliceIn<'a> as Source>⟧.left result ≡ Some bytes.now }
         ensures open { ⟦<SliceIn<'a> as Source>⟧.ended result ≡ false }
@@ -91,7 +91,7 @@ pub struct FromRead<R> {
 }
 
 impl<R: Read> FromRead<R> {
-    /// A source that yields what the reader yields.
+    /// Returns a source that yields what the reader yields.
     pub fn new(inner: R) -> Self
         ensures left { ⟦<FromRead<R> as Source>⟧.left result ≡ R.remaining inner }
         ensures open { ⟦<FromRead<R> as Source>⟧.ended result ≡ false }

@@ -24,7 +24,7 @@ pub trait Target {
         ensures bytes { WriteAppends (taken self.old) (taken self.new) result piece.now }
         ensures counted { failed self.new ≡ (if is_ok result then failed self.old else failed self.old + 1) };
 
-    /// How many calls failed so far.
+    /// Returns how many calls failed so far.
     fn failures(&self) -> u64
         ensures { result ≡ failed self.now };
 }
@@ -56,7 +56,7 @@ pub struct SliceOut<'a> {
 }
 
 impl<'a> SliceOut<'a> {
-    /// A target that fills this buffer from its front.
+    /// Returns a target that fills this buffer from its front.
     pub fn new(buffer: &'a mut [u8]) -> Self
         ensures none { take result.len result.buffer.now ≡ [] }
         ensures same { drop result.len result.buffer.now ≡ buffer.entry.now }
@@ -70,7 +70,7 @@ impl<'a> SliceOut<'a> {
         }
     }
 
-    /// What it took.
+    /// Returns what it took.
     pub fn written(&self) -> &[u8]
         ensures { result.now ≡ take self.now.len self.now.buffer.now }
     {
@@ -124,7 +124,7 @@ pub struct ToWrite<W> {
 }
 
 impl<W: Write> ToWrite<W> {
-    /// A target that hands on to the writer.
+    /// Returns a target that hands on to the writer.
     pub fn new(inner: W) -> Self
         ensures taken { ⟦<ToWrite<W> as Target>⟧.taken result ≡ W.contents inner }
         ensures none { ⟦<ToWrite<W> as Target>⟧.failed result ≡ 0 }

@@ -71,7 +71,7 @@ fn push_packets(text: &mut Text, outbox: &mut Outbox)
 /// Appends the digits of some bytes.
 fn push_digits(text: &mut Text, bytes: &[u8])
     requires few { length bytes.now ≤ PIECE }
-    requires room { length text.old.items + 2 * length bytes.now ≤ LONGEST }
+    requires space { length text.old.items + 2 * length bytes.now ≤ LONGEST }
     ensures text { text.new.items ≡ text.old.items ++ encode_lower bytes.now }
     ensures short { length text.new.items ≤ length text.old.items + 2 * length bytes.now }
 {
@@ -84,7 +84,7 @@ fn push_digits(text: &mut Text, bytes: &[u8])
 /// Appends the line of a piece of what is to sign.
 fn push_piece(text: &mut Text, piece: &[u8])
     requires few { length piece.now ≤ PIECE }
-    requires room { length text.old.items + 10 + 2 * length piece.now ≤ LONGEST }
+    requires space { length text.old.items + 10 + 2 * length piece.now ≤ LONGEST }
     ensures text { text.new.items ≡ text.old.items ++ ended (signed_line piece.now) }
     ensures short { length text.new.items ≤ length text.old.items + 10 + 2 * length piece.now }
 {
@@ -96,7 +96,7 @@ fn push_piece(text: &mut Text, piece: &[u8])
 /// Appends the lines of what is to sign.
 fn push_signed(text: &mut Text, signed: &[u8])
     requires few { length signed.now ≤ 196 }
-    requires room { length text.old.items + 422 ≤ LONGEST }
+    requires space { length text.old.items + 422 ≤ LONGEST }
     ensures text { text.new.items ≡ text.old.items ++ flat_map ended (map signed_line (pieces_of signed.now)) }
     ensures short { length text.new.items ≤ length text.old.items + 422 }
 {
@@ -121,7 +121,7 @@ fn push_signature(text: &mut Text, id: &[u8; 32])
 /// Appends the lines of what is needed.
 fn push_need(text: &mut Text, need: Need<'_>)
     requires sized { IsNeed (needed need) }
-    requires room { length text.old.items + 504 ≤ LONGEST }
+    requires space { length text.old.items + 504 ≤ LONGEST }
     ensures { text.new.items ≡ text.old.items ++ flat_map ended (need_lines (needed need.entry)) }
 {
     match need {

@@ -64,7 +64,7 @@ AreTold shows n [] = Unit {0}
 AreTold shows n (t ∷ more) = shows n t.line t.text × AreTold shows (n + 1) more
 
 -- these lines, each with its line feed, were shown from the first on, by this text
-pub record IsTextOf (shows : ℕ → List ℕ → List ℕ → Type 0) (lines text : List ℕ) : Type 0 where
+pub record IsShownText (shows : ℕ → List ℕ → List ℕ → Type 0) (lines text : List ℕ) : Type 0 where
   pub told : List Told
   pub lines_are : lines ≡ flat_map (λ t. ended t.line) told
   pub text_is : text ≡ flat_map (λ t. t.text) told
@@ -73,7 +73,7 @@ pub record IsTextOf (shows : ℕ → List ℕ → List ℕ → Type 0) (lines te
 -- the same, unless the text of a line broke off
 abbrev pub IsTextTo : (ℕ → List ℕ → List ℕ → Type 0) → (lines text : List ℕ) → Ending → Type 0
 IsTextTo shows lines text Unwritten = Unit {0}
-IsTextTo shows lines text _ = IsTextOf shows lines text
+IsTextTo shows lines text _ = IsShownText shows lines text
 
 -- Bytes were read, and of them these lines were shown by the text that was written. Of a source and a target a pair is
 -- what they had before and after.

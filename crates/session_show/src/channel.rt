@@ -2,7 +2,7 @@
 //! is known of the device but its packets.
 
 use crate::credentials::Excluded;
-use crate::exchange::{End, Ends, Exchange, Extent, Transaction};
+use crate::exchange::{End, EndedTransactions, Extent, Followed, Transaction};
 use crate::rp_id::RpId;
 use arrayvec::ArrayVec;
 use hid_packet::LONGEST_MESSAGE;
@@ -46,12 +46,12 @@ pub struct Told {
     /// The status of a CBOR answer.
     pub status: Option<u8>,
     /// What it answers, where that is known.
-    pub exchange: Option<Exchange>,
+    pub exchange: Option<Followed>,
 }
 
 /// A continuation packet of a host beside a message that isn't whole.
 #[derive(Clone, Copy)]
-pub struct Continuation {
+pub struct Continued {
     pub of: Transaction,
     /// How many milliseconds after the packet before it came.
     pub gap: u64,
@@ -68,9 +68,9 @@ pub struct Channel {
     /// The line at which it was used last, 0 where it isn't in use.
     pub used: u64,
     /// The message that is collected or served.
-    pub held: Option<Exchange>,
+    pub held: Option<Followed>,
     /// A message that began after that one, until it is seen whether it is refused or took the channel.
-    pub asked: Option<Exchange>,
+    pub asked: Option<Followed>,
     pub greetings: ArrayVec<Greeting, GREETINGS>,
     /// Whether the last message that began is the last greeting.
     pub is_greeted: bool,
@@ -103,8 +103,8 @@ impl Channel {
     }
 
     /// Returns the transaction of a greeting.
-    fn greeting(&self, greeting: &Greeting) -> Exchange {
-        Exchange {
+    fn greeting(&self, greeting: &Greeting) -> Followed {
+        Followed {
             transaction: Transaction {
                 channel: self.number,
                 line: greeting.line,
@@ -113,13 +113,13 @@ impl Channel {
             },
             extent: Extent::begun(greeting.length),
             at: greeting.at,
-            ..Exchange::default()
+            ..Followed::default()
         }
     }
 
     /// Returns what is open, each as it ends where nothing more comes.
-    pub fn open(&self) -> Ends {
-        let mut open = Ends::default();
+    pub fn open(&self) -> EndedTransactions {
+        let mut open = EndedTransactions::default();
         if let Some(told) = &self.told
             && !told.extent.is_whole()
             && let Some(exchange) = told.exchange
@@ -139,7 +139,7 @@ impl Channel {
     }
 
     /// Ends all that is open, since the channel isn't followed any longer.
-    pub fn forget(&self, ends: &mut Ends) {
+    pub fn forget(&self, ends: &mut EndedTransactions) {
         for open in self.open().0.as_slice() {
             let end = match open.end {
                 End::Open => End::Forgotten,
@@ -152,7 +152,7 @@ impl Channel {
     // ---- packets of hosts
 
     /// Takes an INIT. It changes nothing else before it is answered (section 11.2.9.1.3).
-    pub fn greet(&mut self, greeting: Greeting, ends: &mut Ends) -> Transaction {
+    pub fn greet(&mut self, greeting: Greeting, ends: &mut EndedTransactions) -> Transaction {
         self.is_stray = false;
         self.settle(ends);
         if self.greetings.is_full() {
@@ -166,7 +166,7 @@ impl Channel {
 
     /// Takes the initialization packet of a message that is neither INIT nor CANCEL. Where another one holds the channel,
     /// it isn't known yet which of them goes on.
-    pub fn begin(&mut self, begun: Exchange, ends: &mut Ends) {
+    pub fn begin(&mut self, begun: Followed, ends: &mut EndedTransactions) {
         self.is_stray = false;
         self.is_greeted = false;
         self.settle(ends);
@@ -174,7 +174,7 @@ impl Channel {
             None => self.held = Some(begun),
             Some(held) => {
                 let after = begun.at.saturating_sub(held.at);
-                self.asked = Some(Exchange { after, ..begun });
+                self.asked = Some(Followed { after, ..begun });
                 self.since = 0;
             }
         }
@@ -199,7 +199,7 @@ impl Channel {
     }
 
     /// Takes a continuation packet. None where it is of no message that is open.
-    pub fn go_on(&mut self, number: u8, now: u64) -> Option<Continuation> {
+    pub fn go_on(&mut self, number: u8, now: u64) -> Option<Continued> {
         let is_of_asked = matches!(&self.asked, Some(asked)
             if asked.extent.continuations == number && !asked.extent.is_whole());
         let place = if is_of_asked {
@@ -217,7 +217,7 @@ impl Channel {
     }
 
     /// Returns the message that began at a line, where it is open.
-    fn message_from(&mut self, line: u64) -> Option<&mut Exchange> {
+    fn message_from(&mut self, line: u64) -> Option<&mut Followed> {
         match (&mut self.held, &mut self.asked) {
             (Some(held), _) if held.transaction.line == line => Some(held),
             (_, Some(asked)) if asked.transaction.line == line => Some(asked),
@@ -247,7 +247,7 @@ impl Channel {
     // ---- which message goes on
 
     /// Lets what was asked have the channel: it wasn't refused before the next message began, or it was answered.
-    pub fn settle(&mut self, ends: &mut Ends) {
+    pub fn settle(&mut self, ends: &mut EndedTransactions) {
         let Some(mut asked) = self.asked.take() else {
             return;
         };
@@ -266,14 +266,14 @@ impl Channel {
     }
 
     /// Takes what held the channel, of which the end is known.
-    pub fn free(&mut self, ends: &mut Ends) -> Option<Exchange> {
+    pub fn free(&mut self, ends: &mut EndedTransactions) -> Option<Followed> {
         let held = self.held.take();
         self.settle(ends);
         held
     }
 
     /// Takes the greeting at a place.
-    pub fn take_greeting(&mut self, place: usize) -> Option<Exchange> {
+    pub fn take_greeting(&mut self, place: usize) -> Option<Followed> {
         if place >= self.greetings.len() {
             return None;
         }
@@ -286,7 +286,7 @@ impl Channel {
 
     /// Ends the transaction of the device's last message, if packets of that are missing. Returns the line that the
     /// message began at.
-    pub fn cut(&mut self, ends: &mut Ends) -> Option<u64> {
+    pub fn cut(&mut self, ends: &mut EndedTransactions) -> Option<u64> {
         let told = self.told.take()?;
         if !told.extent.is_whole()
             && let Some(exchange) = told.exchange
@@ -297,7 +297,7 @@ impl Channel {
     }
 }
 
-impl Exchange {
+impl Followed {
     /// Notes a CANCEL on this line, if it is served.
     fn cancel(&mut self, line: u64) -> Option<Transaction> {
         if !self.is_served() {
@@ -308,7 +308,7 @@ impl Exchange {
     }
 
     /// Goes on with its message by the packet with this number, unless it is whole.
-    fn go_on(&mut self, number: u8, now: u64) -> Option<Continuation> {
+    fn go_on(&mut self, number: u8, now: u64) -> Option<Continued> {
         if self.extent.is_whole() {
             return None;
         }
@@ -318,7 +318,7 @@ impl Exchange {
             self.extent.continuations = number.saturating_add(1);
             self.at = now;
         }
-        Some(Continuation {
+        Some(Continued {
             of: self.transaction,
             gap,
             is_next,

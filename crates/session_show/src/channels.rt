@@ -2,7 +2,7 @@
 ghost use Rattle.std.specs.Prelude.{◌<◌, IfSome};
 
 use crate::channel::Channel;
-use crate::exchange::{Ended, Ends, Exchange};
+use crate::exchange::{Ended, EndedTransactions, Followed};
 
 /// How many channels are followed at once.
 pub const CHANNELS: usize = 6;
@@ -33,7 +33,7 @@ impl Channels {
 
     /// Returns where a channel is, which is used on this line. Where there are too many, the one that was used least
     /// lately makes way, one on which nothing is open first.
-    pub fn place(&mut self, number: u32, line: u64, ends: &mut Ends) -> usize
+    pub fn place(&mut self, number: u32, line: u64, ends: &mut EndedTransactions) -> usize
         ensures { result < 6 }
     {
         if let Some(place) = self.find(number) {
@@ -114,7 +114,7 @@ impl Channels {
     }
 
     /// Returns a message that holds another channel than this one, or else the one that holds it.
-    pub fn held_beside(&self, number: u32) -> Option<&Exchange> {
+    pub fn held_beside(&self, number: u32) -> Option<&Followed> {
         for channel in self.list.as_slice() {
             if channel.number != number && channel.held.is_some() {
                 return channel.held.as_ref();

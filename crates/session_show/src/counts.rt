@@ -2,15 +2,15 @@
 
 use crate::entry::{EXCLUDED, Entry};
 use crate::exchange::{End, Ended};
-use crate::json::{Value, write_members};
+use crate::json::{JsonValue, write_members};
 use crate::json_line::write_code;
 use crate::pen::Pen;
-use crate::walk::Part;
+use crate::walk::Role;
 use crate::words::{ERRORS, Names, STATUSES, name_in};
 
 /// What is counted by its number.
 #[derive(Clone, Copy)]
-struct Kind {
+struct TallyKind {
     title: &'static str,
     /// The name of a number without one.
     unnamed: &'static str,
@@ -20,7 +20,7 @@ struct Kind {
     number: (&'static str, &'static str),
 }
 
-const REQUESTS: &Kind = &Kind {
+const REQUESTS: &TallyKind = &TallyKind {
     title: "requests refused:",
     unnamed: "status",
     names: STATUSES,
@@ -28,7 +28,7 @@ const REQUESTS: &Kind = &Kind {
     number: ("status", "statusName"),
 };
 
-const MESSAGES: &Kind = &Kind {
+const MESSAGES: &TallyKind = &TallyKind {
     title: "messages refused by ERROR:",
     unnamed: "ERROR",
     names: ERRORS,
@@ -59,7 +59,7 @@ impl Tally {
     }
 
     /// Writes how many came, and a line for each number that did.
-    fn write(&self, pen: &mut Pen, kind: &Kind) {
+    fn write(&self, pen: &mut Pen, kind: &TallyKind) {
         write_count(pen, kind.title, self.sum);
         for number in 0..=255_u8 {
             let times = self.times[usize::from(number)];
@@ -74,8 +74,8 @@ impl Tally {
     }
 
     /// Writes a member with how many came, and an array with an object for each number that did.
-    fn write_json(&self, pen: &mut Pen, kind: &Kind) {
-        write_members(pen, &[(kind.members.0, Value::Number(Some(self.sum)))]);
+    fn write_json(&self, pen: &mut Pen, kind: &TallyKind) {
+        write_members(pen, &[(kind.members.0, JsonValue::Number(Some(self.sum)))]);
         pen.text(kind.members.1);
         let mut front = "[{\"times\":";
         for number in 0..=255_u8 {
@@ -140,11 +140,11 @@ impl Counts {
             self.continuations = self.continuations.saturating_add(1);
         }
         match entry.part {
-            Part::Own => {}
-            Part::Stray => self.continuations = self.continuations.saturating_add(1),
-            Part::Cancel => self.cancels = self.cancels.saturating_add(1),
-            Part::Error(code) => self.errors.add(code),
-            Part::Reply => self.replies = self.replies.saturating_add(1),
+            Role::Own => {}
+            Role::Stray => self.continuations = self.continuations.saturating_add(1),
+            Role::Cancel => self.cancels = self.cancels.saturating_add(1),
+            Role::Error(code) => self.errors.add(code),
+            Role::Reply => self.replies = self.replies.saturating_add(1),
         }
         for ended in entry.ended {
             self.add(ended);
@@ -198,9 +198,12 @@ impl Counts {
         write_members(
             pen,
             &[
-                ("credentialsMade", Value::Number(Some(self.made))),
-                ("credentialsUsed", Value::Number(Some(self.used))),
-                ("credentialsExcluded", Value::Number(Some(self.excluded))),
+                ("credentialsMade", JsonValue::Number(Some(self.made))),
+                ("credentialsUsed", JsonValue::Number(Some(self.used))),
+                (
+                    "credentialsExcluded",
+                    JsonValue::Number(Some(self.excluded)),
+                ),
             ],
         );
         self.refused.write_json(pen, REQUESTS);
@@ -210,10 +213,10 @@ impl Counts {
             &[
                 (
                     "strayContinuations",
-                    Value::Number(Some(self.continuations)),
+                    JsonValue::Number(Some(self.continuations)),
                 ),
-                ("strayCancels", Value::Number(Some(self.cancels))),
-                ("strayReplies", Value::Number(Some(self.replies))),
+                ("strayCancels", JsonValue::Number(Some(self.cancels))),
+                ("strayReplies", JsonValue::Number(Some(self.replies))),
             ],
         );
         pen.text("}\n");

@@ -1,7 +1,7 @@
 //! What a device sends on a channel: which transaction it is for, and what it ends.
 
 use crate::channel::{Channel, Told};
-use crate::exchange::{End, Ends, Exchange, Extent, Transaction};
+use crate::exchange::{End, EndedTransactions, Extent, Followed, Transaction};
 use crate::walk::Doubtful;
 use hid_packet::BROADCAST;
 use hid_packet::command::{CBOR, INIT};
@@ -30,7 +30,7 @@ pub const NO_TIME_OUT: u64 = 100;
 
 /// A packet of a device that begins an answer.
 #[derive(Clone, Copy)]
-pub struct Answer<'a> {
+pub struct AnswerStart<'a> {
     pub line: u64,
     pub command: u8,
     /// How much of it came with this packet.
@@ -50,7 +50,7 @@ pub struct Answered {
 
 impl Channel {
     /// Takes a KEEPALIVE, and returns the transaction that is worked on.
-    pub fn keep_alive(&mut self, ends: &mut Ends) -> Option<Transaction> {
+    pub fn keep_alive(&mut self, ends: &mut EndedTransactions) -> Option<Transaction> {
         let is_held = matches!(&self.held, Some(held) if held.is_served());
         let is_asked = matches!(&self.asked, Some(asked) if asked.is_served());
         if is_asked && !is_held {
@@ -71,7 +71,7 @@ impl Channel {
         &mut self,
         code: u8,
         doubtful: Option<&Doubtful>,
-        ends: &mut Ends,
+        ends: &mut EndedTransactions,
     ) -> (Option<Transaction>, bool) {
         if code != TIMED_OUT {
             return (self.refuse_one(code, ends), false);
@@ -113,7 +113,7 @@ impl Channel {
     }
 
     /// Ends the unfinished message that began before one that is refused with this code, where that ends it too.
-    fn end_before(&mut self, refused: &Transaction, code: u8, ends: &mut Ends) {
+    fn end_before(&mut self, refused: &Transaction, code: u8, ends: &mut EndedTransactions) {
         let (cause, by) = if refused.message == INIT {
             (INVALID_LENGTH, End::Dropped(refused.line))
         } else {
@@ -130,7 +130,7 @@ impl Channel {
     }
 
     /// Takes an ERROR that is no time-out of an open message.
-    fn refuse_one(&mut self, code: u8, ends: &mut Ends) -> Option<Transaction> {
+    fn refuse_one(&mut self, code: u8, ends: &mut EndedTransactions) -> Option<Transaction> {
         if let Some(refused) = self.refused_start(code) {
             ends.add(refused, End::Refused(code));
             self.end_before(&refused.transaction, code, ends);
@@ -162,7 +162,7 @@ impl Channel {
 
     /// Takes the message that began last and isn't known to have the channel, if an ERROR can be for it: an INIT of a
     /// wrong length first.
-    fn refused_start(&mut self, code: u8) -> Option<Exchange> {
+    fn refused_start(&mut self, code: u8) -> Option<Followed> {
         if code == INVALID_LENGTH {
             for place in 0..self.greetings.len() {
                 if matches!(self.greetings.get(place), Some(greeting) if greeting.length != 8) {
@@ -183,7 +183,11 @@ impl Channel {
     }
 
     /// Takes the first packet of an answer, and returns the transaction that it is for.
-    pub fn answer(&mut self, answer: &Answer<'_>, ends: &mut Ends) -> Option<Transaction> {
+    pub fn answer(
+        &mut self,
+        answer: &AnswerStart<'_>,
+        ends: &mut EndedTransactions,
+    ) -> Option<Transaction> {
         let exchange = if answer.command == INIT {
             self.answer_greeting(answer, ends)
         } else {
@@ -206,7 +210,11 @@ impl Channel {
 
     /// Takes the INIT with the nonce of an answer. On a channel of its own it drops what began before it (section
     /// 11.2.5.3).
-    fn answer_greeting(&mut self, answer: &Answer<'_>, ends: &mut Ends) -> Option<Exchange> {
+    fn answer_greeting(
+        &mut self,
+        answer: &AnswerStart<'_>,
+        ends: &mut EndedTransactions,
+    ) -> Option<Followed> {
         let nonce = answer.part.get(..8)?;
         let mut found = self.greetings.len();
         for place in 0..self.greetings.len() {
@@ -231,7 +239,11 @@ impl Channel {
     }
 
     /// Takes the message that an answer is for: the newest whole one of its command.
-    fn answer_message(&mut self, answer: &Answer<'_>, ends: &mut Ends) -> Option<Exchange> {
+    fn answer_message(
+        &mut self,
+        answer: &AnswerStart<'_>,
+        ends: &mut EndedTransactions,
+    ) -> Option<Followed> {
         let is_of_asked = is_answered(&self.asked, answer);
         let is_of_cancelled = status_in(answer) == Some(CANCELLED)
             && matches!(&self.held, Some(held) if held.waits() && held.cancelled.is_some());
@@ -246,7 +258,7 @@ impl Channel {
     }
 
     /// Takes a continuation packet of the device's last message, if it is the next one.
-    pub fn answer_on(&mut self, number: u8, ends: &mut Ends) -> Option<Answered> {
+    pub fn answer_on(&mut self, number: u8, ends: &mut EndedTransactions) -> Option<Answered> {
         let told = self.told.as_mut()?;
         if told.extent.is_whole() || told.extent.continuations != number {
             return None;
@@ -266,7 +278,7 @@ impl Channel {
     }
 
     /// Ends the transaction of the device's last message, if that is whole now.
-    fn end_told(&mut self, ends: &mut Ends) {
+    fn end_told(&mut self, ends: &mut EndedTransactions) {
         if let Some(told) = &self.told
             && told.extent.is_whole()
             && let Some(exchange) = told.exchange
@@ -281,13 +293,13 @@ impl Channel {
 }
 
 /// Returns whether an answer can be that of a message: of a whole one with its command.
-fn is_answered(place: &Option<Exchange>, answer: &Answer<'_>) -> bool {
+fn is_answered(place: &Option<Followed>, answer: &AnswerStart<'_>) -> bool {
     matches!(place, Some(exchange)
         if exchange.extent.is_whole() && exchange.transaction.message == answer.command)
 }
 
 /// Returns the status of a CBOR answer.
-fn status_in(answer: &Answer<'_>) -> Option<u8> {
+fn status_in(answer: &AnswerStart<'_>) -> Option<u8> {
     match answer.part {
         [status, ..] if answer.command == CBOR && answer.extent.length > 0 => Some(*status),
         _ => None,

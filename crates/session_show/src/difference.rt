@@ -8,7 +8,7 @@ use crate::pen::Pen;
 use crate::putting::put_written;
 use crate::reason::{Awaited, Reason};
 use crate::signed::{Signed, SignedOtherwise};
-use crate::walk::Walk;
+use crate::walk::LogWalk;
 use crate::wording::Wording;
 use hid_packet::{Outbox, Packet};
 use session_log::{Failed, Line, LogFault, Source, Target, Window, next_line, read_line};
@@ -72,8 +72,8 @@ enum Stop {
 
 /// What the lines so far led to.
 #[derive(Drop)]
-struct Played {
-    walk: Walk,
+struct PlayedLog {
+    walk: LogWalk,
     /// The packets that the session sent and the log has yet to have.
     outbox: Outbox,
     /// The line of the last input, 0 before any.
@@ -93,11 +93,11 @@ struct Played {
     signed: Signed,
 }
 
-impl Played {
+impl PlayedLog {
     /// Returns that of no lines.
     fn new() -> Self {
-        Played {
-            walk: Walk::new(),
+        PlayedLog {
+            walk: LogWalk::new(),
             outbox: Outbox::new(),
             input: 0,
             compared: 0,
@@ -200,9 +200,9 @@ fn front(bytes: &[u8], len: usize) -> &[u8] {
 /// A log beside a session that plays its inputs.
 #[derive(Drop)]
 pub struct Comparison {
-    played: Played,
+    played: PlayedLog,
     /// A walk that goes on from the played one with packets that the log lacks.
-    aside: Walk,
+    aside: LogWalk,
     window: Window,
     /// How many lines were taken.
     lines: u64,
@@ -213,8 +213,8 @@ impl Comparison {
     /// Returns that of no lines.
     pub fn new() -> Self {
         Comparison {
-            played: Played::new(),
-            aside: Walk::new(),
+            played: PlayedLog::new(),
+            aside: LogWalk::new(),
             window: Window::new(),
             lines: 0,
             pen: Pen::new(Wording::Explained),
@@ -416,7 +416,7 @@ fn put_packet<T: Target>(pen: &mut Pen, packet: &Packet, writer: &mut T) -> Resu
 
 /// Takes a packet of the key, and writes the message that it completes. Returns whether the message has further packets.
 fn put_message<T: Target>(
-    walk: &mut Walk,
+    walk: &mut LogWalk,
     pen: &mut Pen,
     line: u64,
     packet: &Packet,

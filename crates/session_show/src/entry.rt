@@ -1,14 +1,14 @@
 //! The text for a line of a log.
 
 use crate::escape::write_line;
-use crate::exchange::{End, Ended, Exchange, Extent, Transaction};
+use crate::exchange::{End, Ended, Extent, Followed, Transaction};
 use crate::item::write_checked;
 use crate::member_names::Map;
 use crate::members::write_members;
 use crate::packet_line::write_packet;
 use crate::pen::Pen;
 use crate::putting::Written;
-use crate::walk::{Part, Walk};
+use crate::walk::{LogWalk, Role};
 use crate::words::{COMMANDS, STATUSES, fault_name, name_in, presence_word, write_name};
 use ctap_cbor::{Fault, check};
 use hid_packet::Packet;
@@ -20,7 +20,7 @@ pub const EXCLUDED: u8 = 0x19;
 
 /// What a CBOR message is.
 #[derive(Clone, Copy)]
-pub enum Kind {
+pub enum MessageKind {
     /// What a host asked.
     Request,
     /// What the key answered.
@@ -29,20 +29,20 @@ pub enum Kind {
 
 /// A CBOR message that isn't empty.
 #[derive(Clone, Copy)]
-pub struct Message<'a> {
-    pub kind: Kind,
+pub struct CborMessage<'a> {
+    pub kind: MessageKind,
     /// None where its bytes aren't kept, since too many are under way.
     pub bytes: Option<&'a [u8]>,
     /// The transaction that it answers, where that is known.
-    pub exchange: Option<&'a Exchange>,
+    pub exchange: Option<&'a Followed>,
 }
 
-impl<'a> Message<'a> {
+impl<'a> CborMessage<'a> {
     /// Returns the map that its item is, by its first byte.
     pub fn map(&self, first: u8) -> Option<Map> {
         match self.kind {
-            Kind::Request => Some(Map::Request(first)),
-            Kind::Answer => Some(Map::Answer(self.exchange?.transaction.command?)),
+            MessageKind::Request => Some(Map::Request(first)),
+            MessageKind::Answer => Some(Map::Answer(self.exchange?.transaction.command?)),
         }
     }
 }
@@ -58,7 +58,7 @@ pub struct Own<'a> {
     /// The transaction that it belongs to.
     pub of: Option<Transaction>,
     /// The message whose last packet it has.
-    pub message: Option<Message<'a>>,
+    pub message: Option<CborMessage<'a>>,
 }
 
 /// A line of a log, and what it shows of a line before it.
@@ -70,7 +70,7 @@ pub struct Entry<'a> {
     /// Whether only a later line shows what it is.
     pub is_doubtful: bool,
     /// What it is to the transactions.
-    pub part: Part,
+    pub part: Role,
     /// The transactions that it ends.
     pub ended: &'a [Ended],
 }
@@ -81,7 +81,7 @@ pub trait Follows {
     fn next_entry<'a>(&'a mut self, number: u64, line: &'a [u8], said: &'a Line) -> Entry<'a>;
 }
 
-impl Follows for Walk {
+impl Follows for LogWalk {
     fn next_entry<'a>(&'a mut self, number: u64, line: &'a [u8], said: &'a Line) -> Entry<'a> {
         self.take(number, said);
         self.entry(number, line, said)
@@ -103,7 +103,7 @@ impl Written for PacketLine<'_> {
 
 /// The lines of a message alone, with the number of the line that it ends at.
 #[derive(Clone, Copy)]
-pub struct MessageLines<'a>(pub u64, pub Message<'a>);
+pub struct MessageLines<'a>(pub u64, pub CborMessage<'a>);
 
 impl Written for MessageLines<'_> {
     /// Writes the lines of a message: its command or status and the item after it; explained, also the name of the first,
@@ -116,8 +116,8 @@ impl Written for MessageLines<'_> {
             return;
         };
         let (kind, names) = match message.kind {
-            Kind::Request => ("   request ", COMMANDS),
-            Kind::Answer => ("   answer ", STATUSES),
+            MessageKind::Request => ("   request ", COMMANDS),
+            MessageKind::Answer => ("   answer ", STATUSES),
         };
         let (first, item) = bytes.split_first().unwrap_or((&0, b""));
         let checked = if item.is_empty() {
@@ -159,7 +159,7 @@ fn write_item(pen: &mut Pen, item: &[u8], checked: &Result<(), Fault>) {
 }
 
 /// Writes a line for each member of a message, and which credential a refusal excludes.
-fn write_more(pen: &mut Pen, number: u64, message: &Message<'_>, first: u8, item: &[u8]) {
+fn write_more(pen: &mut Pen, number: u64, message: &CborMessage<'_>, first: u8, item: &[u8]) {
     let Some(map) = message.map(first) else {
         return;
     };

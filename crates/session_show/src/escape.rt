@@ -2,8 +2,8 @@
 
 use crate::pen::Pen;
 
-/// Whether a character is seen as nothing, or moves others: a control character, one that turns the direction of
-/// writing, a line break, or one without width.
+/// Returns whether a character is seen as nothing, or moves others: a control character, one that turns the direction
+/// of writing, a line break, or one without width.
 pub fn is_hidden(c: char) -> bool {
     matches!(
         c,
@@ -18,6 +18,12 @@ pub fn is_hidden(c: char) -> bool {
             | '\u{fff9}'..='\u{fffb}'
             | '\u{e0000}'..='\u{e007f}'
     )
+}
+
+/// Returns whether bytes are written as they are: printable characters of ASCII, of which none is escaped in JSON either.
+/// Most texts are such.
+pub fn is_plain(bytes: &[u8]) -> bool {
+    bytes.iter().all(|byte| matches!(byte, b' ' | b'!' | b'#'..=b'[' | b']'..=b'~'))
 }
 
 /// Writes a character: one that is hidden as `\u` and four digits, or in braces where it has more; in JSON as two of
@@ -51,6 +57,10 @@ pub fn write_char(pen: &mut Pen, c: char, is_json: bool) {
 
 /// Writes a line. Where it isn't UTF-8, `\x` and two digits are for each byte that is no character of ASCII.
 pub fn write_line(pen: &mut Pen, line: &[u8]) {
+    if is_plain(line) {
+        pen.bytes(line);
+        return;
+    }
     match std::str::from_utf8(line) {
         Ok(text) => {
             for c in text.chars() {

@@ -108,7 +108,7 @@ impl Extent {
 
 /// A transaction and what came for it so far.
 #[derive(Clone, Copy, Default)]
-pub struct Exchange {
+pub struct Followed {
     pub transaction: Transaction,
     /// How much of its message came.
     pub extent: Extent,
@@ -128,7 +128,7 @@ pub struct Exchange {
     pub excluded: Option<Excluded>,
 }
 
-impl Exchange {
+impl Followed {
     /// Returns whether a key works on it, and may say so by a KEEPALIVE: its message is whole, and neither PING nor INIT.
     pub fn is_served(&self) -> bool {
         self.extent.is_whole() && !matches!(self.transaction.message, PING | INIT)
@@ -165,17 +165,17 @@ pub enum End {
 /// A transaction that ended.
 #[derive(Clone, Copy, Default)]
 pub struct Ended {
-    pub exchange: Exchange,
+    pub exchange: Followed,
     pub end: End,
 }
 
 /// The transactions that end at a line, in the order in which they do.
 #[derive(Drop, Default)]
-pub struct Ends(pub ArrayVec<Ended, ENDS>);
+pub struct EndedTransactions(pub ArrayVec<Ended, ENDS>);
 
-impl Ends {
+impl EndedTransactions {
     /// Adds one.
-    pub fn add(&mut self, exchange: Exchange, end: End) {
+    pub fn add(&mut self, exchange: Followed, end: End) {
         let _ = self.0.try_push(Ended { exchange, end });
     }
 

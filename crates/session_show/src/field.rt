@@ -1,13 +1,13 @@
 //! The lines of members, and of what their bytes hold.
 
-use crate::item::{DIAGNOSTIC, Diagnostic, write_scalar};
+use crate::item::{DIAGNOSTIC, Diagnostic, write_scalar, write_value};
 use crate::member_names::Map;
 use crate::pen::Pen;
 use crate::putting::Written;
 use crate::words::{name_in, write_name};
 use ctap_cbor::{Cursor, Item};
 
-/// Writes a member: its key, its name where it has one, and its value, with what that means.
+/// Writes a member: its key, its name where it has one, and its value, which was checked, with what that means.
 pub fn write_member(pen: &mut Pen, map: Map, key: Item<'_>, value: &[u8]) {
     write_scalar(pen, key, DIAGNOSTIC);
     if let Item::Int(number) = key
@@ -17,7 +17,7 @@ pub fn write_member(pen: &mut Pen, map: Map, key: Item<'_>, value: &[u8]) {
         pen.text(name);
     }
     pen.text(": ");
-    Diagnostic(value).write(pen);
+    write_value(pen, &mut Cursor::new(value), 1, DIAGNOSTIC, &[]);
     if let (Item::Int(number), Ok(Item::Int(value))) = (key, Cursor::new(value).item(1)) {
         write_name(pen, map.name_of(number, value));
     }

@@ -2,7 +2,7 @@
 ghost use Rattle.std.specs.Prelude.{◌<◌, ◌≤◌, ◌-◌, ◌^◌};
 ghost use Rattle.session_show.specs.Written.{Writes};
 
-use crate::escape::write_char;
+use crate::escape::{is_plain, write_char};
 use crate::pen::Pen;
 use crate::putting::{Written, put_written};
 use crate::wording::Wording;
@@ -165,6 +165,16 @@ pub fn write_scalar(pen: &mut Pen, item: Item<'_>, notation: &Notation) {
 /// Writes a text of other people, between quotation marks.
 pub fn write_text(pen: &mut Pen, text: &str, is_json: bool) {
     pen.text("\"");
+    if is_plain(text.as_bytes()) {
+        pen.bytes(text.as_bytes());
+    } else {
+        write_characters(pen, text, is_json);
+    }
+    pen.text("\"");
+}
+
+/// Writes the characters of a text one by one, with a backslash before `"` and `\`.
+fn write_characters(pen: &mut Pen, text: &str, is_json: bool) {
     for c in text.chars() {
         // What comes after a whole part is dropped.
         if pen.is_full() {
@@ -176,5 +186,4 @@ pub fn write_text(pen: &mut Pen, text: &str, is_json: bool) {
             _ => write_char(pen, c, is_json),
         }
     }
-    pen.text("\"");
 }

@@ -8,7 +8,7 @@ use ctap_cbor::{Cursor, Item};
 
 /// What a member of an object is. One without a value isn't written.
 #[derive(Clone, Copy)]
-pub enum Value<'a> {
+pub enum JsonValue<'a> {
     Number(Option<u64>),
     /// A word of ours, without anything to escape.
     Word(Option<&'static str>),
@@ -25,38 +25,44 @@ pub enum Value<'a> {
     Item(&'a [u8], Names),
 }
 
-impl Value<'_> {
+impl JsonValue<'_> {
     /// Writes the value.
     fn write(&self, pen: &mut Pen) {
         match *self {
-            Value::Number(number) => pen.decimal(number.unwrap_or(0)),
-            Value::Word(word) => {
+            JsonValue::Number(number) => pen.decimal(number.unwrap_or(0)),
+            JsonValue::Word(word) => {
                 pen.text("\"");
                 pen.text(word.unwrap_or(""));
                 pen.text("\"");
             }
-            Value::Text(text) => write_text(pen, text.unwrap_or(""), true),
-            Value::Flag(flag) => pen.text(if flag { "true" } else { "false" }),
-            Value::Channel(channel) => {
+            JsonValue::Text(text) => write_text(pen, text.unwrap_or(""), true),
+            JsonValue::Flag(flag) => pen.text(if flag { "true" } else { "false" }),
+            JsonValue::Channel(channel) => {
                 write_scalar(pen, Item::Bytes(&channel.to_be_bytes()), JSON);
             }
-            Value::Hex(bytes) => write_scalar(pen, Item::Bytes(bytes), JSON),
-            Value::Diagnostic(item) => {
+            JsonValue::Hex(bytes) => write_scalar(pen, Item::Bytes(bytes), JSON),
+            JsonValue::Diagnostic(item) => {
                 pen.text("\"");
                 pen.is_quoted = true;
                 Diagnostic(item).write(pen);
                 pen.is_quoted = false;
                 pen.text("\"");
             }
-            Value::Item(item, names) => write_value(pen, &mut Cursor::new(item), 1, JSON, names),
+            JsonValue::Item(item, names) => write_value(
+                pen,
+                &mut Cursor::new(item),
+                1,
+                JSON,
+                names,
+            ),
         }
     }
 }
 
 /// Writes members of an object that has others before them.
-pub fn write_members(pen: &mut Pen, members: &[(&'static str, Value<'_>)]) {
+pub fn write_members(pen: &mut Pen, members: &[(&'static str, JsonValue<'_>)]) {
     for (name, value) in members {
-        if let Value::Number(None) | Value::Word(None) | Value::Text(None) = value {
+        if let JsonValue::Number(None) | JsonValue::Word(None) | JsonValue::Text(None) = value {
             continue;
         }
         pen.text(",\"");
@@ -76,7 +82,12 @@ pub fn begin_object(pen: &mut Pen, number: u64, kind: &str) {
 }
 
 /// Writes the object of this kind for a line, with these members.
-pub fn write_object(pen: &mut Pen, number: u64, kind: &str, members: &[(&'static str, Value<'_>)]) {
+pub fn write_object(
+    pen: &mut Pen,
+    number: u64,
+    kind: &str,
+    members: &[(&'static str, JsonValue<'_>)],
+) {
     begin_object(pen, number, kind);
     write_members(pen, members);
     pen.text("}\n");

@@ -1,8 +1,8 @@
 //! The JSON objects for a line of a log.
 
-use crate::entry::{Kind, Message, Own};
-use crate::exchange::{End, Ended, Exchange};
-use crate::json::{Value, begin_object, write_members, write_object};
+use crate::entry::{CborMessage, MessageKind, Own};
+use crate::exchange::{End, Ended, Followed};
+use crate::json::{JsonValue, begin_object, write_members, write_object};
 use crate::packet_line::{channel_of, codes_of};
 use crate::pen::Pen;
 use crate::rp_id::RpId;
@@ -22,8 +22,8 @@ pub fn write_line(pen: &mut Pen, own: &Own<'_>) {
         Line::Sent(packet) => write_packet(pen, own, ("key", None), packet),
         Line::Comment if !own.line.is_empty() => {
             let text = match std::str::from_utf8(own.line) {
-                Ok(text) => ("text", Value::Text(Some(text))),
-                Err(_) => ("bytes", Value::Hex(own.line)),
+                Ok(text) => ("text", JsonValue::Text(Some(text))),
+                Err(_) => ("bytes", JsonValue::Hex(own.line)),
             };
             write_object(pen, own.number, "comment", &[text]);
         }
@@ -32,10 +32,10 @@ pub fn write_line(pen: &mut Pen, own: &Own<'_>) {
 }
 
 /// Returns the line that the transaction of a line began at.
-fn began(own: &Own<'_>) -> Value<'static> {
+fn began(own: &Own<'_>) -> JsonValue<'static> {
     match &own.of {
-        Some(transaction) => Value::Number(Some(transaction.line)),
-        None => Value::Number(None),
+        Some(transaction) => JsonValue::Number(Some(transaction.line)),
+        None => JsonValue::Number(None),
     }
 }
 
@@ -44,13 +44,13 @@ fn write_reply(pen: &mut Pen, own: &Own<'_>, timed: &Timed) {
     let (kind, reply) = match &timed.input {
         Input::Presence(presence) => {
             let word = presence_word(*presence);
-            ("presence", ("reply", Value::Word(Some(word))))
+            ("presence", ("reply", JsonValue::Word(Some(word))))
         }
-        Input::Key(key) => ("key", ("had", Value::Flag(key.is_some()))),
-        Input::Signature(signature) => ("signature", ("had", Value::Flag(signature.is_some()))),
-        Input::Packet(_) | Input::Tick => ("tick", ("reply", Value::Word(None))),
+        Input::Key(key) => ("key", ("had", JsonValue::Flag(key.is_some()))),
+        Input::Signature(signature) => ("signature", ("had", JsonValue::Flag(signature.is_some()))),
+        Input::Packet(_) | Input::Tick => ("tick", ("reply", JsonValue::Word(None))),
     };
-    let moment = Value::Number(Some(timed.at));
+    let moment = JsonValue::Number(Some(timed.at));
     let members = [("moment", moment), ("transaction", began(own)), reply];
     write_object(pen, own.number, kind, &members);
 }
@@ -62,13 +62,13 @@ fn write_packet(
     (from, moment): (&'static str, Option<u64>),
     packet: &Packet,
 ) {
-    let channel = Value::Channel(channel_of(packet));
+    let channel = JsonValue::Channel(channel_of(packet));
     begin_object(pen, own.number, "packet");
     write_members(
         pen,
         &[
-            ("from", Value::Word(Some(from))),
-            ("moment", Value::Number(moment)),
+            ("from", JsonValue::Word(Some(from))),
+            ("moment", JsonValue::Number(moment)),
             ("transaction", began(own)),
             ("channel", channel),
         ],
@@ -76,8 +76,11 @@ fn write_packet(
     match packet.view() {
         View::Start { cmd, len, part, .. } => write_start(pen, cmd, len, part),
         View::More { seq, part, .. } => {
-            let sequence = Value::Number(Some(u64::from(seq)));
-            write_members(pen, &[("sequence", sequence), ("data", Value::Hex(part))]);
+            let sequence = JsonValue::Number(Some(u64::from(seq)));
+            write_members(
+                pen,
+                &[("sequence", sequence), ("data", JsonValue::Hex(part))],
+            );
         }
     }
     pen.text("}\n");
@@ -96,38 +99,46 @@ fn write_start(pen: &mut Pen, command: u8, len: u16, part: &[u8]) {
     write_members(
         pen,
         &[
-            ("command", Value::Number(Some(u64::from(command)))),
-            ("name", Value::Word(name_in(MESSAGES, i128::from(command)))),
-            ("length", Value::Number(Some(u64::from(len)))),
-            ("code", Value::Number(code)),
-            ("codeName", Value::Word(name)),
-            ("data", Value::Hex(part.split_at(carried).0)),
+            ("command", JsonValue::Number(Some(u64::from(command)))),
+            (
+                "name",
+                JsonValue::Word(name_in(MESSAGES, i128::from(command))),
+            ),
+            ("length", JsonValue::Number(Some(u64::from(len)))),
+            ("code", JsonValue::Number(code)),
+            ("codeName", JsonValue::Word(name)),
+            ("data", JsonValue::Hex(part.split_at(carried).0)),
         ],
     );
 }
 
 /// Writes the object of a message.
-fn write_message(pen: &mut Pen, own: &Own<'_>, channel: Value<'static>, message: &Message<'_>) {
+fn write_message(
+    pen: &mut Pen,
+    own: &Own<'_>,
+    channel: JsonValue<'static>,
+    message: &CborMessage<'_>,
+) {
     let Some([first, item @ ..]) = message.bytes else {
         write_object(pen, own.number, "lost", &[]);
         return;
     };
     let checked = check(item).result;
     let kind = match message.kind {
-        Kind::Request => "request",
-        Kind::Answer => "answer",
+        MessageKind::Request => "request",
+        MessageKind::Answer => "answer",
     };
     begin_object(pen, own.number, kind);
     write_members(pen, &[("transaction", began(own)), ("channel", channel)]);
     match (message.kind, message.exchange) {
-        (Kind::Request, _) => {
+        (MessageKind::Request, _) => {
             let rp_id = match checked {
                 Ok(()) => RpId::of_request(*first, item),
                 Err(_) => RpId::default(),
             };
             write_command(pen, *first, &rp_id);
         }
-        (Kind::Answer, exchange) => {
+        (MessageKind::Answer, exchange) => {
             write_code(pen, ("status", "statusName"), *first, STATUSES);
             if let Some(exchange) = exchange
                 && let Some(command) = exchange.transaction.command
@@ -152,14 +163,17 @@ pub fn write_code(
     names: Names,
 ) {
     let name = name_in(names, i128::from(number));
-    let number = Value::Number(Some(u64::from(number)));
-    write_members(pen, &[(number_is, number), (name_is, Value::Word(name))]);
+    let number = JsonValue::Number(Some(u64::from(number)));
+    write_members(
+        pen,
+        &[(number_is, number), (name_is, JsonValue::Word(name))],
+    );
 }
 
 /// Writes a command of the authenticator and the RP id that it is about.
 fn write_command(pen: &mut Pen, command: u8, rp_id: &RpId) {
     write_code(pen, ("command", "name"), command, COMMANDS);
-    write_members(pen, &[("rpId", Value::Text(rp_id.text()))]);
+    write_members(pen, &[("rpId", JsonValue::Text(rp_id.text()))]);
 }
 
 /// Writes the data item after a message's first byte: as text and as JSON, or as why it is none, and its bytes.
@@ -169,15 +183,18 @@ fn write_item(pen: &mut Pen, item: &[u8], checked: &Result<(), Fault>, names: Na
     }
     let [first, second] = match checked {
         Ok(()) => [
-            ("item", Value::Diagnostic(item)),
-            ("value", Value::Item(item, names)),
+            ("item", JsonValue::Diagnostic(item)),
+            ("value", JsonValue::Item(item, names)),
         ],
         Err(fault) => [
-            ("fault", Value::Number(Some(u64::from(fault.kind.number())))),
-            ("at", Value::Number(Some(fault.at as u64))),
+            (
+                "fault",
+                JsonValue::Number(Some(u64::from(fault.kind.number()))),
+            ),
+            ("at", JsonValue::Number(Some(fault.at as u64))),
         ],
     };
-    write_members(pen, &[first, second, ("bytes", Value::Hex(item))]);
+    write_members(pen, &[first, second, ("bytes", JsonValue::Hex(item))]);
 }
 
 /// Writes the object of a transaction that ended, or is open at the log's end.
@@ -189,11 +206,11 @@ pub fn write_transaction(pen: &mut Pen, number: u64, ended: &Ended) {
         &[
             (
                 "transaction",
-                Value::Number(Some(exchange.transaction.line)),
+                JsonValue::Number(Some(exchange.transaction.line)),
             ),
-            ("channel", Value::Channel(exchange.transaction.channel)),
-            ("name", Value::Word(Some(exchange.transaction.name()))),
-            ("rpId", Value::Text(exchange.rp_id.text())),
+            ("channel", JsonValue::Channel(exchange.transaction.channel)),
+            ("name", JsonValue::Word(Some(exchange.transaction.name()))),
+            ("rpId", JsonValue::Text(exchange.rp_id.text())),
         ],
     );
     write_end(pen, &ended.end);
@@ -202,7 +219,7 @@ pub fn write_transaction(pen: &mut Pen, number: u64, ended: &Ended) {
 }
 
 /// Writes what came of a transaction: how much of its message, where it isn't whole, and what else.
-fn write_rest(pen: &mut Pen, exchange: &Exchange) {
+fn write_rest(pen: &mut Pen, exchange: &Followed) {
     let (mut came, mut length) = (None, None);
     if !exchange.extent.is_whole() {
         came = Some(exchange.extent.came() as u64);
@@ -211,11 +228,11 @@ fn write_rest(pen: &mut Pen, exchange: &Exchange) {
     write_members(
         pen,
         &[
-            ("came", Value::Number(came)),
-            ("length", Value::Number(length)),
-            ("cancelled", Value::Number(exchange.cancelled)),
-            ("userTook", Value::Number(exchange.took)),
-            ("keepalives", Value::Number(Some(exchange.keepalives))),
+            ("came", JsonValue::Number(came)),
+            ("length", JsonValue::Number(length)),
+            ("cancelled", JsonValue::Number(exchange.cancelled)),
+            ("userTook", JsonValue::Number(exchange.took)),
+            ("keepalives", JsonValue::Number(Some(exchange.keepalives))),
         ],
     );
 }
@@ -235,16 +252,16 @@ fn write_end(pen: &mut Pen, end: &End) {
     write_members(
         pen,
         &[
-            ("end", Value::Word(Some(word))),
-            ("by", Value::Number(line)),
+            ("end", JsonValue::Word(Some(word))),
+            ("by", JsonValue::Number(line)),
         ],
     );
     match end {
         End::Status(status) => write_code(pen, ("status", "statusName"), *status, STATUSES),
         End::Refused(code) => write_code(pen, ("code", "codeName"), *code, ERRORS),
         End::Cut(extent) => {
-            let came = Value::Number(Some(extent.came() as u64));
-            let length = Value::Number(Some(u64::from(extent.length)));
+            let came = JsonValue::Number(Some(extent.came() as u64));
+            let length = JsonValue::Number(Some(u64::from(extent.length)));
             write_members(pen, &[("answerCame", came), ("answerLength", length)]);
         }
         _ => {}

@@ -10,13 +10,13 @@ use crate::channels::OPEN;
 use crate::counts::Counts;
 use crate::entry::Entry;
 use crate::exchange::Ended;
-use crate::json::{Value, write_members};
+use crate::json::{JsonValue, write_members};
 use crate::json_line::{write_line, write_transaction};
 use crate::pen::Pen;
 use crate::putting::{Written, put_written};
 use crate::row::{HEAD, write_row};
 use crate::telling::{Telling, tell_all};
-use crate::walk::Walk;
+use crate::walk::LogWalk;
 use crate::wording::Wording;
 use session_log::{Failed, LogFault, Source, Target, read_line};
 
@@ -35,7 +35,7 @@ pub enum LogForm {
 #[derive(Drop)]
 pub struct LogWriter {
     form: LogForm,
-    walk: Walk,
+    walk: LogWalk,
     counts: Counts,
     /// Whether the table has a row.
     is_begun: bool,
@@ -49,7 +49,7 @@ impl LogWriter {
     pub fn new(form: LogForm) -> Self {
         LogWriter {
             form,
-            walk: Walk::new(),
+            walk: LogWalk::new(),
             counts: Counts::new(),
             is_begun: false,
             last: 0,
@@ -64,7 +64,7 @@ impl LogWriter {
         ensures { Writes T.taken T.failed (writer.old, writer.new) result }
     {
         self.walk.finish();
-        let left = Left {
+        let left = LogEnd {
             form: self.form,
             walk: &self.walk,
             counts: &self.counts,
@@ -89,9 +89,9 @@ fn write_ended(pen: &mut Pen, form: LogForm, number: u64, ended: &Ended, has_hea
 
 /// What is left to write at the log's end.
 #[derive(Clone, Copy)]
-struct Left<'a> {
+struct LogEnd<'a> {
     form: LogForm,
-    walk: &'a Walk,
+    walk: &'a LogWalk,
     counts: &'a Counts,
     /// Whether the table has its head.
     has_head: bool,
@@ -99,7 +99,7 @@ struct Left<'a> {
     last: u64,
 }
 
-impl Written for Left<'_> {
+impl Written for LogEnd<'_> {
     fn write(&self, pen: &mut Pen) {
         if let Some(late) = &self.walk.late()
             && self.form == LogForm::Objects
@@ -230,10 +230,13 @@ impl Written for FaultObject<'_> {
         write_members(
             pen,
             &[
-                ("number", Value::Number(Some(u64::from(self.0.number())))),
-                ("reason", Value::Word(Some(reason))),
-                ("line", Value::Number(line)),
-                ("packet", Value::Number(packet)),
+                (
+                    "number",
+                    JsonValue::Number(Some(u64::from(self.0.number()))),
+                ),
+                ("reason", JsonValue::Word(Some(reason))),
+                ("line", JsonValue::Number(line)),
+                ("packet", JsonValue::Number(packet)),
             ],
         );
         pen.text("}\n");

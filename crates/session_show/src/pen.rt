@@ -61,14 +61,14 @@ impl Pen {
         passed.saturating_add(self.part.len())
     }
 
-    /// The part of the text so far.
+    /// Returns the part of the text so far.
     pub fn part(&self) -> &[u8]
         ensures { length result.now ≤ 8192 }
     {
         self.part.as_slice()
     }
 
-    /// Whether the part is whole.
+    /// Returns whether the part is whole.
     pub fn is_full(&self) -> bool {
         self.part.is_full()
     }
@@ -82,10 +82,10 @@ impl Pen {
         let passed = self.before.min(bytes.len());
         self.before -= passed;
         let rest = bytes.split_at(passed).1;
-        let room = PART - self.part.len();
+        let space = PART - self.part.len();
         let _ = self
             .part
-            .try_extend_from_slice(rest.split_at(room.min(rest.len())).0);
+            .try_extend_from_slice(rest.split_at(space.min(rest.len())).0);
     }
 
     /// Writes a text.

@@ -2,11 +2,11 @@
 
 use crate::difference::Difference;
 use crate::entry::{EXCLUDED, write_extent};
-use crate::exchange::Exchange;
+use crate::exchange::Followed;
 use crate::packet_line::channel_of;
 use crate::pen::Pen;
 use crate::putting::Written;
-use crate::walk::Walk;
+use crate::walk::LogWalk;
 use authn_core::Need;
 use hid_packet::command::{CBOR, ERROR};
 use hid_packet::{Packet, View};
@@ -57,7 +57,7 @@ impl Awaited {
 /// Why a packet differs.
 #[derive(Clone, Copy)]
 pub struct Reason<'a> {
-    pub walk: &'a Walk,
+    pub walk: &'a LogWalk,
     pub difference: &'a Difference,
 }
 
@@ -141,7 +141,7 @@ impl Reason<'_> {
 }
 
 /// Writes which packet of a message is missing.
-fn write_missing(pen: &mut Pen, open: &Exchange) {
+fn write_missing(pen: &mut Pen, open: &Followed) {
     pen.text("  it still waits for packet +");
     pen.decimal(u64::from(open.extent.continuations));
     pen.text(" of the message from line ");

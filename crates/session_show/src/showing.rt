@@ -11,7 +11,7 @@ use crate::pen::Pen;
 use crate::putting::{Numbered, put_numbered};
 use crate::telling::{Telling, tell_all};
 use crate::transcript::Transcript;
-use crate::walk::Walk;
+use crate::walk::LogWalk;
 use crate::wording::Wording;
 use session_log::{LogFault, Source, Target, read_line};
 
@@ -79,7 +79,7 @@ impl Telling for Fixed {
 
 /// The text for people.
 #[derive(Drop)]
-struct Explained(Showing<Walk>);
+struct Explained(Showing<LogWalk>);
 
 impl Telling for Explained {
     ghost shows = { IsLineText explained };
@@ -142,7 +142,7 @@ pub fn explain<S: Source, T: Target>(reader: &mut S, writer: &mut T) -> Result<(
     ensures writes { Counts T.failed (writer.old, writer.new) (write_fails (ending_of result)) }
 {
     tell_all(
-        &mut Explained(Showing::new(Walk::new(), Wording::Explained)),
+        &mut Explained(Showing::new(LogWalk::new(), Wording::Explained)),
         reader,
         writer,
     )

@@ -41,9 +41,10 @@ impl Signed {
         if hex::decode_to_slice(digits, bytes).is_err() {
             return;
         }
-        let asked = match need {
-            Need::Sign { signed, .. } => *signed,
-            Need::None | Need::Presence | Need::Key => b"",
+        let asked = if let Need::Sign { signed, .. } = need {
+            *signed
+        } else {
+            b""
         };
         for byte in bytes.iter() {
             if self.otherwise.is_none() && asked.get(self.len) != Some(byte) {

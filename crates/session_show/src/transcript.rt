@@ -1,8 +1,8 @@
 //! The messages of the fixed text: one is collected in each direction, whatever channel it is on.
 
-use crate::entry::{Entry, Follows, Kind, Message, Own};
+use crate::entry::{CborMessage, Entry, Follows, MessageKind, Own};
 use crate::message::Collector;
-use crate::walk::Part;
+use crate::walk::Role;
 use session_log::Line;
 use token_session::Input;
 
@@ -17,14 +17,14 @@ impl Follows for Transcript {
     fn next_entry<'a>(&'a mut self, number: u64, line: &'a [u8], said: &'a Line) -> Entry<'a> {
         let (kind, bytes) = match said {
             Line::Input(timed) => match &timed.input {
-                Input::Packet(packet) => (Kind::Request, self.requests.add(packet)),
-                _ => (Kind::Request, None),
+                Input::Packet(packet) => (MessageKind::Request, self.requests.add(packet)),
+                _ => (MessageKind::Request, None),
             },
-            Line::Sent(packet) => (Kind::Answer, self.answers.add(packet)),
-            Line::Comment | Line::Count => (Kind::Answer, None),
+            Line::Sent(packet) => (MessageKind::Answer, self.answers.add(packet)),
+            Line::Comment | Line::Count => (MessageKind::Answer, None),
         };
         let message = match bytes {
-            Some(_) => Some(Message {
+            Some(_) => Some(CborMessage {
                 kind,
                 bytes,
                 exchange: None,
@@ -41,7 +41,7 @@ impl Follows for Transcript {
                 message,
             },
             is_doubtful: false,
-            part: Part::Own,
+            part: Role::Own,
             ended: &[],
         }
     }

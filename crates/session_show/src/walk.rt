@@ -4,9 +4,9 @@ ghost use Rattle.std.specs.Prelude.{◌<◌};
 use crate::channel::Greeting;
 use crate::channels::{CHANNELS, Channels};
 use crate::credentials::Credentials;
-use crate::device::{Answer, NO_TIME_OUT, TIMED_OUT};
-use crate::entry::{Entry, Kind, Message, Own};
-use crate::exchange::{Ends, Exchange, Extent, Transaction};
+use crate::device::{AnswerStart, NO_TIME_OUT, TIMED_OUT};
+use crate::entry::{CborMessage, Entry, MessageKind, Own};
+use crate::exchange::{EndedTransactions, Extent, Followed, Transaction};
 use crate::packet_line::channel_of;
 use crate::pool::Pool;
 use crate::rp_id::RpId;
@@ -25,7 +25,7 @@ const NEXT: u8 = 0x08;
 
 /// What a line is to the transactions.
 #[derive(Clone, Copy)]
-pub enum Part {
+pub enum Role {
     /// It is of a transaction, or is no packet and no reply.
     Own,
     /// A continuation packet of no message that is open.
@@ -73,7 +73,7 @@ struct Decided {
 
 /// What the lines of a log so far began.
 #[derive(Drop)]
-pub struct Walk {
+pub struct LogWalk {
     pub channels: Channels,
     pool: Pool,
     credentials: Credentials,
@@ -81,36 +81,36 @@ pub struct Walk {
     now: u64,
     doubtful: Option<Doubtful>,
     /// Of the last line: the transactions that it ends, ..
-    ends: Ends,
+    ends: EndedTransactions,
     /// .. the one that it belongs to, ..
     pub of: Option<Transaction>,
     /// .. or what it is, where it belongs to none, ..
-    part: Part,
+    part: Role,
     /// .. the message that ends at it, ..
     shown: Option<Shown>,
     /// .. and what it shows of a doubtful one before it.
     decided: Option<Decided>,
 }
 
-impl Walk {
+impl LogWalk {
     /// Returns that of no lines.
     pub fn new() -> Self {
-        Walk {
+        LogWalk {
             channels: Channels::new(),
             pool: Pool::new(),
             credentials: Credentials::new(),
             now: 0,
             doubtful: None,
-            ends: Ends::default(),
+            ends: EndedTransactions::default(),
             of: None,
-            part: Part::Own,
+            part: Role::Own,
             shown: None,
             decided: None,
         }
     }
 
     /// Becomes one that took the same lines as another one.
-    pub fn copy_from(&mut self, other: &Walk) {
+    pub fn copy_from(&mut self, other: &LogWalk) {
         self.clear();
         for place in 0..CHANNELS {
             self.channels.list[place].copy_from(&other.channels.list[place]);
@@ -150,7 +150,7 @@ impl Walk {
         }
         self.release(self.shown);
         self.of = None;
-        self.part = Part::Own;
+        self.part = Role::Own;
         self.shown = None;
     }
 
@@ -192,15 +192,15 @@ impl Walk {
         })
     }
 
-    fn message(&self, shown: Option<Shown>) -> Option<Message<'_>> {
+    fn message(&self, shown: Option<Shown>) -> Option<CborMessage<'_>> {
         let (line, kind, exchange) = match shown? {
-            Shown::Request(line) => (line, Kind::Request, None),
+            Shown::Request(line) => (line, MessageKind::Request, None),
             Shown::Answer(line, place) => {
                 let told = self.channels.list.get(place)?.told.as_ref()?;
-                (line, Kind::Answer, told.exchange.as_ref())
+                (line, MessageKind::Answer, told.exchange.as_ref())
             }
         };
-        Some(Message {
+        Some(CborMessage {
             kind,
             bytes: self.pool.bytes(line),
             exchange,
@@ -228,7 +228,7 @@ impl Walk {
             self.of = self.channels.list[place].reply(presence);
         }
         if self.of.is_none() {
-            self.part = Part::Reply;
+            self.part = Role::Reply;
         }
     }
 
@@ -241,7 +241,7 @@ impl Walk {
             View::Start { cmd: CANCEL, .. } => {
                 self.of = self.channels.list[place].cancel(number);
                 if self.of.is_none() {
-                    self.part = Part::Cancel;
+                    self.part = Role::Cancel;
                 }
             }
             View::Start {
@@ -273,11 +273,11 @@ impl Walk {
         requires { place < 6 }
     {
         let extent = Extent::begun(length);
-        let begun = Exchange {
+        let begun = Followed {
             transaction,
             extent,
             at: self.now,
-            ..Exchange::default()
+            ..Followed::default()
         };
         self.channels.list[place].begin(begun, &mut self.ends);
         self.of = Some(transaction);
@@ -294,7 +294,7 @@ impl Walk {
         requires { place < 6 }
     {
         let Some(continuation) = self.channels.list[place].go_on(sequence, self.now) else {
-            self.part = Part::Stray;
+            self.part = Role::Stray;
             return;
         };
         let of = continuation.of;
@@ -394,7 +394,7 @@ impl Walk {
             (ERROR, [code, ..]) => self.take_error(place, *code, doubtful),
             (KEEPALIVE, _) => self.of = self.channels.list[place].keep_alive(&mut self.ends),
             _ => {
-                let answer = Answer {
+                let answer = AnswerStart {
                     line: number,
                     command,
                     extent: Extent::begun(length),
@@ -417,11 +417,11 @@ impl Walk {
         }
         self.of = of;
         if of.is_none() {
-            self.part = Part::Error(code);
+            self.part = Role::Error(code);
         }
     }
 
-    fn take_answer(&mut self, place: usize, answer: &Answer<'_>)
+    fn take_answer(&mut self, place: usize, answer: &AnswerStart<'_>)
         requires { place < 6 }
     {
         self.of = self.channels.list[place].answer(answer, &mut self.ends);

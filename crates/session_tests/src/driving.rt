@@ -18,14 +18,14 @@ const NOTHING: Meters = Meters {
     steps: 0,
 };
 
-/// A packet with these first bytes, and zeros after them.
+/// Returns a packet with these first bytes, and zeros after them.
 fn came(front: &[u8; 15]) -> Input {
     let mut packet = [0; 64];
     packet[..15].copy_from_slice(front);
     Input::Packet(Packet(packet))
 }
 
-/// INIT on the broadcast channel, and a PING of eight bytes on channel 1.
+/// Returns INIT on the broadcast channel, and a PING of eight bytes on channel 1.
 fn inputs() -> [Timed; 2] {
     let init = came(b"\xff\xff\xff\xff\x86\x00\x08nonce...");
     let ping = came(b"\x00\x00\x00\x01\x81\x00\x08pingping");

@@ -1,5 +1,7 @@
 -- What a history sends is what is told of it without a state: by the law of the authenticator's answers.
-use Rattle.std.proofs.Common.{◌≡◌, ℕ, max, List, [], ◌∷◌, ◌++◌, Option, Some, None, refl, sym, ap, ◌∙◌, if◌then◌else◌}
+use Rattle.std.proofs.Common.{arith}
+use Rattle.std.proofs.Common.{rules}
+use Rattle.std.proofs.Common.{◌≡◌, ℕ, max, List, [], ◌∷◌, ◌++◌, Option, refl, ap}
 use Rattle.authn_core.specs.Answers.{answer_to, exchanges}
 use Rattle.authn_core.specs.Exchanges.{Exchange}
 use Rattle.authn_core.specs.State.{Event}
@@ -10,13 +12,10 @@ use Rattle.token_session.specs.Inputs.{Judged, end, given, is_packet}
 use Rattle.token_session.specs.Messages.{open_at, finished}
 use Rattle.token_session.specs.History.{admits, core, judge, judged, last_keepalive, sent, sent_at, service_packets, table_packets, time_packets}
 use Rattle.token_session.specs.Events.{event_packets}
-use Rattle.std.specs.List.{list_any}
-use Rattle.hid_packet.specs.Commands.{KEEPALIVE}
-use Rattle.hid_packet.specs.Packet.{is_command}
 use Rattle.token_session.specs.Law.{event_at}
-use Rattle.token_session.specs.Replies.{answer_packets, ping_packets}
+use Rattle.token_session.specs.Replies.{ping_packets}
 use Rattle.token_session.specs.Credentials.{step_of, steps}
-use Rattle.token_session.specs.Answered.{judge_told, judged_told, channel_of, waits_in, with_event, happened, answered_packets, service_told, time_told, keepalive_told, sent_told}
+use Rattle.token_session.specs.Answered.{judge_told, judged_told, waits_in, with_event, happened, answered_packets, service_told, time_told, keepalive_told, sent_told}
 use Rattle.token_session.proofs.Credentials.{core_is, orderly}
 
 -- the law of the authenticator, of its histories of events
@@ -29,26 +28,18 @@ pub record Law (start : Start) : Type 0 where
 one_happened : (start : Start) (h : List Step) (at : ℕ) (o : Option Event)
     → with_event start (exchanges start h) at o ≡ exchanges start (step_of at o ++ h)
 unfolding exchanges
-one_happened start h at None = refl
-one_happened start h at (Some e) = refl
+one_happened start h at x3 = search (rules, arith)
 
 -- the events are those that the authenticator takes, and what waits is its work
 pub happened_steps : (start : Start) (law : Law start) (h : List Timed)
     → happened start (judged start h) ≡ exchanges start (steps start (judged start h))
 unfolding happened judged steps exchanges
 happened_steps start law [] = refl
-happened_steps start law (x ∷ h) =
-    let past = judged start h in
-    let e = judge start x past in
-    let w : channel_of (waits_in (exchanges start (steps start past))) ≡ working (core start past)
-    = ap channel_of (sym (law.waits (steps start past) (orderly start h)) ∙ sym (ap waiting (core_is start past))) in
-    rw (happened_steps start law h, w) (one_happened start (steps start past) e.at (event_at start e past))
+happened_steps start law (x ∷ h) = grind (arith, core_is, one_happened, orderly, happened_steps start law h)
 
 pub waits_told : (start : Start) (law : Law start) (h : List Timed)
     → waiting (core start (judged start h)) ≡ waits_in (happened start (judged start h))
-waits_told start law h =
-    ap waiting (core_is start (judged start h)) ∙ law.waits (steps start (judged start h)) (orderly start h)
-    ∙ sym (ap waits_in (happened_steps start law h))
+waits_told start law h = grind (arith, core_is, happened_steps, orderly)
 
 -- ---- packets
 
@@ -57,9 +48,7 @@ event_told : (start : Start) (law : Law start) (h : List Step) (k : CoreState) (
     → k ≡ core_at (first_state start) h → past ≡ exchanges start h → Orderly (first_state start) h
     → Orderly (first_state start) (step_of at o ++ h)
     → event_packets k at o ≡ answered_packets start past at o
-event_told start law h k past at None e p r s = refl
-event_told start law h k past at (Some v) e p r s =
-    rw (e, p) (rw (law.waits h r) (ap (answer_packets _ _) (law.answers h (record { at = at; event = v }) s)))
+event_told start law h k past at x6 e p r s = search (rules, arith)
 
 pub service_told_so : (start : Start) (law : Law start) (h : List Timed) (x : Timed)
     → let past = judged start h in service_packets start (judge start x past) past ≡ service_told start (judge start x past) past
@@ -81,31 +70,18 @@ time_told_so start law h latest t = rw (waits_told start law h) refl
 both_told : (start : Start) (law : Law start) (h : List Timed) (x : Timed) (latest : ℕ)
     → let past = judged start h in let e = judge start x past in
     time_packets start past latest e.at ++ service_packets start e past ≡ time_told start past latest e.at ++ service_told start e past
-both_told start law h x latest =
-    let past = judged start h in
-    let e = judge start x past in
-    ap (λ v. v ++ service_packets start e past) (time_told_so start law h latest e.at)
-    ∙ ap (λ v. time_told start past latest e.at ++ v) (service_told_so start law h x)
+both_told start law h x latest = grind (arith, service_told_so, time_told_so)
 
 keepalive_told_so : (start : Start) (law : Law start) (h : List Timed)
     → last_keepalive start (judged start h) ≡ keepalive_told start (judged start h)
 unfolding judged last_keepalive keepalive_told
 keepalive_told_so start law [] = refl
-keepalive_told_so start law (x ∷ h) =
-    let past = judged start h in
-    let e = judge start x past in
-    let latest = last_keepalive start past in
-    rw (← keepalive_told_so start law h)
-    (ap (λ v. if list_any (is_command KEEPALIVE) v then e.at else latest) (both_told start law h x latest))
+keepalive_told_so start law (x ∷ h) = search (rules, arith, both_told, keepalive_told_so start law h)
 
 pub sent_told_so : (start : Start) (law : Law start) (h : List Timed) → sent start (judged start h) ≡ sent_told start (judged start h)
 unfolding judged sent sent_at sent_told
 sent_told_so start law [] = refl
-sent_told_so start law (x ∷ h) =
-    let past = judged start h in
-    let e = judge start x past in
-    rw (sent_told_so start law h, keepalive_told_so start law h)
-    (ap (λ v. sent_told start past ++ v) (both_told start law h x (keepalive_told start past)))
+sent_told_so start law (x ∷ h) = grind (arith, both_told, keepalive_told_so, sent_told_so start law h)
 
 -- an input, judged by the channel of what waits
 abbrev one_judged : Start → Timed → List Judged → Option ℕ → Judged
@@ -117,7 +93,4 @@ one_judged start x past on =
 pub judged_told_so : (start : Start) (law : Law start) (h : List Timed) → judged start h ≡ judged_told start h
 unfolding judged judged_told judge judge_told
 judged_told_so start law [] = refl
-judged_told_so start law (x ∷ h) =
-    let past = judged start h in
-    let w : working (core start past) ≡ channel_of (waits_in (happened start past)) = ap channel_of (waits_told start law h) in
-    rw (← judged_told_so start law h) (ap (λ on. one_judged start x past on ∷ past) w)
+judged_told_so start law (x ∷ h) = search (rules, arith, waits_told, judged_told_so start law h)

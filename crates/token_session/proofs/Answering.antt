@@ -1,5 +1,6 @@
 -- A finished CBOR message is a request, and its answer is all that is sent for it.
-use Rattle.std.proofs.Common.{◌≡◌, ℕ, ◌≤◌, ◌⊎◌, true, nat_le, List, [], ◌∷◌, ◌++◌, length, max, Option, take, Some, None, option_map, Ok, refl, sym, ◌∙◌, ap, arith}
+use Rattle.std.proofs.Common.{rules}
+use Rattle.std.proofs.Common.{◌≡◌, ℕ, ◌≤◌, ◌⊎◌, true, nat_le, List, [], ◌∷◌, ◌++◌, length, Option, take, Some, None, option_map, Ok, refl, sym, ◌∙◌, ap, arith}
 use Rattle.std.proofs.lemmas.Bool.Decides.{nat_tests}
 use Rattle.ctap_message.specs.Answers.{info_answer}
 use Rattle.ctap_message.specs.Asked.{GetInfo}
@@ -20,7 +21,7 @@ use Rattle.token_session.specs.History.{admits, core, event, judge, judged, pack
 use Rattle.token_session.specs.Effects.{verdict_event, verdict_packets}
 use Rattle.hid_assemble.specs.Verdicts.{ruling_verdict}
 use Rattle.hid_assemble.specs.declared.verdict.Verdict.{Verdict}
-use Rattle.token_session.specs.Events.{event_core, event_packets}
+use Rattle.token_session.specs.Events.{event_packets}
 use Rattle.token_session.specs.Replies.{answer_packets, asker, ping_packets, status_of}
 use Rattle.token_session.specs.declared.input.Input.{Input}
 use Rattle.token_session.specs.declared.input.Input.TheVariants.{Packet}
@@ -60,8 +61,7 @@ request_at start t h other m good le fin is = cc
 pub core_aaguid : (start : Start) (h : List Judged) → (core start h).setup.aaguid ≡ start.aaguid
 unfolding core
 core_aaguid start [] = refl
-core_aaguid start (e ∷ h) =
-    elim (event (working (core start h)) (finished (open_at h e.at) e.admitted e.input) e.input) as (λ x. (event_core (core start h) e.at x).setup.aaguid ≡ start.aaguid) [ None ↦ core_aaguid start h | Some x ↦ core_aaguid start h ]
+core_aaguid start (e ∷ h) = search (rules, arith, core_aaguid start h)
 
 -- A request is answered on its channel, as the authenticator's turn says.
 pub requests_answered : (start : Start) (h : List Timed) (x : Timed) (m : Message)
@@ -69,11 +69,7 @@ pub requests_answered : (start : Start) (h : List Timed) (x : Timed) (m : Messag
     → service_packets start (judge start x (judged start h)) (judged start h)
     ≡ event_packets (core start (judged start h)) (judge start x (judged start h)).at (Some (Request m.cid m.bytes))
 unfolding judge
-requests_answered start h x m fin is =
-    let past = judged start h in
-    let t = max (end start past) x.at in
-    let le : end start past ≤ t = omega arith in
-    request_at start t past x.input m (good_judged start h) le fin is
+requests_answered start h x m fin is = grind (arith, good_judged, request_at)
 
 pub info_is_answered : (start : Start) (h : List Timed) (x : Timed) (m : Message)
     → finished_at (judge start x (judged start h)) (judged start h) ≡ Some m → m.cmd ≡ CBOR → m.bytes ≡ 0x04 ∷ []

@@ -1,14 +1,14 @@
 -- A message of several packets finishes, whatever other hosts send between.
-use Rattle.std.proofs.Common.{◌≡◌, ℕ, ◌+◌, ◌*◌, ◌≤◌, ◌<◌, true, false, List, [], ◌∷◌, ◌++◌, length, append-nil, append_assoc, length-append, take, Some, None, refl, sym, ◌∙◌, ap, subst, arith}
+use Rattle.std.proofs.Common.{rules}
+use Rattle.std.proofs.Common.{◌≡◌, ℕ, ◌+◌, ◌*◌, ◌≤◌, ◌<◌, true, false, List, [], ◌∷◌, ◌++◌, length, append-nil, append_assoc, length-append, Some, None, refl, sym, ◌∙◌, ap, arith}
 use Rattle.std.proofs.lemmas.Bool.{false_from_ne_true}
 use Rattle.std.proofs.lemmas.Bool.Decides.{nat_tests}
 use Rattle.std.proofs.lemmas.List.{length-map}
-use Rattle.hid_packet.specs.Carries.{Carries, Continue, IsLeast, joined}
+use Rattle.hid_packet.specs.Carries.{Carries, Continue, IsLeast}
 use Rattle.hid_packet.specs.declared.packet.Packet.{Packet as Packet64}
 use Rattle.hid_packet.specs.Packet.{channel, is_initialization, message_length, sequence}
 use Rattle.authn_core.specs.Turn.{Start}
 use Rattle.token_session.specs.Arriving.{Arrives, ComeSoon, arriving}
-use Rattle.token_session.specs.declared.input.Input.{Input}
 use Rattle.token_session.specs.declared.input.Input.TheVariants.{Packet}
 use Rattle.token_session.specs.declared.input.Timed.{Timed}
 use Rattle.token_session.specs.History.{admits, judge, judged}
@@ -30,14 +30,12 @@ judged_at_end start h x = omega arith
 arrive_from : (start : Start) (h xs : List Timed) → From (end start (judged start h)) (arriving start h xs)
 unfolding judged
 arrive_from start h [] = tt
-arrive_from start h (x ∷ xs) =
-    let le = judged_at_end start h x in
-    (le, from_earlier (arriving start (x ∷ h) xs) (end start (judged start h)) (end start (judged start (x ∷ h))) le (arrive_from start (x ∷ h) xs))
+arrive_from start h (x ∷ xs) = grind (arith, from_earlier, judged_at_end, arrive_from start (x ∷ h) xs)
 
 end_rises : (start : Start) (xs h : List Timed) → end start (judged start h) ≤ end start (judged start (onto xs h))
 unfolding judged
 end_rises start [] h = omega arith
-end_rises start (x ∷ xs) h = let a = judged_at_end start h x in let b = end_rises start xs (x ∷ h) in omega (arith, a, b)
+end_rises start (x ∷ xs) h = search (rules, arith, judged_at_end, end_rises start xs (x ∷ h))
 
 -- ---- the message stays open
 
@@ -51,8 +49,7 @@ begins_open : (start : Start) (h : List Timed) (x : Timed) → (judge start x (j
     → is_long (packet (judge start x (judged start h)).input) ≡ true
     → StaysOpen (judge start x (judged start h)) start (x ∷ h) []
 unfolding judged open_among is_open
-begins_open start h x admitted long M t goes =
-    rw (admitted, long, goes) refl
+begins_open start h x admitted long x5 t goes = search (rules, arith)
 
 -- what isn't admitted opens nothing
 skipped : (y : Judged) (M H : List Judged) (t : ℕ) → y.admitted ≡ false
@@ -66,10 +63,7 @@ one_longer : (e : Judged) (start : Start) (g : List Timed) (D : List Judged) (z 
     → StaysOpen e start g D
     → StaysOpen e start (z ∷ g) (D ++ judge start z (judged start g) ∷ [])
 unfolding judged
-one_longer e start g D z away stays M t goes =
-    let y = judge start z (judged start g) in
-    let same : (D ++ y ∷ []) ++ M ≡ D ++ y ∷ M = append_assoc D (y ∷ []) M in
-    rw same (skipped y M (judged start g) t away ∙ stays (y ∷ M) t (rw same at goes))
+one_longer e start g x3 z away stays x7 t goes = grind (arith, append_assoc, skipped)
 
 -- where a message is open, nothing is admitted
 alone : (start : Start) (g : List Timed) (z : Timed)
@@ -105,11 +99,8 @@ all_go_on : (os : List Judged) (c len m since t : ℕ) (q : Judged) → On c os
     → 57 + 59 * (m + length os) < len → ComeSoon since (os ++ q ∷ []) → t ≡ q.at
     → goes_on len m since os t ≡ true
 unfolding goes_on is_next is_own
-all_go_on [] c len m since t q on cont room soon is = let s = soon.0 in grind (arith, nat_tests)
-all_go_on (e ∷ es) c len m since t q on cont room soon is =
-    let ih = all_go_on es c len (m + 1) e.at t q on.1 cont.3 (omega arith) soon.1 is in
-    let s = soon.0 in
-    grind (arith, nat_tests, ih)
+all_go_on [] c len m since t q on cont capacity soon is = let s = soon.0 in grind (arith, nat_tests)
+all_go_on (e ∷ es) c len m since t q on cont capacity soon is = grind (arith, nat_tests, all_go_on es c len (m + 1))
 
 -- the last of those that continue
 last_of : (c m : ℕ) (ps : List (List ℕ)) (p : List ℕ) → Continue c m (ps ++ p ∷ [])
@@ -133,20 +124,7 @@ ends : (b : Begun) (q : List ℕ) (cmd : ℕ) (bytes : List ℕ)
     → Carries b.packet (packets_of b.own ++ q ∷ []) (channel b.packet) cmd bytes
     → Ends b q cmd bytes
 unfolding is_last is_long
-ends b q cmd bytes c =
-    let m : length (packets_of b.own) ≡ length b.own = simp length-map in
-    let end = last_of (channel b.packet) 0 (packets_of b.own) q c.continues in
-    let count : length (packets_of b.own ++ q ∷ []) ≡ length b.own + 1 = simp (length-append, length-map) in
-    let long = long_of (length b.own) _ (length bytes) count c.least in
-    let n = c.counts in
-    let short = c.short in
-    record {
-      more = omega (arith, long.0, n);
-      away = end.0;
-      last = grind (arith, nat_tests);
-      long = grind (arith, nat_tests);
-      carried = λ i. record { cid = channel b.packet; cmd = c.asks i; bytes = (ap (λ k. take k (joined b.packet (packets_of b.own ++ q ∷ []))) n ∙ sym c.joins) i };
-    }
+ends b q cmd bytes c = grind (arith, last_of, length-append, length-map, long_of, nat_tests)
 
 -- on the channel of the first packet
 on_its_channel : (start : Start) (h xs : List Timed) (s t : ℕ) (p q : Packet64) (cmd : ℕ) (bytes : List ℕ)
@@ -171,10 +149,4 @@ pub several_packets_finish : (start : Start) (h xs : List Timed) (x y : Timed) (
     → x.input ≡ Packet p → y.input ≡ Packet q
     → Arrives start h x xs (judge start y (judged start (onto xs (x ∷ h)))) cid cmd bytes
     → finished_at (judge start y (judged start (onto xs (x ∷ h)))) (judged start (onto xs (x ∷ h))) ≡ Some (record { cid = cid; cmd = cmd; bytes = bytes })
-several_packets_finish start h xs x y p q cid cmd bytes xp yq =
-    let X : Input → Timed = λ i. record { at = x.at; input = i } in
-    let Y : Input → Timed = λ j. record { at = y.at; input = j } in
-    let P : Input → Input → ℕ → Type 0 = λ i j c. (Arrives start h (X i) xs (judge start (Y j) (judged start (onto xs (X i ∷ h)))) c cmd bytes
-    → finished_at (judge start (Y j) (judged start (onto xs (X i ∷ h)))) (judged start (onto xs (X i ∷ h))) ≡ Some (record { cid = c; cmd = cmd; bytes = bytes })) in
-    subst (λ i. P i y.input cid) (sym xp) (subst (λ j. P (Packet p) j cid) (sym yq)
-    (λ a. (subst (λ c. P (Packet p) (Packet q) c) a.carried.on (on_its_channel start h xs x.at y.at p q cmd bytes)) a))
+several_packets_finish start h xs x y p q cid cmd bytes xp yq = search (rules, arith, on_its_channel)

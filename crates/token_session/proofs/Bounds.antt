@@ -1,10 +1,11 @@
 -- At most one message is open, and how much is held of it.
+use Rattle.std.proofs.Common.{rules}
 use Rattle.std.proofs.Common.{◌≡◌, ℕ, ◌+◌, ◌-◌, ◌*◌, ◌≤◌, ◌<◌, min, sum_by, true, List, [], ◌∷◌, length, Option, Some, None, option_to_list, refl, arith}
 use Rattle.std.proofs.lemmas.Bool.Decides.{nat_tests}
 use Rattle.std.proofs.lemmas.List.Sums.{sum_by-cons}
 use Rattle.authn_core.specs.Turn.{Start}
 use Rattle.ctap_message.specs.Requests.{LARGEST}
-use Rattle.hid_packet.specs.Packet.{channel, message_length}
+use Rattle.hid_packet.specs.Packet.{channel}
 use Rattle.token_session.specs.Inputs.{Judged, end, own, packet}
 use Rattle.token_session.specs.Messages.{Begun, goes_on, is_long, is_next, is_open, open_among, open_at}
 use Rattle.token_session.specs.History.{held}
@@ -39,7 +40,7 @@ FewOwn (Some b) = 57 + 59 * length b.own ≤ 7550
 few_here : (e : Judged) (L : List Judged) (t : ℕ) → is_open e L t ≡ true
     → 57 + 59 * length (own (channel (packet e.input)) L) ≤ 7550
 unfolding is_open is_long
-few_here e L t h = grind (arith, nat_tests, goes_on_below (own (channel (packet e.input)) L) (message_length (packet e.input)) 0 e.at t)
+few_here e x1 t h = grind (arith, goes_on_below, nat_tests)
 
 few_own : (h L : List Judged) (t : ℕ) → FewOwn (open_among L h t)
 unfolding open_among
@@ -60,10 +61,7 @@ peak_few start (e ∷ h) = let one = held_few start (e ∷ h) in let others = pe
 pub few_steps : (steps : List ℕ → ℕ) → ((m : List ℕ) → steps m ≤ 4 * (length m - 1) + 2) → (ms : List (List ℕ))
     → sum_by steps ms ≤ 4 * sum_by (λ m. length m - 1) ms + 2 * length ms
 few_steps steps each [] = omega arith
-few_steps steps each (m ∷ ms) =
-    let here = each m in
-    let rest = few_steps steps each ms in
-    omega (arith, sum_by-cons steps m ms, sum_by-cons (λ (b : List ℕ). length b - 1) m ms)
+few_steps steps each (m ∷ ms) = search (rules, arith, sum_by-cons, few_steps steps each ms)
 
 pub few_capped : (steps bytes count : ℕ) → steps ≤ 4 * bytes + 2 * count
     → min steps LARGEST ≤ 4 * min bytes LARGEST + 2 * min count LARGEST

@@ -1,5 +1,5 @@
 -- A finished message is carried by its initialization packet and its channel's own packets.
-use Rattle.std.proofs.Common.{◌≡◌, ℕ, ◌+◌, ◌*◌, ◌≤◌, Bool, true, false, cond, ◌&&◌, inl, inr, List, [], ◌∷◌, ◌++◌, length, take, drop, flat_map, refl, sym, ◌∙◌, ap, subst, arith, Option, Some, None, max, nat_le, length-append, length-drop, length-take}
+use Rattle.std.proofs.Common.{◌≡◌, ℕ, ◌+◌, ◌*◌, ◌≤◌, Bool, true, false, cond, ◌&&◌, inl, List, [], ◌∷◌, ◌++◌, length, take, drop, flat_map, refl, sym, ◌∙◌, ap, subst, arith, Option, Some, max, nat_le, length-append, length-drop, length-take}
 use Rattle.std.proofs.lemmas.Bool.{cond_both}
 use Rattle.std.proofs.lemmas.Bool.Decides.{nat_tests}
 use Rattle.std.proofs.lemmas.List.{length-map}
@@ -67,26 +67,7 @@ pub last_carries : (b : Begun) (t : ℕ) (p : List ℕ) → is_initialization b.
     → goes_on (message_length b.packet) 0 b.at b.own t ≡ true → is_last b p ≡ true
     → Carries b.packet (packets_of b.own ++ p ∷ []) (channel b.packet) (command b.packet) (take (message_length b.packet) (joined b.packet (packets_of b.own ++ p ∷ [])))
 unfolding is_last
-last_carries b t p st l64 a64 p64 own low high goes last =
-    let ps = packets_of b.own ++ p ∷ [] in
-    let all = joined b.packet ps in
-    let m : length (packets_of b.own) ≡ length b.own = simp length-map in
-    let count : length ps ≡ length b.own + 1 = simp (length-append, length-map) in
-    let len : length all ≡ 57 + 59 * length ps = length_joined b.packet ps l64 (are64_more (packets_of b.own) p a64 p64) in
-    let above : message_length b.packet ≤ 57 + 59 * (length b.own + 1) = grind (arith, nat_tests) in
-    let below = goes_on_below b.own (message_length b.packet) 0 b.at t (omega (arith, low)) goes in
-    let exact : length (take (message_length b.packet) all) ≡ message_length b.packet = omega (arith, length-take (message_length b.packet) all) in
-    record {
-      short = omega arith;
-      begins = st;
-      on = refl;
-      asks = refl;
-      counts = sym exact;
-      continues = continue_more (channel b.packet) 0 (length b.own) (packets_of b.own) p (omega arith) (all_continue b.own (channel b.packet) (message_length b.packet) 0 b.at t own goes)
-          (grind arith) (grind (arith, nat_tests)) (grind (arith, nat_tests));
-      least = inr (omega arith, omega arith);
-      joins = ap (λ n. take n all) (sym exact);
-    }
+last_carries b t p st l64 a64 p64 own low high goes last = grind (arith, all_continue, are64_more, continue_more, goes_on_below, length-append, length-map, length-take, length_joined, nat_tests)
 
 -- Every packet of these inputs has 64 bytes.
 pub packets_whole : (c : ℕ) (es : List Judged) → AreWhole es → Are64 (packets_of (own c es))
@@ -107,17 +88,7 @@ pub record Known (b : Begun) (t : ℕ) : Type 0 where
 known_here : (start : Start) (h : List Judged) (x : Timed) (L : List Judged) (t : ℕ) → IsWhole x.input → AreWhole L
     → is_open (judge start x h) L t ≡ true → Known (begun_by (judge start x h) L) t
 unfolding is_open is_long judge admits
-known_here start h x L t w whole o =
-    let c = channel (packet x.input) in
-    record {
-      start = grind arith;
-      whole = grind arith;
-      parts = packets_whole c L whole;
-      own_packets = own_on c L;
-      long = grind (arith, nat_tests);
-      short = grind (arith, nat_tests);
-      goes = grind arith;
-    }
+known_here start h x x3 t w whole o = grind (arith, nat_tests, own_on, packets_whole)
 
 known : (start : Start) (h : List Timed) (L : List Judged) (t : ℕ) (b : Begun) → ArriveWhole h → AreWhole L
     → open_among L (judged start h) t ≡ Some b → Known b t
@@ -139,12 +110,7 @@ long_carried : (o : Option Begun) (t : ℕ) (p : List ℕ) (m : Message) → ((b
     → finished_long o p ≡ Some m
     → CarriesMessage (long_carriers o p) m.cid m.cmd m.bytes
 unfolding finished_long long_carriers
-long_carried None t p m k whole h = cc
-long_carried (Some b) t p m k whole h =
-    let l = long_is b p m h in
-    let f = k b refl in
-    rw l.0 (subst (λ x. Carries b.packet (packets_of b.own ++ p ∷ []) x.cid x.cmd x.bytes) l.1
-    (last_carries b t p f.start f.whole f.parts whole f.own_packets f.long f.short f.goes l.0))
+long_carried x0 t p m k whole h = grind (arith, last_carries, long_is)
 
 short_carries : (p : List ℕ) → is_initialization p ≡ true → length p ≡ 64 → message_length p ≤ 57
     → Carries p [] (channel p) (command p) (take (message_length p) (joined p []))
@@ -174,9 +140,7 @@ carried o t admitted (Packet p) m k whole starts h =
     go : (b : Bool) → (admitted && nat_le (message_length p.0) 57) ≡ b
         → cond b (Some (message p.0 [])) (finished_long o p.0) ≡ Some m
         → CarriesMessage (cond b (p.0 ∷ []) (long_carriers o p.0)) m.cid m.cmd m.bytes
-    go true e q =
-        let few : message_length p.0 ≤ 57 = grind (arith, nat_tests) in
-        subst (λ x. Carries p.0 [] x.cid x.cmd x.bytes) (same_Some _ m q) (short_carries p.0 (starts (grind arith)) whole few)
+    go true e q = grind (arith, nat_tests, same_Some, short_carries)
     go false e q = long_carried o t p.0 m k whole q
 carried o t admitted other m k whole starts h = cc
 

@@ -1,22 +1,23 @@
 -- The authenticator after a history is that of its events, so that the laws of its credentials hold of the history.
-use Rattle.std.proofs.Common.{◌≡◌, ℕ, max, List, [], ◌∷◌, ◌++◌, Option, Some, None, option_map, refl, ◌∙◌, ap, arith}
-use Rattle.authn_core.specs.State.{Job, Event, Request, SignatureIs, Answer, Answered}
+use Rattle.std.proofs.lemmas.Bool.Decides.{nat_tests}
+use Rattle.std.proofs.Common.{rules}
+use Rattle.std.proofs.Common.{◌≡◌, ℕ, List, [], ◌∷◌, ◌++◌, Option, Some, None, option_map, refl, arith}
+use Rattle.authn_core.specs.State.{ChannelTask, Event, SignatureIs, Answer, Answered}
 use Rattle.authn_core.specs.Views.{as_work, needs, sign}
 use Rattle.authn_core.specs.Turn.{Start, CoreState, Work, working, first_state, core_answer}
 use Rattle.authn_core.specs.Ready.{Ready}
 use Rattle.authn_core.specs.Marks.{Step, Orderly, core_at}
 use Rattle.token_session.specs.declared.input.Timed.{Timed}
-use Rattle.token_session.specs.Inputs.{Judged, end, given}
-use Rattle.token_session.specs.Messages.{open_at, finished}
+use Rattle.token_session.specs.Inputs.{Judged}
+use Rattle.token_session.specs.Messages.{finished}
 use Rattle.token_session.specs.History.{core, judge, judged, event, service_packets, table_packets}
-use Rattle.token_session.specs.Events.{event_core, event_packets}
-use Rattle.token_session.specs.Law.{event_at}
+use Rattle.token_session.specs.Events.{event_packets}
 use Rattle.token_session.specs.Credentials.{step_of, steps}
 use Rattle.token_session.proofs.Safety.{EventGiven, event_given}
 use Rattle.token_session.proofs.Follows.{good_judged, safe_at}
 use Rattle.hid_packet.specs.Commands.{CBOR}
 use Rattle.hid_packet.specs.Message.{written}
-use Rattle.ctap_message.specs.Asked.{Asked, MakeCredential, GetAssertion}
+use Rattle.ctap_message.specs.Asked.{Asked}
 use Rattle.authn_core.specs.Signed.{IsSigned}
 use Rattle.token_session.specs.declared.input.Input.TheVariants.{Signature}
 use Rattle.token_session.specs.Replies.{answer_packets}
@@ -26,42 +27,29 @@ use Rattle.token_session.specs.Signing.{came, IsAnsweredBy}
 pub core_is : (start : Start) (h : List Judged) → core start h ≡ core_at (first_state start) (steps start h)
 unfolding core steps core_at
 core_is start [] = refl
-core_is start (e ∷ past) = ap (λ k. event_core k e.at (event_at start e past)) (core_is start past) ∙ one_step (event_at start e past)
-  where
-    one_step : (v : Option Event) → event_core (core_at (first_state start) (steps start past)) e.at v ≡ core_at (first_state start) (step_of e.at v ++ steps start past)
-    one_step None = refl
-    one_step (Some v) = refl
+core_is start (e ∷ past) = search (rules, arith, core_is start past)
 
-no_job : (w : Option Job) → option_map (λ (v : Work). v.cid) (option_map as_work w) ≡ None → w ≡ None
-no_job w h = grind arith
+no_work : (w : Option ChannelTask) → option_map (λ (v : Work). v.cid) (option_map as_work w) ≡ None → w ≡ None
+no_work w h = grind arith
 
 one_orderly : (g : ℕ) (k : CoreState) (at : ℕ) (e : Option Event) (past : List Step)
     → EventGiven g (working (core_at k past)) e
     → Orderly k past → Orderly k (step_of at e ++ past)
 unfolding Orderly
-one_orderly g k at None past a o = o
-one_orderly g k at (Some (Request cid bytes)) past a o = (no_job (core_at k past).state.work a.2, o)
-one_orderly g k at (Some e) past a o = (tt, o)
+one_orderly g k at x3 past a o = grind (arith, nat_tests)
 
 pub orderly : (start : Start) (h : List Timed) → Orderly (first_state start) (steps start (judged start h))
 unfolding judged judge steps Orderly
 orderly start [] = tt
-orderly start (x ∷ h) =
-    let past = judged start h in
-    let t = max (end start past) x.at in
-    let safe = safe_at start t past (good_judged start h) (omega arith) in
-    one_orderly (given past) (first_state start) t _ (steps start past)
-    (rw (← (core_is start past)) (event_given (given past) (open_at past t) (working (core start past)) x.input safe.opens)) (orderly start h)
+orderly start (x ∷ h) = grind (arith, core_is, event_given, good_judged, one_orderly, safe_at, orderly start h)
 
-pub first_ready : (start : Start) → Ready start.room (first_state start).state
+pub first_ready : (start : Start) → Ready start.capacity (first_state start).state
 first_ready start = record { pending = tt; work = tt }
 
 -- what is answered has bytes, and is sent where the request came from
-answered_bytes : (aaguid : List ℕ) (work : Option Job) (id signed sig : List ℕ) (answer : Answer) (asked : Option Asked)
+answered_bytes : (aaguid : List ℕ) (work : Option ChannelTask) (id signed sig : List ℕ) (answer : Answer) (asked : Option Asked)
     → IsSigned aaguid work id signed sig answer asked → (bytes : List ℕ) × (answer ≡ Answered bytes)
-answered_bytes aaguid work id signed sig answer (Some (GetAssertion hash rp_id allow up)) s = (_, s.3)
-answered_bytes aaguid work id signed sig answer (Some (MakeCredential hash rp_id user_id user_name discoverable exclude)) s = (_, s.3)
-answered_bytes aaguid work id signed sig answer other s = absurd s
+answered_bytes aaguid work id signed sig answer other s = search (rules, arith)
 
 sends : (k : CoreState) (t : ℕ) (sig bytes : List ℕ) (cid : ℕ) → working k ≡ Some cid
     → core_answer k t (SignatureIs (Some sig)) ≡ Answered bytes
@@ -69,18 +57,14 @@ sends : (k : CoreState) (t : ℕ) (sig bytes : List ℕ) (cid : ℕ) → working
 unfolding answer_packets
 sends k t sig bytes cid w a = rw (w, a) refl
 
-asked_on : (work : Option Job) (id signed : List ℕ) → needs work ≡ sign id signed
+asked_on : (work : Option ChannelTask) (id signed : List ℕ) → needs work ≡ sign id signed
     → (cid : ℕ) × (option_map (λ (w : Work). w.cid) (option_map as_work work) ≡ Some cid)
 asked_on None id signed e = cc
-asked_on (Some job) id signed e = (job.cid, refl)
+asked_on (Some work) id signed e = (work.cid, refl)
 
 pub signature_at : (start : Start) (e : Judged) (h : List Judged) (id signed sig : List ℕ)
     → e.input ≡ Signature (Some sig)
     → needs (core start h).state.work ≡ sign id signed
     → IsSigned start.aaguid (core start h).state.work id signed sig (core_answer (core start h) e.at (SignatureIs (Some sig))) (came start h).asked → IsAnsweredBy start h e id signed sig
 unfolding service_packets table_packets finished event answer_packets
-signature_at start e h id signed sig is need answer =
-    let k = core start h in
-    let a = answered_bytes start.aaguid k.state.work id signed sig (core_answer k e.at (SignatureIs (Some sig))) (came start h).asked answer in
-    let c = asked_on k.state.work id signed need in
-    record { cid = c.0; bytes = a.0; asker = c.1; sent = rw is (sends k e.at sig a.0 c.0 c.1 a.1); answer = rw a.1 at answer }
+signature_at start e h id signed sig is need answer = grind (arith, answered_bytes, asked_on, sends)

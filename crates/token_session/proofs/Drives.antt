@@ -1,5 +1,6 @@
 -- A drive goes on by one input.
-use Rattle.std.proofs.Common.{Result, Ok, Err, IfOk, MatchResult, ◌≡◌, ℕ, ◌+◌, ◌<◌, ◌≤◌, List, [], ◌∷◌, ◌++◌, append_assoc, append-nil, length, take, get_or, refl, sym, ◌∙◌, ap, arith, length-take}
+use Rattle.std.proofs.lemmas.Grind.{common_steps}
+use Rattle.std.proofs.Common.{Result, Ok, IfOk, MatchResult, ◌≡◌, ℕ, ◌+◌, ◌<◌, ◌≤◌, List, [], ◌∷◌, ◌++◌, append_assoc, append-nil, length, take, get_or, refl, ap, arith, length-take}
 use Rattle.std.proofs.lemmas.List.{take_more}
 use Rattle.std.proofs.Math.Seq.{take-length}
 use Rattle.authn_core.specs.Turn.{Start}
@@ -28,15 +29,14 @@ sends_append (y ∷ xs) s x n m e = rw (append_assoc, sends_append xs (stepped s
 pub driven_more : (xs : List Timed) (i : ℕ) (s v w : SessionState) (x d : Timed) → i < length xs → x ≡ get_or xs i d
     → w ≡ stepped v x
     → v ≡ driven s (take i xs) → w ≡ driven s (take (i + 1) xs)
-driven_more xs i s v w x d h is e f = rw (e, is, f, take_more xs i d h, driven_append (take i xs) s (get_or xs i d)) refl
+driven_more xs i s v w x d h is e f = grind (arith, common_steps, driven_append, take_more)
 
 pub sends_more : (xs : List Timed) (i : ℕ) (s v : SessionState) (ps : List (List ℕ)) (old now next : List (ℕ × List ℕ)) (x d : Timed)
     → i < length xs → x ≡ get_or xs i d
     → next ≡ now ++ numbered i ps → ps ≡ sent_by v x → v ≡ driven s (take i xs)
     → now ≡ old ++ driven_sends 0 s (take i xs)
     → next ≡ old ++ driven_sends 0 s (take (i + 1) xs)
-sends_more xs i s v ps old now next x d h is a b f e =
-    rw (a, e, b, is, f, take_more xs i d h, sends_append (take i xs) s (get_or xs i d) 0 i (omega (arith, length-take i xs))) (append_assoc old _ _)
+sends_more xs i s v ps old now next x d h is a b f e = grind (arith, append_assoc, length-take, sends_append, take_more)
 
 whole_append : (xs : List Timed) (x : Timed) → ArriveWhole xs → IsWhole x.input → ArriveWhole (xs ++ x ∷ [])
 whole_append [] x w is = (is, tt)
@@ -47,9 +47,9 @@ pub whole_more : (xs : List Timed) (i : ℕ) (x d : Timed) → i < length xs →
     → ArriveWhole (take (i + 1) xs)
 whole_more xs i x d h is w one = rw (take_more xs i d h, ← is) (whole_append (take i xs) x w one)
 
-pub room_here : (now all : List (ℕ × List ℕ)) (places : ℕ) → now ≡ all → length now + 130 ≤ places
+pub capacity_here : (now all : List (ℕ × List ℕ)) (places : ℕ) → now ≡ all → length now + 130 ≤ places
     → length all + 130 ≤ places
-room_here now all places e h = let n = ap (length {A = ℕ × List ℕ}) e in omega (arith, n)
+capacity_here now all places e h = let n = ap (length {A = ℕ × List ℕ}) e in omega (arith, n)
 
 -- A session that stands after a history is driven along it.
 pub driven_stands : (xs : List Timed) (s : SessionState) (start : Start) (h : List Timed) → StandsAfter s start h
@@ -61,8 +61,7 @@ pub driven_follows : (xs : List Timed) (s : SessionState) (start : Start) (n : �
     → StandsAfter s start h
     → driven_sends n s xs ≡ sent_from n start h xs
 driven_follows [] s start n h b = refl
-driven_follows (x ∷ xs) s start n h b =
-    rw (step_sends s.machine start h x (machine_after s start h b), driven_follows xs (stepped s x) start (n + 1) (x ∷ h) (stands_longer s start h x b)) refl
+driven_follows (x ∷ xs) s start n h b = grind (arith, machine_after, stands_longer, step_sends, driven_follows xs (stepped s x) start (n + 1) (x ∷ h) (stands_longer s start h x b))
 
 -- a drive whose meters are passed on, and its fault as that of one of two
 abbrev IsPassed : Result Meters DriveFault → Meters → Type 0
@@ -76,8 +75,4 @@ pub drives_alike : (start : Start) (h g xs ys : List Timed) (s t : SessionState)
     → IfOk r (λ m. m ≡ s.meters) → IfOk q (λ k. k ≡ t.meters)
     → new ≡ old ++ sent_from 0 start g (take (done_of (length ys) q) ys)
     → (s ≡ t) × (m ≡ k) × (new ≡ old ++ quiet_from 0 start h xs ys)
-drives_alike start h g xs ys s t (Err e) q m k old new is is' quiet longer stands stands' counts counts' sent = absurd is
-drives_alike start h g xs ys s t (Ok x) (Err e) m k old new is is' quiet longer stands stands' counts counts' sent = absurd is'
-drives_alike start h g xs ys s t (Ok x) (Ok y) m k old new is is' quiet longer stands stands' counts counts' sent =
-    let same : s ≡ t = (rw (take-length xs) at stands) ∙ quiet_alike start (onto xs h) (onto ys g) longer ∙ sym (rw (take-length ys) at stands') in
-    (same, let meters = ap (λ (v : SessionState). v.meters) same in grind arith, sent ∙ rw (take-length ys, quiet_runs 0 start h g xs ys quiet longer) refl)
+drives_alike start h g xs ys s t x7 q m k old new is x14 quiet longer stands x18 counts x20 sent = grind (arith, quiet_alike, quiet_runs, take-length)

@@ -1,22 +1,18 @@
 -- One input sends at most 130 packets.
-use Rattle.std.proofs.Common.{◌≡◌, ℕ, ◌≤◌, suc, List, [], ◌++◌, append-nil, length, max, Option, Some, arith, length-append}
+use Rattle.std.proofs.Common.{◌≡◌, ℕ, ◌≤◌, suc, List, [], ◌++◌, append-nil, length, Option, Some, arith, length-append}
 use Rattle.std.proofs.lemmas.Bool.Decides.{nat_tests}
 use Rattle.std.proofs.lemmas.List.{drop_all}
 use Rattle.hid_packet.proofs.Carrying.{few_written}
 use Rattle.authn_core.proofs.Facts.{drop_answers_nothing}
 use Rattle.authn_core.specs.State.{Answer, Drop, Event}
-use Rattle.authn_core.specs.Turn.{CoreState, working}
-use Rattle.hid_assemble.specs.Assembly.{Assembly, accepted}
-use Rattle.hid_assemble.specs.Verdicts.{verdict}
-use Rattle.hid_packet.specs.Packet.{fields}
+use Rattle.authn_core.specs.Turn.{CoreState}
 use Rattle.hid_assemble.specs.declared.verdict.Verdict.{Verdict}
 use Rattle.token_session.specs.Effects.{verdict_event, verdict_packets}
 use Rattle.hid_packet.specs.Message.{continuation_packets, written}
-use Rattle.token_session.specs.Machine.{State, time_passed, served, turn}
-use Rattle.token_session.specs.Events.{reply_in, event_packets}
+use Rattle.token_session.specs.Machine.{MachineState, time_passed, served, turn}
+use Rattle.token_session.specs.Events.{event_packets}
 use Rattle.token_session.specs.Replies.{answer_packets, greeting}
 use Rattle.token_session.specs.declared.input.Input.{Input}
-use Rattle.token_session.specs.declared.input.Input.TheVariants.{Packet}
 use Rattle.token_session.specs.declared.input.Timed.{Timed}
 
 no_more : (c : ℕ) → suc (length (continuation_packets 128 c 0 [])) ≤ 1
@@ -43,20 +39,17 @@ pub verdict_few : (k : CoreState) (t : ℕ) (v : Verdict) (bytes : List ℕ)
 unfolding greeting
 verdict_few k t v bytes = grind (arith, few_written, event_few, drop_sends_nothing, append-nil, nat_tests)
 
-pub time_few : (s : State) (t : ℕ) → length (time_passed s t).packets ≤ 1
+pub time_few : (s : MachineState) (t : ℕ) → length (time_passed s t).packets ≤ 1
 unfolding time_passed
 time_few s t = grind (arith, one_packet)
 
 below : (a b : List (List ℕ)) → length a ≤ 1 → length b ≤ 129 → length (a ++ b) ≤ 130
 below a b h k = omega (arith, length-append a b)
 
-pub served_few : (s : State) (early : List (List ℕ)) (i : Input) → length early ≤ 1
+pub served_few : (s : MachineState) (early : List (List ℕ)) (i : Input) → length early ≤ 1
     → length (served s early i).packets ≤ 130
-served_few s early (Packet p) h =
-    let a : Assembly = record { given = s.given; current = s.current; finished = [] } in
-    below early _ h (verdict_few s.core s.now (verdict a (working s.core) (fields p.0)) (accepted a s.now (working s.core) (fields p.0)).finished)
-served_few s early other h = below early _ h (event_few s.core s.now (reply_in other))
+served_few s early other h = grind (arith, below, event_few, verdict_few)
 
-pub turn_few : (s : State) (x : Timed) → length (turn s x).packets ≤ 130
+pub turn_few : (s : MachineState) (x : Timed) → length (turn s x).packets ≤ 130
 unfolding turn
-turn_few s x = let now = time_passed s (max s.now x.at) in served_few now.state now.packets x.input (time_few s (max s.now x.at))
+turn_few s x = grind (arith, served_few, time_few)

@@ -1,4 +1,5 @@
 -- The machine follows the history.
+use Rattle.std.proofs.Common.{rules}
 use Rattle.std.proofs.Common.{◌≡◌, ℕ, ◌+◌, ◌≤◌, true, cond, ◌&&◌, not, List, [], ◌∷◌, ◌++◌, max, min, Option, None, option_map, refl, sym, ◌∙◌, ap, arith}
 use Rattle.std.proofs.lemmas.Bool.Decides.{nat_tests}
 use Rattle.std.proofs.lemmas.List.Sums.{sum_by-cons}
@@ -8,10 +9,10 @@ use Rattle.hid_assemble.specs.Table.{Open, LAST_CHANNEL}
 use Rattle.hid_assemble.specs.Assembly.{accepted, is_overdue}
 use Rattle.hid_assemble.specs.Verdicts.{verdict}
 use Rattle.token_session.specs.Inputs.{Judged, asks_channel, end, given, is_own, is_packet}
-use Rattle.token_session.specs.Messages.{Begun, as_open, finished, last_at, open_at}
+use Rattle.token_session.specs.Messages.{Begun, as_open, finished, open_at}
 use Rattle.token_session.specs.History.{admits, core, event, judge, judged, last_keepalive, packet_event, sent_at, service_packets, table_packets, time_packets}
 use Rattle.token_session.specs.Law.{event_at, named, is_cut, IsAfter, onto, run_sent, run_state, sent_from, sent_now}
-use Rattle.token_session.specs.Machine.{State, Turn, happens, machine, time_passed, served, start_state, turn}
+use Rattle.token_session.specs.Machine.{MachineState, MachineTurn, happens, machine, time_passed, served, start_state, turn}
 use Rattle.token_session.specs.Events.{keepalive_due}
 use Rattle.token_session.specs.Replies.{ping_packets}
 use Rattle.token_session.specs.declared.input.Input.{Input}
@@ -43,7 +44,7 @@ safe_at start t h good le =
 -- ---- time
 
 -- the state that a history names, when time has passed to t
-abbrev late : Start → List Judged → ℕ → State
+abbrev late : Start → List Judged → ℕ → MachineState
 late start h t = record {
   now = t;
   given = given h;
@@ -76,7 +77,7 @@ abbrev pub judged_at : Start → ℕ → List Judged → Input → Judged
 judged_at start t h i = record { at = t; input = i; admitted = is_packet (admits (given h) (open_at h t) (working (core start h))) i }
 
 -- what the history names, as a turn
-abbrev goal_turn : Start → Judged → List Judged → Turn
+abbrev goal_turn : Start → Judged → List Judged → MachineTurn
 goal_turn start e h = record { state = named start (e ∷ h); packets = sent_at start e h; event = event_at start e h }
 
 -- An input that does to each part what the history says leads to the state that it names.
@@ -106,10 +107,7 @@ served_named start t h other good le =
 pub follows : (start : Start) (h : List Judged) (x : Timed) → Good start h
     → turn (named start h) x ≡ goal_turn start (judge start x h) h
 unfolding turn judge named
-follows start h x good =
-    let t = max (end start h) x.at in
-    let le : end start h ≤ t = omega arith in
-    ap (λ (v : Turn). served v.state v.packets x.input) (time_named start t h good le) ∙ served_named start t h x.input good le
+follows start h x good = grind (arith, served_named, time_named)
 
 -- ---- all histories
 
@@ -118,7 +116,7 @@ unfolding admits
 admitted_alone g o w i h = grind arith
 
 safe_more : (g k : ℕ) (o : Option Begun) (w : Option ℕ) → g ≤ k → k ≤ LAST_CHANNEL → Safe g o w → Safe k o w
-safe_more g k o w le few s = let works = s.works in let opens = s.opens in record { few = few; works = grind arith; opens = grind arith }
+safe_more g k o w le few s = search (rules, arith)
 
 -- What holds after a history holds after a longer one.
 good_longer : (start : Start) (h : List Judged) (x : Timed) → Good start h → Good start (judge start x h ∷ h)
@@ -142,29 +140,28 @@ good_judged start (x ∷ h) = good_longer start (judged start h) x (good_judged 
 pub machine_follows : (start : Start) (h : List Timed) → machine start h ≡ named start (judged start h)
 unfolding machine judged start_state named given core open_at messages.open_among last_keepalive
 machine_follows start [] = refl
-machine_follows start (x ∷ h) =
-    ap (λ s. (turn s x).state) (machine_follows start h) ∙ ap (λ (v : Turn). v.state) (follows start (judged start h) x (good_judged start h))
+machine_follows start (x ∷ h) = grind (arith, follows, good_judged, machine_follows start h)
 
 -- what a turn makes of a state that stands after a history
-pub turn_after : (s : State) (start : Start) (h : List Timed) (x : Timed) → IsAfter s start h
+pub turn_after : (s : MachineState) (start : Start) (h : List Timed) (x : Timed) → IsAfter s start h
     → turn s x ≡ record { state = named start (judged start (x ∷ h)); packets = sent_now start h x; event = event_at start (judge start x (judged start h)) (judged start h) }
 unfolding judged sent_now
 turn_after s start h x b = ap (λ v. turn v x) b ∙ follows start (judged start h) x (good_judged start h)
 
-pub step_after : (s : State) (start : Start) (h : List Timed) (x : Timed) → IsAfter s start h
+pub step_after : (s : MachineState) (start : Start) (h : List Timed) (x : Timed) → IsAfter s start h
     → IsAfter (turn s x).state start (x ∷ h)
-step_after s start h x b = ap (λ (v : Turn). v.state) (turn_after s start h x b)
+step_after s start h x b = ap (λ (v : MachineTurn). v.state) (turn_after s start h x b)
 
-pub step_sends : (s : State) (start : Start) (h : List Timed) (x : Timed) → IsAfter s start h
+pub step_sends : (s : MachineState) (start : Start) (h : List Timed) (x : Timed) → IsAfter s start h
     → (turn s x).packets ≡ sent_now start h x
-step_sends s start h x b = ap (λ (v : Turn). v.packets) (turn_after s start h x b)
+step_sends s start h x b = ap (λ (v : MachineTurn). v.packets) (turn_after s start h x b)
 
-pub run_after : (xs : List Timed) (s : State) (start : Start) (h : List Timed) → IsAfter s start h
+pub run_after : (xs : List Timed) (s : MachineState) (start : Start) (h : List Timed) → IsAfter s start h
     → IsAfter (run_state s xs) start (onto xs h)
 run_after [] s start h b = b
 run_after (x ∷ xs) s start h b = run_after xs (turn s x).state start (x ∷ h) (step_after s start h x b)
 
-pub run_sends : (xs : List Timed) (s : State) (start : Start) (n : ℕ) (h : List Timed) → IsAfter s start h
+pub run_sends : (xs : List Timed) (s : MachineState) (start : Start) (n : ℕ) (h : List Timed) → IsAfter s start h
     → run_sent n s xs ≡ sent_from n start h xs
 run_sends [] s start n h b = refl
-run_sends (x ∷ xs) s start n h b = rw (step_sends s start h x b, run_sends xs (turn s x).state start (n + 1) (x ∷ h) (step_after s start h x b)) refl
+run_sends (x ∷ xs) s start n h b = grind (arith, step_after, step_sends, run_sends xs)

@@ -1,5 +1,6 @@
 -- The promises of every history, together.
-use Rattle.std.proofs.Common.{◌≡◌, ℕ, ◌+◌, ◌-◌, ◌*◌, ◌≤◌, List, [], ◌∷◌, ◌++◌, length, map, reverse, Result, Ok, Err, IfOk, take, refl, sym, ◌∙◌, ap, subst, append-nil, append_assoc, arith, take_all}
+use Rattle.std.proofs.lemmas.Grind.{common_steps}
+use Rattle.std.proofs.Common.{◌≡◌, ℕ, ◌+◌, ◌-◌, ◌*◌, ◌≤◌, List, [], ◌∷◌, ◌++◌, length, map, reverse, Result, IfOk, take, refl, ◌∙◌, ap, subst, append-nil, append_assoc, arith}
 use Rattle.std.proofs.lemmas.List.{map-append, reverse-append}
 use Rattle.std.specs.List.{AllByRecursion}
 use Rattle.ctap_message.specs.Requests.{steps_of}
@@ -13,7 +14,6 @@ use Rattle.token_session.specs.declared.input.Meters.{Meters}
 use Rattle.token_session.specs.Inputs.{Judged}
 use Rattle.token_session.specs.History.{judged, sent}
 use Rattle.token_session.specs.Law.{numbered, onto, sent_from, sent_now, turns_send}
-use Rattle.token_session.specs.Machine.{machine}
 use Rattle.token_session.specs.Meters.{requests, meters_of, session_of, SessionState, StandsAfter}
 use Rattle.token_session.specs.Headline.{AllCarried, IsAnswered}
 use Rattle.token_session.proofs.Carrying.{finished_is_carried}
@@ -22,8 +22,7 @@ use Rattle.token_session.proofs.Follows.{machine_follows, step_sends}
 pub turns_send_sent : (start : Start) (h : List Timed) → turns_send start h ≡ sent start (judged start h)
 unfolding turns_send sent judged sent_now
 turns_send_sent start [] = refl
-turns_send_sent start (x ∷ h) =
-    rw (step_sends (machine start h) start h x (machine_follows start h), turns_send_sent start h) refl
+turns_send_sent start (x ∷ h) = grind (arith, machine_follows, step_sends, turns_send_sent start h)
 
 pub all_carried : (start : Start) (h : List Timed) → ArriveWhole h → AllCarried (judged start h)
 unfolding judged
@@ -51,7 +50,7 @@ sent_along (x ∷ xs) n start h =
 
 onto_reverse : (xs h : List Timed) → onto xs h ≡ reverse xs ++ h
 onto_reverse [] h = refl
-onto_reverse (x ∷ xs) h = rw (onto_reverse xs (x ∷ h), reverse-append (x ∷ []) xs) (sym (append_assoc (reverse xs) (x ∷ []) h))
+onto_reverse (x ∷ xs) h = grind (arith, common_steps, append_assoc, reverse-append, onto_reverse xs (x ∷ h))
 
 -- the packets of a start's inputs are those of the history, which has the newest first
 sent_reverse : (xs : List Timed) (start : Start)
@@ -75,14 +74,11 @@ pub run_answered : (start : Start) (xs : List Timed) (out : List Sent) → Arriv
     → map as_pair out ≡ sent_from 0 start [] xs
     → (ArriveWhole (reverse xs) → IsAnswered start (reverse xs) (turns_send start (reverse xs)))
     → IsAnswered start (reverse xs) (map packet_of out)
-run_answered start xs out w is answers =
-    rw (packets_pairs out, is, sent_reverse xs start, ← (turns_send_sent start (reverse xs))) (answers (whole_reverse xs w))
+run_answered start xs out w is answers = grind (arith, packets_pairs, sent_reverse, turns_send_sent, whole_reverse)
 
 -- A drive of a new session that stepped all inputs returns the meters that their history names.
 pub meters_named : (start : Start) (xs : List Timed) (result : Result Meters DriveFault) (s : SessionState)
     → StandsAfter s start (onto (take (done_of (length xs) result) xs) []) → IfOk result (λ meters. meters ≡ s.meters)
     → IfOk result (λ meters. meters ≡ meters_of start (judged start (reverse xs)))
 unfolding session_of
-meters_named start xs (Ok meters) s after is =
-    rw (is, after, take_all (length xs) xs (omega arith), onto_reverse xs [], append-nil (reverse xs)) refl
-meters_named start xs (Err fault) s after is = tt
+meters_named start xs x2 s after is = grind (arith, common_steps, append-nil, onto_reverse)

@@ -1,5 +1,7 @@
 -- The meters that a history names go on by one input.
-use Rattle.std.proofs.Common.{◌≡◌, ℕ, ◌+◌, ◌-◌, ◌*◌, ◌≤◌, List, [], ◌∷◌, length, max, min, sum_by, Option, Some, None, refl, ap, arith}
+use Rattle.std.proofs.lemmas.Grind.{common_steps}
+use Rattle.std.proofs.Common.{rules}
+use Rattle.std.proofs.Common.{◌≡◌, ℕ, ◌+◌, ◌-◌, ◌*◌, ◌≤◌, List, [], ◌∷◌, length, max, min, sum_by, Option, refl, ap, arith}
 use Rattle.std.proofs.lemmas.List.Sums.{sum_by-cons}
 use Rattle.hid_assemble.specs.Assembly.{held_bytes}
 use Rattle.ctap_message.specs.Requests.{steps_of, LARGEST}
@@ -10,7 +12,7 @@ use Rattle.token_session.specs.Effects.{request_in}
 use Rattle.token_session.specs.Inputs.{Judged, given}
 use Rattle.token_session.specs.Messages.{open_at, open_among}
 use Rattle.token_session.specs.History.{judged, judge, held, core, last_keepalive}
-use Rattle.token_session.specs.Machine.{State, turn, start_state}
+use Rattle.token_session.specs.Machine.{MachineState, turn, start_state}
 use Rattle.token_session.specs.Law.{named, event_at, IsAfter}
 use Rattle.cred_table.specs.Waiting.{pending_count}
 use Rattle.std.specs.List.{cons_option}
@@ -36,24 +38,13 @@ totals held rows pending rs = record {
 counted_more : (request : Option (List ℕ)) (held rows pending : ℕ) (rs : List (List ℕ))
     → counted (totals held rows pending rs) request ≡ totals held rows pending (cons_option request rs)
 unfolding counted
-counted_more None held rows pending rs = refl
-counted_more (Some m) held rows pending rs = rw (sum_by-cons (λ (b : List ℕ). length b - 1) m rs, sum_by-cons steps_of m rs) (λ i. record {
-  held = held;
-  rows = rows;
-  pending = pending;
-  requests = capped 1 (length rs) (length (m ∷ rs)) (omega arith) i;
-  bytes = capped (length m - 1) (sum_by (λ (b : List ℕ). length b - 1) rs) _ refl i;
-  steps = capped (steps_of m) (sum_by steps_of rs) _ refl i;
-})
-  where
-    capped : (k n l : ℕ) → l ≡ k + n → min (min n LARGEST + k) LARGEST ≡ min l LARGEST
-    capped k n l e = omega arith
+counted_more x0 held rows pending rs = grind (arith, common_steps, sum_by-cons)
 
 pub meters_more : (start : Start) (e : Judged) (h : List Judged)
     → metered (meters_of start h) (held start (e ∷ h)) (length (core start (e ∷ h)).state.rows) (pending_count (core start (e ∷ h)).state.pending) (request_in (event_at start e h))
     ≡ meters_of start (e ∷ h)
 unfolding meters_of metered requests peak_held peak_rows peak_pending
-meters_more start e h = rw (counted_more (request_in (event_at start e h)) (peak_held start h) (peak_rows start h) (peak_pending start h) (requests start h)) refl
+meters_more start e h = search (rules, arith, counted_more)
 
 -- A session that stands after a history stands after the longer one.
 pub stands_longer : (s : SessionState) (start : Start) (h : List Timed) (x : Timed) → StandsAfter s start h
@@ -65,17 +56,17 @@ stands_longer s start h x b =
     rw (b, turn_after (named start past) start h x refl, held_named start (e ∷ past), meters_more start e past) refl
 
 -- A turn of the machine, counted, is a step of the session.
-pub stepped_is : (m n : State) (k l : Meters) (s : SessionState) (x : Timed) (held rows pending : ℕ)
+pub stepped_is : (m n : MachineState) (k l : Meters) (s : SessionState) (x : Timed) (held rows pending : ℕ)
     → record { machine = m; meters = k } ≡ s
     → n ≡ (turn m x).state → l ≡ counted k (request_in (turn m x).event)
     → held ≡ max l.held (held_bytes n.current) → rows ≡ max l.rows (length n.core.state.rows)
     → pending ≡ max l.pending (pending_count n.core.state.pending)
     → record { machine = n; meters = record l { held = held; rows = rows; pending = pending } } ≡ stepped s x
 unfolding stepped metered
-stepped_is m n k l s x held rows pending is state finished held_is rows_are pending_is = rw (← is, held_is, rows_are, pending_is, finished, state) refl
+stepped_is m n k l s x held rows pending is state finished held_is rows_are pending_is = search (rules, arith)
 
 -- the session at its start
-pub begins : (start : Start) (m : State) (k : Meters) (rows : ℕ) → m ≡ start_state start
+pub begins : (start : Start) (m : MachineState) (k : Meters) (rows : ℕ) → m ≡ start_state start
     → k ≡ record { held = 0; rows = rows; pending = 0; requests = 0; bytes = 0; steps = 0 }
     → rows ≡ length m.core.state.rows
     → record { machine = m; meters = k } ≡ session_of start []

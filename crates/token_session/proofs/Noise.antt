@@ -1,10 +1,10 @@
 -- Noise leaves all as a tick leaves it: of one turn, of a session's step, and of histories.
-use Rattle.std.proofs.Common.{◌≡◌, ℕ, ◌+◌, inl, inr, Bool, true, false, List, [], ◌∷◌, append-nil, length, max, Some, None, refl, sym, ◌∙◌, ap, suc, arith}
-use Rattle.hid_packet.specs.Packet.{Fields, fields}
-use Rattle.hid_assemble.specs.Table.{Ruling, ruling_of, is_noise}
-use Rattle.hid_assemble.specs.Assembly.{Assembly, accepted, bytes_of, given_after, still_open, held_bytes, open_after, message_after}
+use Rattle.std.proofs.Common.{rules}
+use Rattle.std.proofs.Common.{◌≡◌, ℕ, ◌+◌, Bool, true, false, List, [], ◌∷◌, append-nil, length, max, Some, None, refl, sym, ◌∙◌, ap, suc, arith}
+use Rattle.hid_packet.specs.Packet.{Fields}
+use Rattle.hid_assemble.specs.Table.{Ruling, is_noise}
+use Rattle.hid_assemble.specs.Assembly.{Assembly, accepted, bytes_of, given_after, still_open, open_after, message_after}
 use Rattle.hid_assemble.specs.Verdicts.{ruling_verdict, verdict}
-use Rattle.cred_table.specs.Waiting.{pending_count}
 use Rattle.authn_core.specs.State.{Event, PresenceIs, KeyIs, SignatureIs, Ignored}
 use Rattle.authn_core.specs.Turn.{Start, CoreState, working, turn as turn_of}
 use Rattle.authn_core.proofs.Facts.{presence_ignored, key_ignored, signature_ignored}
@@ -12,55 +12,55 @@ use Rattle.token_session.specs.declared.input.Input.{Input}
 use Rattle.token_session.specs.declared.input.Input.TheVariants.{Packet, Tick, Presence, Key, Signature}
 use Rattle.token_session.specs.declared.input.Timed.{Timed}
 use Rattle.token_session.specs.Effects.{request_in, verdict_event, verdict_packets}
-use Rattle.token_session.specs.Machine.{State, Turn, answer_keeps_alive, turn, time_passed, served, happens}
+use Rattle.token_session.specs.Machine.{MachineState, MachineTurn, answer_keeps_alive, turn, time_passed, served, happens}
 use Rattle.token_session.specs.Inputs.{end}
 use Rattle.token_session.specs.History.{judge, judged, sent}
 use Rattle.token_session.specs.Law.{named, IsAfter, onto, sent_now, sent_from}
-use Rattle.token_session.specs.Meters.{SessionState, stepped, session_of, metered}
+use Rattle.token_session.specs.Meters.{SessionState, stepped, session_of}
 use Rattle.token_session.specs.Noise.{is_noise_among, is_noise_to, is_noise_at, is_noise_after, tick_at, IsQuiet, Quiet, is_replaced, quiet_now, quiet_sent, quiet_from}
 use Rattle.token_session.proofs.Follows.{good_judged, time_named, step_sends}
 use Rattle.token_session.proofs.Metering.{stands_longer}
 
 -- What a turn leaves after, beside the packets: the state, and what a request that it finished took to read.
-pub record Leaves (t : Turn) (u : Turn) : Type 0 where
+pub record Leaves (t : MachineTurn) (u : MachineTurn) : Type 0 where
   pub state : t.state ≡ u.state
   pub request : request_in t.event ≡ request_in u.event
 
 -- what a packet with these fields leaves under a ruling
-abbrev ruled : State → Fields → List (List ℕ) → Ruling → Turn
+abbrev ruled : MachineState → Fields → List (List ℕ) → Ruling → MachineTurn
 ruled s f early r =
     let m = message_after s.current f r in
     let v = ruling_verdict s.given (working s.core) f m r in
     happens s.now (given_after s.given r) (open_after s.current s.now f r) s.core s.keepalive_at early (verdict_packets v (bytes_of m)) (verdict_event v (bytes_of m))
 
-row_leaves : (s : State) (f : Fields) (early : List (List ℕ)) (r : Ruling) → is_noise r ≡ true
+row_leaves : (s : MachineState) (f : Fields) (early : List (List ℕ)) (r : Ruling) → is_noise r ≡ true
     → Leaves (ruled s f early r) (served s early Tick)
 unfolding open_after message_after ruling_verdict
 row_leaves s f early r h = record { state = grind arith; request = grind arith }
 
 -- An event that leaves the authenticator as it is, and that it doesn't answer, leaves what a tick leaves.
-event_leaves : (s : State) (early : List (List ℕ)) (e : Event)
+event_leaves : (s : MachineState) (early : List (List ℕ)) (e : Event)
     → turn_of (s.core).setup (s.core).state s.now e ≡ record { state = (s.core).state; answer = Ignored }
     → request_in (Some e) ≡ None
     → Leaves (happens s.now s.given s.current s.core s.keepalive_at early [] (Some e)) (served s early Tick)
 unfolding answer_keeps_alive
 event_leaves s early e ignored unread = rw ignored (record { state = grind arith; request = unread })
 
-served_leaves : (s : State) (early : List (List ℕ)) (i : Input) → is_noise_to s i ≡ true
+served_leaves : (s : MachineState) (early : List (List ℕ)) (i : Input) → is_noise_to s i ≡ true
     → Leaves (served s early i) (served s early Tick)
 unfolding accepted verdict
-served_leaves s early (Packet p) h = row_leaves s (fields p.0) early (ruling_of s.given s.current (working s.core) (fields p.0)) h
+served_leaves s early (Packet p) h = search (rules, arith, row_leaves)
 served_leaves s early (Presence reply) h = event_leaves s early (PresenceIs reply) (presence_ignored (s.core).setup (s.core).state s.now reply (grind arith)) refl
 served_leaves s early (Key key) h = event_leaves s early (KeyIs key) (key_ignored (s.core).setup (s.core).state s.now key (grind arith)) refl
 served_leaves s early (Signature sig) h = event_leaves s early (SignatureIs sig) (signature_ignored (s.core).setup (s.core).state s.now sig (grind arith)) refl
 served_leaves s early Tick h = cc
 
-pub noise_leaves : (s : State) (x : Timed) → is_noise_at s x ≡ true → Leaves (turn s x) (turn s (tick_at x.at))
+pub noise_leaves : (s : MachineState) (x : Timed) → is_noise_at s x ≡ true → Leaves (turn s x) (turn s (tick_at x.at))
 unfolding turn is_noise_at
-noise_leaves s x h = served_leaves (time_passed s (max s.now x.at)).state (time_passed s (max s.now x.at)).packets x.input h
+noise_leaves s x h = search (rules, arith, served_leaves)
 
 -- whether an input is noise, by the parts of a session when time has passed
-pub noise_now : (s : State) (latest keepalive_at at now : ℕ) (a : Assembly) (k : CoreState) (i : Input) (answer : Bool)
+pub noise_now : (s : MachineState) (latest keepalive_at at now : ℕ) (a : Assembly) (k : CoreState) (i : Input) (answer : Bool)
     → record { now = latest; given = a.given; current = a.current; core = k; keepalive_at = keepalive_at } ≡ s
     → now ≡ max latest at
     → answer ≡ is_noise_among a.given (still_open a.current now) k i
@@ -72,32 +72,24 @@ noise_now s latest keepalive_at at now a k i answer is moment told = rw (← is,
 pub noise_steps : (s : SessionState) (x : Timed) → is_noise_at s.machine x ≡ true
     → stepped s x ≡ stepped s (tick_at x.at)
 unfolding stepped
-noise_steps s x h =
-    let same = noise_leaves s.machine x h in
-    λ i. record {
-      machine = same.state i;
-      meters = metered s.meters (held_bytes (same.state i).current) (length (same.state i).core.state.rows) (pending_count (same.state i).core.state.pending) (same.request i);
-    }
+noise_steps s x h = search (rules, arith, noise_leaves)
 
 -- A tick sends the packets of time alone.
-pub tick_sends : (s : State) (at : ℕ) → (turn s (tick_at at)).packets ≡ (time_passed s (max s.now at)).packets
+pub tick_sends : (s : MachineState) (at : ℕ) → (turn s (tick_at at)).packets ≡ (time_passed s (max s.now at)).packets
 unfolding turn
 tick_sends s at = append-nil _
 
 -- What is noise to the state that a history names is noise after that history.
-pub noise_is_named : (s : State) (start : Start) (h : List Timed) (x : Timed) → IsAfter s start h
+pub noise_is_named : (s : MachineState) (start : Start) (h : List Timed) (x : Timed) → IsAfter s start h
     → is_noise_at s x ≡ is_noise_after start (judge start x (judged start h)) (judged start h)
 unfolding is_noise_at is_noise_after judge named
-noise_is_named s start h x b =
-    rw b (ap (λ (v : Turn). is_noise_to v.state x.input) (time_named start (max (end start (judged start h)) x.at) (judged start h) (good_judged start h) (omega arith)))
+noise_is_named s start h x b = grind (arith, good_judged, time_named)
 
 -- Histories: first what one input makes of a session that stands after both.
 stepped_alike : (start : Start) (h : List Timed) (x y : Timed) → IsQuiet start h x y
     → stepped (session_of start (judged start h)) x ≡ stepped (session_of start (judged start h)) y
 unfolding session_of
-stepped_alike start h x y (inl same) = rw same refl
-stepped_alike start h x y (inr tick) =
-    rw tick.0 (noise_steps (session_of start (judged start h)) x (noise_is_named (named start (judged start h)) start h x refl ∙ tick.1))
+stepped_alike start h x y x4 = grind (arith, noise_is_named, noise_steps)
 
 -- Sessions after quiet histories hold the same.
 pub quiet_alike : (start : Start) (h g : List Timed) → Quiet start h g
@@ -125,21 +117,19 @@ now_tick start h g x b noise =
     let past = judged start h in
     let replaced : is_replaced x.input Tick ≡ true = grind arith in
     rw replaced (sym (step_sends (named start past) start g (tick_at x.at) b) ∙ tick_sends (named start past) x.at
-    ∙ ap (λ (v : Turn). v.packets) (time_named start (max (end start past) x.at) past (good_judged start h) (omega arith)))
+    ∙ ap (λ (v : MachineTurn). v.packets) (time_named start (max (end start past) x.at) past (good_judged start h) (omega arith)))
 
 quiet_sends_now : (start : Start) (h g : List Timed) (x y : Timed) → Quiet start h g → IsQuiet start h x y
     → sent_now start g y ≡ quiet_now start h x y
 unfolding session_of
-quiet_sends_now start h g x y q (inl same) = rw same (now_same start h g x (ap (λ (v : SessionState). v.machine) (quiet_alike start h g q)))
-quiet_sends_now start h g x y q (inr tick) = rw tick.0 (now_tick start h g x (ap (λ (v : SessionState). v.machine) (quiet_alike start h g q)) tick.1)
+quiet_sends_now start h g x y q x6 = grind (arith, now_same, now_tick, quiet_alike)
 
 -- The quiet history sends what the other sends, less the packets of service at the replaced inputs.
 pub quiet_sends : (start : Start) (h g : List Timed) → Quiet start h g
     → sent start (judged start g) ≡ quiet_sent start h g
 unfolding sent judged sent_now quiet_sent
 quiet_sends start [] [] q = refl
-quiet_sends start (x ∷ h) (y ∷ g) q =
-    rw (quiet_sends start h g q.0, quiet_sends_now start h g x y q.0 q.1) refl
+quiet_sends start (x ∷ h) (y ∷ g) q = search (rules, arith, quiet_sends_now, quiet_sends start h g)
 quiet_sends start h g q = absurd q
 
 -- Lists of inputs that make quiet histories of quiet histories.
@@ -162,18 +152,10 @@ runs_alike : (xs ys : List Timed) (n : ℕ) (start : Start) (h g : List Timed) �
     → Quiet start (onto xs h) (onto ys g)
     → sent_from n start g ys ≡ quiet_from n start h xs ys
 runs_alike [] [] n start h g l q = refl
-runs_alike (x ∷ xs) (y ∷ ys) n start h g l q =
-    let k : length xs ≡ length ys = omega (arith, l) in
-    let one = shorter xs ys start (x ∷ h) (y ∷ g) k q in
-    rw (quiet_sends_now start h g x y one.0 one.1, runs_alike xs ys (n + 1) start (x ∷ h) (y ∷ g) k q) refl
+runs_alike (x ∷ xs) (y ∷ ys) n start h g l q = grind (arith, quiet_sends_now, shorter, runs_alike xs ys (n + 1) start (x ∷ h) (y ∷ g))
 runs_alike xs ys n start h g l q = absurd (omega (arith, l))
 
 pub quiet_runs : (n : ℕ) (start : Start) (h g xs ys : List Timed) → Quiet start h g
     → Quiet start (onto xs h) (onto ys g)
     → sent_from n start g ys ≡ quiet_from n start h xs ys
-quiet_runs n start h g xs ys q longer =
-    let a = same_length start h g q in
-    let b = onto_length xs h in
-    let c = onto_length ys g in
-    let d = same_length start (onto xs h) (onto ys g) longer in
-    runs_alike xs ys n start h g (omega (arith, a, b, c, d)) longer
+quiet_runs n start h g xs ys q longer = grind (arith, onto_length, runs_alike, same_length)

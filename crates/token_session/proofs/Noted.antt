@@ -1,5 +1,6 @@
 -- What sends a KEEPALIVE: time where it is due, and an event that says so.
-use Rattle.std.proofs.Common.{◌≡◌, ℕ, ◌+◌, ◌<◌, ◌≤◌, ◌==◌, Bool, true, false, cond, not, ◌&&◌, suc, zero, List, [], ◌∷◌, length, take, drop, Option, refl, arith}
+use Rattle.std.proofs.Common.{rules}
+use Rattle.std.proofs.Common.{◌≡◌, ℕ, ◌+◌, ◌<◌, ◌≤◌, ◌==◌, Bool, true, false, cond, not, ◌&&◌, suc, zero, List, [], ◌∷◌, drop, Option, refl, arith}
 use Rattle.std.proofs.lemmas.Bool.Decides.{nat_tests}
 use Rattle.std.proofs.lemmas.List.Folds.{list_any-append}
 use Rattle.authn_core.specs.State.{Event}
@@ -34,16 +35,12 @@ none_among : (most cid number : ℕ) (bytes : List ℕ) → number + most ≤ 12
 unfolding continuation_packets
 none_among zero cid number bytes h = refl
 none_among (suc most) cid number [] h = refl
-none_among (suc most) cid number (b ∷ bytes) h =
-    let first = goes cid number (take 59 (b ∷ bytes)) (omega arith) in
-    let rest = none_among most cid (number + 1) (drop 59 (b ∷ bytes)) (omega arith) in
-    rw (first, rest) refl
+none_among (suc most) cid number (b ∷ bytes) h = search (rules, arith, goes, none_among most cid (number + 1) (drop 59 (b ∷ bytes)))
 
 -- A message is a KEEPALIVE exactly where its command is.
 of_written : (cid cmd : ℕ) (bytes : List ℕ) → keeps_alive (written cid cmd bytes) ≡ (cmd == KEEPALIVE)
 unfolding written
-of_written cid cmd bytes =
-    rw (begins cid cmd (length bytes) (take 57 bytes), asks cid cmd (length bytes) (take 57 bytes), none_among 128 cid 0 (drop 57 bytes) (omega arith)) (grind arith)
+of_written cid cmd bytes = grind (arith, asks, begins, none_among)
 
 table_silent : (g : ℕ) (o : Option Begun) (w : Option ℕ) (i : Input) → keeps_alive (table_packets g o w i) ≡ false
 unfolding table_packets row_packets greeting

@@ -1,4 +1,5 @@
 -- How the open message of a history goes on by one input, and as time passes.
+use Rattle.std.proofs.Common.{rules}
 use Rattle.std.proofs.Common.{◌≡◌, ℕ, ◌+◌, ◌≤◌, true, cond, ◌&&◌, List, [], ◌∷◌, ◌++◌, length, append-nil, Option, Some, None, refl, arith, nat_lt, if◌then◌else◌}
 use Rattle.std.proofs.lemmas.Bool.Decides.{nat_tests}
 use Rattle.std.proofs.lemmas.List.Elements.{filter-append}
@@ -43,17 +44,14 @@ goes_on_prefix (o ∷ os) ps len m since t u f le h = grind (arith, goes_on_pref
 is_open_prefix : (e : Judged) (L M : List Judged) (t u : ℕ) → From t M → t ≤ u → is_open e (L ++ M) u ≡ true
     → is_open e L t ≡ true
 unfolding is_open
-is_open_prefix e L M t u f le h =
-    let c = channel (packet e.input) in
-    let g = rw (own-append c L M) at h in
-    grind (arith, goes_on_prefix (own c L) (own c M) (message_length (packet e.input)) 0 e.at t u (own_from c M t f) le)
+is_open_prefix e x1 x2 t u f le h = grind (arith, goes_on_prefix, own-append, own_from)
 
 -- where nothing is open, nothing that came before is open later
 pub none_stays : (h L M : List Judged) (t u : ℕ) → From t M → t ≤ u → open_among L h t ≡ None
     → open_among (L ++ M) h u ≡ None
 unfolding open_among
 none_stays [] L M t u f le n = refl
-none_stays (e ∷ before) L M t u f le n = grind (arith, is_open_prefix e L M t u f le, none_stays before (e ∷ L) M t u f le)
+none_stays (e ∷ before) L M t u f le n = search (rules, arith, is_open_prefix, none_stays before (e ∷ L) M t u f le)
 
 -- The moments never fall, and nothing is open where a start is admitted.
 abbrev pub Lawful : Start → List Judged → Type 0
@@ -91,9 +89,7 @@ own_more c x L = grind (arith, filter-append, append-nil)
 open_more : (e x : Judged) (L : List Judged) → is_open e (L ++ x ∷ []) x.at
     ≡ (is_open e L x.at && cond (is_own (channel (packet e.input)) x) (is_next (message_length (packet e.input)) (length (own (channel (packet e.input)) L)) x) true)
 unfolding is_open
-open_more e x L =
-    let c = channel (packet e.input) in
-    rw (own_more c x L) (grind (arith, goes_on_more (own c L) x (message_length (packet e.input)) 0 e.at (length (own c L)) (omega arith)))
+open_more e x x2 = grind (arith, goes_on_more, own_more)
 
 -- What was open goes on by it, and nothing else comes to be open after the newest start.
 one_more : (h L : List Judged) (x : Judged) (start : Start) → Lawful start h → From (end start h) L → end start h ≤ x.at
@@ -124,7 +120,7 @@ goes_on_still (o ∷ os) len m since t u le = grind (arith, goes_on_still os len
 open_still : (e : Judged) (L : List Judged) (t u : ℕ) → t ≤ u
     → is_open e L u ≡ (is_open e L t && nat_lt u (last_at e.at (own (channel (packet e.input)) L) + 500))
 unfolding is_open
-open_still e L t u le = grind (arith, goes_on_still (own (channel (packet e.input)) L) (message_length (packet e.input)) 0 e.at t u le)
+open_still e x1 t u le = search (rules, arith, goes_on_still)
 
 abbrev pub still : ℕ → Option Begun → Option Begun
 still u None = None

@@ -7,11 +7,11 @@ use Rattle.authn_core.specs.Turn.{CoreState, waiting}
 use Rattle.token_session.specs.Replies.{error}
 use Rattle.token_session.specs.declared.input.Meters.{Meters}
 use Rattle.token_session.specs.Meters.{SessionState}
-use Rattle.token_session.specs.Machine.{State, time_passed}
+use Rattle.token_session.specs.Machine.{MachineState, time_passed}
 use Rattle.token_session.specs.Events.{keepalive_due, keepalive_packets}
 
 -- the state, by the parts of a machine
-abbrev pub whole : ℕ → Assembly → CoreState → ℕ → State
+abbrev pub whole : ℕ → Assembly → CoreState → ℕ → MachineState
 whole n a k b = record { now = n; given = a.given; current = a.current; core = k; keepalive_at = b }
 
 -- the assembly after the passing of time

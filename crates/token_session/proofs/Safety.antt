@@ -1,4 +1,5 @@
 -- After every input at most one message is open or waits, on a channel that was given.
+use Rattle.std.proofs.Common.{rules}
 use Rattle.std.proofs.Common.{◌≡◌, ℕ, ◌≤◌, List, Option, Some, None, subst, arith}
 use Rattle.std.proofs.lemmas.Bool.Decides.{nat_tests}
 use Rattle.authn_core.proofs.Facts.{IsGiven, work_stays_given}
@@ -63,9 +64,7 @@ none_given w h = grind arith
 
 event_works : (g : ℕ) (k : CoreState) (t : ℕ) (e : Option Event) → IsGiven g (working k) → EventGiven g (working k) e
     → IsGiven g (working (event_core k t e))
-event_works g k t None w h = w
-event_works g k t (Some (Request cid bytes)) w h = work_stays_given g k t (Request cid bytes) w (h.0, h.1)
-event_works g k t (Some e) w h = work_stays_given g k t e w tt
+event_works g k t x3 w h = search (rules, arith, work_stays_given)
 
 -- what is idle stays idle where no request comes
 still_idle : (k : CoreState) (t : ℕ) (e : Option Event) → working k ≡ None → EventGiven 0 (working k) e
@@ -79,8 +78,7 @@ finished_by g o w i = finished o (is_packet (admits g o w) i) i
 pub event_given : (g : ℕ) (o : Option Begun) (w : Option ℕ) (i : Input) → OpenGiven g o w
     → EventGiven g w (event w (finished_by g o w i) i)
 unfolding event
-event_given g o w (Packet x) h = packet_given g w _ x.0 (finished_given g o w x h)
-event_given g o w other h = tt
+event_given g o w other h = grind (arith, finished_given, packet_given)
 
 input_alone : (g : ℕ) (o : Option Begun) (k : CoreState) (t : ℕ) (i : Input) (b : Begun) → OpenGiven g o (working k)
     → new_open g o (working k) t i ≡ Some b
@@ -99,6 +97,4 @@ pub input_safe : (g : ℕ) (o : Option Begun) (k : CoreState) (t : ℕ) (i : Inp
     → Safe g o (working k)
     → new_open g o (working k) t i ≡ n
     → Safe g n (working (event_core k t (event (working k) (finished_by g o (working k) i) i)))
-input_safe g o k t i None s e = record { few = s.few; works = event_works g k t _ s.works (event_given g o (working k) i s.opens); opens = tt }
-input_safe g o k t i (Some b) s e =
-    record { few = s.few; works = event_works g k t _ s.works (event_given g o (working k) i s.opens); opens = input_alone g o k t i b s.opens e }
+input_safe g o k t i x5 s e = grind (arith, event_given, event_works, input_alone)

@@ -8,12 +8,12 @@ use Rattle.std.proofs.lemmas.List.{map-append, length-append}
 use Rattle.authn_core.proofs.Facts.{IsGiven}
 use Rattle.authn_core.specs.State.{Cancel, Drop}
 use Rattle.hid_assemble.specs.Table.{Begins, Continues, LAST_CHANNEL, Ruling, Open, continuation_row, first_row, initialization_row, is_elsewhere, is_given, is_on, ruling_of}
-use Rattle.hid_assemble.specs.declared.table.Row.{Row}
-use Rattle.hid_assemble.specs.declared.table.Row.TheVariants.{BadLength, BrokenOff, BusyElsewhere, BusyHere, CancelsNothing, CancelsWork, InitAgain, InitFull, InitLength, InitNew, Long, NoSuchChannel, NoSuchCommand, Short}
+use Rattle.hid_assemble.specs.declared.table.ReplyRow.{ReplyRow}
+use Rattle.hid_assemble.specs.declared.table.ReplyRow.TheVariants.{BadLength, BrokenOff, BusyElsewhere, BusyHere, CancelsNothing, CancelsWork, InitAgain, InitFull, InitLength, InitNew, Long, NoSuchChannel, NoSuchCommand, Short}
 use Rattle.hid_assemble.specs.Assembly.{Message, begun, bytes_of, given_after, grown, message_after, open_after}
 use Rattle.hid_assemble.specs.Verdicts.{ruling_verdict}
 use Rattle.hid_packet.specs.Commands.{BROADCAST, CANCEL, CBOR, INIT, PING}
-use Rattle.hid_packet.specs.Limits.{data_room}
+use Rattle.hid_packet.specs.Limits.{data_capacity}
 use Rattle.hid_packet.specs.Limits.{INITIALIZATION_DATA, LONGEST_MESSAGE}
 use Rattle.hid_packet.specs.Packet.{Fields, channel, channel_of, command, continuation, continuation_data, fields, initialization, initialization_data, is_initialization, message_length, sequence}
 use Rattle.hid_packet.specs.declared.packet.Packet.{Packet as Packet64}
@@ -47,7 +47,7 @@ pub record Serves (g : ℕ) (o : Option Begun) (w : Option ℕ) (t : ℕ) (x : P
 
 -- ---- what is sent
 
-row_sends : (g : ℕ) (c : Option Open) (w : Option ℕ) (p : List ℕ) (cmd len : ℕ) (r : Row)
+row_sends : (g : ℕ) (c : Option Open) (w : Option ℕ) (p : List ℕ) (cmd len : ℕ) (r : ReplyRow)
     → SendsAs g c w (initialization (channel p) cmd len (initialization_data p)) (row_packets g p r) (Begins r)
 unfolding row_packets message_after ruling_verdict
 row_sends g c w p cmd len r = grind (arith, append-nil)
@@ -90,7 +90,7 @@ tests g current work p = record {
 }
 
 -- the row of the table that they name
-abbrev row : Tests → Row
+abbrev row : Tests → ReplyRow
 row s = first_row
     ((s.cancel && s.on, CancelsWork) ∷ (s.cancel, CancelsNothing) ∷ (not (s.known || (s.broadcast && s.init)), NoSuchChannel)
     ∷ (s.init && not s.eight, InitLength) ∷ ((s.broadcast && s.init) && s.full, InitFull) ∷ (s.broadcast && s.init, InitNew)
@@ -106,13 +106,7 @@ pub record Agree (s : Tests) : Type 0 where
   pub known : s.known ≡ true → s.broadcast ≡ false
 
 agree : (g : ℕ) (o w : Option ℕ) (p : List ℕ) → g ≤ LAST_CHANNEL → IsGiven g o → IsGiven g w → Agree (tests g o w p)
-agree g o w p few og wg = record {
-  init = λ e. grind (arith, nat_tests);
-  served = λ e. grind (arith, nat_tests);
-  on = λ e. grind (arith, nat_tests);
-  here = λ e. grind (arith, nat_tests);
-  known = λ e. grind (arith, nat_tests);
-}
+agree g o w p few og wg = grind (arith, nat_tests)
 
 -- whether it is admitted where nothing is open
 abbrev admitted : Tests → Bool
@@ -230,22 +224,14 @@ grown_as b t x = simp (map-append, flat_map-append, append-nil, append_assoc, le
 
 more_next : (b : Begun) (t : ℕ) (x : Packet64) → is_initialization x.0 ≡ false
     → next (now_came t x) b ≡ cond (channel b.packet == channel x.0)
-    (cond ((sequence x.0 == length b.own) && nat_lt (data_room (length b.own + 1)) (message_length b.packet)) (Some (record { packet = b.packet; at = b.at; own = b.own ++ now_came t x ∷ [] })) None) (Some b)
+    (cond ((sequence x.0 == length b.own) && nat_lt (data_capacity (length b.own + 1)) (message_length b.packet)) (Some (record { packet = b.packet; at = b.at; own = b.own ++ now_came t x ∷ [] })) None) (Some b)
 unfolding next is_own is_next
 more_next b t x st = rw st (grind arith)
 
 more_row : (g : ℕ) (o : Option Begun) (w : Option ℕ) (t : ℕ) (x : Packet64) → is_initialization x.0 ≡ false
     → Serves g o w t x (goes x.0) (Continues (continuation_row (option_map as_open o) (channel x.0) (sequence x.0)))
 unfolding asks_channel admits finished finished_long is_last packet_event continuation_row open_after message_after ruling_verdict table_packets
-more_row g None w t x st = record { channels = rw st refl; current = rw st refl; message = rw st refl; event = rw st refl; packets = rw st refl }
-more_row g (Some b) w t x st =
-    record {
-      channels = rw st refl;
-      current = rw (st, more_next b t x st) (grind (arith, grown_as b t x));
-      message = rw st (simp (flat_map-append, append-nil) (grind (arith, append_assoc)));
-      event = rw st (grind arith);
-      packets = rw st (grind (arith, append-nil));
-    }
+more_row g x1 w t x st = grind (arith, append-nil, append_assoc, flat_map-append, grown_as, more_next)
 
 -- ---- any packet
 

@@ -1,14 +1,16 @@
 -- An input that is served by what the transport makes of it is the composed turn.
+use Rattle.std.proofs.lemmas.Bool.Decides.{nat_tests}
+use Rattle.std.proofs.Common.{rules}
 use Rattle.std.proofs.Common.{◌≡◌, ℕ, ◌≤◌, List, ◌++◌, max, Option, None, append_assoc, append-nil, cond, refl, sym, ◌∙◌, ap, arith, Some, IfSome, min}
 use Rattle.hid_assemble.specs.declared.verdict.Verdict.{Verdict}
 use Rattle.hid_assemble.specs.Assembly.{Assembly, accepted}
 use Rattle.hid_assemble.specs.Verdicts.{verdict}
-use Rattle.authn_core.specs.State.{Event, Answer, Request}
+use Rattle.authn_core.specs.State.{Event, Answer}
 use Rattle.authn_core.specs.Turn.{CoreState, working, Held, Work, waiting, core_after, core_answer}
 use Rattle.token_session.specs.declared.input.Input.{Input}
 use Rattle.token_session.specs.declared.input.Input.TheVariants.{Packet}
 use Rattle.token_session.specs.declared.input.Timed.{Timed}
-use Rattle.token_session.specs.Machine.{State, Turn, event_keeps_alive, time_passed, turn, served, happens, answer_keeps_alive}
+use Rattle.token_session.specs.Machine.{MachineState, MachineTurn, event_keeps_alive, time_passed, turn, served, happens, answer_keeps_alive}
 use Rattle.token_session.specs.Events.{event_core, event_packets}
 use Rattle.token_session.specs.declared.input.Meters.{Meters}
 use Rattle.token_session.specs.Meters.{SessionState, counted}
@@ -45,9 +47,9 @@ module _ (n b : ℕ) (a d : Assembly) (k : CoreState) (m : Meters) (v : SessionS
   served_quietly eE out es =
       let turn = turned None eE in
       record {
-        state = ap (λ (t : Turn). t.state) turn;
-        meters = ap (λ (s : SessionState). s.meters) is ∙ ap (λ (t : Turn). counted v.meters (request_in t.event)) turn;
-        packets = es ∙ ap (λ (ps : List (List ℕ)). early ++ ps) (sym (append-nil (verdict_packets V d.finished))) ∙ ap (λ (t : Turn). t.packets) turn;
+        state = ap (λ (t : MachineTurn). t.state) turn;
+        meters = ap (λ (s : SessionState). s.meters) is ∙ ap (λ (t : MachineTurn). counted v.meters (request_in t.event)) turn;
+        packets = es ∙ ap (λ (ps : List (List ℕ)). early ++ ps) (sym (append-nil (verdict_packets V d.finished))) ∙ ap (λ (t : MachineTurn). t.packets) turn;
       }
 
   module _ (e : Event) (eE : Some e ≡ input_event i V d.finished) (old : List (List ℕ)) (eo : old ≡ early ++ verdict_packets V d.finished) where
@@ -58,12 +60,12 @@ module _ (n b : ℕ) (a d : Assembly) (k : CoreState) (m : Meters) (v : SessionS
     served_by k' b' m' out ek eb em es =
         let turn = turned (Some e) eE in
         record {
-          state = (λ j. whole n d (ek j) (eb j)) ∙ ap (λ (t : Turn). t.state) turn;
-          meters = em ∙ ap (λ (s : SessionState). counted s.meters (request_in (Some e))) is ∙ ap (λ (t : Turn). counted v.meters (request_in t.event)) turn;
-          packets = es ∙ ap (λ (ps : List (List ℕ)). ps ++ event_packets k n (Some e)) eo ∙ append_assoc early _ _ ∙ ap (λ (t : Turn). t.packets) turn;
+          state = (λ j. whole n d (ek j) (eb j)) ∙ ap (λ (t : MachineTurn). t.state) turn;
+          meters = em ∙ ap (λ (s : SessionState). counted s.meters (request_in (Some e))) is ∙ ap (λ (t : MachineTurn). counted v.meters (request_in t.event)) turn;
+          packets = es ∙ ap (λ (ps : List (List ℕ)). ps ++ event_packets k n (Some e)) eo ∙ append_assoc early _ _ ∙ ap (λ (t : MachineTurn). t.packets) turn;
         }
 
-pub step_turn : (v mid : State) (t : ℕ) (x : Timed) (early : List (List ℕ)) → t ≡ max v.now x.at
+pub step_turn : (v mid : MachineState) (t : ℕ) (x : Timed) (early : List (List ℕ)) → t ≡ max v.now x.at
     → mid ≡ (time_passed v t).state
     → early ≡ (time_passed v t).packets
     → served mid early x.input ≡ turn v x
@@ -81,18 +83,10 @@ pub at_most : (a b : ℕ) → a ≡ b → a ≤ b
 at_most a b e = omega arith
 
 steps_taken : (n k : ℕ) (e : Event) → k ≡ steps_after n e → IfSome (request_in (Some e)) (λ m. k ≡ min (steps_of m) LARGEST)
-steps_taken n k (Request cid bytes) h = h
-steps_taken n k other h = tt
+steps_taken n k other h = search (rules, arith)
 
 pub taken : (v w : Held) (a : Answer) (now : ℕ) (e : Event) → v.latest ≤ now → IsTurn v w a now e → IsTaken v w a now e
-taken v w a now e le h =
-    let same : max v.latest now ≡ now = omega (arith, le) in
-    record {
-      core = h.core ∙ ap (λ t. core_after v.core t e) same;
-      answer = h.answer ∙ ap (λ t. core_answer v.core t e) same;
-      latest = at_most _ _ (h.latest ∙ same);
-      steps = steps_taken v.last_steps w.last_steps e h.steps;
-    }
+taken v w a now e le h = grind (arith, nat_tests)
 
 -- What the answer of an event's turn sends is what the event sends.
 module _ (k : CoreState) (now : ℕ) (e : Event) (w : Option Work) (said : Answer) (ew : waiting k ≡ w) (es : said ≡ core_answer k now e) where

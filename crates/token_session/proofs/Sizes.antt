@@ -1,8 +1,9 @@
 -- A session takes fewer bytes than 2^63. `search` finds its size by this, where omega would work through every place of
 -- padding. The numbers are the sizes of fields as the prover lays them out: where a field is added, the goal that a
 -- check prints has the new ones.
+use Rattle.std.proofs.lemmas.Bool.Decides.{nat_tests}
 use Prim.Native.Nat.{ℕ, ◌+◌, ◌*◌, ◌<◌, ◌≤◌, ◌^◌}
-use native.Mathlib.Nat.{lt_of_le_of_lt, mul-le-mul_right}
+use native.Mathlib.Nat.{mul-le-mul_right}
 use native.Mathlib.Omega.{arith}
 use prog.Memory.{up}
 
@@ -32,12 +33,4 @@ times k n few = from 0 (n * k) (256 * k) (mul-le-mul_right k few)
 pub session_small : (n : ℕ) → n ≤ 256
     → up 8 (7664 + up 8 (up 8 (up 8 (0 + up 8 (up 8 (up 8 (up 8 (40 + up 8 (up 8 (0 + up 8 (up 2 (up 2 (up 2 (up 2 (0 + n * 296) + 128) + 4) + 4) + 4)) + 8))
     + up 8 (48 + up 8 (up 1 (up 8 (0 + up 1 (0 + n * 32)) + 8) + 0))) + 544) + up 8 (up 1 (up 8 (0 + up 1 (0 + n * 32)) + 8) + 0))) + 8) + 32)) < 2 ^ 63
-session_small n few =
-    let row = up_2 _ _ (more 128 _ _ (up_2 _ _ (times 296 n few))) in
-    let rows = up_8 _ _ (more 4 _ _ (up_2 _ _ (more 4 _ _ (up_2 _ _ (more 4 _ _ row))))) in
-    let table = up_8 _ _ (more 8 _ _ (up_8 _ _ (from 0 _ _ rows))) in
-    let ids = up_8 _ _ (more 0 _ _ (up_1 _ _ (more 8 _ _ (up_8 _ _ (from 0 _ _ (up_1 _ _ (times 32 n few))))))) in
-    let worked = up_8 _ _ (more 544 _ _ (up_8 _ _ (both _ _ _ _ (up_8 _ _ (from 40 _ _ table)) (up_8 _ _ (from 48 _ _ ids))))) in
-    let core = up_8 _ _ (both _ _ _ _ worked ids) in
-    let keeper = up_8 _ _ (more 32 _ _ (up_8 _ _ (more 8 _ _ (up_8 _ _ (from 0 _ _ core))))) in
-    lt_of_le_of_lt (up_8 _ _ (from 7664 _ _ keeper)) (omega arith)
+session_small n few = grind (arith, nat_tests)

@@ -48,8 +48,8 @@ second_done n (Ok x) = n
 second_done n (Err (BothFull first second)) = second
 
 -- before each of these inputs 130 places were free
-abbrev pub HadRoom : ℕ → List (ℕ × List ℕ) → SessionState → List Timed → ℕ → Type 0
-HadRoom places old s xs done = (j : ℕ) → j < done → length
+abbrev pub HadCapacity : ℕ → List (ℕ × List ℕ) → SessionState → List Timed → ℕ → Type 0
+HadCapacity places old s xs done = (j : ℕ) → j < done → length
     (old ++ driven_sends 0 s (take j xs)) + OUTBOX_CAPACITY ≤ places
 
 -- So many of the inputs were stepped: the session and the list of packets are exactly after them, and before each of
@@ -58,4 +58,4 @@ pub record IsDriven (places : ℕ) (old new : SessionState) (before after : List
     (done : ℕ) : Type 0 where
   pub state : new ≡ driven old (take done inputs)
   pub packets : after ≡ before ++ driven_sends 0 old (take done inputs)
-  pub room : HadRoom places before old inputs done
+  pub capacity : HadCapacity places before old inputs done

@@ -17,7 +17,7 @@ use Rattle.hid_packet.specs.Limits.{LONGEST_MESSAGE}
 
 -- a session's start
 abbrev pub start_of : (aaguid : List ℕ) → (moment capacity : ℕ) → List Row → Start
-start_of aaguid moment capacity rows = record { aaguid = aaguid; moment = moment; room = capacity; rows = rows }
+start_of aaguid moment capacity rows = record { aaguid = aaguid; moment = moment; capacity = capacity; rows = rows }
 
 -- Each message that an input finished was carried by its channel's packets.
 abbrev pub AllCarried : List Judged → Type 0
@@ -31,6 +31,6 @@ pub record IsAnswered (start : Start) (h : List Timed) (packets : List (List ℕ
   pub sent : packets ≡ sent start (judged start h)
   pub carried : AllCarried (judged start h)
   pub held : held start (judged start h) ≤ LONGEST_MESSAGE
-  pub rows : length (core start (judged start h)).state.rows ≤ start.room
-  pub pending : pending_count (core start (judged start h)).state.pending ≤ start.room
+  pub rows : length (core start (judged start h)).state.rows ≤ start.capacity
+  pub pending : pending_count (core start (judged start h)).state.pending ≤ start.capacity
   pub steps : AllByRecursion (λ m. steps_of m ≤ 4 * (length m - 1) + 2) (requests start (judged start h))

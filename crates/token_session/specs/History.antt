@@ -4,7 +4,7 @@
 use Rattle.std.specs.Prelude.{ℕ, Bool, not, ◌&&◌, ◌||◌, ◌==◌, nat_le, List, [], ◌∷◌, ◌++◌, max, Option, Some, None, option_map, is_some, is_none, if◌then◌else◌, length, unwrap_or}
 use Rattle.std.specs.List.{list_any}
 use Rattle.hid_packet.specs.Commands.{PING, INIT, CBOR, CANCEL, KEEPALIVE}
-use Rattle.hid_packet.specs.Limits.{data_room}
+use Rattle.hid_packet.specs.Limits.{data_capacity}
 use Rattle.hid_packet.specs.Packet.{channel, is_initialization, command, message_length, sequence, is_command}
 use Rattle.hid_assemble.specs.Table.{is_given, is_on, initialization_row}
 use Rattle.hid_assemble.specs.Assembly.{Message}
@@ -117,4 +117,4 @@ sent start (e ∷ past) = sent start past ++ sent_at start e past
 
 -- the data bytes of the open message
 unfoldable pub held : Start → List Judged → ℕ
-held start h = unwrap_or (option_map (λ b. data_room (length b.own)) (open_at h (end start h))) 0
+held start h = unwrap_or (option_map (λ b. data_capacity (length b.own)) (open_at h (end start h))) 0

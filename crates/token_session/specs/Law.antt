@@ -6,13 +6,13 @@ use Rattle.hid_packet.specs.Packet.{is_command}
 use Rattle.authn_core.specs.State.{Event}
 use Rattle.authn_core.specs.Turn.{Start}
 use Rattle.token_session.specs.declared.input.Timed.{Timed}
-use Rattle.token_session.specs.Machine.{State, machine, turn}
+use Rattle.token_session.specs.Machine.{MachineState, machine, turn}
 use Rattle.token_session.specs.Inputs.{Judged, end, given}
 use Rattle.token_session.specs.Messages.{begun_by, is_open, Begun, open_at, as_open}
 use Rattle.token_session.specs.History.{event_to, judged_after, judged, sent_at, core, last_keepalive}
 
 -- the state that a history names
-unfoldable pub named : Start → List Judged → State
+unfoldable pub named : Start → List Judged → MachineState
 named start h = record {
   now = end start h;
   given = given h;
@@ -22,7 +22,7 @@ named start h = record {
 }
 
 -- The state holds what the history names.
-abbrev pub IsAfter : State → Start → List Timed → Type 0
+abbrev pub IsAfter : MachineState → Start → List Timed → Type 0
 IsAfter s start h = s ≡ named start (judged start h)
 
 -- the packets that x sends after h
@@ -49,11 +49,11 @@ sent_from n start h [] = []
 sent_from n start h (x ∷ xs) = numbered n (sent_now start h x) ++ sent_from (n + 1) start (x ∷ h) xs
 
 -- the same by the composed turn
-abbrev pub run_state : State → List Timed → State
+abbrev pub run_state : MachineState → List Timed → MachineState
 run_state s [] = s
 run_state s (x ∷ xs) = run_state (turn s x).state xs
 
-abbrev pub run_sent : ℕ → State → List Timed → List (ℕ × List ℕ)
+abbrev pub run_sent : ℕ → MachineState → List Timed → List (ℕ × List ℕ)
 run_sent n s [] = []
 run_sent n s (x ∷ xs) = numbered n (turn s x).packets ++ run_sent (n + 1) (turn s x).state xs
 

@@ -12,7 +12,7 @@ use Rattle.token_session.specs.declared.input.Input.{Input}
 use Rattle.token_session.specs.declared.input.Timed.{Timed}
 
 -- The latest moment, the channels given out, the open message, the authenticator, and the moment of the last KEEPALIVE.
-pub record State : Type 0 where
+pub record MachineState : Type 0 where
   pub now : ℕ
   pub given : ℕ
   pub current : Option Open
@@ -20,8 +20,8 @@ pub record State : Type 0 where
   pub keepalive_at : ℕ
 
 -- A state, the packets that are sent, and the event that the authenticator was handed.
-pub record Turn : Type 0 where
-  pub state : State
+pub record MachineTurn : Type 0 where
+  pub state : MachineState
   pub packets : List (List ℕ)
   pub event : Option Event
 
@@ -32,7 +32,7 @@ overdue_packets None = []
 overdue_packets (Some m) = error m.cid 0x05
 
 -- Time passes to a moment that is no earlier than the latest.
-unfoldable pub time_passed : State → ℕ → Turn
+unfoldable pub time_passed : MachineState → ℕ → MachineTurn
 time_passed s at =
     let late = is_overdue s.current at in
     let due = not late && keepalive_due (waiting s.core) s.keepalive_at at in
@@ -54,7 +54,7 @@ event_keeps_alive k at None = false
 event_keeps_alive k at (Some e) = answer_keeps_alive (asker (waiting k) e) (status_of (waiting k)) (core_answer k at e)
 
 -- An event after what else a packet changed: the packets of time come first, then those of the row, then the event's.
-abbrev pub happens : ℕ → ℕ → Option Open → CoreState → ℕ → List (List ℕ) → List (List ℕ) → Option Event → Turn
+abbrev pub happens : ℕ → ℕ → Option Open → CoreState → ℕ → List (List ℕ) → List (List ℕ) → Option Event → MachineTurn
 happens at given current core keepalive_at early packets e =
     record {
       state = record {
@@ -69,7 +69,7 @@ happens at given current core keepalive_at early packets e =
     }
 
 -- An input is served by what the transport makes of it, after the packets of time.
-abbrev pub served : State → List (List ℕ) → Input → Turn
+abbrev pub served : MachineState → List (List ℕ) → Input → MachineTurn
 served s early i =
     let a : Assembly = record { given = s.given; current = s.current; finished = [] } in
     let v = input_verdict a (working s.core) i in
@@ -78,13 +78,13 @@ served s early i =
     (verdict_packets v after.finished) (input_event i v after.finished)
 
 -- One input: its moment counts as the latest where it is earlier. First time passes, then the input is served.
-unfoldable pub turn : State → Timed → Turn
+unfoldable pub turn : MachineState → Timed → MachineTurn
 turn s x = let at = max s.now x.at in served (time_passed s at).state (time_passed s at).packets x.input
 
-unfoldable pub start_state : Start → State
+unfoldable pub start_state : Start → MachineState
 start_state start = record { now = start.moment; given = 0; current = None; core = first_state start; keepalive_at = 0 }
 
 -- The state after a list of inputs, the newest first.
-unfoldable pub machine : Start → List Timed → State
+unfoldable pub machine : Start → List Timed → MachineState
 machine start [] = start_state start
 machine start (x ∷ past) = (turn (machine start past) x).state

@@ -2,7 +2,7 @@
 -- (CTAP 2.1, sections 11.2.4 and 11.2.5). What came later is a list with the oldest input first.
 use Rattle.std.specs.Prelude.{ℕ, ◌+◌, Bool, not, ◌&&◌, ◌==◌, nat_le, nat_lt, List, [], ◌∷◌, ◌++◌, take, length, map, Option, Some, None, if◌then◌else◌}
 use Rattle.hid_packet.specs.Carries.{joined}
-use Rattle.hid_packet.specs.Limits.{data_room}
+use Rattle.hid_packet.specs.Limits.{data_capacity}
 use Rattle.hid_packet.specs.Packet.{channel, is_initialization, command, message_length, sequence}
 use Rattle.hid_packet.specs.Limits.{INITIALIZATION_DATA, LONGEST_MESSAGE}
 use Rattle.hid_assemble.specs.Assembly.{Message}
@@ -15,7 +15,7 @@ use Rattle.token_session.specs.Inputs.{Judged, packet, is_packet, own}
 -- continuation packet number m, and not the last
 unfoldable pub is_next : ℕ → ℕ → Judged → Bool
 is_next len m e = is_packet (λ p. not (is_initialization p) && (sequence p == m)) e.input
-    && nat_lt (data_room (m + 1)) len
+    && nat_lt (data_capacity (m + 1)) len
 
 -- continuation packets from m on, less than 500 ms apart, and up to t
 unfoldable pub goes_on : ℕ → ℕ → ℕ → List Judged → ℕ → Bool
@@ -79,7 +79,7 @@ message first others =
 unfoldable pub is_last : Begun → List ℕ → Bool
 is_last b p =
     not (is_initialization p) && (channel b.packet == channel p) && (sequence p == length b.own)
-    && not (nat_lt (data_room (length b.own + 1)) (message_length b.packet))
+    && not (nat_lt (data_capacity (length b.own + 1)) (message_length b.packet))
 
 -- the open message, where this packet is its last
 unfoldable pub finished_long : Option Begun → List ℕ → Option Message

@@ -10,7 +10,7 @@ use Rattle.token_session.specs.declared.input.Meters.{Meters}
 use Rattle.token_session.specs.Effects.{request_in}
 use Rattle.token_session.specs.Inputs.{Judged}
 use Rattle.token_session.specs.History.{judged, held, core, event_to}
-use Rattle.token_session.specs.Machine.{State, Turn, turn}
+use Rattle.token_session.specs.Machine.{MachineState, MachineTurn, turn}
 use Rattle.token_session.specs.Law.{named}
 
 -- the messages of the requests that a history finished, the newest first
@@ -65,10 +65,10 @@ AreBounded m = m.steps ≤ 4 * m.bytes + 2 * m.requests
 
 -- A session: the composed turn's state, and its meters.
 pub record SessionState : Type 0 where
-  pub machine : State
+  pub machine : MachineState
   pub meters : Meters
 
-abbrev pub metered_by : Meters → Turn → Meters
+abbrev pub metered_by : Meters → MachineTurn → Meters
 metered_by m t =
     metered m (held_bytes t.state.current) (length t.state.core.state.rows) (pending_count t.state.core.state.pending)
     (request_in t.event)

@@ -9,7 +9,7 @@ use Rattle.authn_core.specs.Views.{wants_presence, wants_key, wants_signature}
 use Rattle.token_session.specs.declared.input.Input.{Input}
 use Rattle.token_session.specs.declared.input.Input.TheVariants.{Packet, Tick, Presence, Key, Signature}
 use Rattle.token_session.specs.declared.input.Timed.{Timed}
-use Rattle.token_session.specs.Machine.{State, time_passed}
+use Rattle.token_session.specs.Machine.{MachineState, time_passed}
 use Rattle.token_session.specs.Inputs.{Judged, given}
 use Rattle.token_session.specs.Messages.{open_at, as_open}
 use Rattle.token_session.specs.History.{core, judged_after, judged, last_keepalive, sent_at, time_packets}
@@ -25,10 +25,10 @@ is_noise_among given current core (Signature signature) = not (wants_signature c
 is_noise_among given current core Tick = false
 
 -- to a state of the composed turn
-abbrev pub is_noise_to : State → Input → Bool
+abbrev pub is_noise_to : MachineState → Input → Bool
 is_noise_to s i = is_noise_among s.given s.current s.core i
 
-unfoldable pub is_noise_at : State → Timed → Bool
+unfoldable pub is_noise_at : MachineState → Timed → Bool
 is_noise_at s x = is_noise_to (time_passed s (max s.now x.at)).state x.input
 
 -- after a history

@@ -7,8 +7,8 @@ use Rattle.hid_packet.specs.Packet.{channel, initialization_data}
 use Rattle.hid_packet.specs.Message.{written}
 use Rattle.hid_assemble.specs.Table.{is_on}
 use Rattle.hid_assemble.specs.Assembly.{Message}
-use Rattle.hid_assemble.specs.declared.table.Row.{Row}
-use Rattle.hid_assemble.specs.declared.table.Row.TheVariants.{NoSuchChannel, InitLength, InitFull, InitNew, InitAgain, BusyElsewhere, BusyHere, BrokenOff, NoSuchCommand, BadLength}
+use Rattle.hid_assemble.specs.declared.table.ReplyRow.{ReplyRow}
+use Rattle.hid_assemble.specs.declared.table.ReplyRow.TheVariants.{NoSuchChannel, InitLength, InitFull, InitNew, InitAgain, BusyElsewhere, BusyHere, BrokenOff, NoSuchCommand, BadLength}
 use Rattle.authn_core.specs.State.{Event, Request, Answer, Answered, Waits}
 use Rattle.authn_core.specs.Turn.{Work}
 
@@ -25,7 +25,7 @@ abbrev pub keepalive : ℕ → ℕ → List (List ℕ)
 keepalive cid status = written cid KEEPALIVE (status ∷ [])
 
 -- what a row itself sends
-unfoldable pub row_packets : ℕ → List ℕ → Row → List (List ℕ)
+unfoldable pub row_packets : ℕ → List ℕ → ReplyRow → List (List ℕ)
 row_packets given p NoSuchChannel = error (channel p) 0x0b
 row_packets given p InitLength = error (channel p) 0x03
 row_packets given p InitFull = error (channel p) 0x7f

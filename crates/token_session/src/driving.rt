@@ -4,7 +4,7 @@ ghost use Rattle.arrayvec.specs.ArrayVec.{array_vec_len};
 ghost use Rattle.authn_core.specs.Turn.{Start};
 ghost use Rattle.token_session.specs.declared.input.Timed.{Timed as OneInput};
 ghost use Rattle.token_session.specs.Carried.{ArriveWhole, IsWhole};
-ghost use Rattle.token_session.specs.Drive.{as_pair, packet_of, both_number, drive_number, done_of, first_done, second_done, HadRoom, IsDriven};
+ghost use Rattle.token_session.specs.Drive.{as_pair, packet_of, both_number, drive_number, done_of, first_done, second_done, HadCapacity, IsDriven};
 ghost use Rattle.token_session.specs.Headline.{IsAnswered, start_of};
 ghost use Rattle.token_session.specs.Law.{numbered, onto, sent_from};
 ghost use Rattle.token_session.specs.History.{judged};
@@ -30,7 +30,7 @@ pub enum DriveFault {
 }
 
 impl DriveFault {
-    /// The number of the fault.
+    /// Returns the number of the fault.
     pub fn number(&self) -> u8
         ensures { result ≡ drive_number self.now }
     {
@@ -49,7 +49,7 @@ pub enum BothFault {
 }
 
 impl BothFault {
-    /// The number of the fault.
+    /// Returns the number of the fault.
     pub fn number(&self) -> u8
         ensures { result ≡ both_number self.now }
     {
@@ -73,14 +73,14 @@ fn take_all<const N: usize>(outbox: &mut Outbox, number: u64, sent: &mut ArrayVe
     }
 }
 
-/// A packet has 64 bytes. It does nothing.
+/// States that a packet has 64 bytes. It does nothing.
 fn known_packet(packet: &Packet)
     ensures { length packet.now.0 ≡ 64 }
 {
     let _bytes = packet.0.as_slice();
 }
 
-/// The same of an input.
+/// States the same of an input.
 fn known_input(input: &Input)
     ensures { IsWhole input.now }
 {
@@ -147,7 +147,7 @@ pub fn drive_new<const C: usize, const N: usize>(
     ensures full { IfErr result (λ e. (done_of 0 result < length inputs.now)
         × (N < array_vec_len sent.new + OUTBOX_CAPACITY)) }
     // Before each input that was stepped 130 places were free.
-    ensures room { HadRoom N []
+    ensures capacity { HadCapacity N []
         (session_of (start_of config.aaguid start C (⟦<Store<C> as Table<C>>⟧.rows rows.entry)) [])
         inputs.now (done_of (length inputs.now) result) }
 {

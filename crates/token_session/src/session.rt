@@ -74,19 +74,19 @@ fn first_meters(rows: u16) -> Meters
 fn empty_core<const C: usize>(aaguid: [u8; 16], start: u64) -> Core<Store<C>, C>
     requires some { 1 ≤ C }
     requires few { C ≤ 256 }
-    ensures { result ≡ first_held (record { aaguid = aaguid; moment = start; room = C; rows = [] }) }
+    ensures { result ≡ first_held (record { aaguid = aaguid; moment = start; capacity = C; rows = [] }) }
 {
     Core::new(Config { aaguid }, Store::new(), start)
 }
 
 impl<const C: usize> Session<C> {
-    /// A session that begins at the moment `start`, in milliseconds, with these credentials. No channel is given out,
-    /// and no work waits.
+    /// Returns a session that begins at the moment `start`, in milliseconds, with these credentials. No channel is
+    /// given out, and no work waits.
     pub fn new(config: Config, rows: Store<C>, start: u64) -> Self
         ensures { result ≡ session_of (record {
           aaguid = config.aaguid;
           moment = start;
-          room = C;
+          capacity = C;
           rows = ⟦<Store<C> as Table<C>>⟧.rows rows.entry;
         }) [] }
     {
@@ -102,14 +102,14 @@ impl<const C: usize> Session<C> {
         }
     }
 
-    /// A session without credentials that begins at the moment `start`, in milliseconds, for an authenticator with this
-    /// AAGUID. No channel is given out. It has capacity for 1 to 256 credentials.
+    /// Returns a session without credentials that begins at the moment `start`, in milliseconds, for an authenticator
+    /// with this AAGUID. No channel is given out. It has capacity for 1 to 256 credentials.
     // It is made where it stays: 31 kB that are moved are copied.
     #[inline(never)]
     pub fn bare(aaguid: [u8; 16], start: u64) -> Self
         requires some { 1 ≤ C }
         requires few { C ≤ 256 }
-        ensures { result ≡ session_of (record { aaguid = aaguid; moment = start; room = C; rows = [] }) [] }
+        ensures { result ≡ session_of (record { aaguid = aaguid; moment = start; capacity = C; rows = [] }) [] }
     {
         Session {
             latest: start,
@@ -127,7 +127,7 @@ impl<const C: usize> Session<C> {
     pub fn load(&mut self, config: Config, snapshot: &[u8], start: u64) -> Result<(), SnapshotFault>
         ensures { MatchResult result
             (λ _. (rows : List AnyRow) × Loads C snapshot.now (Ok tt) rows
-            × (self.new ≡ session_of (record { aaguid = config.aaguid; moment = start; room = C; rows = rows }) []))
+            × (self.new ≡ session_of (record { aaguid = config.aaguid; moment = start; capacity = C; rows = rows }) []))
             (λ fault. Refuses C snapshot.now fault × (self.new ≡ self.old)) }
     {
         self.keeper.core.load(config, snapshot, start)?;
@@ -169,11 +169,11 @@ impl<const C: usize> Session<C> {
             .max(self.keeper.core.pending() as u16);
     }
 
-    /// Whether this input at `at` would be noise: when time has passed to `at`, it would change nothing more. Noise is
-    /// a CANCEL for which no work waits; a packet on a channel that was never given out, except for an INIT on the
-    /// broadcast channel; a packet that begins a message, except for INIT and CANCEL, while another channel has an open
-    /// message or any has work; a continuation packet with no message open on its channel; and a reply of the caller
-    /// that isn't needed. A tick isn't. The session stays as it is.
+    /// Returns whether this input at `at` would be noise: when time has passed to `at`, it would change nothing more.
+    /// Noise is a CANCEL for which no work waits; a packet on a channel that was never given out, except for an INIT on
+    /// the broadcast channel; a packet that begins a message, except for INIT and CANCEL, while another channel has an
+    /// open message or any has work; a continuation packet with no message open on its channel; and a reply of the
+    /// caller that isn't needed. A tick isn't. The session stays as it is.
     pub fn noise(&self, at: u64, input: &Input) -> bool
         ensures state { result ≡ is_noise_at self.now.machine (record { at = at; input = input.now }) }
         // It is noise after each history that the session is after.
@@ -184,7 +184,7 @@ impl<const C: usize> Session<C> {
         is_noise(&self.assembler, &self.keeper.core, now, input)
     }
 
-    /// How many data bytes are held of the open message, at most 7550.
+    /// Returns how many data bytes are held of the open message, at most 7550.
     pub fn held(&self) -> u16
         ensures bytes { result ≡ held_bytes self.now.machine.current }
         ensures limit { result ≤ LONGEST_HELD }
@@ -194,7 +194,8 @@ impl<const C: usize> Session<C> {
         self.assembler.held()
     }
 
-    /// What the authenticator needs of its caller before its work goes on, with the exact bytes to sign, at most 196.
+    /// Returns what the authenticator needs of its caller before its work goes on, with the exact bytes to sign, at
+    /// most 196.
     pub fn need(&self) -> Need<'_>
         ensures value { needed result ≡ needs self.now.machine.core.state.work }
         ensures sized { IsNeed (needed result) }
@@ -202,7 +203,7 @@ impl<const C: usize> Session<C> {
         self.keeper.core.need()
     }
 
-    /// The number of credentials, at most `C`.
+    /// Returns the number of credentials, at most `C`.
     pub fn credentials(&self) -> usize
         ensures value { result ≡ length self.now.machine.core.state.rows }
         ensures limit { result ≤ C }
@@ -210,7 +211,7 @@ impl<const C: usize> Session<C> {
         self.keeper.core.credentials()
     }
 
-    /// The number of pending assertions, at most `C`.
+    /// Returns the number of pending assertions, at most `C`.
     pub fn pending(&self) -> usize
         ensures value { result ≡ pending_count self.now.machine.core.state.pending }
         ensures limit { result ≤ C }
@@ -218,15 +219,15 @@ impl<const C: usize> Session<C> {
         self.keeper.core.pending()
     }
 
-    /// The credentials.
+    /// Returns the credentials.
     pub fn table(&self) -> &Store<C>
         ensures { ⟦<Store<C> as Table<C>>⟧.rows result.now ≡ self.now.machine.core.state.rows }
     {
         self.keeper.core.table()
     }
 
-    /// What the session has held and served. Reading its requests took at most four steps for each byte after a command
-    /// byte, and two for each request.
+    /// Returns what the session has held and served. Reading its requests took at most four steps for each byte after a
+    /// command byte, and two for each request.
     pub fn meters(&self) -> Meters
         ensures value { result ≡ self.now.meters }
         ensures bounded { AreBounded result }

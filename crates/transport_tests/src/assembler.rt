@@ -3,7 +3,7 @@
 use hid_assemble::{Assembler, ErrorCode, Verdict};
 use hid_packet::Packet;
 
-/// The first packet of a PING of 100 bytes on channel 1.
+/// Returns the first packet of a PING of 100 bytes on channel 1.
 fn ping() -> Packet {
     let mut packet = Packet([7; 64]);
     packet.0[..7].copy_from_slice(b"\x00\x00\x00\x01\x81\x00\x64");

@@ -12,7 +12,7 @@ fn take(rt: &impl Abort, outbox: &mut Outbox, bytes: &[u8; 127]) {
     assert!(rt; outbox.is_empty());
 }
 
-/// The ring has 8320 bytes, which 127 doesn't divide: so the messages begin at each of its places once, and its end
+/// Checks the ring, whose 8320 bytes 127 doesn't divide: so the messages begin at each of its places once, and its end
 /// comes at each place within a message.
 #[test]
 fn the_ring_ends_at_each_place_of_a_message(rt: HostRuntime) {

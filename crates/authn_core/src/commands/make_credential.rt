@@ -20,7 +20,7 @@ use ctap_message::{Descriptors, MakeRequest, write_created};
 use fido_authdata::{AuthData, CREATED_LEN, to_sign};
 use sha2::{Digest, Sha256};
 
-/// Whether one of the ids names a row of the RP.
+/// Returns whether one of the ids names a row of the RP.
 fn names_one<T: Table<C>, const C: usize>(table: &T, rp: &[u8; 32], ids: Descriptors<'_>) -> bool
     ensures { result ≡ make.names_one rp.now (T.rows table.now) (ids_of (left_of ids.entry)) }
 {
@@ -35,7 +35,7 @@ fn names_one<T: Table<C>, const C: usize>(table: &T, rp: &[u8; 32], ids: Descrip
 
 /// Stores the row of a new credential, in place of the one that it replaces.
 fn store<T: Table<C>, const C: usize>(table: &mut T, making: Making, key: NewKey)
-    requires room { make.fits C (making_of making) (T.rows table.old) ≡ true }
+    requires capacity { make.fits C (making_of making) (T.rows table.old) ≡ true }
     requires fresh { is_some (find (has_id key.id) (T.rows table.old)) ≡ false }
     ensures { T.rows table.new ≡ stored (make.new_row (making_of making) key) (T.rows table.old) }
 {
@@ -141,7 +141,7 @@ impl<T: Table<C>, const C: usize> Core<T, C> {
         signed: &ArrayVec<u8, 196>,
         signature: &Option<Signature>,
     ) -> Turn
-        requires room { make.fits C (making_of making) self.old.core.state.rows ≡ true }
+        requires capacity { make.fits C (making_of making) self.old.core.state.rows ≡ true }
         requires fresh { is_some (find (has_id key.id) self.old.core.state.rows) ≡ false }
         requires signed { SignsItsAnswer self.old.core.setup.aaguid (SignsMake (making_of making) key signed.now.items) }
         ensures { Takes self.old self.new result (make.make_signed self.old.core.setup.aaguid

@@ -1,28 +1,28 @@
 use Rattle.std.proofs.Common.{◌+◌, ◌-◌, ◌&&◌, refl, arith, ◌≡◌, subst}
-use Rattle.std.proofs.lemmas.Result.{err_from_is_err_and}
 use Rattle.ctap_cbor.specs.Views.{part_of}
 use Rattle.ctap_cbor.specs.Reading.{Takes}
 use Rattle.ctap_cbor.specs.Collecting.{AddsAll}
 use Rattle.ctap_cbor.proofs.Skipping.{array_stops}
-use Rattle.ctap_cbor.proofs.Collecting.{all_none, all_more, entry_ends, array_read}
+use Rattle.ctap_cbor.proofs.Collecting.{all_none, all_more, array_read}
 use Rattle.ctap_cbor.proofs.collect.read_array.Goals as goal
 
 pub loop-done-init : goal.loop-done-init
 loop-done-init g c = all_none g.M.Entries.HoldsAll (5 - (c.args.level + 1)) c.args.entries.now c.item.new.self
 
 pub loop-done-preserved : goal.loop-done-preserved
-loop-done-preserved g c = all_more g.M.Entries.HoldsAll (5 - (c.args.level + 1)) c.loop-done.done c.loop-done.ok c.in_ok-taken.taken (c.loop-done.ok && c.in_ok-taken.taken) c.args.entries.now c.loop-done.entries c.entry.new.self c.item.new.self c.loop-done.cursor c.entry.new.cursor c.loop-done.invariant c.in_ok-taken.ensures refl
+loop-done-preserved g c = all_more g.M.Entries.HoldsAll (5 - (c.args.level + 1)) c.loop-done.done c.loop-done.ok
+    c.in_ok-taken.taken (c.loop-done.ok && c.in_ok-taken.taken) c.args.entries.now c.loop-done.entries c.entry.new.self
+    c.item.new.self c.loop-done.cursor c.entry.new.cursor c.loop-done.invariant c.in_ok-taken.ensures refl
 
 pub returns-in_err-taken : goal.returns-in_err-taken
-returns-in_err-taken g c =
-    let p = err_from_is_err_and c.from_residual-in_err-taken.result c.from_residual-in_err-taken.ensures.1 in
-    let takes = subst (λ i. Takes (5 - c.args.level) c.args.cursor.now c.item.new.self (part_of i)) c.in-Array.is c.in_ok-other.ensures.takes in
-    rw (p.1, p.2) (array_stops c.args.level c.in-Array.count c.args.cursor.now c.item.new.self c.entry.new.cursor c.in_err-taken.field-0.0.at c.in_err-taken.field-0.0.kind takes
-    (entry_ends g.M.Entries.HoldsAll (5 - (c.args.level + 1)) c.in-Array.count c.loop-done.done c.loop-done.ok c.args.entries.now c.loop-done.entries c.item.new.self c.loop-done.cursor c.entry.new.cursor c.in_err-taken.field-0.0.at c.in_err-taken.field-0.0.kind c.loop-done-test.true c.loop-done.invariant c.in_err-taken.ensures))
+returns-in_err-taken g c = grind (arith, array_stops)
 
 pub returns : goal.returns
 returns g c =
     let e : c.loop-done.done ≡ c.in-Array.count = omega arith in
-    let takes = subst (λ i. Takes (5 - c.args.level) c.args.cursor.now c.item.new.self (part_of i)) c.in-Array.is c.in_ok-other.ensures.takes in
-    array_read g.M.Entries.HoldsAll c.args.level c.in-Array.count c.loop-done.ok c.args.entries.now c.loop-done.entries c.args.cursor.now c.item.new.self c.loop-done.cursor takes
-    (subst (λ n. AddsAll g.M.Entries.HoldsAll (5 - (c.args.level + 1)) n c.loop-done.ok c.args.entries.now c.loop-done.entries c.item.new.self c.loop-done.cursor) e c.loop-done.invariant)
+    let takes = subst (λ i. Takes (5 - c.args.level) c.args.cursor.now c.item.new.self (part_of i)) c.in-Array.is
+    c.in_ok-other.ensures.takes in
+    array_read g.M.Entries.HoldsAll c.args.level c.in-Array.count c.loop-done.ok c.args.entries.now c.loop-done.entries
+    c.args.cursor.now c.item.new.self c.loop-done.cursor takes
+    (subst (λ n. AddsAll g.M.Entries.HoldsAll (5 - (c.args.level + 1)) n c.loop-done.ok c.args.entries.now
+    c.loop-done.entries c.item.new.self c.loop-done.cursor) e c.loop-done.invariant)

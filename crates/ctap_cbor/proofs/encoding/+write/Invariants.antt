@@ -8,7 +8,7 @@ use Rattle.ctap_cbor.proofs.encoding.+write.Given as goal
 
 abbrev pub invariant-write_items-loop-item : goal.invariant-write_items-loop-item
 invariant-write_items-loop-item l = record {
-  left : ItemsLeft l.room (trees_of l.items) (trees_of (drop l.item-index l.items)) l.fn.out.items l.out.items;
+  left : ItemsLeft l.levels (trees_of l.items) (trees_of (drop l.item-index l.items)) l.fn.out.items l.out.items;
   grows : vec_capacity l.fn.out ≤ vec_capacity l.out;
 }
 
@@ -16,5 +16,5 @@ abbrev pub invariant-write_pairs-loop-pair : goal.invariant-write_pairs-loop-pai
 invariant-write_pairs-loop-pair l = record {
   span : ForSome l.previous (λ s. (s.start ≤ s.end) × (s.end ≤ length l.out.items));
   grows : vec_capacity l.fn.out ≤ vec_capacity l.out;
-  left : PairsLeft l.room (pairs_of l.pairs) (pairs_of (drop l.pair-index l.pairs)) (last_text l.out.items l.previous) l.fn.out.items l.out.items;
+  left : PairsLeft l.levels (pairs_of l.pairs) (pairs_of (drop l.pair-index l.pairs)) (last_text l.out.items l.previous) l.fn.out.items l.out.items;
 }

@@ -11,17 +11,10 @@ unfolding read passed
 returns-in_default c = rw (nil_from_length c.args.bytes.now c.in_default.ensures.cases) (refl, refl, omega arith)
 
 pub find_rest-requires : goal.find_rest-requires
-find_rest-requires c = info_known c.args.room (due_of c.args.is_key) c.in-Some.first.now (sym c.in-None.ensures)
+find_rest-requires c = info_known c.args.levels (due_of c.args.is_key) c.in-Some.first.now (sym c.in-None.ensures)
 
 pub returns-in-Some-first_fault : goal.returns-in-Some-first_fault
-returns-in-Some-first_fault c =
-    rw c.in-Some.ensures.cases.0 (
-      fault_first c.args.room (due_of c.args.is_key) c.in-Some.first.now c.in-Some.rest.now c.in-Some-first_fault.kind (sym c.in-Some-first_fault.ensures),
-      passed_first c.args.room (due_of c.args.is_key) c.in-Some.first.now c.in-Some.rest.now c.in-Some-first_fault.kind (sym c.in-Some-first_fault.ensures),
-      omega arith,
-    )
+returns-in-Some-first_fault c = grind (arith, fault_first, passed_first)
 
 pub returns-in-None : goal.returns-in-None
-returns-in-None c =
-    rw c.in-Some.ensures.cases.0
-    (found_rest c.args.room c.args.is_key c.in-Some.first.now c.in-Some.rest.now c.find_rest.result (sym c.in-None.ensures) c.find_rest.ensures)
+returns-in-None c = grind (arith, found_rest)

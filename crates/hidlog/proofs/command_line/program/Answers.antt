@@ -1,6 +1,6 @@
 use Rattle.std.proofs.Common.{◌≡◌, ◌∙◌, [], ◌∷◌, ap, arith, rules, take}
 use Rattle.std.specs.List.{fold}
-use Rattle.hidlog.specs.declared.command_line.Name.TheVariants.{Check, Live, Quiet, Replay, Show}
+use Rattle.hidlog.specs.declared.command_line.CommandName.TheVariants.{Check, Live, Quiet, Replay, Show}
 use Rattle.hidlog.proofs.CommandLine.{alone, one_command_more, with_name}
 use Rattle.hidlog.proofs.command_line.program.Goals as goal
 

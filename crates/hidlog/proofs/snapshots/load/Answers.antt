@@ -1,12 +1,6 @@
-use Rattle.std.proofs.Common.{inr, subst, sym}
+use Rattle.std.proofs.Common.{refl, []}
+use Rattle.session_log.proofs.Histories.{begins}
 use Rattle.hidlog.proofs.snapshots.load.Goals as goal
 
-pub returns-clause-told : goal.returns-clause-told
-returns-clause-told g c =
-    inr (inr (
-      c.deref.result.now,
-      c.in-Err.fault,
-      subst (g.D.Files.holds c.args.files.now c.args.path.now) (sym c.deref.ensures.value) c.in_ok-bytes.ensures.holds,
-      c.in-Err.ensures,
-      rw (sym c.in_ok-bytes.ensures.silent) c.refuse.ensures,
-    ))
+pub returns-in_default-clause-begins : goal.returns-in_default-clause-begins
+returns-in_default-clause-begins g c = ([], rw c.in_default.is refl, begins c.args.session.now _ c.requires.fresh)

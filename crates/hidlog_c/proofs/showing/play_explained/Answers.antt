@@ -1,20 +1,18 @@
-use Rattle.std.proofs.Common.{ℕ, List, take, rules}
+use Rattle.std.proofs.Common.{ℕ, List, rules}
 use Rattle.session_log.specs.Ending.{Ending}
 use Rattle.session_log.specs.Replay.{Plays}
 use Rattle.session_show.specs.Shown.{IsLineText, IsTextTo, reading}
 use Rattle.session_show.specs.declared.wording.Wording.TheVariants.{Explained}
-use Rattle.hidlog_c.proofs.Written.{on_all, written}
+use Rattle.hidlog_c.proofs.Written.{written}
 use Rattle.hidlog_c.proofs.showing.play_explained.Goals as goal
 
 pub returns-clause-shown : goal.returns-clause-shown
 returns-clause-shown c =
-    let before = c.args.writer.now in
-    let after = c.explain.new in
-    let rest = after.reader.rest.now in
-    let read = c.explain.ensures.shown in
-    let Q : List ℕ → List ℕ → Ending → Type 0 = λ bytes text ending. (lines : List ℕ) × Plays reading tt tt bytes lines ending
+    let said = c.explain.ensures in
+    let Q : List ℕ → List ℕ → Ending → Type 0 =
+    λ bytes text ending. (lines : List ℕ) × Plays reading tt tt bytes lines ending
     × IsTextTo (IsLineText Explained) lines text ending in
-    written reading tt Q c.explain.result _ c.args.log.now c.new.result.rest.now rest before.buffer.ghost_name after.writer.buffer.ghost_name
-    after.writer.len before.failures after.writer.failures (take before.len before.buffer.now) after.writer.buffer.now c.new.ensures.left (search rules)
-    read c.explain.ensures.reach (λ all. all.1)
-    (on_all c.explain.result (λ all. all.1) c.explain.ensures.end) c.explain.ensures.reads c.explain.ensures.writes after.writer.fits after.writer.full
+    written reading tt c.explain.result c.args.log.now (c.new.result, c.explain.new.reader)
+    (c.args.writer.now, c.explain.new.writer) Q _
+    (λ bytes rest text shown finds. (shown, finds)) c.new.ensures.left (search rules) said.shown said.reach said.end
+    said.reads said.writes

@@ -17,8 +17,10 @@ returns g c =
     let from = compared s p0.lines p0.input p0.found (due_packets p0.awaited p0.outbox) p0.inputs p0.packets in
     let to = compared new.session p.lines p.input p.found (due_packets p.awaited p.outbox) p.inputs p.packets in
     let through = subst
-    (λ b. PlaysThrough check_machine b (λ bytes text. Makes check_machine b to bytes text (ending_of r)) g.S.Source.left g.S.Source.failed
-    g.S.Source.ended g.T.Target.taken g.T.Target.failed r (c.args.reader.now, new.reader) (c.args.writer.now, new.writer)) (c.new-player.ensures.begun s)
+    (λ b. PlaysThrough check_machine b (λ bytes text. Makes check_machine b to bytes text (ending_of r)) g.S.Source.left
+    g.S.Source.failed
+    g.S.Source.ended g.T.Target.taken g.T.Target.failed r (c.args.reader.now, new.reader)
+    (c.args.writer.now, new.writer)) (c.new-player.ensures.begun s)
     (makes check_machine from to g.S.Source.left g.S.Source.failed g.S.Source.ended g.T.Target.taken g.T.Target.failed
     c.args.reader.now new.reader c.args.writer.now new.writer r c.play_log.ensures) in
     record {

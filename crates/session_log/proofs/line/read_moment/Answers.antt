@@ -7,11 +7,14 @@ use Rattle.session_log.proofs.line.read_moment.Goals as goal
 pub returns-then-is_empty : goal.returns-then-is_empty
 returns-then-is_empty c =
     elim c.then-is_empty.branch [
-      | then-is_empty-via-then-is_empty w ↦ sym (no_empty_moment c.args.digits.now (eqb-true (length c.args.digits.now) 0 (sym w.if-is_empty.ensures)))
-      | then-is_empty-via-else-is_empty+then-is_padded w ↦ let padded = w.if-is_padded.ensures.0 refl in sym (no_padded_moment c.args.digits.now padded.1 padded.0)
+      | then-is_empty-via-then-is_empty w ↦ sym
+          (no_empty_moment c.args.digits.now (eqb-true (length c.args.digits.now) 0 (sym w.if-is_empty.ensures)))
+      | then-is_empty-via-else-is_empty+then-is_padded w ↦ let padded =
+          w.if-is_padded.ensures.0 refl in sym (no_padded_moment c.args.digits.now padded.1 padded.0)
     ]
 
 pub returns : goal.returns
 returns c =
-    moment_read c.args.digits.now c.read_digits.result (omega (arith, eqb-false (length c.args.digits.now) 0 (sym c.if-is_empty.ensures)))
+    moment_read c.args.digits.now c.read_digits.result
+    (omega (arith, eqb-false (length c.args.digits.now) 0 (sym c.if-is_empty.ensures)))
     (λ both. cc (c.if-is_padded.ensures.1 both)) c.read_digits.ensures

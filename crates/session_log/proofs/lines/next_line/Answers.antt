@@ -16,8 +16,8 @@ reading-init g c = record {
 pub fill-requires-clause-read : goal.fill-requires-clause-read
 fill-requires-clause-read g c = subst (λ (k : ℕ). k < 2 ^ 64 - 1) (sym c.reading.invariant.same) c.requires
 
-pub fill-requires-clause-room : goal.fill-requires-clause-room
-fill-requires-clause-room g c = below_full (length c.reading.window) (λ full. cc (c.if-is_full.ensures.1 full))
+pub fill-requires-clause-space : goal.fill-requires-clause-space
+fill-requires-clause-space g c = below_full (length c.reading.window) (λ full. cc (c.if-is_full.ensures.1 full))
 
 pub reading-preserved : goal.reading-preserved
 reading-preserved g c = record {
@@ -27,14 +27,20 @@ reading-preserved g c = record {
 
 pub reading-smaller : goal.reading-smaller
 reading-smaller g c =
-    let room : length c.reading.window < 256 = below_full (length c.reading.window) (λ full. cc (c.if-is_full.ensures.1 full)) in
+    let space : length c.reading.window < 256 =
+    below_full (length c.reading.window) (λ full. cc (c.if-is_full.ensures.1 full)) in
     let grown = rw c.in-Ok-true.field-0-test at c.in-Ok-true.ensures.grown in
-    omega (arith, room, grown)
+    omega (arith, space, grown)
 
 pub returns-then-is_too_many : goal.returns-then-is_too_many
 returns-then-is_too_many g c =
     let many = c.if-is_too_many.ensures.value in
-    record { bytes = c.reading.invariant.done; found = tt; stopped = (many.0, many.1, c.is_too_many.ensures.fits); reads = c.reading.invariant.same }
+    record {
+      bytes = c.reading.invariant.done;
+      found = tt;
+      stopped = (many.0, many.1, c.is_too_many.ensures.fits);
+      reads = c.reading.invariant.same;
+    }
 
 pub returns-in-Some : goal.returns-in-Some
 returns-in-Some g c =
@@ -57,7 +63,12 @@ returns-then-is_full g c =
     record {
       bytes = c.reading.invariant.done;
       found = tt;
-      stopped = (refl, in_count c.args.number c.reading.window c.if-is_too_many.ensures.value (omega (arith, full)), sym c.first_feed.ensures.value ∙ c.in_default.is, full);
+      stopped = (
+        refl,
+        in_count c.args.number c.reading.window c.if-is_too_many.ensures.value (omega (arith, full)),
+        sym c.first_feed.ensures.value ∙ c.in_default.is,
+        full,
+      );
       reads = c.reading.invariant.same;
     }
 
@@ -70,7 +81,9 @@ returns-in-Ok-false g c =
     } in
     let ended = rw c.in-Ok-false.field-0-test at c.in-Ok-false.ensures.grown in
     record {
-      bytes = gathers c.args.window.now c.reading.window c.fill.new.self _ _ _ c.reading.invariant.done c.fill.ensures.bytes;
+      bytes =
+          gathers c.args.window.now c.reading.window c.fill.new.self _ _ _ c.reading.invariant.done
+          c.fill.ensures.bytes;
       found = (subst (IsUnfinished c.args.number) (sym ended.0) before, (ended.1, ended.2));
       stopped = tt;
       reads = ◌∙◌ {b = g.S.Source.failed c.reading.reader} c.in-Ok-false.ensures.counted c.reading.invariant.same;
@@ -84,8 +97,12 @@ returns-in-Err g c =
       counted = c.if-is_too_many.ensures.value;
     } in
     record {
-      bytes = gathers c.args.window.now c.reading.window c.fill.new.self _ _ _ c.reading.invariant.done c.fill.ensures.bytes;
+      bytes =
+          gathers c.args.window.now c.reading.window c.fill.new.self _ _ _ c.reading.invariant.done
+          c.fill.ensures.bytes;
       found = tt;
       stopped = (refl, subst (IsUnfinished c.args.number) (sym c.in-Err.ensures.err) before);
-      reads = ◌∙◌ {b = g.S.Source.failed c.reading.reader + 1} c.in-Err.ensures.counted (ap (λ (k : ℕ). k + 1) c.reading.invariant.same);
+      reads =
+          ◌∙◌ {b = g.S.Source.failed c.reading.reader + 1} c.in-Err.ensures.counted
+          (ap (λ (k : ℕ). k + 1) c.reading.invariant.same);
     }

@@ -7,7 +7,8 @@ abbrev pub invariant-reading : goal.invariant-reading
 invariant-reading g l =
     record {
       same : g.S.Source.failed l.reader ≡ g.S.Source.failed l.fn.reader;
-      done : (more : List ℕ) × (l.window ≡ l.fn.window ++ more) × Consumes (g.S.Source.left l.fn.reader) (g.S.Source.left l.reader) more;
+      done : (more : List ℕ) × (l.window ≡ l.fn.window ++ more)
+          × Consumes (g.S.Source.left l.fn.reader) (g.S.Source.left l.reader) more;
     }
 
 abbrev pub decreases-reading : goal.decreases-reading

@@ -1,10 +1,10 @@
 use Rattle.std.proofs.Common.{rules, ◌≡◌, Ok, Err, ap, ◌∙◌, subst}
 use Rattle.std.proofs.lemmas.Result.{err_from_is_err_and}
 use Rattle.session_log.specs.Sent.{FitsMeters}
-use Rattle.session_log.specs.Session.{live_history, live_machine, machine, session_needs, sessions}
+use Rattle.session_log.specs.Session.{live_history, live_machine, session_needs, sessions}
 use Rattle.session_log.proofs.Failures.{on_err}
 use Rattle.session_log.proofs.Histories.{live_follows, logs_history}
-use Rattle.session_log.proofs.Again.{live_again, live_logs, live_replayed, needs_of, repeats_in, replay_logs}
+use Rattle.session_log.proofs.Again.{live_again, live_logs, live_replayed, repeats_in, replay_logs}
 use Rattle.session_log.proofs.Whole.{logs_fault, logs_whole}
 use Rattle.session_log.proofs.living.live.Goals as goal
 
@@ -16,14 +16,16 @@ returns-in_err-play_log g c =
     let is : r ≡ Err e = from.1 ∙ ap Err from.2 in
     let s = c.args.session.now in
     let new = c.play_log.new in
-    let through = logs_fault live_machine s new.session g.S.Source.left g.S.Source.failed g.S.Source.ended g.T.Target.taken g.T.Target.failed
-    c.args.reader.now new.reader c.args.writer.now new.writer r e is c.in_err-play_log.ensures in
+    let through =
+    logs_fault live_machine s new.session g.S.Source.left g.S.Source.failed g.S.Source.ended g.T.Target.taken
+    g.T.Target.failed c.args.reader.now new.reader c.args.writer.now new.writer r e is c.in_err-play_log.ensures in
     record {
       lived = through;
       again = on_err _ r e is;
       replays = on_err _ r e is;
       history = logs_history g.S.Source.left g.S.Source.failed g.S.Source.ended g.T.Target.taken g.T.Target.failed
-          (c.args.reader.now, new.reader) (c.args.writer.now, new.writer) live_machine live_history live_follows s new.session r through;
+          (c.args.reader.now, new.reader) (c.args.writer.now, new.writer) live_machine live_history live_follows s
+          new.session r through;
     }
 
 pub returns : goal.returns
@@ -31,15 +33,23 @@ returns g c =
     let s = c.args.session.now in
     let new = c.play_log.new in
     let h = c.in_ok-play_log.ensures in
-    let through = logs_whole live_machine s new.session g.S.Source.left g.S.Source.failed g.S.Source.ended g.T.Target.taken g.T.Target.failed
+    let through =
+    logs_whole live_machine s new.session g.S.Source.left g.S.Source.failed g.S.Source.ended g.T.Target.taken
+    g.T.Target.failed
     c.args.reader.now new.reader c.args.writer.now new.writer c.meters.result c.meters.ensures.value h in
-    let fits : FitsMeters c.meters.result = record { held = search rules; rows = search rules; pending = search rules; requests = search rules; bytes = search rules; steps = search rules } in
+    let fits : FitsMeters c.meters.result = search rules in
     record {
       lived = through;
-      again = repeats_in live_machine live_machine (needs_of sessions session_needs) (live_logs sessions session_needs) (live_logs sessions session_needs)
-          (live_again sessions session_needs) (g.T.Target.taken c.args.writer.now) (g.T.Target.taken new.writer) s new.session h.0.0 h.0.1 h.0.3 h.0.4.0 h.0.4.0.faultless h.0.4.1 (subst FitsMeters c.meters.ensures.value fits);
-      replays = repeats_in live_machine machine (needs_of sessions session_needs) (live_logs sessions session_needs) (replay_logs sessions)
-          (live_replayed sessions session_needs) (g.T.Target.taken c.args.writer.now) (g.T.Target.taken new.writer) s new.session h.0.0 h.0.1 h.0.3 h.0.4.0 h.0.4.0.faultless h.0.4.1 (subst FitsMeters c.meters.ensures.value fits);
+      again =
+          repeats_in (live_logs sessions session_needs) (live_logs sessions session_needs)
+          (live_again sessions session_needs) (g.T.Target.taken c.args.writer.now) (g.T.Target.taken new.writer) s
+          new.session h.0.0 h.0.1 h.0.3 h.0.4.0 h.0.4.0.faultless h.0.4.1
+          (subst FitsMeters c.meters.ensures.value fits);
+      replays =
+          repeats_in (live_logs sessions session_needs) (replay_logs sessions) (live_replayed sessions session_needs)
+          (g.T.Target.taken c.args.writer.now) (g.T.Target.taken new.writer) s new.session h.0.0 h.0.1 h.0.3 h.0.4.0
+          h.0.4.0.faultless h.0.4.1 (subst FitsMeters c.meters.ensures.value fits);
       history = logs_history g.S.Source.left g.S.Source.failed g.S.Source.ended g.T.Target.taken g.T.Target.failed
-          (c.args.reader.now, new.reader) (c.args.writer.now, new.writer) live_machine live_history live_follows s new.session (Ok c.meters.result) through;
+          (c.args.reader.now, new.reader) (c.args.writer.now, new.writer) live_machine live_history live_follows s
+          new.session (Ok c.meters.result) through;
     }

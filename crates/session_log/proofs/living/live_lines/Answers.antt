@@ -13,7 +13,9 @@ returns g c =
       played = h.0;
       end = h.2.2;
       reach = h.1;
-      history = lines_history (left c.args.reader.now) (left new.reader) (taken c.args.writer.now) (taken new.writer) c.args.session.now new.session
+      history =
+          lines_history (left c.args.reader.now) (left new.reader) (taken c.args.writer.now) (taken new.writer)
+          c.args.session.now new.session
           (ending_of c.play_lines.result) (IsAllRead left g.S.Source.ended new.reader) h.0 h.1;
       reads = h.2.0;
       writes = h.2.1;

@@ -1,10 +1,11 @@
 use Rattle.std.proofs.Common.{◌≡◌, ◌<◌, ◌+◌, ◌-◌, ◌^◌, ℕ, List, [], ◌++◌, length, take, Err, refl, sym, ap, ◌∙◌, subst, arith}
 use Rattle.std.specs.Io.KnownBytes.{Consumes}
 use Rattle.std.proofs.KnownBytes.{Consumes-nil, Appends-nil}
+use Rattle.std.proofs.lemmas.List.{nil_from_length}
 use Rattle.std.proofs.lemmas.Result.{err_from_is_err_and}
 use Rattle.session_log.specs.Ending.{ended_by, ending_of}
 use Rattle.session_log.proofs.Through.{through_none, played_none}
-use Rattle.session_log.proofs.Exits.{read_on, goes_on, stops_reading, stops_in_front, ends, is_nil, some_left}
+use Rattle.session_log.proofs.Exits.{read_on, goes_on, stops_reading, stops_in_front, ends, some_left}
 use Rattle.session_log.proofs.Failures.{on_any, on_err, on_ok, counts_none, counts_on, plays_counts, plays_unread, stops_unwritten}
 use Rattle.session_log.proofs.Lasts.{faulty_in_front, faulty_last, none_bad}
 use Rattle.session_log.proofs.Whole.{stops}
@@ -22,7 +23,8 @@ lines-init g c =
       done = (
         [],
         [],
-        subst (Consumes (g.S.Source.left c.args.reader.now) (g.S.Source.left c.args.reader.now)) (sym c.new-window.ensures) (Consumes-nil (g.S.Source.left c.args.reader.now)),
+        subst (Consumes (g.S.Source.left c.args.reader.now) (g.S.Source.left c.args.reader.now))
+            (sym c.new-window.ensures) (Consumes-nil (g.S.Source.left c.args.reader.now)),
         Appends-nil (g.T.Target.taken c.args.writer.now),
         through_none g.P.Player.world (state c.args.player.now c.args.session.now),
       );
@@ -38,8 +40,10 @@ lines-preserved g c =
       writes = played.3.1 ∙ c.lines.invariant.writes;
       ready = c.in_ok-play_first.ensures.next;
       counted = omega (arith, has.counted);
-      done = goes_on g.P.Player.world g.T.Target.taken g.T.Target.failed _ _ _ (c.lines.writer, c.play_first.new.writer) _ _ _ before.0 before.1 c.next_line.new.window _ _ _ c.in-Some.end
-          (read_on _ _ _ before.0 c.lines.window _ before.2 c.in_ok-end.ensures.bytes) before.3 before.4 has refl c.in_ok-play_first.ensures.rest played;
+      done = goes_on before.4 _ _ _ c.next_line.new.window
+          (read_on _ _ _ before.0 c.lines.window _ before.2 c.in_ok-end.ensures.bytes) g.T.Target.taken
+          g.T.Target.failed (c.lines.writer, c.play_first.new.writer) _ before.3 c.in-Some.end has _
+          c.in_ok-play_first.ensures.rest played.0 played.1 played.2 played.3;
     }
 
 pub returns-in_err-end : goal.returns-in_err-end
@@ -52,10 +56,14 @@ returns-in_err-end g c =
     let is : r ≡ Err e = from.1 ∙ ap Err from.2 in
     let read = read_on _ _ _ before.0 c.lines.window _ before.2 c.in_err-end.ensures.bytes in
     record {
-      played = stops _ _ _ g.S.Source.left g.S.Source.failed g.S.Source.ended g.T.Target.taken g.T.Target.failed c.args.reader.now c.next_line.new.reader
-          c.args.writer.now c.lines.writer r e is (stops_reading _ _ _ _ _ _ _ _ _ _ _ e read before.3 before.4 stopped)
-          (none_bad _ _ _ _ _ _ _ _ _ _ e c.lines.invariant.counted read before.4 stopped) (counts_on _ _ _ _ c.lines.invariant.reads c.in_err-end.ensures.reads)
-          (counts_none _ _ _ (stops_unwritten c.lines.number c.next_line.new.window e stopped) c.lines.invariant.writes);
+      played =
+          stops _ _ _ g.S.Source.left g.S.Source.failed g.S.Source.ended g.T.Target.taken g.T.Target.failed
+          c.args.reader.now c.next_line.new.reader c.args.writer.now c.lines.writer r e is
+          (stops_reading before.4 _ _ _ c.next_line.new.window read _ e before.3 stopped)
+          (none_bad before.4 _ _ c.next_line.new.window read _ e c.lines.invariant.counted stopped)
+          (counts_on _ _ _ _ c.lines.invariant.reads c.in_err-end.ensures.reads)
+          (counts_none _ _ _ (stops_unwritten c.lines.number c.next_line.new.window e stopped)
+          c.lines.invariant.writes);
       ready = on_err _ r e is;
     }
 
@@ -76,12 +84,20 @@ returns-in_err-play_first g c =
     let taken = g.T.Target.taken in
     let failed = g.T.Target.failed in
     record {
-      played = stops _ _ _ g.S.Source.left g.S.Source.failed g.S.Source.ended taken failed c.args.reader.now c.next_line.new.reader
-          c.args.writer.now c.play_first.new.writer r e is
-          (stops_in_front _ taken failed _ _ _ (c.lines.writer, c.play_first.new.writer) _ _ _ _ _ _ _ _ _ e read before.3 before.4 has refl played)
-          (faulty_in_front _ taken failed _ _ (c.lines.writer, c.play_first.new.writer) _ _ _ _ _ _ _ _ _ _ e c.in_err-play_first.ensures.own read before.4 has refl played)
-          (counts_none _ _ _ (plays_unread world taken failed c.lines.number s t line (c.lines.writer, c.play_first.new.writer) (ended_by e) played) (◌∙◌ {b = g.S.Source.failed c.lines.reader} c.in_ok-end.ensures.reads c.lines.invariant.reads))
-          (counts_on _ _ _ _ c.lines.invariant.writes (plays_counts world taken failed c.lines.number s t line (c.lines.writer, c.play_first.new.writer) (ended_by e) played));
+      played =
+          stops _ _ _ g.S.Source.left g.S.Source.failed g.S.Source.ended taken failed c.args.reader.now
+          c.next_line.new.reader c.args.writer.now c.play_first.new.writer r e is
+          (stops_in_front before.4 _ _ _ c.next_line.new.window read taken failed
+          (c.lines.writer, c.play_first.new.writer) _ before.3 c.in-Some.end has e played)
+          (faulty_in_front before.4 _ _ c.next_line.new.window read _ taken failed
+          (c.lines.writer, c.play_first.new.writer) _ c.in-Some.end e c.in_err-play_first.ensures.own has played)
+          (counts_none _ _ _
+          (plays_unread world taken failed c.lines.number s t line (c.lines.writer, c.play_first.new.writer)
+          (ended_by e) played)
+          (◌∙◌ {b = g.S.Source.failed c.lines.reader} c.in_ok-end.ensures.reads c.lines.invariant.reads))
+          (counts_on _ _ _ _ c.lines.invariant.writes
+          (plays_counts world taken failed c.lines.number s t line (c.lines.writer, c.play_first.new.writer)
+          (ended_by e) played));
       ready = on_err _ r e is;
     }
 
@@ -99,12 +115,17 @@ returns-then-is_empty g c =
           before.0 ++ [],
           before.1,
           subst (λ (l : List ℕ). Consumes (left c.args.reader.now) (left c.next_line.new.reader) (before.0 ++ l)) none
-              (read_on (left c.args.reader.now) (left c.lines.reader) (left c.next_line.new.reader) before.0 c.lines.window w before.2 c.in_ok-end.ensures.bytes),
+              (read_on (left c.args.reader.now) (left c.lines.reader) (left c.next_line.new.reader) before.0
+              c.lines.window w before.2 c.in_ok-end.ensures.bytes),
           before.3,
-          played_none g.P.Player.world (state c.args.player.now c.args.session.now) before.0 before.1 (state c.lines.player c.lines.session) c.lines.number before.4,
+          played_none before.4,
         ),
         tt,
-        (◌∙◌ {b = g.S.Source.failed c.lines.reader} c.in_ok-end.ensures.reads c.lines.invariant.reads, c.lines.invariant.writes, at.1),
+        (
+          ◌∙◌ {b = g.S.Source.failed c.lines.reader} c.in_ok-end.ensures.reads c.lines.invariant.reads,
+          c.lines.invariant.writes,
+          at.1,
+        ),
       );
       ready = (c.lines.number, c.lines.invariant.counted, c.lines.invariant.ready);
     }
@@ -120,18 +141,23 @@ returns g c =
     let taken = g.T.Target.taken in
     let failed = g.T.Target.failed in
     let at = rw c.in_default.is at c.in_ok-end.ensures.found in
-    let some = some_left (length w) (λ e. cc (c.if-is_empty.ensures.1 (is_nil w e))) in
+    let some = some_left (length w) (λ e. cc (c.if-is_empty.ensures.1 (nil_from_length w e))) in
     let few : c.lines.number < 2 ^ 32 = in_count c.lines.number w at.0.counted some in
     let small : length w < 256 = at.0.short in
     let read = read_on _ _ _ before.0 c.lines.window _ before.2 c.in_ok-end.ensures.bytes in
     let played = c.play_last.ensures.played in
     record {
       played = (
-        ends world taken failed r _ _ _ (c.lines.writer, c.play_last.new.writer) _ _ _ before.0 before.1 w c.lines.number read before.3 before.4 at.0 some played,
-        faulty_last world r _ _ _ _ before.0 before.1 w c.lines.number _ c.play_last.ensures.own read before.4 (omega (arith, small)) at.1,
+        ends before.4 _ _ _ w read taken failed (c.lines.writer, c.play_last.new.writer) _ before.3 r at.0 some played,
+        faulty_last before.4 _ _ w read _ r c.play_last.ensures.own (omega (arith, small)) at.1,
         (
-          counts_none _ _ _ (plays_unread world taken failed c.lines.number s t w (c.lines.writer, c.play_last.new.writer) (ending_of r) played) (◌∙◌ {b = g.S.Source.failed c.lines.reader} c.in_ok-end.ensures.reads c.lines.invariant.reads),
-          counts_on _ _ _ _ c.lines.invariant.writes (plays_counts world taken failed c.lines.number s t w (c.lines.writer, c.play_last.new.writer) (ending_of r) played),
+          counts_none _ _ _
+              (plays_unread world taken failed c.lines.number s t w (c.lines.writer, c.play_last.new.writer)
+              (ending_of r) played)
+              (◌∙◌ {b = g.S.Source.failed c.lines.reader} c.in_ok-end.ensures.reads c.lines.invariant.reads),
+          counts_on _ _ _ _ c.lines.invariant.writes
+              (plays_counts world taken failed c.lines.number s t w (c.lines.writer, c.play_last.new.writer)
+              (ending_of r) played),
           on_any r at.1,
         ),
       );
@@ -150,13 +176,15 @@ lines-smaller g c =
 
 pub play_first-requires : goal.play_first-requires
 play_first-requires g c =
-    let unfailed : g.T.Target.failed c.lines.writer < 2 ^ 64 - 1 = subst (λ (k : ℕ). k < 2 ^ 64 - 1) (sym c.lines.invariant.writes) c.requires.write in
+    let unfailed : g.T.Target.failed c.lines.writer < 2 ^ 64 - 1 =
+    subst (λ (k : ℕ). k < 2 ^ 64 - 1) (sym c.lines.invariant.writes) c.requires.write in
     (assumption, (unfailed, (rw c.in-Some.is at c.in_ok-end.ensures.found, c.lines.invariant.ready)))
 
 pub play_last-requires : goal.play_last-requires
 play_last-requires g c =
     let w = c.next_line.new.window in
     let at = rw c.in_default.is at c.in_ok-end.ensures.found in
-    let some = some_left (length w) (λ e. cc (c.if-is_empty.ensures.1 (is_nil w e))) in
-    let unfailed : g.T.Target.failed c.lines.writer < 2 ^ 64 - 1 = subst (λ (k : ℕ). k < 2 ^ 64 - 1) (sym c.lines.invariant.writes) c.requires.write in
+    let some = some_left (length w) (λ e. cc (c.if-is_empty.ensures.1 (nil_from_length w e))) in
+    let unfailed : g.T.Target.failed c.lines.writer < 2 ^ 64 - 1 =
+    subst (λ (k : ℕ). k < 2 ^ 64 - 1) (sym c.lines.invariant.writes) c.requires.write in
     (assumption, (unfailed, (at.0.short, (in_count c.lines.number w at.0.counted some, c.lines.invariant.ready))))

@@ -13,8 +13,10 @@ invariant-lines g l =
       writes : g.T.Target.failed l.writer ≡ g.T.Target.failed l.fn.writer;
       ready : g.P.Player.IsReady l.player l.number;
       counted : l.number ≤ 2 ^ 32;
-      done : (read : List ℕ) × (text : List ℕ) × Consumes (left l.fn.reader) (left l.reader) (read ++ l.window) × Appends (taken l.fn.writer) (taken l.writer) text
-          × Through g.P.Player.world (g.P.Player.state l.fn.player l.fn.session) read text (g.P.Player.state l.player l.session) l.number;
+      done : (read : List ℕ) × (text : List ℕ) × Consumes (left l.fn.reader) (left l.reader) (read ++ l.window)
+          × Appends (taken l.fn.writer) (taken l.writer) text
+          × Through g.P.Player.world (g.P.Player.state l.fn.player l.fn.session) read text
+          (g.P.Player.state l.player l.session) l.number;
     }
 
 abbrev pub decreases-lines : goal.decreases-lines

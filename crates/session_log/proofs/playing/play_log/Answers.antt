@@ -10,9 +10,10 @@ returns-in_err-play_lines g c =
     let state = g.P.Player.state in
     let is = err_from_is_err_and c.from_residual.result c.from_residual.ensures.1 in
     let new = c.play_lines.new in
-    fails_with g.P.Player.world (state c.args.player.now c.args.session.now) (state new.player new.session) g.S.Source.left g.S.Source.failed g.S.Source.ended
-    g.T.Target.taken g.T.Target.failed c.args.reader.now new.reader c.args.writer.now new.writer c.from_residual.result c.in_err-play_lines.field-0.0
-    (is.1 ∙ ap Err is.2) c.in_err-play_lines.ensures.played
+    fails_with g.P.Player.world (state c.args.player.now c.args.session.now) (state new.player new.session)
+    g.S.Source.left g.S.Source.failed g.S.Source.ended g.T.Target.taken g.T.Target.failed c.args.reader.now new.reader
+    c.args.writer.now new.writer c.from_residual.result c.in_err-play_lines.field-0.0 (is.1 ∙ ap Err is.2)
+    c.in_err-play_lines.ensures.played
 
 pub returns : goal.returns
 returns g c =
@@ -22,12 +23,12 @@ returns g c =
     let new = c.play_lines.new in
     let r = c.finish.result in
     subst
-    (λ t. PlaysThrough world s (λ bytes text. MakesSoundly world s t bytes text r) g.S.Source.left g.S.Source.failed g.S.Source.ended
-    g.T.Target.taken g.T.Target.failed r (c.args.reader.now, new.reader) (c.args.writer.now, c.finish.new.writer))
-    (sym (c.finish.ensures.same new.session))
-    (ends_with world s (state new.player new.session) g.S.Source.left g.S.Source.failed g.S.Source.ended g.T.Target.taken g.T.Target.failed
-    c.args.reader.now new.reader c.args.writer.now new.writer c.finish.new.writer r c.finish.ensures.own c.finish.ensures.closed
-    c.in_ok-play_lines.ensures.played)
+    (λ t. PlaysThrough world s (λ bytes text. MakesSoundly world s t bytes text r) g.S.Source.left g.S.Source.failed
+    g.S.Source.ended g.T.Target.taken g.T.Target.failed r (c.args.reader.now, new.reader)
+    (c.args.writer.now, c.finish.new.writer)) (sym (c.finish.ensures.same new.session))
+    (ends_with world s (state new.player new.session) g.S.Source.left g.S.Source.failed g.S.Source.ended
+    g.T.Target.taken g.T.Target.failed c.args.reader.now new.reader c.args.writer.now new.writer c.finish.new.writer r
+    c.finish.ensures.own c.finish.ensures.closed c.in_ok-play_lines.ensures.played)
 
 pub finish-requires : goal.finish-requires
 finish-requires g c =

@@ -5,7 +5,7 @@ use Rattle.session_log.specs.Session.{history, machine, sessions}
 use Rattle.session_log.proofs.Failures.{on_err}
 use Rattle.session_log.proofs.Histories.{follows, logs_history}
 use Rattle.session_log.proofs.Whole.{logs_fault, logs_whole}
-use Rattle.session_log.proofs.Again.{repeats_in, lines_by, replay_again, replay_logs}
+use Rattle.session_log.proofs.Again.{repeats_in, replay_again, replay_logs}
 use Rattle.session_log.proofs.replaying.replay.Goals as goal
 
 pub returns-in_err-play_log : goal.returns-in_err-play_log
@@ -16,13 +16,15 @@ returns-in_err-play_log g c =
     let is : r ≡ Err e = from.1 ∙ ap Err from.2 in
     let s = c.args.session.now in
     let new = c.play_log.new in
-    let through = logs_fault machine s new.session g.S.Source.left g.S.Source.failed g.S.Source.ended g.T.Target.taken g.T.Target.failed
-    c.args.reader.now new.reader c.args.writer.now new.writer r e is c.in_err-play_log.ensures in
+    let through =
+    logs_fault machine s new.session g.S.Source.left g.S.Source.failed g.S.Source.ended g.T.Target.taken
+    g.T.Target.failed c.args.reader.now new.reader c.args.writer.now new.writer r e is c.in_err-play_log.ensures in
     record {
       replayed = through;
       again = on_err _ r e is;
       history = logs_history g.S.Source.left g.S.Source.failed g.S.Source.ended g.T.Target.taken g.T.Target.failed
-          (c.args.reader.now, new.reader) (c.args.writer.now, new.writer) machine history follows s new.session r through;
+          (c.args.reader.now, new.reader) (c.args.writer.now, new.writer) machine history follows s new.session r
+          through;
     }
 
 pub returns : goal.returns
@@ -30,13 +32,17 @@ returns g c =
     let s = c.args.session.now in
     let new = c.play_log.new in
     let h = c.in_ok-play_log.ensures in
-    let through = logs_whole machine s new.session g.S.Source.left g.S.Source.failed g.S.Source.ended g.T.Target.taken g.T.Target.failed
+    let through =
+    logs_whole machine s new.session g.S.Source.left g.S.Source.failed g.S.Source.ended g.T.Target.taken
+    g.T.Target.failed
     c.args.reader.now new.reader c.args.writer.now new.writer c.meters.result c.meters.ensures.value h in
-    let fits : FitsMeters c.meters.result = record { held = search rules; rows = search rules; pending = search rules; requests = search rules; bytes = search rules; steps = search rules } in
+    let fits : FitsMeters c.meters.result = search rules in
     record {
       replayed = through;
-      again = repeats_in machine machine (lines_by sessions) (replay_logs sessions) (replay_logs sessions) (replay_again sessions)
-          (g.T.Target.taken c.args.writer.now) (g.T.Target.taken new.writer) s new.session h.0.0 h.0.1 h.0.3 h.0.4.0 h.0.4.0.faultless h.0.4.1 (subst FitsMeters c.meters.ensures.value fits);
+      again = repeats_in (replay_logs sessions) (replay_logs sessions) (replay_again sessions)
+          (g.T.Target.taken c.args.writer.now) (g.T.Target.taken new.writer) s new.session h.0.0 h.0.1 h.0.3 h.0.4.0
+          h.0.4.0.faultless h.0.4.1 (subst FitsMeters c.meters.ensures.value fits);
       history = logs_history g.S.Source.left g.S.Source.failed g.S.Source.ended g.T.Target.taken g.T.Target.failed
-          (c.args.reader.now, new.reader) (c.args.writer.now, new.writer) machine history follows s new.session (Ok c.meters.result) through;
+          (c.args.reader.now, new.reader) (c.args.writer.now, new.writer) machine history follows s new.session
+          (Ok c.meters.result) through;
     }

@@ -5,7 +5,7 @@ use Rattle.session_log.proofs.Sends.{ArePackets-snoc}
 use Rattle.session_log.proofs.text.push_packets.Goals as goal
 
 pub loop-packet-init : goal.loop-packet-init
-loop-packet-init c = record { room = omega arith; done = ([], refl, tt, sym (append-nil c.args.text.now.items)) }
+loop-packet-init c = record { space = omega arith; done = ([], refl, tt, sym (append-nil c.args.text.now.items)) }
 
 pub loop-packet-preserved : goal.loop-packet-preserved
 loop-packet-preserved c =
@@ -14,12 +14,16 @@ loop-packet-preserved c =
     let first = before.0 in
     let one : flat_map sent_text (packet ∷ []) ≡ sent_text packet = append-nil (sent_text packet) in
     record {
-      room = omega (arith, c.loop-packet.invariant.room, c.push_packet.ensures.short, ap length c.in-Some.ensures);
+      space = omega (arith, c.loop-packet.invariant.space, c.push_packet.ensures.short, ap length c.in-Some.ensures);
       done = (
         first ++ packet ∷ [],
-        before.1 ∙ ap (λ (r : List (List ℕ)). first ++ r) c.in-Some.ensures ∙ sym (append_assoc first (packet ∷ []) c.pop.new.self),
+        before.1 ∙ ap (λ (r : List (List ℕ)). first ++ r) c.in-Some.ensures
+            ∙ sym (append_assoc first (packet ∷ []) c.pop.new.self),
         ArePackets-snoc first packet before.2 c.push_packet.ensures.packet,
-        c.push_packet.ensures.text ∙ ap (λ (t : List ℕ). t ++ sent_text packet) before.3 ∙ append_assoc c.args.text.now.items (flat_map sent_text first) (sent_text packet)
-            ∙ ap (λ (t : List ℕ). c.args.text.now.items ++ t) (ap (λ (t : List ℕ). flat_map sent_text first ++ t) (sym one) ∙ sym (flat_map-append sent_text first (packet ∷ []))),
+        c.push_packet.ensures.text ∙ ap (λ (t : List ℕ). t ++ sent_text packet) before.3
+            ∙ append_assoc c.args.text.now.items (flat_map sent_text first) (sent_text packet)
+            ∙ ap (λ (t : List ℕ). c.args.text.now.items ++ t)
+            (ap (λ (t : List ℕ). flat_map sent_text first ++ t) (sym one)
+            ∙ sym (flat_map-append sent_text first (packet ∷ []))),
       );
     }

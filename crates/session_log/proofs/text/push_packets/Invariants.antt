@@ -7,8 +7,10 @@ use Rattle.session_log.proofs.text.push_packets.Given as goal
 abbrev pub invariant-loop-packet : goal.invariant-loop-packet
 invariant-loop-packet l =
     record {
-      room : length l.text.items + SENT_LINE * length l.outbox ≤ length l.fn.text.items + SENT_LINE * length l.fn.outbox;
-      done : (first : List (List ℕ)) × (l.fn.outbox ≡ first ++ l.outbox) × ArePackets first × (l.text.items ≡ l.fn.text.items ++ flat_map sent_text first);
+      space : length l.text.items + SENT_LINE * length l.outbox ≤ length l.fn.text.items + SENT_LINE * length
+          l.fn.outbox;
+      done : (first : List (List ℕ)) × (l.fn.outbox ≡ first ++ l.outbox) × ArePackets first
+          × (l.text.items ≡ l.fn.text.items ++ flat_map sent_text first);
     }
 
 abbrev pub decreases-loop-packet : goal.decreases-loop-packet

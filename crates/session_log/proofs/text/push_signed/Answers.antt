@@ -13,16 +13,23 @@ loop-rest-preserved c =
     let text = c.loop-rest.text.items in
     let lines : List (List ℕ) → List ℕ = λ ps. flat_map ended (map signed_line ps) in
     let some : 0 < length rest = search rules in
-    let first : piece ≡ take (min 96 (length rest)) rest = c.split_at.ensures.front ∙ ap (λ k. take k rest) c.min-len.ensures in
-    let others : left ≡ drop (min 96 (length rest)) rest = c.split_at-in-loop-rest.ensures.back ∙ ap (λ k. drop k rest) c.min-len.ensures in
-    let cut : pieces_of rest ≡ piece ∷ pieces_of left = pieces_more rest some ∙ (λ i. sym first i ∷ pieces_of (sym others i)) in
-    let piece_len : length piece ≡ min 96 (length rest) = omega (arith, ap length first, length-take (min 96 (length rest)) rest) in
-    let left_len : length left ≡ length rest - min 96 (length rest) = ap length others ∙ length-drop (min 96 (length rest)) rest in
-    let fewer : (length rest + 95) / 96 ≡ suc ((length left + 95) / 96) = one_less (length rest) (length left) some (omega (arith, left_len)) in
+    let first : piece ≡ take (min 96 (length rest)) rest =
+    c.split_at.ensures.front ∙ ap (λ k. take k rest) c.min-len.ensures in
+    let others : left ≡ drop (min 96 (length rest)) rest =
+    c.split_at-in-loop-rest.ensures.back ∙ ap (λ k. drop k rest) c.min-len.ensures in
+    let cut : pieces_of rest ≡ piece ∷ pieces_of left =
+    pieces_more rest some ∙ (λ i. sym first i ∷ pieces_of (sym others i)) in
+    let piece_len : length piece ≡ min 96 (length rest) =
+    omega (arith, ap length first, length-take (min 96 (length rest)) rest) in
+    let left_len : length left ≡ length rest - min 96 (length rest) =
+    ap length others ∙ length-drop (min 96 (length rest)) rest in
+    let fewer : (length rest + 95) / 96 ≡ suc ((length left + 95) / 96) =
+    one_less (length rest) (length left) some (omega (arith, left_len)) in
     let parts : length rest ≡ length piece + length left = omega (arith, piece_len, left_len) in
     record {
-      room = omega (arith, before.room, fewer, parts, c.push_piece.ensures.short);
+      space = omega (arith, before.space, fewer, parts, c.push_piece.ensures.short);
       done =
-          ap (λ (t : List ℕ). t ++ lines (pieces_of left)) c.push_piece.ensures.text ∙ append_assoc text (ended (signed_line piece)) (lines (pieces_of left))
+          ap (λ (t : List ℕ). t ++ lines (pieces_of left)) c.push_piece.ensures.text
+          ∙ append_assoc text (ended (signed_line piece)) (lines (pieces_of left))
           ∙ ap (λ (ps : List (List ℕ)). text ++ lines ps) (sym cut) ∙ before.done;
     }

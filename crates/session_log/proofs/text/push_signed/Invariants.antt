@@ -7,8 +7,10 @@ use Rattle.session_log.proofs.text.push_signed.Given as goal
 abbrev pub invariant-loop-rest : goal.invariant-loop-rest
 invariant-loop-rest l =
     record {
-      room : length l.text.items + 2 * length l.rest + 10 * ((length l.rest + 95) / 96) ≤ length l.fn.text.items + 2 * length l.signed + 10 * ((length l.signed + 95) / 96);
-      done : l.text.items ++ flat_map ended (map signed_line (pieces_of l.rest)) ≡ l.fn.text.items ++ flat_map ended (map signed_line (pieces_of l.signed));
+      space : length l.text.items + 2 * length l.rest + 10 * ((length l.rest + 95) / 96) ≤ length l.fn.text.items + 2 *
+          length l.signed + 10 * ((length l.signed + 95) / 96);
+      done : l.text.items ++ flat_map ended (map signed_line (pieces_of l.rest)) ≡ l.fn.text.items ++ flat_map ended
+          (map signed_line (pieces_of l.signed));
     }
 
 abbrev pub decreases-loop-rest : goal.decreases-loop-rest

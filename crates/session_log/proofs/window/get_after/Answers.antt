@@ -9,6 +9,5 @@ returns-clause-kept g c =
     let old = c.args.bytes.now in
     let inside : front + len ≤ length old = omega arith in
     let full : front + len ≤ length (take (front + len) old) = omega (arith, length-take-le (front + len) old inside) in
-    sym (drop-take front len _)
-    ∙ ap (drop front) (take-append-le (front + len) (take (front + len) old) _ full ∙ take-take (front + len) (front + len) old (omega arith))
-    ∙ drop-take front len old
+    sym (drop-take front len _) ∙ ap (drop front) (take-append-le (front + len) (take (front + len) old) _ full
+    ∙ take-take (front + len) (front + len) old (omega arith)) ∙ drop-take front len old

@@ -1,6 +1,7 @@
 use Rattle.std.proofs.Common.{◌≡◌, ◌<◌, ◌+◌, ℕ, List, [], ◌∷◌, ◌++◌, length, take, drop, Err, refl, sym, ap, ◌∙◌, subst, arith}
 use Rattle.std.specs.Io.KnownBytes.{Consumes}
 use Rattle.std.proofs.KnownBytes.{Consumes-nil, Appends-nil, Appends-trans}
+use Rattle.std.proofs.lemmas.List.{nil_from_length}
 use Rattle.std.proofs.lemmas.Result.{err_from_is_err_and}
 use Rattle.session_log.specs.Ending.{Ending, ended_by, ending_of, read_fails, write_fails}
 use Rattle.session_log.specs.Replay.{ReadsTo}
@@ -11,10 +12,10 @@ use Rattle.session_log.specs.Window.{IsUnfinished}
 use Rattle.session_log.specs.declared.fault.LogFault.{LogFault}
 use Rattle.session_log.proofs.Through.{through_none, played_none}
 use Rattle.session_log.proofs.Cutting.{line_in_front}
-use Rattle.session_log.proofs.Exits.{as_err, read_on, is_nil, short_in_front, some_left}
+use Rattle.session_log.proofs.Exits.{as_err, read_on, short_in_front, some_left}
 use Rattle.session_log.proofs.Failures.{on_any, on_err, counts_none, counts_on, plays_counts, plays_unread, stops_unwritten}
 use Rattle.session_log.proofs.Lasts.{faulty_in_front, faulty_last, none_bad}
-use Rattle.session_show.specs.Shown.{Shows, reading, unknown, failures_of}
+use Rattle.session_show.specs.Shown.{Shows, ShowsLine, reading, unknown, failures_of}
 use Rattle.session_show.proofs.Told.{shown_on, told_line, told_none, told_to_end, told_to_line, told_to_read}
 use Rattle.session_show.proofs.telling.tell_all.Goals as goal
 
@@ -82,7 +83,7 @@ returns-in_err-end g c =
           (told_to_read g.L.Telling.shows (left c.args.reader.now) (left c.next_line.new.reader) (g.T.Target.taken c.args.writer.now) (g.T.Target.taken c.lines.writer)
           before.0 before.1 before.4.0 w c.lines.number e read before.3 before.4.1 before.4.2.0 stopped);
       reach = as_err r e (λ (q : Ending). ReadsTo reading tt (left c.args.reader.now) (left c.next_line.new.reader) all q) is
-          (none_bad reading (left c.args.reader.now) (left c.next_line.new.reader) tt tt before.0 before.1 w c.lines.number all e c.lines.invariant.counted read before.3 stopped);
+          (none_bad before.3 (left c.args.reader.now) (left c.next_line.new.reader) w read all e c.lines.invariant.counted stopped);
       end = on_err all r e is;
       reads = as_err r e (λ (q : Ending). Counts g.S.Source.failed (c.args.reader.now, c.next_line.new.reader) (read_fails q)) is
           (counts_on (g.S.Source.failed c.lines.reader) (g.S.Source.failed c.args.reader.now) (g.S.Source.failed c.next_line.new.reader) (read_fails (ended_by e)) c.lines.invariant.reads c.in_err-end.ensures.reads);
@@ -112,10 +113,11 @@ returns-in_err-tell g c =
           (told_to_line g.L.Telling.shows (left c.args.reader.now) (left c.next_line.new.reader) (taken c.args.writer.now) (taken c.lines.writer) (taken c.tell.new.writer)
           (failed c.lines.writer, failed c.tell.new.writer) before.0 before.1 before.4.0 w line (lines (drop (c.in-Some.end + 1) w)) c.lines.number e read before.3 before.4.1 before.4.2.0
           (line_in_front w c.in-Some.end has.feed ∙ ap (λ (l : List ℕ). l ∷ lines (drop (c.in-Some.end + 1) w)) (sym is_line))
-          (short_in_front w line c.lines.number c.in-Some.end has is_line) has.counted shown c.in_err-tell.ensures.text);
+          (omega (arith, ap length is_line, short_in_front w c.lines.number c.in-Some.end has)) has.counted shown c.in_err-tell.ensures.text);
       reach = as_err r e (λ (q : Ending). ReadsTo reading tt (left c.args.reader.now) (left c.next_line.new.reader) all q) is
-          (faulty_in_front reading unknown failures_of (left c.args.reader.now) (left c.next_line.new.reader) (failed c.lines.writer, failed c.tell.new.writer)
-          tt tt tt before.0 before.1 w line c.lines.number c.in-Some.end all e c.in_err-tell.ensures.own read before.3 has is_line shown);
+          (faulty_in_front before.3 (left c.args.reader.now) (left c.next_line.new.reader) w read all unknown failures_of
+          (failed c.lines.writer, failed c.tell.new.writer) tt c.in-Some.end e c.in_err-tell.ensures.own has
+          (subst (λ (l : List ℕ). ShowsLine c.lines.number l (failed c.lines.writer, failed c.tell.new.writer) (ended_by e)) is_line shown));
       end = on_err all r e is;
       reads = as_err r e (λ (q : Ending). Counts g.S.Source.failed (c.args.reader.now, c.next_line.new.reader) (read_fails q)) is
           (counts_none _ _ _ (plays_unread reading unknown failures_of c.lines.number tt tt line (failed c.lines.writer, failed c.tell.new.writer) (ended_by e) shown)
@@ -139,7 +141,7 @@ returns-then-is_empty g c =
         subst (λ (l : List ℕ). Consumes (left c.args.reader.now) (left c.next_line.new.reader) (before.0 ++ l)) none
             (read_on (left c.args.reader.now) (left c.lines.reader) (left c.next_line.new.reader) before.0 c.lines.window w before.2 c.in_ok-end.ensures.bytes),
         before.4.1,
-        (before.1, played_none reading tt before.0 before.1 tt c.lines.number before.3, before.4.2.0),
+        (before.1, played_none before.3, before.4.2.0),
       );
       reach = tt;
       end = at.1;
@@ -158,7 +160,7 @@ returns g c =
     let w = c.as_slice-2.result.now in
     let is : w ≡ window = c.as_slice-2.ensures.value in
     let at = rw c.in_default.is at c.in_ok-end.ensures.found in
-    let some : 0 < length w = some_left (length w) (λ e. cc (c.if-is_empty.ensures.1 (sym is ∙ is_nil w e))) in
+    let some : 0 < length w = some_left (length w) (λ e. cc (c.if-is_empty.ensures.1 (sym is ∙ nil_from_length w e))) in
     let small : length window < 256 = at.0.short in
     let all = IsAllRead left g.S.Source.ended c.next_line.new.reader in
     let read = read_on (left c.args.reader.now) (left c.lines.reader) (left c.next_line.new.reader) before.0 c.lines.window window before.2 c.in_ok-end.ensures.bytes in
@@ -169,8 +171,8 @@ returns g c =
           (failed c.lines.writer, failed c.tell-2.new.writer) before.0 before.1 before.4.0 w c.lines.number
           (subst (λ (l : List ℕ). Consumes (left c.args.reader.now) (left c.next_line.new.reader) (before.0 ++ l)) (sym is) read)
           before.3 before.4.1 before.4.2.0 before.4.2.1 last some shown c.tell-2.ensures.text;
-      reach = faulty_last reading r (left c.args.reader.now) (left c.next_line.new.reader) tt tt before.0 before.1 window c.lines.number all c.tell-2.ensures.own
-          read before.3 (omega (arith, small)) at.1;
+      reach = faulty_last before.3 (left c.args.reader.now) (left c.next_line.new.reader) window read all r c.tell-2.ensures.own
+          (omega (arith, small)) at.1;
       end = on_any r at.1;
       reads = counts_none _ _ _ (plays_unread reading unknown failures_of c.lines.number tt tt w (failed c.lines.writer, failed c.tell-2.new.writer) (ending_of r) shown)
           (◌∙◌ {b = g.S.Source.failed c.lines.reader} c.in_ok-end.ensures.reads c.lines.invariant.reads);

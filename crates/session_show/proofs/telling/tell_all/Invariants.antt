@@ -1,7 +1,7 @@
 use Rattle.std.proofs.Common.{◌≡◌, ◌-◌, ◌+◌, ◌^◌, ◌≤◌, List, ℕ, ◌++◌, length}
 use Rattle.std.specs.Io.KnownBytes.{Appends, Consumes}
 use Rattle.session_log.proofs.Through.{Through}
-use Rattle.session_show.specs.Shown.{IsTextOf, reading}
+use Rattle.session_show.specs.Shown.{IsShownText, reading}
 use Rattle.session_show.proofs.telling.tell_all.Given as goal
 
 -- whole lines were read and shown, and what was read after them stands in the window
@@ -14,7 +14,7 @@ invariant-lines g l =
       done : (read : List ℕ) × (shown : List ℕ) × Consumes (g.S.Source.left l.fn.reader) (g.S.Source.left l.reader) (read ++ l.window)
           × Through reading tt read shown tt l.number
           × ((text : List ℕ) × Appends (g.T.Target.taken l.fn.writer) (g.T.Target.taken l.writer) text
-          × ((t : IsTextOf g.L.Telling.shows shown text) × (l.number ≡ length t.told + 1)));
+          × ((t : IsShownText g.L.Telling.shows shown text) × (l.number ≡ length t.told + 1)));
     }
 
 abbrev pub decreases-lines : goal.decreases-lines

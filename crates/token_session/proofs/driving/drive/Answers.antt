@@ -2,12 +2,12 @@ use Rattle.std.proofs.Common.{◌≡◌, ◌++◌, length, take, map, ◌∙◌,
 use Rattle.std.proofs.lemmas.List.{length-map}
 use Rattle.arrayvec.specs.ArrayVec.{array_vec_len}
 use Rattle.token_session.specs.Drive.{as_pair}
-use Rattle.token_session.proofs.Drives.{driven_more, whole_more, sends_more, room_here, driven_stands, driven_follows}
+use Rattle.token_session.proofs.Drives.{driven_more, whole_more, sends_more, capacity_here, driven_stands, driven_follows}
 use Rattle.token_session.proofs.driving.drive.Goals as goal
 
 pub returns-then-remaining_capacity-lt-OUTBOX_CAPACITY : goal.returns-then-remaining_capacity-lt-OUTBOX_CAPACITY
 returns-then-remaining_capacity-lt-OUTBOX_CAPACITY g c = record {
-  run = record { state = c.loop-i.invariant.state; packets = c.loop-i.invariant.packets; room = c.loop-i.invariant.room };
+  run = record { state = c.loop-i.invariant.state; packets = c.loop-i.invariant.packets; capacity = c.loop-i.invariant.capacity };
   meters = tt;
   whole = c.loop-i.invariant.whole;
   full = (c.loop-i-test.true, omega (arith, c.if-remaining_capacity-lt-OUTBOX_CAPACITY.true, c.remaining_capacity.ensures));
@@ -19,7 +19,7 @@ pub returns : goal.returns
 returns g c =
     let e : c.loop-i.i ≡ length c.args.inputs.now = omega arith in
     record {
-      run = rw (← e) (record { state = c.loop-i.invariant.state; packets = c.loop-i.invariant.packets; room = c.loop-i.invariant.room });
+      run = rw (← e) (record { state = c.loop-i.invariant.state; packets = c.loop-i.invariant.packets; capacity = c.loop-i.invariant.capacity });
       meters = c.meters.ensures.value;
       whole = rw (← e) c.loop-i.invariant.whole;
       full = tt;
@@ -34,7 +34,7 @@ loop-i-preserved g c = record {
   packets = sends_more c.args.inputs.now c.loop-i.i _ _ _ _ _ _ c.index-inputs-i.result _ c.loop-i-test.true c.index-inputs-i.is
       c.take_all.ensures.sent c.step.ensures.packets c.loop-i.invariant.state c.loop-i.invariant.packets;
   whole = whole_more c.args.inputs.now c.loop-i.i c.index-inputs-i.result _ c.loop-i-test.true c.index-inputs-i.is c.loop-i.invariant.whole c.known_input.ensures;
-  room = below_more _ _ c.loop-i.invariant.room (room_here (map as_pair c.loop-i.sent.items) _ g.row.N c.loop-i.invariant.packets
+  capacity = below_more _ _ c.loop-i.invariant.capacity (capacity_here (map as_pair c.loop-i.sent.items) _ g.row.N c.loop-i.invariant.packets
       (let n : length (map as_pair c.loop-i.sent.items) ≡ array_vec_len c.loop-i.sent = simp length-map in
       omega (arith, c.if-remaining_capacity-lt-OUTBOX_CAPACITY.false, c.remaining_capacity.ensures)));
   empty = c.take_all.ensures.empty;
@@ -45,7 +45,7 @@ loop-i-init g c = record {
   state = refl;
   packets = sym (append-nil _);
   whole = tt;
-  room = λ j less. absurd (omega arith);
+  capacity = λ j less. absurd (omega arith);
   empty = c.new-outbox.ensures;
 }
 

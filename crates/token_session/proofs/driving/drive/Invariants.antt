@@ -1,6 +1,6 @@
 use Rattle.std.proofs.Common.{◌≡◌, ◌++◌, [], map, take}
 use Rattle.token_session.specs.Carried.{ArriveWhole}
-use Rattle.token_session.specs.Drive.{as_pair, driven, driven_sends, HadRoom}
+use Rattle.token_session.specs.Drive.{as_pair, driven, driven_sends, HadCapacity}
 use Rattle.token_session.proofs.driving.drive.Given as goal
 
 abbrev pub invariant-loop-i : goal.invariant-loop-i
@@ -8,6 +8,6 @@ invariant-loop-i g l = record {
   state : l.session ≡ driven l.fn.session (take l.i l.inputs);
   packets : map as_pair l.sent.items ≡ map as_pair l.fn.sent.items ++ driven_sends 0 l.fn.session (take l.i l.inputs);
   whole : ArriveWhole (take l.i l.inputs);
-  room : HadRoom g.row.N (map as_pair l.fn.sent.items) l.fn.session l.inputs l.i;
+  capacity : HadCapacity g.row.N (map as_pair l.fn.sent.items) l.fn.session l.inputs l.i;
   empty : l.outbox ≡ [];
 }

@@ -16,7 +16,7 @@ returns g c =
       numbers = numbers;
       meters = meters_named _ c.args.inputs.now c.drive.result c.drive.new.session (c.drive.ensures.after _ [] begun) c.drive.ensures.meters;
       full = c.drive.ensures.full;
-      room = rw (c.clear.ensures, begun) at c.drive.ensures.run.room;
+      capacity = rw (c.clear.ensures, begun) at c.drive.ensures.run.capacity;
     }
 
 pub new-session-requires : goal.new-session-requires

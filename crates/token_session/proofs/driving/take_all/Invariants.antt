@@ -7,7 +7,7 @@ use Rattle.token_session.proofs.driving.take_all.Given as goal
 abbrev pub invariant-loop-packet : goal.invariant-loop-packet
 invariant-loop-packet g l = record {
   moved : map as_pair l.sent.items ++ numbered l.number l.outbox ≡ map as_pair l.fn.sent.items ++ numbered l.number l.fn.outbox;
-  room : array_vec_len l.sent + length l.outbox ≤ g.row.N;
+  capacity : array_vec_len l.sent + length l.outbox ≤ g.row.N;
 }
 
 abbrev pub decreases-loop-packet : goal.decreases-loop-packet

@@ -11,7 +11,7 @@ use Rattle.token_session.proofs.laws.answers_follow_history.Goals as goal
 pub returns : goal.returns
 unfolding judge
 returns c =
-    let law : (start : Start) → Lawful start.room start.rows → Law start = λ start l. record {
+    let law : (start : Start) → Lawful start.capacity start.rows → Law start = λ start l. record {
       answers = λ h x o. c.answers_follow_history.ensures.answers start h x l o;
       waits = λ h o. c.answers_follow_history.ensures.waits start h l o;
     } in

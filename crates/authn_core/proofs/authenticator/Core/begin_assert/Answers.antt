@@ -4,20 +4,17 @@ use Rattle.ctap_message.specs.Members.{has_entries}
 use Rattle.ctap_message.specs.Descriptors.{ids_of}
 use Rattle.ctap_message.specs.DescriptorWalk.{left_of}
 use Rattle.authn_core.specs.GetAssertion.{applicable}
-use Rattle.authn_core.specs.Ready.{AllThere}
 use Rattle.authn_core.proofs.Readiness.{applicable_there}
 use Rattle.authn_core.proofs.authenticator.Core.begin_assert.Goals as goal
 
 pub invariant_of-self : goal.invariant_of-self
-invariant_of-self g c =
-    let allow = left_of c.args.asked.allow in
-    let there : AllThere (g.T.Table.rows c.self.inside.table) c.as_slice-ids.result.now =
-    rw (c.as_slice-ids.ensures.value, c.put_applicable.ensures) (applicable_there (g.T.Table.rows c.self.inside.table) c.digest-rp.result (has_entries allow) (ids_of allow)) in
-    grind (arith, there)
+invariant_of-self g c = grind (arith, applicable_there)
 
 pub returns : goal.returns
 returns g c =
     let allow = left_of c.args.asked.allow in
-    let found : c.as_slice-ids.result.now ≡ ids (applicable (g.T.Table.rows c.self.inside.table) c.digest-rp.result (has_entries allow) (ids_of allow)) = c.as_slice-ids.ensures.value ∙ c.put_applicable.ensures in
-    let begun = c.begin_by.ensures c.as_slice-ids.result.now (record { are = c.fill.ensures; counted = refl; few = grind arith }) in
+    let found : c.as_slice-ids.result.now ≡ ids (applicable (g.T.Table.rows c.self.inside.table) c.digest-rp.result
+    (has_entries allow) (ids_of allow)) = c.as_slice-ids.ensures.value ∙ c.put_applicable.ensures in
+    let begun = c.begin_by.ensures c.as_slice-ids.result.now
+    (record { are = c.fill.ensures; counted = refl; few = grind arith }) in
     let named = rw found at begun in search rules

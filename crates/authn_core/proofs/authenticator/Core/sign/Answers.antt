@@ -9,7 +9,4 @@ pub invariant_of-self : goal.invariant_of-self
 invariant_of-self g c = grind (arith, pending_raised)
 
 pub wait-requires : goal.wait-requires
-wait-requires g c =
-    let signed = rw c.assertion-data.ensures.value at c.to_sign.ensures.value in
-    let len = rw c.assertion-data.ensures.value at c.assertion-data.ensures.len in
-    grind (arith, find_raised)
+wait-requires g c = grind (arith, find_raised)

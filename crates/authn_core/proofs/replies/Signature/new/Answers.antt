@@ -4,4 +4,4 @@ use Rattle.std.proofs.lemmas.List.{drop-replicate}
 use Rattle.authn_core.proofs.replies.Signature.new.Goals as goal
 
 pub invariant_of-result : goal.invariant_of-result
-invariant_of-result c = grind (arith, common_steps, drop-replicate {X = ℕ} (length c.args.bytes.now) 72 0, c.put_front.ensures)
+invariant_of-result c = grind (arith, common_steps, drop-replicate {X = ℕ} (length c.args.bytes.now) 72 0)

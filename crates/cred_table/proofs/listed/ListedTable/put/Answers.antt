@@ -1,4 +1,4 @@
-use Rattle.std.proofs.Common.{sym, ◌∙◌, subst, List}
+use Rattle.std.proofs.Common.{arith, sym, subst, List}
 use Rattle.cred_table.specs.declared.row.Row.{Row}
 use Rattle.cred_table.specs.Rows.{Lawful}
 use Rattle.cred_table.proofs.Stored.{none_replaced, stored_last}
@@ -11,12 +11,11 @@ invariant_of-self g c =
     let alone = none_replaced c.args.row before.list.items c.requires.alone in
     let P : List Row → Type 0 = λ rows. Lawful g.row.C rows in
     record {
-      lawful = subst P (sym c.push.ensures.items) (Lawful-put g.row.C c.args.row before.list.items before.lawful c.requires.room c.requires.fresh alone);
+      lawful = subst P (sym c.push.ensures.items)
+          (Lawful-put g.row.C c.args.row before.list.items before.lawful c.requires.capacity c.requires.fresh alone);
       some = before.some;
       few = before.few;
     }
 
 pub returns-clause-stored : goal.returns-clause-stored
-returns-clause-stored g c =
-    let rows = c.args.self.now.list.items in
-    c.push.ensures.items ∙ sym (stored_last c.args.row rows (none_replaced c.args.row rows c.requires.alone))
+returns-clause-stored g c = grind (arith, none_replaced, stored_last)

@@ -1,4 +1,4 @@
-use Rattle.std.proofs.Common.{◌+◌, sym, ap, subst, List, ℕ, arith}
+use Rattle.std.proofs.Common.{sym, subst, List, arith}
 use Rattle.cred_table.specs.declared.row.Row.{Row}
 use Rattle.cred_table.specs.Rows.{Lawful}
 use Rattle.cred_table.proofs.Places.{written_is, counter_is}
@@ -6,18 +6,14 @@ use Rattle.cred_table.proofs.Raised.{Lawful-raised}
 use Rattle.cred_table.proofs.listed.ListedTable.raise.Goals as goal
 
 pub overflow_add-row : goal.overflow_add-row
-overflow_add-row g c =
-    let same =
-    counter_is c.args.id.now c.args.self.now.list.items c.as_mut_slice.result.now c.index-as_mut_slice-place.result c.place-place.result c.requires.there c.place-place.ensures.value c.as_mut_slice.ensures.value
-    c.index-as_mut_slice-place.is in
-    let below = c.requires.below in
-    omega arith
+overflow_add-row g c = grind (arith, counter_is)
 
 pub invariant_of-self : goal.invariant_of-self
 invariant_of-self g c =
     let before = c.args.self.now in
     let written =
-    written_is c.args.id.now before.list.items c.as_mut_slice.result.now c.index-as_mut_slice-place.result c.place-place.result before.lawful.distinct c.requires.there c.place-place.ensures.value
+    written_is c.args.id.now before.list.items c.as_mut_slice.result.now c.index-as_mut_slice-place.result
+    c.place-place.result before.lawful.distinct c.requires.there c.place-place.ensures.value
     c.as_mut_slice.ensures.value c.index-as_mut_slice-place.is in
     let P : List Row → Type 0 = λ rows. Lawful g.row.C rows in
     record {
@@ -27,11 +23,7 @@ invariant_of-self g c =
     }
 
 pub returns-clause-raised : goal.returns-clause-raised
-returns-clause-raised g c =
-    written_is c.args.id.now c.args.self.now.list.items c.as_mut_slice.result.now c.index-as_mut_slice-place.result c.place-place.result c.args.self.now.lawful.distinct c.requires.there c.place-place.ensures.value
-    c.as_mut_slice.ensures.value c.index-as_mut_slice-place.is
+returns-clause-raised g c = grind (arith, written_is)
 
 pub returns-clause-value : goal.returns-clause-value
-returns-clause-value g c =
-    ap (λ (n : ℕ). n + 1) (counter_is c.args.id.now c.args.self.now.list.items c.as_mut_slice.result.now c.index-as_mut_slice-place.result c.place-place.result c.requires.there
-    c.place-place.ensures.value c.as_mut_slice.ensures.value c.index-as_mut_slice-place.is)
+returns-clause-value g c = grind (arith, counter_is)

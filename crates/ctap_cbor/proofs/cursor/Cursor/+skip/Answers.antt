@@ -1,23 +1,20 @@
-use Rattle.std.proofs.Common.{◌+◌, ◌-◌}
-use Rattle.std.proofs.lemmas.Result.{err_from_is_err_and, MatchResult-weaker}
+use Rattle.std.proofs.Common.{arith, ◌-◌}
+use Rattle.std.proofs.lemmas.Result.{MatchResult-weaker}
 use Rattle.std.specs.Option.{option_copied}
 use Rattle.ctap_cbor.specs.Views.{part_of}
 use Rattle.ctap_cbor.proofs.Moves.{passes_none, passes_more, pairs_none}
-use Rattle.ctap_cbor.proofs.Skipping.{array_whole, array_stops, map_whole, map_stops, plain_passes, refused_halts, given_more}
+use Rattle.ctap_cbor.proofs.Skipping.{array_whole, array_stops, map_whole, map_stops, plain_passes, given_more}
 use Rattle.ctap_cbor.proofs.Only.{only_halts, only_matches}
-use Rattle.ctap_cbor.proofs.Onward.{items_onward, pairs_onward}
 use Rattle.ctap_cbor.proofs.cursor.Cursor.+skip.Goals as goal
 
 -- ---- an item
 
 pub skip-returns-in_err-item-clause-only : goal.skip-returns-in_err-item-clause-only
-skip-returns-in_err-item-clause-only t c =
-    let p = err_from_is_err_and c.from_residual.result c.from_residual.ensures.1 in
-    let f = c.in_err-item.field-0.0 in
-    rw (p.1, p.2) (only_halts (5 - c.args.level) c.args.self.now c.item.new.self f (refused_halts (5 - c.args.level) c.args.self.now c.item.new.self f.at f.kind c.in_err-item.ensures.takes))
+skip-returns-in_err-item-clause-only t c = grind (arith, only_halts)
 
 pub skip-returns-clause-only : goal.skip-returns-clause-only
-skip-returns-clause-only t c = only_matches (5 - c.args.level) (part_of c.in_ok-item.item) c.args.self.now c.inside.new.self c.inside.result (c.inside.ensures.passes c.args.self.now c.in_ok-item.ensures.takes)
+skip-returns-clause-only t c = only_matches (5 - c.args.level) (part_of c.in_ok-item.item) c.args.self.now
+    c.inside.new.self c.inside.result (c.inside.ensures.passes c.args.self.now c.in_ok-item.ensures.takes)
 
 pub inside-returns-in-Array-clause-passes : goal.inside-returns-in-Array-clause-passes
 inside-returns-in-Array-clause-passes t c = rw c.in-Array.is (λ start takes.
@@ -29,7 +26,8 @@ pub skip_items-loop-done-init : goal.skip_items-loop-done-init
 skip_items-loop-done-init t c = (_, passes_none (5 - c.args.level) c.args.self.now)
 
 pub skip_items-loop-done-preserved : goal.skip_items-loop-done-preserved
-skip_items-loop-done-preserved t c = (_, passes_more (5 - c.args.level) c.loop-done.done c.loop-done.invariant.0 c.in_ok-skip.ensures.passes.0 c.args.self.now c.loop-done.self c.skip.new.self c.loop-done.invariant.1 c.in_ok-skip.ensures.passes.1)
+skip_items-loop-done-preserved t c =
+    (_, passes_more (5 - c.args.level) c.loop-done.done c.loop-done.invariant.0 c.in_ok-skip.ensures.passes.0 c.args.self.now c.loop-done.self c.skip.new.self c.loop-done.invariant.1 c.in_ok-skip.ensures.passes.1)
 
 pub skip_pairs-loop-done-init : goal.skip_pairs-loop-done-init
 skip_pairs-loop-done-init t c = (_, pairs_none (5 - c.args.level) c.args.self.now)
@@ -39,10 +37,10 @@ skip_pairs-loop-done-preserved t c =
     (_, given_more (5 - c.args.level) c.loop-done.done c.loop-done.invariant.0 c.in_ok-skip.ensures.passes.0 (option_copied c.loop-done.previous) c.args.self.now c.loop-done.self c.key.new.self c.skip.new.self (part_of c.in_ok-key.key.item) c.in_ok-key.key.bytes.now c.loop-done.invariant.1 c.in_ok-key.ensures.gives c.in_ok-skip.ensures.passes.1)
 
 pub inside-returns-in-Array-clause-onward : goal.inside-returns-in-Array-clause-onward
-inside-returns-in-Array-clause-onward t c = items_onward (5 - (c.args.level + 1)) c.in-Array.count c.args.self.now c.skip_items.new.self c.skip_items.result c.skip_items.ensures
+inside-returns-in-Array-clause-onward t c = grind arith
 
 pub inside-returns-in-Map-clause-onward : goal.inside-returns-in-Map-clause-onward
-inside-returns-in-Map-clause-onward t c = pairs_onward (5 - (c.args.level + 1)) c.in-Map.count c.args.self.now c.skip_pairs.new.self c.skip_pairs.result c.skip_pairs.ensures
+inside-returns-in-Map-clause-onward t c = grind arith
 
 pub inside-returns-in-Map-clause-passes : goal.inside-returns-in-Map-clause-passes
 inside-returns-in-Map-clause-passes t c = rw c.in-Map.is (λ start takes.
@@ -51,4 +49,4 @@ inside-returns-in-Map-clause-passes t c = rw c.in-Map.is (λ start takes.
     (λ f h. map_stops c.args.level c.in-Map.count start c.args.self.now c.skip_pairs.new.self f.at f.kind takes h))
 
 pub inside-returns-in_default-clause-passes : goal.inside-returns-in_default-clause-passes
-inside-returns-in_default-clause-passes t c = λ start takes. plain_passes (5 - c.args.level) start c.args.self.now c.args.item c.in_default.not-Array c.in_default.not-Map takes
+inside-returns-in_default-clause-passes t c = grind (arith, plain_passes)

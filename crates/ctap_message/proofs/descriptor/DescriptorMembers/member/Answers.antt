@@ -1,19 +1,19 @@
-use Rattle.std.proofs.Common.{◌≡◌, ◌-◌, true, rules}
+use Rattle.std.proofs.Common.{arith, ◌-◌}
 use Rattle.ctap_cbor.specs.Views.{part_of, head_of}
-use Rattle.ctap_message.specs.Members.{Name, is_key}
 use Rattle.ctap_message.specs.Descriptors.{descriptor_types}
 use Rattle.ctap_message.specs.Fields.{descriptor_in}
 use Rattle.ctap_message.specs.Collected.{shown_descriptor, descriptor_next}
 use Rattle.ctap_message.proofs.Collecting.{adds_head}
-use Rattle.ctap_message.proofs.Growing.{descriptor_grows, descriptor_heads, transports_arm, name_key}
+use Rattle.ctap_message.proofs.Growing.{descriptor_grows, descriptor_heads, transports_arm}
 use Rattle.ctap_message.proofs.descriptor.DescriptorMembers.member.Goals as goal
 
 pub returns-in-Text-transports : goal.returns-in-Text-transports
-returns-in-Text-transports c =
-    let name : is_key (Name "transports") (head_of (part_of c.args.key)) ≡ true = search rules in
-    transports_arm (5 - c.args.level) (part_of c.args.key) c.args.self.now c.args.cursor.now c.read_texts.new.cursor c.read_texts.result (name_key "transports" (part_of c.args.key) name) c.read_texts.ensures
+returns-in-Text-transports c = grind (arith, transports_arm)
 
 pub returns-in_ok-value-in_default : goal.returns-in_ok-value-in_default
 returns-in_ok-value-in_default c =
-    adds_head shown_descriptor descriptor_types descriptor_in descriptor_next (5 - c.args.level) (part_of c.args.key) (part_of c.in_ok-value-in_default.value) c.put.result c.args.self.now c.put.new.self c.args.cursor.now c.whole.new.self
-    descriptor_grows (descriptor_heads (head_of (part_of c.args.key)) c.put.ensures.plain) c.in_ok-value-in_default.ensures c.put.ensures.typed c.put.ensures.value
+    adds_head shown_descriptor descriptor_types descriptor_in descriptor_next (5 - c.args.level) (part_of c.args.key)
+    (part_of c.in_ok-value-in_default.value) c.put.result c.args.self.now c.put.new.self c.args.cursor.now
+    c.whole.new.self
+    descriptor_grows (descriptor_heads (head_of (part_of c.args.key)) c.put.ensures.plain)
+    c.in_ok-value-in_default.ensures c.put.ensures.typed c.put.ensures.value

@@ -1,17 +1,17 @@
 use Rattle.std.proofs.Common.{◌+◌, ◌≤◌, ◌∷◌, ◌++◌, [], List, ℕ, length, ap, ap₂, ◌∙◌, refl, rules, arith}
 use Rattle.hid_packet.specs.Queue.{waiting}
-use Rattle.hid_packet.specs.declared.entry.Entry.TheVariants.{Whole}
-use Rattle.hid_packet.proofs.Queueing.{queued-push, room, waiting-push}
+use Rattle.hid_packet.specs.declared.entry.Queued.TheVariants.{Whole}
+use Rattle.hid_packet.proofs.Queueing.{queued-push, space, waiting-push}
 use Rattle.hid_packet.proofs.outbox.Outbox.put_packet.Goals as goal
 
 pub push-requires : goal.push-requires
 push-requires c =
-    let r = room c.self.inside.entries.items c.self.inside.ring c.self.inside.len 1 c.self.invariant (omega arith) (omega (arith, c.requires, c.self.invariant.counted, ap length c.self.view_is)) in
+    let r = space c.self.inside.entries.items c.self.inside.ring c.self.inside.len 1 c.self.invariant (omega arith) (omega (arith, c.requires, c.self.invariant.counted, ap length c.self.view_is)) in
     (search rules, r.entry)
 
 pub put-requires : goal.put-requires
 put-requires c =
-    let r = room c.self.inside.entries.items c.self.inside.ring c.self.inside.len 1 c.self.invariant (omega arith) (omega (arith, c.requires, c.self.invariant.counted, ap length c.self.view_is)) in
+    let r = space c.self.inside.entries.items c.self.inside.ring c.self.inside.len 1 c.self.invariant (omega arith) (omega (arith, c.requires, c.self.invariant.counted, ap length c.self.view_is)) in
     omega (arith, r.bytes_left)
 
 pub invariant_of-self : goal.invariant_of-self

@@ -1,5 +1,5 @@
 use Rattle.std.proofs.Common.{ℕ, List, Some, to_z, w32, subst}
-use Rattle.hidlog_c.specs.declared.outcome.Outcome.{Outcome}
+use Rattle.hidlog_c.specs.declared.outcome.CallOutcome.{CallOutcome}
 use Rattle.hidlog_c.specs.Key.{DeviceState}
 use Rattle.hidlog_c.specs.Lines.{PlaysOn}
 use Rattle.hidlog_c.proofs.Kept.{plays_on, status_as}
@@ -10,6 +10,10 @@ returns c =
     let s = c.self.inside in
     let t = c.play_lines.new.session in
     let out : List ℕ × List ℕ = (c.args.out.now, c.play_lines.new.out) in
-    let outcome : Outcome × Outcome = (c.args.outcome.now, c.play_lines.result) in
-    subst (λ (d : DeviceState). PlaysOn d d.waiting (Some (record { aaguid = s.aaguid; session = t; waiting = s.outbox })) c.args.log.now out outcome (to_z w32 c.play_lines.result.status)) c.self.view_is
-    (plays_on s.aaguid s.session t s.outbox c.args.log.now out outcome (to_z w32 c.play_lines.result.status) (c.is_empty.ensures.0 c.if-not-is_empty.false) c.play_lines.ensures (status_as s.session t c.args.log.now c.play_lines.new.out c.play_lines.result c.play_lines.ensures))
+    let outcome : CallOutcome × CallOutcome = (c.args.outcome.now, c.play_lines.result) in
+    subst
+    (λ (d : DeviceState). PlaysOn d d.waiting (Some (record { aaguid = s.aaguid; session = t; waiting = s.outbox }))
+    c.args.log.now out outcome (to_z w32 c.play_lines.result.status)) c.self.view_is
+    (plays_on s.aaguid s.session t s.outbox c.args.log.now out outcome (to_z w32 c.play_lines.result.status)
+    (c.is_empty.ensures.0 c.if-not-is_empty.false) c.play_lines.ensures
+    (status_as s.session t c.args.log.now c.play_lines.new.out c.play_lines.result c.play_lines.ensures))

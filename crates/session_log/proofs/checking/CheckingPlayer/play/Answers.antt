@@ -23,18 +23,21 @@ returns-else-is_some-clause-played g c =
     let w = c.args._writer.now in
     let line = c.args._line.now in
     let x = Input c.in-Input.timed in
-    let before = compared c.args.session.now o.lines o.input o.found (due_packets o.awaited o.outbox) o.inputs o.packets in
+    let before =
+    compared c.args.session.now o.lines o.input o.found (due_packets o.awaited o.outbox) o.inputs o.packets in
     let later = compared c.step.new.self q.lines q.input q.found (due_packets q.awaited q.outbox) q.inputs q.packets in
     let is : said line ≡ Some x = c.requires.means ∙ ap Some c.in-Input.is in
     let sound : stops_compared before x ≡ None =
-    ap (λ (a : Option Packet). missing_of (due_packets a o.outbox) (Differs o.input (o.found + 1))) (is_silent o.awaited c.if-is_some.ensures) in
+    ap (λ (a : Option Packet). missing_of (due_packets a o.outbox) (Differs o.input (o.found + 1)))
+    (is_silent o.awaited c.if-is_some.ensures) in
     let begun = c.begin_input.ensures in
     let at = c.requires.ready.0 in
     let stood : later ≡ moves_compared sessions before x =
-    λ i. compared (c.step.ensures.state i) ((begun.lines ∙ at) i) ((begun.input ∙ at) i) (begun.found i) ((begun.due ∙ c.step.ensures.packets) i)
-    (begun.inputs i) (begun.packets i) in (
+    λ i. compared (c.step.ensures.state i) ((begun.lines ∙ at) i) ((begun.input ∙ at) i) (begun.found i)
+    ((begun.due ∙ c.step.ensures.packets) i) (begun.inputs i) (begun.packets i) in (
       ap (fault_by check_machine c.args.number before) is ∙ sound,
       stood ∙ ap (after_by check_machine before) (sym is),
       subst (SendsPackets check_machine before) (sym is) tt,
-      subst (IsTaken g.T.Target.taken g.T.Target.failed (w, w)) (ap (text_by check_machine before line) (sym is)) (Appends-nil (g.T.Target.taken w), refl),
+      subst (IsTaken g.T.Target.taken g.T.Target.failed (w, w)) (ap (text_by check_machine before line) (sym is))
+          (Appends-nil (g.T.Target.taken w), refl),
     )

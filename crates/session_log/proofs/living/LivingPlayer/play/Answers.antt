@@ -16,11 +16,15 @@ returns-in-Input-clause-played g c =
     let line = c.args.line.now in
     let x = c.in-Input.timed in
     let is : said line ≡ Some (Input x) = c.requires.means ∙ ap Some c.in-Input.is in
-    let need : needed c.need.result ≡ session_needs (stepped s x) = c.need.ensures.value ∙ ap session_needs c.step.ensures.state in
-    let text = c.args.text.now ++ flat_map sent_text c.step.new.outbox ++ flat_map ended (need_lines (needed c.need.result)) in
-    writes_for live_machine g.T.Target.taken g.T.Target.failed c.args._number s c.step.new.self line (Input x) (c.args.writer.now, c.put_served.new.writer) c.put_served.result text is refl
-    c.step.ensures.state (subst ArePackets c.step.ensures.packets c.put_served.ensures.packets, subst IsNeed need c.need.ensures.sized)
-    (λ i. c.requires.ended i ++ flat_map sent_text (c.step.ensures.packets i) ++ flat_map ended (need_lines (need i))) c.put_served.ensures.puts
+    let need : needed c.need.result ≡ session_needs (stepped s x) =
+    c.need.ensures.value ∙ ap session_needs c.step.ensures.state in
+    let text =
+    c.args.text.now ++ flat_map sent_text c.step.new.outbox ++ flat_map ended (need_lines (needed c.need.result)) in
+    writes_for live_machine g.T.Target.taken g.T.Target.failed c.args._number s c.step.new.self line (Input x)
+    (c.args.writer.now, c.put_served.new.writer) c.put_served.result text is refl c.step.ensures.state
+    (subst ArePackets c.step.ensures.packets c.put_served.ensures.packets, subst IsNeed need c.need.ensures.sized)
+    (λ i. c.requires.ended i ++ flat_map sent_text (c.step.ensures.packets i) ++ flat_map ended (need_lines (need i)))
+    c.put_served.ensures.puts
 
 pub returns-else-is_need_line-clause-played : goal.returns-else-is_need_line-clause-played
 returns-else-is_need_line-clause-played g c =
@@ -28,5 +32,6 @@ returns-else-is_need_line-clause-played g c =
     let line = c.args.line.now in
     let is : said line ≡ Some Comment = c.requires.means ∙ ap Some c.in-Comment.is in
     let other = sym c.if-is_need_line.false ∙ c.is_need_line.ensures in
-    writes_for live_machine g.T.Target.taken g.T.Target.failed c.args._number s s line Comment (c.args.writer.now, c.put_text.new.writer) c.put_text.result c.args.text.now is refl refl tt
+    writes_for live_machine g.T.Target.taken g.T.Target.failed c.args._number s s line Comment
+    (c.args.writer.now, c.put_text.new.writer) c.put_text.result c.args.text.now is refl refl tt
     (c.requires.ended ∙ ap (λ (b : Bool). cond b [] (ended line)) other) c.put_text.ensures

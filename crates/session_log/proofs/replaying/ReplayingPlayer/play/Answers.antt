@@ -12,13 +12,16 @@ returns-in-Input-clause-played g c =
     let x = c.in-Input.timed in
     let is : said line ≡ Some (Input x) = c.requires.means ∙ ap Some c.in-Input.is in
     let text = c.args.text.now ++ flat_map sent_text c.step.new.outbox in
-    writes_for machine g.T.Target.taken g.T.Target.failed c.args._number c.args.session.now c.step.new.self line (Input x) (c.args.writer.now, c.put_input.new.writer) c.put_input.result text is refl
-    c.step.ensures.state (subst ArePackets c.step.ensures.packets c.put_input.ensures.packets) (λ i. c.requires.ended i ++ flat_map sent_text (c.step.ensures.packets i)) c.put_input.ensures.puts
+    writes_for machine g.T.Target.taken g.T.Target.failed c.args._number c.args.session.now c.step.new.self line
+    (Input x) (c.args.writer.now, c.put_input.new.writer) c.put_input.result text is refl
+    c.step.ensures.state (subst ArePackets c.step.ensures.packets c.put_input.ensures.packets)
+    (λ i. c.requires.ended i ++ flat_map sent_text (c.step.ensures.packets i)) c.put_input.ensures.puts
 
 pub returns-in-Comment-clause-played : goal.returns-in-Comment-clause-played
 returns-in-Comment-clause-played g c =
     let s = c.args.session.now in
     let line = c.args._line.now in
     let is : said line ≡ Some Comment = c.requires.means ∙ ap Some c.in-Comment.is in
-    writes_for machine g.T.Target.taken g.T.Target.failed c.args._number s s line Comment (c.args.writer.now, c.put_text.new.writer) c.put_text.result c.args.text.now is refl refl tt c.requires.ended
+    writes_for machine g.T.Target.taken g.T.Target.failed c.args._number s s line Comment
+    (c.args.writer.now, c.put_text.new.writer) c.put_text.result c.args.text.now is refl refl tt c.requires.ended
     c.put_text.ensures

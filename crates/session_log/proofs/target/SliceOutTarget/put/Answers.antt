@@ -6,4 +6,5 @@ pub returns-clause-rest : goal.returns-clause-rest
 returns-clause-rest c =
     let at = c.args.self.now.len in
     let n = c.min-n.result in
-    drop-put_mid at (at + n - at) c.args.self.now.buffer.now c.copy_from_slice.new.self (at + n) (omega arith) (search rules) (search rules)
+    drop-put_mid at (at + n - at) c.args.self.now.buffer.now c.copy_from_slice.new.self (at + n) (omega arith)
+    (search rules) (search rules)

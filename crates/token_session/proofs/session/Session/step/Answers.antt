@@ -6,7 +6,7 @@ use Rattle.token_session.proofs.Metering.{stepped_is, stands_longer, machine_aft
 use Rattle.token_session.specs.declared.input.Timed.{Timed}
 use Rattle.token_session.specs.Effects.{request_in}
 use Rattle.token_session.specs.Meters.{SessionState, counted}
-use Rattle.token_session.specs.Machine.{Turn}
+use Rattle.token_session.specs.Machine.{MachineTurn}
 use Rattle.token_session.proofs.session.Session.step.Goals as goal
 
 pub serve-requires : goal.serve-requires
@@ -19,7 +19,7 @@ returns-clause-state g c =
     let at : c.max-now.result ≡ max (c.args.self.now).machine.now c.args.at = c.max-now.ensures ∙ ap (λ (s : SessionState). max s.machine.now c.args.at) c.self.view_is in
     let turned = step_turn (c.args.self.now).machine _ c.max-now.result x _ at c.pass_time.ensures.state c.pass_time.ensures.packets in
     stepped_is (c.args.self.now).machine _ (c.args.self.now).meters _ c.args.self.now x _ _ _ refl
-    (ap (λ (s : SessionState). s.machine) c.self-2.view_is ∙ c.serve.ensures.state ∙ ap (λ (t : Turn). t.state) turned)
+    (ap (λ (s : SessionState). s.machine) c.self-2.view_is ∙ c.serve.ensures.state ∙ ap (λ (t : MachineTurn). t.state) turned)
     (ap (λ (s : SessionState). s.meters) c.self-2.view_is ∙ c.serve.ensures.meters ∙ (λ i. counted (c.pass_time.ensures.meters i) (request_in (turned i).event)))
     (c.max-self-inside.ensures ∙ ap (max _) c.held.ensures.bytes) (c.max-self-inside-2.ensures ∙ ap (max _) c.credentials.ensures.value) (c.max-self-inside-3.ensures ∙ ap (max _) c.pending.ensures.value)
 
@@ -28,7 +28,7 @@ returns-clause-packets g c =
     let x : Timed = record { at = c.args.at; input = c.args.input } in
     let at : c.max-now.result ≡ max (c.args.self.now).machine.now c.args.at = c.max-now.ensures ∙ ap (λ (s : SessionState). max s.machine.now c.args.at) c.self.view_is in
     c.serve.ensures.packets
-    ∙ ap (λ (t : Turn). t.packets) (step_turn (c.args.self.now).machine _ c.max-now.result x _ at c.pass_time.ensures.state c.pass_time.ensures.packets)
+    ∙ ap (λ (t : MachineTurn). t.packets) (step_turn (c.args.self.now).machine _ c.max-now.result x _ at c.pass_time.ensures.state c.pass_time.ensures.packets)
 
 pub returns-clause-few : goal.returns-clause-few
 returns-clause-few g c =

@@ -1,0 +1,31 @@
+use Rattle.std.proofs.Common.{◌≡◌, false, take}
+use Rattle.hidlog.specs.CommandLine.{path_of, texts_of}
+use Rattle.hidlog.specs.Model.{Model}
+use Rattle.hidlog.specs.Several.{AreSame}
+use Rattle.hidlog.proofs.host.Host.check_each.Given as goal
+
+-- what is said of the host
+abbrev pub model : (g : goal.Over) → Model g.row.D.Denot g.row.L.Denot g.row.O.Denot g.row.E.Denot
+model g = record {
+  holds = g.D.Files.holds;
+  unreadable = g.D.Files.unreadable;
+  written = g.D.Files.written;
+  unwritten = g.D.Files.unwritten;
+  unwritable = g.D.Files.unwritable;
+  opened = g.L.Logs.opened;
+  unopenable = g.L.Logs.unopenable;
+  left = g.L.Source.left;
+  unread = g.L.Source.failed;
+  ended = g.L.Source.ended;
+  taken = g.O.Target.taken;
+  unput = g.O.Target.failed;
+  waits = g.O.Output.waits;
+  said = g.E.Target.taken;
+  unsaid = g.E.Target.failed;
+}
+
+-- The files stay, and where none has failed the logs so far are the same.
+abbrev pub invariant-loop-path : goal.invariant-loop-path
+invariant-loop-path g l = (l.self.files ≡ l.fn.self.files)
+    × (l.has_failed ≡ false → AreSame (model g) (path_of l.fn.wished.load) l.fn.self.files
+    (texts_of (take l.path-index l.fn.paths)) (l.fn.self.input, l.self.input))
