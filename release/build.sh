@@ -147,7 +147,7 @@ linker_for_aarch64() {
 # Writes what the files are made from and with, a word and its value a line.
 write_build() {
     {
-        echo "version: $(sed -n 's/^const VERSION: &str = "\(.*\)";/\1/p' crates/hidlog/src/command_line.rt)"
+        echo "version: $(sed -n 's/^const VERSION: &str = "\(.*\)";/\1/p' crates/hidlog/src/grammar.rt)"
         echo "kit: $(rt version)"
         echo "sources: $(release/sources.sh --hash)"
         echo "processor: x86-64-v2"

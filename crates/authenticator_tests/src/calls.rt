@@ -1,7 +1,7 @@
 //! The calls of `ctap_message` and `fido_authdata` that the examples on their pages leave out.
 
 use ctap_message::{
-    AssertRequest, Command, Request, Status, read_request, write_assertion, write_created,
+    Answer, AssertRequest, Command, Request, Status, read_request, write_assertion, write_created,
     write_status,
 };
 use fido_authdata::{AuthData, cose_key};
@@ -27,9 +27,10 @@ fn a_list_is_walked(rt: HostRuntime) {
 fn answers_are_written(rt: HostRuntime) {
     let (id, x, y) = ([0xaa; 32], [0xbb; 32], [0xcc; 32]);
     let made = AuthData::created(&[0xa3; 32], &[0; 16], &id, &x, &y).bytes();
-    let created = write_created(made.as_slice(), &[0xdd; 70]);
-    let asserted = write_assertion(&id, &[0xa3; 37], &[0xdd; 70], None, None);
-    let refused = write_status(Status::KEEPALIVE_CANCEL);
+    let (mut created, mut asserted, mut refused) = (Answer::new(), Answer::new(), Answer::new());
+    write_created(made.as_slice(), &[0xdd; 70], &mut created);
+    write_assertion(&id, &[0xa3; 37], &[0xdd; 70], None, None, &mut asserted);
+    write_status(Status::KEEPALIVE_CANCEL, &mut refused);
     let lens = (
         made.len(),
         cose_key(&x, &y).len(),

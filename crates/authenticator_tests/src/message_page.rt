@@ -1,12 +1,13 @@
 //! The example on the page of `ctap_message`.
 
-use ctap_message::{Request, Status, read_request, write_info};
+use ctap_message::{Answer, Request, Status, read_request, write_info};
 
 #[test]
 fn the_page(rt: HostRuntime) {
     let (request, steps) = read_request(b"\x04");
     let info = matches!(request, Ok(Request::Info));
-    let answer = write_info(&[0; 16]);
+    let mut answer = Answer::new();
+    write_info(&[0; 16], &mut answer);
 
     // authenticatorGetInfo takes no parameters.
     let (request, _) = read_request(b"\x04\xa0");

@@ -49,11 +49,12 @@ as_work work = record { cid = work.cid; status = status work.task }
 abbrev pub work_of : WaitingWork → Work
 work_of w = record { cid = w.cid; status = status_number w.status }
 
-abbrev pub answer_of : Turn → Answer
-answer_of (turns.Answer bytes) = Answered bytes.items
-answer_of (turns.Waits status) = Waits (status_number status)
-answer_of turns.Ignored = Ignored
-answer_of turns.Nothing = Nothing
+-- what a turn returns, with the bytes that stand beside it
+abbrev pub answer_of : Turn → List ℕ → Answer
+answer_of turns.Answer bytes = Answered bytes
+answer_of (turns.Waits status) bytes = Waits (status_number status)
+answer_of turns.Ignored bytes = Ignored
+answer_of turns.Nothing bytes = Nothing
 
 abbrev pub event_of : Happening → Event
 event_of (happening.Request cid message) = Request cid message.now
@@ -92,8 +93,12 @@ after v t = record {
 }
 
 -- A turn was taken: the state is what it makes, the answer what it returns, and all else stays.
-abbrev pub Takes : (old new : Held) → Turn → Turned → Type 0
-Takes old new result t = (new ≡ after old t) × (answer_of result ≡ t.answer)
+abbrev pub Takes : (old new : Held) → Turn → List ℕ → Turned → Type 0
+Takes old new result bytes t = (new ≡ after old t) × (answer_of result bytes ≡ t.answer)
+
+-- A turn was taken after which work waits with a status: the state is what it makes, and all else stays.
+abbrev pub TakesWork : (old new : Held) → KeepaliveStatus → Turned → Type 0
+TakesWork old new result t = (new ≡ after old t) × (Waits (status_number result) ≡ t.answer)
 
 -- what the caller has to hand in
 pub data Needed : Type 0 where

@@ -19,10 +19,10 @@ use ctap_message::{Answer, Status, read_request};
 use std::marker::Model;
 
 /// What the turn of an event returns.
-#[derive(Clone, Debug, PartialEq, Eq, Drop)]
+#[derive(Clone, Copy, Debug, PartialEq, Eq)]
 pub enum Turn {
-    /// The answer is due.
-    Answer(Answer),
+    /// The answer is due, whose message was written.
+    Answer,
     /// Work waits with this status.
     Waits(KeepaliveStatus),
     /// The reply wasn't needed.
@@ -165,38 +165,38 @@ impl<T: Table<C>, const C: usize> Core<T, C> {
 
     /// Takes the turn of a request that came at `at` on the channel `cid`: `message` is its command byte and what
     /// follows. Work that waits ends with no answer of its own.
-    pub fn request(&mut self, at: u64, cid: u32, message: &[u8]) -> Turn
-        ensures { IsTurn self.old self.new (answer_of result) at (Asks cid message.now) }
+    pub fn request(&mut self, at: u64, cid: u32, message: &[u8], answer: &mut Answer) -> Turn
+        ensures { IsTurn self.old self.new (answer_of result answer.new.items) at (Asks cid message.now) }
     {
-        self.take(at, &Event::Request { cid, message })
+        self.take(at, &Event::Request { cid, message }, answer)
     }
 
     /// Takes the turn of the reply of a test of user presence.
-    pub fn presence(&mut self, at: u64, reply: Presence) -> Turn
-        ensures { IsTurn self.old self.new (answer_of result) at (PresenceIs reply) }
+    pub fn presence(&mut self, at: u64, reply: Presence, answer: &mut Answer) -> Turn
+        ensures { IsTurn self.old self.new (answer_of result answer.new.items) at (PresenceIs reply) }
     {
-        self.take(at, &Event::Presence(reply))
+        self.take(at, &Event::Presence(reply), answer)
     }
 
     /// Takes the turn of a new key; `None` refuses one.
-    pub fn key(&mut self, at: u64, key: Option<NewKey>) -> Turn
-        ensures { IsTurn self.old self.new (answer_of result) at (KeyIs key) }
+    pub fn key(&mut self, at: u64, key: Option<NewKey>, answer: &mut Answer) -> Turn
+        ensures { IsTurn self.old self.new (answer_of result answer.new.items) at (KeyIs key) }
     {
-        self.take(at, &Event::Key(&key))
+        self.take(at, &Event::Key(&key), answer)
     }
 
     /// Takes the turn of a signature; `None` refuses one.
-    pub fn signature(&mut self, at: u64, signature: Option<Signature>) -> Turn
-        ensures { IsTurn self.old self.new (answer_of result) at (SignatureIs signature) }
+    pub fn signature(&mut self, at: u64, signature: Option<Signature>, answer: &mut Answer) -> Turn
+        ensures { IsTurn self.old self.new (answer_of result answer.new.items) at (SignatureIs signature) }
     {
-        self.take(at, &Event::Signature(&signature))
+        self.take(at, &Event::Signature(&signature), answer)
     }
 
     /// Takes the turn of a CANCEL of the waiting work, the same at every moment.
-    pub fn cancel(&mut self) -> Turn
-        ensures { IsTurn self.old self.new (answer_of result) 0 Cancel }
+    pub fn cancel(&mut self, answer: &mut Answer) -> Turn
+        ensures { IsTurn self.old self.new (answer_of result answer.new.items) 0 Cancel }
     {
-        self.take(0, &Event::Cancel)
+        self.take(0, &Event::Cancel, answer)
     }
 
     /// Ends the waiting work with no answer.
@@ -204,25 +204,26 @@ impl<T: Table<C>, const C: usize> Core<T, C> {
     pub fn drop_work(&mut self)
         ensures { IsTurn self.old self.new Nothing 0 DropWork }
     {
-        self.take(0, &Event::Drop);
+        self.take(0, &Event::Drop, &mut Answer::new());
     }
 
-    /// Takes the turn of an event that came at `at`.
+    /// Takes the turn of an event that came at `at`. Where it returns [`Turn::Answer`], the answer's message is in
+    /// `answer`.
     // It isn't inlined: where it is, what reads a request isn't inlined into it.
     #[inline(never)]
     #[tactic(auto, unfolding(crate::specs::Turn::turn))]
-    pub fn take(&mut self, at: u64, event: &Event<'_>) -> Turn
-        ensures { IsTurn self.old self.new (answer_of result) at (event_of event.now) }
+    pub fn take(&mut self, at: u64, event: &Event<'_>, answer: &mut Answer) -> Turn
+        ensures { IsTurn self.old self.new (answer_of result answer.new.items) at (event_of event.now) }
     {
         self.latest = self.latest.max(at);
         match event {
             Event::Request { cid, message } => {
                 let (request, steps) = read_request(message);
                 self.last_steps = steps;
-                self.serve(*cid, request)
+                self.serve(*cid, request, answer)
             }
-            Event::Presence(_) | Event::Key(_) | Event::Signature(_) => self.reply(event),
-            Event::Cancel => self.refuse_all(Status::KEEPALIVE_CANCEL),
+            Event::Presence(_) | Event::Key(_) | Event::Signature(_) => self.reply(event, answer),
+            Event::Cancel => self.refuse_all(Status::KEEPALIVE_CANCEL, answer),
             Event::Drop => {
                 self.pending.clear();
                 self.work = None;

@@ -6,10 +6,11 @@
 //! ```text
 //! let mut core = Core::<Store<4>, 4>::new(Config { aaguid: [0; 16] }, Store::new(), 0);
 //! // authenticatorSelection on channel 1 waits for the user's presence, and is then answered.
-//! core.request(10, 1, b"\x0b");
+//! let mut answer = Answer::new();
+//! core.request(10, 1, b"\x0b", &mut answer);
 //! let waits = core.need().is_presence();
-//! let turn = core.presence(20, Presence::Granted);
-//! let answered = matches!(turn, Turn::Answer(answer) if answer.as_slice() == [0].as_slice());
+//! let turn = core.presence(20, Presence::Granted, &mut answer);
+//! let answered = turn == Turn::Answer && answer.as_slice() == [0].as_slice();
 //! assert!(rt; waits && answered);
 //! ```
 #![tactic(auto)]

@@ -16,25 +16,24 @@ use ctap_cbor::head_into;
 /// An answer's message: a status byte, and at success a map after it.
 pub type Answer = ArrayVec<u8, 262>;
 
-/// Returns the answer that is a status alone.
-pub fn write_status(status: Status) -> Answer
-    ensures { result.items ≡ spec.refusal status.0 }
+/// Writes the answer that is a status alone.
+pub fn write_status(status: Status, answer: &mut Answer)
+    ensures { answer.new.items ≡ spec.refusal status.0 }
 {
-    let mut answer = Answer::new();
+    answer.clear();
     answer.push(status.0);
-    answer
 }
 
-/// Returns the answer of authenticatorGetInfo (CTAP 2.1, section 6.4), 81 bytes: status 0x00 and the map `{1:
+/// Writes the answer of authenticatorGetInfo (CTAP 2.1, section 6.4), 81 bytes: status 0x00 and the map `{1:
 /// ["FIDO_2_0"], 3: aaguid, 4: {"rk": true, "up": true, "plat": false}, 5: 7609, 9: ["usb"], 10: [{"alg": -7, "type":
 /// "public-key"}]}` in canonical CBOR.
 // It isn't inlined, so that no other turn pays for the space of this answer.
 #[inline(never)]
 #[tactic(auto, unfolding(ctap_cbor::specs::Head::head, crate::specs::Answers::info_tree, crate::specs::Answers::info_answer))]
-pub fn write_info(aaguid: &[u8; 16]) -> Answer
-    ensures { result.items ≡ spec.info_answer aaguid.now }
+pub fn write_info(aaguid: &[u8; 16], answer: &mut Answer)
+    ensures { answer.new.items ≡ spec.info_answer aaguid.now }
 {
-    let mut answer = Answer::new();
+    answer.clear();
     answer
         .try_extend_from_slice(b"\x00\xa6\x01\x81\x68FIDO_2_0\x03\x50")
         .unwrap();
@@ -45,17 +44,16 @@ pub fn write_info(aaguid: &[u8; 16]) -> Answer
               \x0a\x81\xa2\x63alg\x26\x64type\x6apublic-key",
         )
         .unwrap();
-    answer
 }
 
-/// Returns the answer of authenticatorMakeCredential (CTAP 2.1, section 6.1.2): status 0x00 and the map `{1: "packed",
+/// Writes the answer of authenticatorMakeCredential (CTAP 2.1, section 6.1.2): status 0x00 and the map `{1: "packed",
 /// 2: auth, 3: {"alg": -7, "sig": sig}}` in canonical CBOR, by the authenticator data and the signature.
-pub fn write_created(auth: &[u8], sig: &[u8]) -> Answer
+pub fn write_created(auth: &[u8], sig: &[u8], answer: &mut Answer)
     requires auth { length auth.now ≡ 164 }
     requires sig { length sig.now ≤ 72 }
-    ensures { result.items ≡ spec.created_answer auth.now sig.now }
+    ensures { answer.new.items ≡ spec.created_answer auth.now sig.now }
 {
-    let mut answer = Answer::new();
+    answer.clear();
     answer
         .try_extend_from_slice(b"\x00\xa3\x01\x66packed\x02\x58\xa4")
         .unwrap();
@@ -63,11 +61,10 @@ pub fn write_created(auth: &[u8], sig: &[u8]) -> Answer
     answer
         .try_extend_from_slice(b"\x03\xa2\x63alg\x26\x63sig")
         .unwrap();
-    put_bytes(&mut answer, sig);
-    answer
+    put_bytes(answer, sig);
 }
 
-/// Returns the answer of an assertion (CTAP 2.1, sections 6.2.2 and 6.3): status 0x00 and the map `{1: {"id": id,
+/// Writes the answer of an assertion (CTAP 2.1, sections 6.2.2 and 6.3): status 0x00 and the map `{1: {"id": id,
 /// "type": "public-key"}, 2: auth, 3: sig, 4: {"id": user}, 5: number}` in canonical CBOR, 4 and 5 where they are
 /// given.
 pub fn write_assertion(
@@ -76,13 +73,14 @@ pub fn write_assertion(
     sig: &[u8],
     user: Option<&[u8]>,
     number: Option<u16>,
-) -> Answer
+    answer: &mut Answer,
+)
     requires auth { length auth.now ≡ 37 }
     requires sig { length sig.now ≤ 72 }
     requires user { ForSome user (λ u. length u.now ≤ 64) }
-    ensures { result.items ≡ spec.assertion_answer id.now auth.now sig.now (option_copied user.entry) number }
+    ensures { answer.new.items ≡ spec.assertion_answer id.now auth.now sig.now (option_copied user.entry) number }
 {
-    let mut answer = Answer::new();
+    answer.clear();
     answer.push(0x00);
     answer.push(map_head(user, number));
     answer
@@ -94,10 +92,9 @@ pub fn write_assertion(
         .unwrap();
     answer.try_extend_from_slice(auth).unwrap();
     answer.try_extend_from_slice(b"\x03").unwrap();
-    put_bytes(&mut answer, sig);
-    put_user(&mut answer, user);
-    put_number(&mut answer, number);
-    answer
+    put_bytes(answer, sig);
+    put_user(answer, user);
+    put_number(answer, number);
 }
 
 /// Returns the head of the map, by how many members it has.

@@ -6,7 +6,8 @@
 //! ```text
 //! let (request, steps) = read_request(b"\x04");
 //! let info = matches!(request, Ok(Request::Info));
-//! let answer = write_info(&[0; 16]);
+//! let mut answer = Answer::new();
+//! write_info(&[0; 16], &mut answer);
 //!
 //! // authenticatorGetInfo takes no parameters.
 //! let (request, _) = read_request(b"\x04\xa0");

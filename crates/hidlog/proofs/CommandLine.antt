@@ -23,8 +23,8 @@ use Rattle.clap.specs.declared.error.kind.ErrorKind.TheVariants as kind
 use Rattle.hidlog.specs.declared.command_line.Form.TheVariants.{Lines}
 use Rattle.hidlog.specs.declared.command_line.Manner.{Manner}
 use Rattle.hidlog.specs.declared.command_line.Manner.TheVariants.{ByTerminal}
-use Rattle.hidlog.specs.declared.command_line.CommandName.{CommandName}
-use Rattle.hidlog.specs.declared.command_line.CommandParameter.{CommandParameter}
+use Rattle.hidlog.specs.declared.grammar.CommandName.{CommandName}
+use Rattle.hidlog.specs.declared.grammar.CommandParameter.{CommandParameter}
 use Rattle.hidlog.specs.CommandLine.{Ask, command, command_for, rule_for, ask_of, asked_by, grammar, answers_to, logs_of, manner_of, play, check, show, task_by}
 use Rattle.session_log.specs.declared.command.LogCommand.TheVariants as playing
 

@@ -10,13 +10,13 @@ use Rattle.clap.specs.Walk.{Row, Rule, all_of, first_of}
 use Rattle.clap.specs.declared.builder.action.ArgAction.TheVariants.{Append, SetTrue}
 use Rattle.hidlog.specs.declared.command_line.Form.{Form}
 use Rattle.hidlog.specs.declared.command_line.Form.TheVariants.{Json, JsonSummary, Lines, Summary}
-use Rattle.hidlog.specs.declared.command_line.CommandParameter.{CommandParameter}
-use Rattle.hidlog.specs.declared.command_line.CommandParameter.TheVariants.{Load, Save, All, Summary as SummaryFlag, Json as JsonFlag, Wide, Explain, Plain, Log, Logs}
+use Rattle.hidlog.specs.declared.grammar.CommandParameter.{CommandParameter}
+use Rattle.hidlog.specs.declared.grammar.CommandParameter.TheVariants.{Load, Save, All, Summary as SummaryFlag, Json as JsonFlag, Wide, Explain, Plain, Log, Logs}
 use Rattle.hidlog.specs.declared.command_line.Manner.{Manner}
 use Rattle.hidlog.specs.declared.command_line.Manner.TheVariants.{ByTerminal, Explained, Fixed}
 use Rattle.hidlog.specs.declared.command_line.Invocation.{Invocation}
-use Rattle.hidlog.specs.declared.command_line.CommandName.{CommandName}
-use Rattle.hidlog.specs.declared.command_line.CommandName.TheVariants as name
+use Rattle.hidlog.specs.declared.grammar.CommandName.{CommandName}
+use Rattle.hidlog.specs.declared.grammar.CommandName.TheVariants as name
 use Rattle.hidlog.specs.declared.command_line.ProgramTask.{ProgramTask}
 use Rattle.hidlog.specs.declared.command_line.ProgramTask.TheVariants.{Play, Check, Show}
 use Rattle.session_log.specs.declared.command.LogCommand.{LogCommand}

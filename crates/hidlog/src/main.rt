@@ -13,6 +13,7 @@ mod disk;
 mod escaped;
 mod fault;
 mod files;
+mod grammar;
 mod held;
 mod host;
 mod logs;

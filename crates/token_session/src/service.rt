@@ -15,6 +15,7 @@ use arrayvec::ArrayVec;
 use authn_core::{Core, Event, Turn, Work};
 use byteorder::{BigEndian, ByteOrder};
 use cred_table::Store;
+use ctap_message::Answer;
 use ctap_message::laws::steps_are_bounded;
 use hid_assemble::Assembler;
 use hid_packet::Outbox;
@@ -69,11 +70,12 @@ impl<const C: usize> Keeper<C> {
     {
         steps_are_bounded();
         let before = self.core.work();
-        let turn = self.core.take(now, event);
+        let mut answer = Answer::new();
+        let turn = self.core.take(now, event, &mut answer);
         match event {
             Event::Request { cid, message } => {
                 self.meters.count(message, self.core.last_steps());
-                self.send(now, *cid, before, &turn, outbox);
+                self.send(now, *cid, before, turn, &answer, outbox);
             }
             Event::Presence(_)
             | Event::Key(_)
@@ -81,7 +83,7 @@ impl<const C: usize> Keeper<C> {
             | Event::Cancel
             | Event::Drop => {
                 if let Some(work) = before {
-                    self.send(now, work.cid, before, &turn, outbox);
+                    self.send(now, work.cid, before, turn, &answer, outbox);
                 }
             }
         }
@@ -90,19 +92,28 @@ impl<const C: usize> Keeper<C> {
     /// Sends what a turn returned to the channel that asked. `before` is the work that waited before the turn.
     #[inline(always)]
     #[tactic(auto, unfolding(crate::specs::Replies::answer_packets, crate::specs::Machine::answer_keeps_alive))]
-    fn send(&mut self, now: u64, cid: u32, before: Option<Work>, turn: &Turn, outbox: &mut Outbox)
+    fn send(
+        &mut self,
+        now: u64,
+        cid: u32,
+        before: Option<Work>,
+        turn: Turn,
+        answer: &Answer,
+        outbox: &mut Outbox,
+    )
         requires { length outbox.old + length (answer_packets (Some cid) (status_of (option_map work_of before))
-            (answer_of turn.now)) ≤ OUTBOX_CAPACITY }
+            (answer_of turn answer.now.items)) ≤ OUTBOX_CAPACITY }
         ensures others { self.new ≡ record self.old { keepalive_at = self.new.keepalive_at } }
         ensures keepalive { self.new.keepalive_at ≡ (if answer_keeps_alive (Some cid)
-            (status_of (option_map work_of before)) (answer_of turn.now) then now else self.old.keepalive_at) }
+            (status_of (option_map work_of before)) (answer_of turn answer.now.items)
+            then now else self.old.keepalive_at) }
         ensures packets { outbox.new ≡ outbox.old ++ answer_packets (Some cid)
-            (status_of (option_map work_of before)) (answer_of turn.now) }
+            (status_of (option_map work_of before)) (answer_of turn answer.now.items) }
     {
         match turn {
-            Turn::Answer(answer) => outbox.put_message(cid, CBOR, answer.as_slice()),
+            Turn::Answer => outbox.put_message(cid, CBOR, answer.as_slice()),
             Turn::Waits(status) => {
-                if !matches!(before, Some(work) if work.status == *status) {
+                if !matches!(before, Some(work) if work.status == status) {
                     self.keepalive_at = now;
                     outbox.put_message(cid, KEEPALIVE, &[status.number()]);
                 }

@@ -3,34 +3,37 @@
 ghost use Rattle.std.specs.Prelude.{[], None};
 ghost use Rattle.authn_core.specs.State.{Selects, refuses, waits};
 ghost use Rattle.authn_core.specs.Asking.{reset_begins, asked_alone};
-ghost use Rattle.authn_core.specs.Views.{Takes};
+ghost use Rattle.authn_core.specs.Views.{Takes, TakesWork};
 
 use crate::authenticator::{Core, Turn};
 use crate::refusals;
 use crate::replies::Presence;
 use crate::task::Task;
+use crate::work::KeepaliveStatus;
 use cred_table::Table;
-use ctap_message::Status;
+use ctap_message::{Answer, Status};
 
 /// How long after the start a reset may be asked for, in milliseconds.
 const RESET_LIMIT: u64 = 10_000;
 
 impl<T: Table<C>, const C: usize> Core<T, C> {
     /// Asks for the user's presence, where the time for a reset isn't over.
-    pub(crate) fn begin_reset(&mut self, cid: u32) -> Turn
-        ensures { Takes self.old self.new result (reset_begins self.old.core.state.rows self.old.core.setup.began
+    pub(crate) fn begin_reset(&mut self, cid: u32, answer: &mut Answer) -> Turn
+        ensures { Takes self.old self.new result answer.new.items
+            (reset_begins self.old.core.state.rows self.old.core.setup.began
             self.old.latest cid) }
     {
         if self.latest - self.began > RESET_LIMIT {
-            return self.refuse_all(refusals::NOT_ALLOWED);
+            return self.refuse_all(refusals::NOT_ALLOWED, answer);
         }
         self.pending.clear();
-        self.wait(cid, Task::Resets)
+        Turn::Waits(self.wait(cid, Task::Resets))
     }
 
     /// Takes all rows out where the user consents, and answers what the user did.
-    pub(crate) fn reset(&mut self, reply: Presence) -> Turn
-        ensures { Takes self.old self.new result (asked_alone (refuses [] None 0x00) self.old.core.state.rows
+    pub(crate) fn reset(&mut self, reply: Presence, answer: &mut Answer) -> Turn
+        ensures { Takes self.old self.new result answer.new.items
+            (asked_alone (refuses [] None 0x00) self.old.core.state.rows
             self.old.core.state.pending reply) }
     {
         if let Presence::Granted = reply {
@@ -38,20 +41,20 @@ impl<T: Table<C>, const C: usize> Core<T, C> {
             self.table.clear();
             self.pending.clear();
         }
-        self.select(reply)
+        self.select(reply, answer)
     }
 
     /// Asks for the user's presence.
-    pub(crate) fn begin_selection(&mut self, cid: u32) -> Turn
-        ensures { Takes self.old self.new result (waits self.old.core.state.rows None cid Selects) }
+    pub(crate) fn begin_selection(&mut self, cid: u32) -> KeepaliveStatus
+        ensures { TakesWork self.old self.new result (waits self.old.core.state.rows None cid Selects) }
     {
         self.pending.clear();
         self.wait(cid, Task::Selects)
     }
 
     /// Answers what the user did.
-    pub(crate) fn select(&mut self, reply: Presence) -> Turn
-        ensures { Takes self.old self.new result (asked_alone (refuses self.old.core.state.rows
+    pub(crate) fn select(&mut self, reply: Presence, answer: &mut Answer) -> Turn
+        ensures { Takes self.old self.new result answer.new.items (asked_alone (refuses self.old.core.state.rows
             self.old.core.state.pending 0x00) self.old.core.state.rows self.old.core.state.pending reply) }
     {
         let status = match reply {
@@ -59,6 +62,6 @@ impl<T: Table<C>, const C: usize> Core<T, C> {
             Presence::Denied => refusals::OPERATION_DENIED,
             Presence::TimedOut => refusals::USER_ACTION_TIMEOUT,
         };
-        self.refuse(status)
+        self.refuse(status, answer)
     }
 }

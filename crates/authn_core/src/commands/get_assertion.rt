@@ -10,16 +10,17 @@ ghost use Rattle.ctap_message.specs.DescriptorWalk.{list_of, left_of};
 ghost use Rattle.sha2.specs.Sha256.{sha256};
 ghost use Rattle.authn_core.specs.State.{SignsAssert, signs};
 ghost use Rattle.authn_core.specs.GetAssertion as get;
-ghost use Rattle.authn_core.specs.Views.{Takes, asserting_of};
+ghost use Rattle.authn_core.specs.Views.{Takes, TakesWork, asserting_of};
 ghost use Rattle.authn_core.specs.Ready.{IsPendingAlone, SignsItsAnswer};
 
 use crate::authenticator::{Core, Turn};
 use crate::refusals;
 use crate::replies::{Presence, Signature};
 use crate::task::{Asserting, Task};
+use crate::work::KeepaliveStatus;
 use arrayvec::ArrayVec;
 use cred_table::Table;
-use ctap_message::{AssertRequest, Descriptors, write_assertion};
+use ctap_message::{Answer, AssertRequest, Descriptors, write_assertion};
 use fido_authdata::{ASSERTION_LEN, AuthData, to_sign};
 use sha2::{Digest, Sha256};
 
@@ -72,10 +73,16 @@ fn put_applicable<T: Table<C>, const C: usize>(
 
 impl<T: Table<C>, const C: usize> Core<T, C> {
     /// Lets the first applicable row sign.
-    pub(crate) fn begin_assert(&mut self, cid: u32, asked: AssertRequest<'_>) -> Turn
+    pub(crate) fn begin_assert(
+        &mut self,
+        cid: u32,
+        asked: AssertRequest<'_>,
+        answer: &mut Answer,
+    ) -> Turn
         requires hash { length asked.hash.now ≡ 32 }
         requires fresh { list_of asked.allow ≡ left_of asked.allow }
-        ensures { Takes self.old self.new result (get.begins self.old.core.state.rows self.old.latest cid
+        ensures { Takes self.old self.new result answer.new.items
+            (get.begins self.old.core.state.rows self.old.latest cid
             asked.entry.hash.now (sha256 asked.entry.rp_id.now) asked.entry.presence
             (has_entries (left_of asked.entry.allow)) (ids (get.applicable self.old.core.state.rows
             (sha256 asked.entry.rp_id.now) (has_entries (left_of asked.entry.allow))
@@ -91,7 +98,7 @@ impl<T: Table<C>, const C: usize> Core<T, C> {
         let ids = self.applicable.as_slice();
         self.pending.fill(cid, &client, presence, self.latest, ids);
         let count = ids.len();
-        self.begin_by(cid, &client, &rp, presence, given, count)
+        self.begin_by(cid, &client, &rp, presence, given, count, answer)
     }
 
     /// Lets the row with the first of so many pending ids sign. With `presence` the user is asked first.
@@ -103,18 +110,20 @@ impl<T: Table<C>, const C: usize> Core<T, C> {
         presence: bool,
         given: bool,
         count: usize,
+        answer: &mut Answer,
     ) -> Turn
         requires { (ids : List (List ℕ)) × IsPendingAlone self.old.core.state.pending cid hash.now presence
             self.old.latest ids count }
         ensures { (ids : List (List ℕ)) → IsPendingAlone self.old.core.state.pending cid hash.now presence
-            self.old.latest ids count → Takes self.old self.new result (get.begins self.old.core.state.rows
+            self.old.latest ids count → Takes self.old self.new result answer.new.items
+            (get.begins self.old.core.state.rows
             self.old.latest cid hash.now rp.now presence given ids) }
     {
         let Some(first) = self.pending.next() else {
-            return self.refuse(refusals::NO_CREDENTIALS);
+            return self.refuse(refusals::NO_CREDENTIALS, answer);
         };
         if counter_of(&self.table, &first) >= u32::MAX {
-            return self.refuse_all(refusals::LIMIT_EXCEEDED);
+            return self.refuse_all(refusals::LIMIT_EXCEEDED, answer);
         }
         let number = (count > 1 && !given).then_some(count as u16);
         let a = Asserting {
@@ -125,16 +134,16 @@ impl<T: Table<C>, const C: usize> Core<T, C> {
             number,
         };
         if !presence {
-            return self.sign(cid, &a);
+            return Turn::Waits(self.sign(cid, &a));
         }
-        self.wait(cid, Task::AsksAssert(a))
+        Turn::Waits(self.wait(cid, Task::AsksAssert(a)))
     }
 
     /// Lets an assertion go on: its row's counter is raised, and it waits for the signature.
-    pub(crate) fn sign(&mut self, cid: u32, a: &Asserting) -> Turn
+    pub(crate) fn sign(&mut self, cid: u32, a: &Asserting) -> KeepaliveStatus
         requires there { is_some (find (has_id a.now.id) self.old.core.state.rows) ≡ true }
         requires below { counter_of a.now.id self.old.core.state.rows < 2 ^ 32 - 1 }
-        ensures { Takes self.old self.new result (signs self.old.core.state.rows self.old.core.state.pending cid
+        ensures { TakesWork self.old self.new result (signs self.old.core.state.rows self.old.core.state.pending cid
             (asserting_of a.now)) }
     {
         self.work = None;
@@ -144,15 +153,21 @@ impl<T: Table<C>, const C: usize> Core<T, C> {
     }
 
     /// Lets the row sign where the user consents.
-    pub(crate) fn assert_presence(&mut self, cid: u32, a: Asserting, reply: Presence) -> Turn
+    pub(crate) fn assert_presence(
+        &mut self,
+        cid: u32,
+        a: Asserting,
+        reply: Presence,
+        answer: &mut Answer,
+    ) -> Turn
         requires there { is_some (find (has_id a.id) self.old.core.state.rows) ≡ true }
         requires below { counter_of a.id self.old.core.state.rows < 2 ^ 32 - 1 }
-        ensures { Takes self.old self.new result (get.assert_asked self.old.core.state.rows
+        ensures { Takes self.old self.new result answer.new.items (get.assert_asked self.old.core.state.rows
             self.old.core.state.pending cid (asserting_of a) reply) }
     {
         match reply {
-            Presence::Granted => self.sign(cid, &a),
-            _ => self.refuse_all(refusals::OPERATION_DENIED),
+            Presence::Granted => Turn::Waits(self.sign(cid, &a)),
+            _ => self.refuse_all(refusals::OPERATION_DENIED, answer),
         }
     }
 
@@ -163,26 +178,28 @@ impl<T: Table<C>, const C: usize> Core<T, C> {
         counter: u32,
         signed: &ArrayVec<u8, 196>,
         signature: &Option<Signature>,
+        answer: &mut Answer,
     ) -> Turn
         requires { SignsItsAnswer self.old.core.setup.aaguid (SignsAssert (asserting_of a) counter signed.now.items) }
-        ensures { Takes self.old self.new result (get.assert_signed self.old.core.state.rows
+        ensures { Takes self.old self.new result answer.new.items (get.assert_signed self.old.core.state.rows
             self.old.core.state.pending self.old.latest (asserting_of a) counter signature.now) }
     {
         let Some(signature) = signature else {
-            return self.refuse_all(refusals::OTHER);
+            return self.refuse_all(refusals::OTHER, answer);
         };
         let data = &signed.as_slice()[..ASSERTION_LEN];
         self.pending.stamp(self.latest);
         self.work = None;
         let user = user_of(&self.table, &a.id);
-        Turn::Answer(write_assertion(&a.id, data, signature.bytes(), user, a.number))
+        write_assertion(&a.id, data, signature.bytes(), user, a.number, answer);
+        Turn::Answer
     }
 
     // ---- the next one
 
     /// Lets the first pending row sign.
-    pub(crate) fn next(&mut self, cid: u32) -> Turn
-        ensures { Takes self.old self.new result (get.next_begins self.old.core.state.rows
+    pub(crate) fn next(&mut self, cid: u32, answer: &mut Answer) -> Turn
+        ensures { Takes self.old self.new result answer.new.items (get.next_begins self.old.core.state.rows
             self.old.core.state.pending self.old.latest cid) }
     {
         let pending = &self.pending;
@@ -190,19 +207,19 @@ impl<T: Table<C>, const C: usize> Core<T, C> {
             || pending.cid() != cid
             || self.latest.saturating_sub(pending.moment()) > NEXT_LIMIT
         {
-            return self.refuse_all(refusals::NOT_ALLOWED);
+            return self.refuse_all(refusals::NOT_ALLOWED, answer);
         }
         let hash = self.pending.hash();
         let presence = self.pending.presence();
         let Some(id) = self.pending.next() else {
-            return self.refuse(refusals::NOT_ALLOWED);
+            return self.refuse(refusals::NOT_ALLOWED, answer);
         };
         let Some(row) = self.table.find(&id) else {
-            return self.refuse_all(refusals::NOT_ALLOWED);
+            return self.refuse_all(refusals::NOT_ALLOWED, answer);
         };
         let rp = row.rp;
         if counter_of(&self.table, &id) >= u32::MAX {
-            return self.refuse_all(refusals::LIMIT_EXCEEDED);
+            return self.refuse_all(refusals::LIMIT_EXCEEDED, answer);
         }
         let a = Asserting {
             hash,
@@ -211,6 +228,6 @@ impl<T: Table<C>, const C: usize> Core<T, C> {
             presence,
             number: None,
         };
-        self.sign(cid, &a)
+        Turn::Waits(self.sign(cid, &a))
     }
 }

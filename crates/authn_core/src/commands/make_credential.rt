@@ -8,15 +8,16 @@ ghost use Rattle.ctap_message.specs.DescriptorWalk.{left_of};
 ghost use Rattle.authn_core.specs.MakeCredential as make;
 ghost use Rattle.authn_core.specs.State.{SignsMake};
 ghost use Rattle.authn_core.specs.Ready.{SignsItsAnswer};
-ghost use Rattle.authn_core.specs.Views.{Takes, making_of};
+ghost use Rattle.authn_core.specs.Views.{Takes, TakesWork, making_of};
 
 use crate::authenticator::{Core, Turn};
 use crate::refusals;
 use crate::replies::{NewKey, Presence, Signature};
 use crate::task::{Making, Task};
+use crate::work::KeepaliveStatus;
 use arrayvec::ArrayVec;
 use cred_table::{Name, Row, Table};
-use ctap_message::{Descriptors, MakeRequest, write_created};
+use ctap_message::{Answer, Descriptors, MakeRequest, write_created};
 use fido_authdata::{AuthData, CREATED_LEN, to_sign};
 use sha2::{Digest, Sha256};
 
@@ -70,10 +71,10 @@ fn store<T: Table<C>, const C: usize>(table: &mut T, making: Making, key: NewKey
 
 impl<T: Table<C>, const C: usize> Core<T, C> {
     /// Asks for the user's presence, also where a credential is excluded.
-    pub(crate) fn begin_make(&mut self, cid: u32, asked: MakeRequest<'_>) -> Turn
+    pub(crate) fn begin_make(&mut self, cid: u32, asked: MakeRequest<'_>) -> KeepaliveStatus
         requires hash { length asked.hash.now ≡ 32 }
         requires user { length asked.user_id.now ≤ 64 }
-        ensures { Takes self.old self.new result (make.make_begins self.old.core.state.rows cid
+        ensures { TakesWork self.old self.new result (make.make_begins self.old.core.state.rows cid
             (make.making asked.entry.hash.now asked.entry.rp_id.now asked.entry.user_id.now asked.entry.user_name.now
             asked.entry.discoverable) (ids_of (left_of asked.entry.exclude))) }
     {
@@ -98,39 +99,46 @@ impl<T: Table<C>, const C: usize> Core<T, C> {
         making: Making,
         excluded: bool,
         reply: Presence,
+        answer: &mut Answer,
     ) -> Turn
-        ensures { Takes self.old self.new result (make.make_asked C self.old.core.state.rows
+        ensures { Takes self.old self.new result answer.new.items (make.make_asked C self.old.core.state.rows
             self.old.core.state.pending cid (making_of making) excluded reply) }
     {
         if excluded {
-            return self.refuse(refusals::CREDENTIAL_EXCLUDED);
+            return self.refuse(refusals::CREDENTIAL_EXCLUDED, answer);
         }
         let Presence::Granted = reply else {
-            return self.refuse(refusals::OPERATION_DENIED);
+            return self.refuse(refusals::OPERATION_DENIED, answer);
         };
         let is_full = self.table.len() >= C;
         let user = making.user.as_slice();
         if is_full && !(making.discoverable && self.table.same_user(&making.rp, user).is_some()) {
-            return self.refuse(refusals::KEY_STORE_FULL);
+            return self.refuse(refusals::KEY_STORE_FULL, answer);
         }
-        self.wait(cid, Task::WantsKey(making))
+        Turn::Waits(self.wait(cid, Task::WantsKey(making)))
     }
 
     /// Asks for a signature by a key with a new id.
-    pub(crate) fn make_key(&mut self, cid: u32, making: Making, key: &Option<NewKey>) -> Turn
+    pub(crate) fn make_key(
+        &mut self,
+        cid: u32,
+        making: Making,
+        key: &Option<NewKey>,
+        answer: &mut Answer,
+    ) -> Turn
         requires { make.fits C (making_of making) self.old.core.state.rows ≡ true }
-        ensures { Takes self.old self.new result (make.key_wanted self.old.core.setup.aaguid
+        ensures { Takes self.old self.new result answer.new.items (make.key_wanted self.old.core.setup.aaguid
             self.old.core.state.rows self.old.core.state.pending cid (making_of making) key.now) }
     {
         let Some(key) = key else {
-            return self.refuse(refusals::OTHER);
+            return self.refuse(refusals::OTHER, answer);
         };
         if self.table.find(&key.id).is_some() {
-            return self.refuse(refusals::OTHER);
+            return self.refuse(refusals::OTHER, answer);
         }
         let data = AuthData::created(&making.rp, &self.config.aaguid, &key.id, &key.x, &key.y);
         let signed = to_sign(&data, &making.hash);
-        self.wait(cid, Task::SignsMake(making, *key, signed))
+        Turn::Waits(self.wait(cid, Task::SignsMake(making, *key, signed)))
     }
 
     /// Stores the row once it is signed. The answer has the authenticator data that were signed.
@@ -140,20 +148,22 @@ impl<T: Table<C>, const C: usize> Core<T, C> {
         key: NewKey,
         signed: &ArrayVec<u8, 196>,
         signature: &Option<Signature>,
+        answer: &mut Answer,
     ) -> Turn
         requires capacity { make.fits C (making_of making) self.old.core.state.rows ≡ true }
         requires fresh { is_some (find (has_id key.id) self.old.core.state.rows) ≡ false }
         requires signed { SignsItsAnswer self.old.core.setup.aaguid (SignsMake (making_of making) key signed.now.items) }
-        ensures { Takes self.old self.new result (make.make_signed self.old.core.setup.aaguid
+        ensures { Takes self.old self.new result answer.new.items (make.make_signed self.old.core.setup.aaguid
             self.old.core.state.rows self.old.core.state.pending (making_of making) key signature.now) }
     {
         let Some(signature) = signature else {
-            return self.refuse(refusals::OTHER);
+            return self.refuse(refusals::OTHER, answer);
         };
         let data = &signed.as_slice()[..CREATED_LEN];
         store(&mut self.table, making, key);
         self.pending.clear();
         self.work = None;
-        Turn::Answer(write_created(data, signature.bytes()))
+        write_created(data, signature.bytes(), answer);
+        Turn::Answer
     }
 }

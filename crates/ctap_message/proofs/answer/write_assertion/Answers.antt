@@ -15,5 +15,5 @@ returns c =
     let e = rw c.unwrap-4.ensures at c.try_extend_from_slice-4.ensures.ok in
     let f = rw c.unwrap-5.ensures at c.try_extend_from_slice-5.ensures.ok in
     rw (c.put_number.ensures, c.put_user.ensures.appends, append_assoc, user_then user (with_number c.args.number), c.put_bytes.ensures.appends, f, e, d, b, a)
-    (rw (joined c.push-2.new.self.items, c.push-2.ensures.items, c.push.ensures.items, c.new-answer.ensures, assertion_text c.args.id.now c.args.auth.now c.args.sig.now user c.args.number)
+    (rw (joined c.push-2.new.self.items, c.push-2.ensures.items, c.push.ensures.items, c.clear.ensures, assertion_text c.args.id.now c.args.auth.now c.args.sig.now user c.args.number)
     (simp (c.map_head.ensures, c.told-id, c.requires.auth)))

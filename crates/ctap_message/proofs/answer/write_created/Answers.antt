@@ -9,4 +9,4 @@ returns c =
     let a = rw c.unwrap.ensures at c.try_extend_from_slice.ensures.ok in
     let b = rw c.unwrap-2.ensures at c.try_extend_from_slice-2.ensures.ok in
     let d = rw c.unwrap-3.ensures at c.try_extend_from_slice-3.ensures.ok in
-    rw (c.put_bytes.ensures.appends, d, b, a, c.new-answer.ensures) (simp (append_assoc, append-nil, c.requires.auth))
+    rw (c.put_bytes.ensures.appends, d, b, a, c.clear.ensures) (simp (append_assoc, append-nil, c.requires.auth))

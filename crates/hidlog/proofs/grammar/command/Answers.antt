@@ -1,10 +1,10 @@
 use Rattle.std.proofs.Common.{◌≡◌, ◌<◌, length, take, get_or, ◌∙◌, ◌||◌, ap, ap₂, subst, sym, map}
 use Rattle.std.proofs.lemmas.List.{take_more}
 use Rattle.clap.specs.Words.{rule_of}
-use Rattle.hidlog.specs.declared.command_line.CommandParameter.TheVariants.{Load}
+use Rattle.hidlog.specs.declared.grammar.CommandParameter.TheVariants.{Load}
 use Rattle.hidlog.specs.CommandLine.{command, parameters_for, rule_for, word_for}
 use Rattle.hidlog.proofs.CommandLine.{one_more}
-use Rattle.hidlog.proofs.command_line.command.Goals as goal
+use Rattle.hidlog.proofs.grammar.command.Goals as goal
 
 pub loop-parameter-preserved : goal.loop-parameter-preserved
 loop-parameter-preserved c =

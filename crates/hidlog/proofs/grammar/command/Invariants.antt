@@ -2,7 +2,7 @@ use Rattle.std.proofs.Common.{◌≡◌, take, false, map}
 use Rattle.clap.specs.Words.{shape_of}
 use Rattle.clap.specs.declared.builder.command.Command.TheViews.{out-Command as fields_of}
 use Rattle.hidlog.specs.CommandLine.{command, rule_for, word_for, parameters_for}
-use Rattle.hidlog.proofs.command_line.command.Given as goal
+use Rattle.hidlog.proofs.grammar.command.Given as goal
 
 abbrev pub invariant-loop-parameter : goal.invariant-loop-parameter
 invariant-loop-parameter l = (shape_of l.command ≡ command (word_for l.fn.name) (map rule_for (take l.parameter-index (parameters_for l.fn.name))))

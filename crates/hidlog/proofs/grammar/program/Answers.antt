@@ -1,8 +1,8 @@
 use Rattle.std.proofs.Common.{◌≡◌, ◌∙◌, [], ◌∷◌, ap, arith, rules, take}
 use Rattle.std.specs.List.{fold}
-use Rattle.hidlog.specs.declared.command_line.CommandName.TheVariants.{Check, Live, Quiet, Replay, Show}
+use Rattle.hidlog.specs.declared.grammar.CommandName.TheVariants.{Check, Live, Quiet, Replay, Show}
 use Rattle.hidlog.proofs.CommandLine.{alone, one_command_more, with_name}
-use Rattle.hidlog.proofs.command_line.program.Goals as goal
+use Rattle.hidlog.proofs.grammar.program.Goals as goal
 
 pub loop-name-init : goal.loop-name-init
 loop-name-init c = search rules

@@ -1,0 +1,5 @@
+use Rattle.std.proofs.Common.{arith}
+use Rattle.authn_core.proofs.authenticator.Core.make_presence.Goals as goal
+
+pub returns : goal.returns
+returns g c = grind arith

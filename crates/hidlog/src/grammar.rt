@@ -1,0 +1,235 @@
+//! The command line's grammar, as clap has it: the commands, with their parameters and what help says of them.
+ghost use Rattle.std.specs.Prelude.{◌≡◌, false, IfOk};
+ghost use Rattle.clap.specs.Words.{app_of, rule_of, shape_of};
+ghost use Rattle.clap.specs.declared.builder.command.Command.TheViews.{out-Command as fields_of};
+ghost use Rattle.hidlog.specs.CommandLine.{command_for, flag, grammar, log_path, parameters_for, path_option, rule_for, word_for};
+
+use clap::{Arg, ArgAction, Command};
+use std::alloc::{AllocError, Global};
+
+/// The version, which CHANGELOG.md describes.
+const VERSION: &str = "0.2.0";
+
+/// What help says first.
+const ABOUT: &str = "Replays text logs of CTAPHID sessions on a FIDO2 security key\n\n\
+     The Python package adds commands to this program: webdriver, browser, import, export, judge, shrink, check-many, \
+     mermaid";
+
+/// What may come after a command's name.
+#[derive(Clone, Copy)]
+enum CommandParameter {
+    /// `--load F`
+    Load,
+    /// `--save F`
+    Save,
+    /// `--all`
+    All,
+    /// `--summary`
+    Summary,
+    /// `--json`
+    Json,
+    /// `--wide`
+    Wide,
+    /// `--explain`
+    Explain,
+    /// `--plain`
+    Plain,
+    /// The path of a log.
+    Log,
+    /// The paths of any number of logs.
+    Logs,
+}
+
+impl CommandParameter {
+    /// Returns what help says of it.
+    fn help<'a>(self) -> &'a str {
+        match self {
+            CommandParameter::Load =>
+                "Starts with the credentials of the snapshot F, and not with none",
+            CommandParameter::Save => {
+                "Writes a snapshot of the credentials to F at the end, unless the log has a fault; until that is \
+                 done, a whole copy of it is in F.hidlog"
+            }
+            CommandParameter::All => "Goes on after a difference, and counts them",
+            CommandParameter::Summary => {
+                "Writes a summary of the session: its transactions, credentials, noise"
+            }
+            CommandParameter::Json => "Writes an object of JSON a line, for scripts",
+            CommandParameter::Wide => {
+                "Writes lines whole at a terminal, where they are cut at its width otherwise"
+            }
+            CommandParameter::Explain => {
+                "Explains: adds names, members, reasons and notes, as it does at a terminal without this word"
+            }
+            CommandParameter::Plain =>
+                "Explains nothing at a terminal either: writes the fixed texts",
+            CommandParameter::Log => "The log; standard input where none is named, and for -",
+            CommandParameter::Logs => "The logs; standard input where none is named, and for -",
+        }
+    }
+}
+
+/// Returns an option with the path of a snapshot.
+fn path_option<'a>(alloc: Global, name: &'a str, help: &'a str) -> Arg<'a>
+    ensures rule { rule_of result ≡ path_option name.entry.now }
+    ensures local { result.global ≡ false }
+{
+    Arg::new(alloc, name).long(name).value_name("F").help(help)
+}
+
+/// Returns an option without a value.
+fn flag<'a>(alloc: Global, name: &'a str, help: &'a str) -> Arg<'a>
+    ensures rule { rule_of result ≡ flag name.entry.now }
+    ensures local { result.global ≡ false }
+{
+    Arg::new(alloc, name)
+        .long(name)
+        .action(ArgAction::SetTrue)
+        .help(help)
+}
+
+/// Returns the path of a log.
+fn log<'a>(alloc: Global, help: &'a str) -> Arg<'a>
+    ensures rule { rule_of result ≡ log_path }
+    ensures local { result.global ≡ false }
+{
+    Arg::new(alloc, "log").value_name("FILE").help(help)
+}
+
+/// Returns a parameter as clap has it.
+fn argument<'a>(alloc: Global, parameter: CommandParameter) -> Arg<'a>
+    ensures rule { rule_of result ≡ rule_for parameter }
+    ensures local { result.global ≡ false }
+{
+    let help = parameter.help();
+    match parameter {
+        CommandParameter::Load => path_option(alloc, "load", help),
+        CommandParameter::Save => path_option(alloc, "save", help),
+        CommandParameter::All => flag(alloc, "all", help),
+        CommandParameter::Summary => flag(alloc, "summary", help),
+        CommandParameter::Json => flag(alloc, "json", help),
+        CommandParameter::Wide => flag(alloc, "wide", help),
+        CommandParameter::Explain => flag(alloc, "explain", help),
+        CommandParameter::Plain => flag(alloc, "plain", help),
+        CommandParameter::Log => log(alloc, help),
+        CommandParameter::Logs => log(alloc, help).action(ArgAction::Append),
+    }
+}
+
+/// The name of a command.
+#[derive(Clone, Copy)]
+enum CommandName {
+    Replay,
+    Live,
+    Check,
+    Quiet,
+    Show,
+}
+
+impl CommandName {
+    /// Returns the command's word.
+    fn word<'a>(self) -> &'a str
+        ensures { result.now ≡ word_for self }
+    {
+        match self {
+            CommandName::Replay => "replay",
+            CommandName::Live => "live",
+            CommandName::Check => "check",
+            CommandName::Quiet => "quiet",
+            CommandName::Show => "show",
+        }
+    }
+
+    /// Returns what help says of the command.
+    fn about<'a>(self) -> &'a str {
+        match self {
+            CommandName::Replay =>
+                "Replays the log: writes it with the packets that the key sends, and what it counted",
+            CommandName::Live => {
+                "Replays the log line by line as it comes, and says what the key needs after each input"
+            }
+            CommandName::Check =>
+                "Compares the packets that the log names as sent with those that the key sends",
+            CommandName::Quiet =>
+                "Writes the log's inputs, with a tick in place of each that is noise",
+            CommandName::Show => "Writes what the log's lines say, line by line",
+        }
+    }
+
+    /// Returns the command's parameters.
+    fn parameters(self) -> &'static [CommandParameter]
+        ensures { result.now ≡ parameters_for self }
+    {
+        match self {
+            CommandName::Replay | CommandName::Live => {
+                &[
+                    CommandParameter::Load,
+                    CommandParameter::Save,
+                    CommandParameter::Explain,
+                    CommandParameter::Plain,
+                    CommandParameter::Log,
+                ]
+            }
+            CommandName::Check => {
+                &[
+                    CommandParameter::Load,
+                    CommandParameter::All,
+                    CommandParameter::Json,
+                    CommandParameter::Explain,
+                    CommandParameter::Plain,
+                    CommandParameter::Logs,
+                ]
+            }
+            CommandName::Quiet => {
+                &[
+                    CommandParameter::Load,
+                    CommandParameter::Explain,
+                    CommandParameter::Plain,
+                    CommandParameter::Log,
+                ]
+            }
+            CommandName::Show => {
+                &[
+                    CommandParameter::Summary,
+                    CommandParameter::Json,
+                    CommandParameter::Wide,
+                    CommandParameter::Explain,
+                    CommandParameter::Plain,
+                    CommandParameter::Log,
+                ]
+            }
+        }
+    }
+}
+
+/// Returns a command, with its parameters.
+fn command<'a>(alloc: Global, name: CommandName) -> Result<Command<'a>, AllocError>
+    ensures shape { IfOk result (λ made. shape_of made ≡ command_for name) }
+    ensures local { IfOk result (λ made. (fields_of made).has_globals ≡ false) }
+{
+    let mut command = Command::new(alloc, name.word()).about(name.about());
+    for parameter in name.parameters() {
+        command = command.arg(argument(alloc, *parameter))?;
+    }
+    Ok(command)
+}
+
+/// Returns the command line's grammar.
+pub fn program<'a>(alloc: Global) -> Result<Command<'a>, AllocError>
+    ensures { IfOk result (λ program. app_of program ≡ grammar) }
+{
+    let mut program = Command::new(alloc, "hidlog")
+        .version(VERSION)
+        .about(ABOUT)
+        .subcommand_required(true);
+    for name in [
+        CommandName::Replay,
+        CommandName::Live,
+        CommandName::Check,
+        CommandName::Quiet,
+        CommandName::Show,
+    ] {
+        program = program.subcommand(command(alloc, name)?)?;
+    }
+    Ok(program)
+}
