@@ -1,6 +1,6 @@
 //! What is read of a recorded session of a security key: each line of a log as text, and each CBOR request and answer
 //! in diagnostic notation, in a fixed text or explained for people (docs/use/LOG_FORMAT.md). A session's summary, and
-//! the same as JSON for scripts. Nothing is allocated.
+//! the same as JSON for scripts; its transactions in numbers. Nothing is allocated.
 #![tactic(auto)]
 
 mod authenticator_data;
@@ -21,6 +21,7 @@ mod log_writer;
 mod member_names;
 mod members;
 mod message;
+mod owners;
 mod packet_line;
 mod pairs;
 mod pen;
@@ -42,6 +43,7 @@ pub use escape::is_hidden;
 pub use exchange::{Transaction, put_transaction};
 pub use item::show_item;
 pub use log_writer::{LogForm, LogWriter, put_json_fault, write_log};
+pub use owners::show_owners;
 pub use reason::Awaited;
 pub use showing::{explain, show};
 pub use signed::SignedOtherwise;

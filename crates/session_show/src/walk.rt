@@ -81,9 +81,11 @@ pub struct LogWalk {
     now: u64,
     doubtful: Option<Doubtful>,
     /// Of the last line: the transactions that it ends, ..
-    ends: EndedTransactions,
+    pub ends: EndedTransactions,
     /// .. the one that it belongs to, ..
     pub of: Option<Transaction>,
+    /// .. the line that the message began at which its packet is of, 0 where it is of none, ..
+    pub message_line: u64,
     /// .. or what it is, where it belongs to none, ..
     part: Role,
     /// .. the message that ends at it, ..
@@ -103,6 +105,7 @@ impl LogWalk {
             doubtful: None,
             ends: EndedTransactions::default(),
             of: None,
+            message_line: 0,
             part: Role::Own,
             shown: None,
             decided: None,
@@ -150,6 +153,7 @@ impl LogWalk {
         }
         self.release(self.shown);
         self.of = None;
+        self.message_line = 0;
         self.part = Role::Own;
         self.shown = None;
     }
@@ -250,6 +254,7 @@ impl LogWalk {
                 part,
                 ..
             } => {
+                self.message_line = number;
                 let greeting = Greeting::of(number, self.now, len, part);
                 self.of = Some(self.channels.list[place].greet(greeting, &mut self.ends));
             }
@@ -281,6 +286,7 @@ impl LogWalk {
         };
         self.channels.list[place].begin(begun, &mut self.ends);
         self.of = Some(transaction);
+        self.message_line = transaction.line;
         if transaction.command.is_some() && length <= LONGEST_MESSAGE {
             self.pool.begin(transaction.line, length, part);
             if extent.is_whole() {
@@ -301,6 +307,7 @@ impl LogWalk {
         self.of = Some(of);
         if continuation.is_next {
             self.pool.add(of.line, part);
+            self.message_line = of.line;
         }
         let is_whole = continuation.is_whole && of.command.is_some();
         if continuation.gap >= NO_TIME_OUT {
@@ -386,6 +393,7 @@ impl LogWalk {
             View::Start { cmd, len, part, .. } => (cmd, len, part),
             View::More { seq, part, .. } => return self.answer_on(place, number, seq, part),
         };
+        self.message_line = number;
         // Of the device's last message no further packet comes.
         if let Some(line) = self.channels.list[place].cut(&mut self.ends) {
             self.pool.release(line);
@@ -457,6 +465,7 @@ impl LogWalk {
             return;
         };
         self.of = answered.of;
+        self.message_line = answered.line;
         self.pool.add(answered.line, part);
         if answered.is_whole && self.pool.bytes(answered.line).is_some() {
             self.learn(number, answered.line);
