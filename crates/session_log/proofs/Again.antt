@@ -1,15 +1,15 @@
 -- A log that is played again gives the same bytes.
-use Rattle.std.proofs.Common.{◌≡◌, ◌≢◌, ℕ, suc, ◌+◌, ◌≤◌, ◌<◌, ◌^◌, true, List, [], ◌∷◌, ◌++◌, length, map, flat_map, codes, decimal, Option, Some, None, Ok, IsOk, refl, sym, ap, ◌∙◌, arith, append_assoc, append-nil, length-append, Bool, false, cond, subst}
+use Rattle.std.proofs.Common.{◌≡◌, ℕ, suc, ◌+◌, ◌≤◌, ◌<◌, ◌^◌, true, List, [], ◌∷◌, ◌++◌, length, map, flat_map, codes, decimal, Option, Some, None, Ok, IsOk, refl, sym, ap, ◌∙◌, arith, append_assoc, append-nil, length-append, Bool, false, cond, subst}
 use Rattle.std.proofs.lemmas.Fmt.{length-decimal-le}
 use Rattle.std.proofs.lemmas.Grind.{flat_map-append}
-use Rattle.hex.specs.Hex.{decode_sized, encode_lower, lower_digits}
+use Rattle.hex.specs.Hex.{decode_sized, encode_lower}
 use Rattle.hex.proofs.HexLemmas.{decode_sized-encode_lower, length-encode_with, IsOk-decode_sized}
 use Rattle.hid_packet.specs.declared.packet.Packet.{Packet}
 use Rattle.token_session.specs.declared.input.Meters.{Meters}
 use Rattle.session_log.specs.declared.line.Line.{Line}
 use Rattle.session_log.specs.declared.line.Line.TheVariants.{Sent, Count, Input, Comment}
 use Rattle.session_log.specs.Lines.{lines}
-use Rattle.session_log.specs.Log.{Played, prefixed, played, playing, log_of, log, last_text, fault_by, text_of, text_by, after, after_by}
+use Rattle.session_log.specs.Log.{Played, prefixed, played, playing, log_of, log, last_text, text_by, after, after_by}
 use Rattle.session_log.specs.Said.{said}
 use Rattle.session_log.specs.Sent.{SendsPackets, AllSend, FitsMeters}
 use Rattle.session_log.specs.Text.{IsPacket, ArePackets, ended, sent_text, meters_line}
@@ -22,8 +22,8 @@ use Rattle.authn_core.specs.Views.{Needed}
 use Rattle.session_log.specs.Needs.{need_lines, is_need_line}
 use Rattle.session_log.proofs.Tells.{AreTold, needs_told, told_are}
 use Rattle.std.specs.Io.KnownBytes.{Appends}
-use Rattle.token_session.specs.Meters.{SessionState}
 use Rattle.session_log.specs.Replay.{IsDone}
+use Rattle.token_session.specs.Meters.{SessionState}
 use Rattle.session_log.specs.Session.{RepeatsIn}
 
 -- A world in which no line is faulty but for its text. What was sent and counted in an earlier run is dropped, and at
@@ -58,21 +58,14 @@ sent_digits : (packet : List ℕ) → IsPacket packet → decode_sized (encode_l
 sent_digits packet h = decode_sized-encode_lower packet 64 h.0 h.1
 
 sent_said : (packet : List ℕ) → IsPacket packet → said (sent_line packet) ≡ Some (Sent (record { 0 = packet }))
-sent_said packet h =
-    spelled_is_read (sent_line packet) (Sent (record { 0 = packet })) (encode_lower packet, refl, sent_digits packet h)
+sent_said packet h = search (arith, spelled_is_read, sent_digits)
 
 sent_sound : (packet : List ℕ) → IsPacket packet → IsSound (sent_line packet)
-sent_sound packet h =
-    record {
-      short =
-          omega (arith, h.0, length-append (codes "< ") (encode_lower packet), length-encode_with lower_digits packet);
-      says = λ e. cc (sym e ∙ sent_said packet h);
-    }
+sent_sound packet h = search (arith, length-append, length-encode_with, sent_said)
 
 sent_feedless : (packet : List ℕ) → IsPacket packet → feedless (sent_line packet) ≡ true
-sent_feedless packet h =
-    let ok : IsOk (decode_sized (encode_lower packet) 64) = rw (sent_digits packet h) refl in
-    hex_feedless (encode_lower packet) ((IsOk-decode_sized (encode_lower packet) 64).0 ok).1
+sent_feedless packet h = let ok : IsOk (decode_sized (encode_lower packet) 64) = rw (sent_digits packet h) refl in
+    search (hex_feedless, ((IsOk-decode_sized (encode_lower packet) 64).0 ok).1)
 
 pub sents_are : (packets : List (List ℕ)) → ArePackets packets → AreLines (map sent_line packets)
 sents_are [] h = tt
@@ -84,30 +77,17 @@ pub add_zero : (n : ℕ) → n ≡ n + 0
 add_zero n = omega arith
 
 module _ {S : Type 0} {w : World S} {counts : S → Meters} (is : IsLogging w counts) where
-  faultless : (n : ℕ) (s : S) (l : Option Line) → l ≢ None → fault_by w n s l ≡ None
-  faultless n s None h = absurd (h refl)
-  faultless n s (Some l) h = is.stops s l
-
   pub sound_step : (m : ℕ) (s : S) (line : List ℕ) (more : List (List ℕ)) (l : Option Line) → m < 2 ^ 32 → IsSound line
       → said line ≡ l → played w m s (line ∷ more)
       ≡ prefixed (text_by w s line l) (played w (m + 1) (after_by w s l) more)
-  sound_step m s line more l few sound e =
-      played_sound w m s line more (said_fault w m s line few sound.short ∙ faultless m s (said line) sound.says)
-      ∙ ap (λ (o : Option Line). prefixed (text_by w s line o) (played w (m + 1) (after_by w s o) more)) e
+  sound_step m s line more l few sound e = search (arith, played_sound, said_fault)
 
   pub sents_again : (m : ℕ) (s : S) (packets rest : List (List ℕ)) → ArePackets packets → m + length packets ≤ 2 ^ 32
       → played w m s (map sent_line packets ++ rest) ≡ played w (m + length packets) s rest
-  sents_again m s [] rest h few = ap (λ (k : ℕ). played w k s rest) (add_zero m)
+  sents_again m s [] rest h few = search (arith, add_zero)
   sents_again m s (packet ∷ more) rest h few =
-      let next : m + 1 + length more ≡ m + suc (length more) = omega arith in
-      let sent : Packet = record { 0 = packet } in
-      rw (
-        sound_step m s (sent_line packet) (map sent_line more ++ rest) (Some (Sent sent)) (omega (arith, few))
-            (sent_sound packet h.0) (sent_said packet h.0),
-        is.drops_sent s (sent_line packet) sent,
-        is.stays_at_sent s sent,
-      )
-      (sents_again (m + 1) s more rest h.1 (omega (arith, few, next)) ∙ ap (λ (k : ℕ). played w k s rest) next)
+      let later = sents_again (m + 1) s more rest h.1 (omega (arith, few)) in
+      search (arith, sound_step, sent_sound, sent_said, is.drops_sent, is.stays_at_sent)
 
 -- the lines that v writes for a line, without their line feeds
 pub record WritesLines {S : Type 0} (v : World S) (wrote : S → List ℕ → Option Line → List (List ℕ)) : Type 0 where
@@ -125,24 +105,24 @@ module _ {S : Type 0} {v : World S} {wrote : S → List ℕ → Option Line → 
       → (played v n s ls).text ≡ flat_map ended (written v wrote s ls)
   written_text n s [] h = refl
   written_text n s (line ∷ more) h =
-      let t = after v s line in
-      let step = played_sound v n s line more (sound_first v n s line more h) in
-      let later : (played v (n + 1) t more).fault ≡ None = sym (ap (λ (p : Played S). p.fault) step) ∙ h in
-      rw (step, g.texts s line (said line), written_text (n + 1) t more later)
-      (sym (flat_map-append ended (wrote s line (said line)) (written v wrote t more)))
+      let later = written_text (n + 1) (after v s line) more in
+      search (arith, played_sound, sound_first, g.texts, flat_map-append)
 
   pub written_are : (s : S) (ls : List (List ℕ)) → AreLines ls → AllSend v s ls → AreLines (written v wrote s ls)
   written_are s [] h sends = tt
   written_are s (line ∷ more) h sends =
-      AreLines-append (wrote s line (said line)) (written v wrote (after v s line) more)
-      (g.are s line (said line) refl h.0 sends.0) (written_are (after v s line) more h.1 sends.1)
+      search (arith, AreLines-append, written, written_are (after v s line) more h.1 sends.1)
 
--- what v writes, w gives again
+-- what v writes for a line, w gives again
+abbrev pub Repeats : {S : Type 0} (v w : World S) → (S → List ℕ → Option Line → List (List ℕ)) → Type 0
+Repeats {S} v w wrote = (m : ℕ) (s : S) (line : List ℕ) (l : Option Line) (rest : List (List ℕ)) → IsSound line
+    → said line ≡ l → SendsPackets v s l → m + length (wrote s line l) ≤ 2 ^ 32
+    → played w m s (wrote s line l ++ rest)
+    ≡ prefixed (text_by v s line l) (played w (m + length (wrote s line l)) (after_by v s l) rest)
+
 pub record GivesAgain {S : Type 0} (v w : World S) (wrote : S → List ℕ → Option Line → List (List ℕ)) : Type 0 where
   pub writes : WritesLines v wrote
-  pub again : (m : ℕ) (s : S) (line : List ℕ) (l : Option Line) (rest : List (List ℕ)) → IsSound line → said line ≡ l
-      → SendsPackets v s l → m + length (wrote s line l) ≤ 2 ^ 32 → played w m s (wrote s line l ++ rest)
-      ≡ prefixed (text_by v s line l) (played w (m + length (wrote s line l)) (after_by v s l) rest)
+  pub again : Repeats v w wrote
 
 module _ {S : Type 0} {v w : World S} {wrote : S → List ℕ → Option Line → List (List ℕ)} (g : GivesAgain v w wrote)
   where
@@ -157,21 +137,16 @@ module _ {S : Type 0} {v w : World S} {wrote : S → List ℕ → Option Line �
         let both = length-append first others in
         let sound = sound_first v n s line more h in
         let step = played_sound v n s line more sound in
-        let later : (played v (n + 1) t more).fault ≡ None = sym (ap (λ (p : Played S). p.fault) step) ∙ h in
-        let count : m + length first + length others ≡ m + length (first ++ others) = omega (arith, both) in
-        let final = played w (m + length first + length others) (played v (n + 1) t more).state rest in
-        ap (played w m s) (append_assoc first others rest)
-        ∙ g.again m s line (said line) (others ++ rest) (sound_line v n s line sound) refl sends.0
-        (omega (arith, few, both)) ∙ ap (prefixed (text_of v s line))
-        (lines_again (n + 1) (m + length first) t more rest later sends.1 (omega (arith, few, both)))
-        ∙ prefixed_twice (text_of v s line) (played v (n + 1) t more).text final
-        ∙ λ i. prefixed (sym step i).text (played w (count i) (sym step i).state rest)
+        let later : (played v (n + 1) t more).fault ≡ None = search (arith, step) in
+        let here = sound_line v n s line sound in
+        let on = g.again m s line (said line) (others ++ rest) here refl sends.0 (omega (arith, few, both)) in
+        let next = lines_again (n + 1) (m + length first) t more rest later sends.1 (omega (arith, few, both)) in
+        search (arith, append_assoc first others rest, on, next, step, both, prefixed_twice)
 
 -- one more word, and the number after it
 number_more : (front word : List ℕ) (n : ℕ) → feedless front ≡ true → feedless word ≡ true → n < 2 ^ 64
     → feedless (front ++ word ++ decimal n) ≡ true
-number_more front word n is_front is_word fits =
-    feedless-append (front ++ word) (decimal n) (feedless-append front word is_front is_word) (decimal_feedless n fits)
+number_more front word n is_front is_word fits = search (arith, feedless-append, decimal_feedless)
 
 counts_feedless : (m : Meters) → FitsMeters m → feedless (61 ∷ counts_of m) ≡ true
 counts_feedless m h =
@@ -180,31 +155,21 @@ counts_feedless m h =
     let pending = rows ++ codes " pending " ++ decimal m.pending in
     let requests = pending ++ codes " requests " ++ decimal m.requests in
     let bytes = requests ++ codes " bytes " ++ decimal m.bytes in
-    number_more bytes (codes " steps ") m.steps
-    (number_more requests (codes " bytes ") m.bytes
-    (number_more pending (codes " requests ") m.requests
-    (number_more rows (codes " pending ") m.pending
-    (number_more held (codes " rows ") m.rows (number_more [] (codes "= held ") m.held refl refl h.held) refl h.rows)
-    refl h.pending) refl h.requests) refl h.bytes) refl h.steps
+    let first = (number_more [] (codes "= held ") m.held refl refl h.held) in
+    search (arith, number_more bytes, number_more requests, number_more pending, number_more rows, number_more held)
 
 counts_short : (m : Meters) → FitsMeters m → length (61 ∷ counts_of m) < 256
 counts_short m h =
-    let sum : length (61 ∷ counts_of m)
-    ≡ suc
-    (6 + length (decimal m.held) + 6 + length (decimal m.rows) + 9 + length (decimal m.pending) + 10 + length
-    (decimal m.requests) + 7 + length (decimal m.bytes) + 7 + length (decimal m.steps)) =
-    simp length-append refl in
     let short = λ (n : ℕ) (fits : n < 2 ^ 64). length-decimal-le 20 n (omega arith) (omega (arith, fits)) fits in
-    omega (
+    simp length-append (omega (
       arith,
-      sum,
       short m.held h.held,
       short m.rows h.rows,
       short m.pending h.pending,
       short m.requests h.requests,
       short m.bytes h.bytes,
       short m.steps h.steps,
-    )
+    ))
 
 -- Where no line is faulty, the log that v writes is its own log in w.
 pub log_again : {S : Type 0} {v w : World S} {counts : S → Meters} {wrote : S → List ℕ → Option Line → List (List ℕ)}
@@ -217,8 +182,7 @@ log_again {S = S} {v = v} {w = w} {counts = counts} {wrote = wrote} writes gives
     let m = counts p.state in
     let last = 61 ∷ counts_of m in
     let first = written v wrote s (lines bytes) in
-    let whole : log v s bytes ≡ p.text ++ meters_line m =
-    log_is v p p.state p.text h refl refl ∙ ap (λ (t : List ℕ). p.text ++ t) (writes.ends p.state) in
+    let whole : log v s bytes ≡ p.text ++ meters_line m = search (arith, log_is, writes.ends) in
     let text : log v s bytes ≡ flat_map ended (first ++ last ∷ []) =
     whole ∙ ap (λ (t : List ℕ). t ++ meters_line m) (written_text g.writes 1 s (lines bytes) h)
     ∙ ap (λ (t : List ℕ). flat_map ended first ++ t) (sym (append-nil (ended last)))
@@ -228,18 +192,16 @@ log_again {S = S} {v = v} {w = w} {counts = counts} {wrote = wrote} writes gives
     (counts_feedless m fits, tt) in
     let cut : lines (log v s bytes) ≡ first ++ last ∷ [] = ap lines text ∙ lines_joined (first ++ last ∷ []) are in
     let space : length first + 1 < 2 ^ 32 = omega (arith, few, ap length cut, length-append first (last ∷ [])) in
-    let sound : IsSound last =
-    record { short = counts_short m fits; says = λ e. cc (sym e ∙ count_rest (counts_of m)) } in
+    let is = count_rest (counts_of m) in
+    let sound : IsSound last = record { short = counts_short m fits; says = λ e. cc (sym e ∙ is) } in
     let end : Played S = record { text = []; fault = None; state = p.state } in
     let ends : played w (1 + length first) p.state (last ∷ []) ≡ end =
-    sound_step gives (1 + length first) p.state last [] (Some Count) (omega (arith, space)) sound
-    (count_rest (counts_of m)) ∙ (λ i. prefixed (gives.drops_count p.state last i)
-    (record { text = []; fault = None; state = gives.stays_at_count p.state i })) in
+    sound_step gives (1 + length first) p.state last [] (Some Count) (omega (arith, space)) sound is
+    ∙ search (gives.drops_count p.state last, gives.stays_at_count p.state) in
     let plays : playing w s (log v s bytes) ≡ prefixed p.text end =
     ap (played w 1 s) cut ∙ lines_again g 1 1 s (lines bytes) (last ∷ []) h sends (omega (arith, space))
     ∙ ap (prefixed p.text) ends in
-    ap (log_of w) plays ∙ ap (λ (t : List ℕ). t ++ last_text w p.state) (append-nil p.text)
-    ∙ ap (λ (t : List ℕ). p.text ++ t) (gives.ends p.state) ∙ sym whole
+    ap (log_of w) plays ∙ search (append-nil p.text, gives.ends p.state, whole)
 
 -- What a replay writes, a replay gives again.
 
@@ -253,71 +215,35 @@ module _ {S : Type 0} (course : Course S) where
   lines_by s line l = []
 
   pub replay_logs : IsLogging replays course.counts
-  replay_logs = record {
-    stops = λ s l. refl;
-    drops_sent = λ s line packet. refl;
-    stays_at_sent = λ s packet. refl;
-    drops_count = λ s line. refl;
-    stays_at_count = λ s. refl;
-    ends = λ s. refl;
-  }
+  replay_logs = search arith
 
   text_lines : (s : S) (line : List ℕ) (l : Option Line) → text_by replays s line l ≡ flat_map ended (lines_by s line l)
-  text_lines s line (Some Comment) = sym (append-nil (ended line))
-  text_lines s line (Some (Input timed)) = ap (λ (t : List ℕ). ended line ++ t) (sents_text (course.sends s timed))
-  text_lines s line l = refl
+  text_lines s line l = search (arith, append-nil, sents_text)
 
   line_are : (s : S) (line : List ℕ) (l : Option Line) → said line ≡ l → feedless line ≡ true → SendsPackets replays s l
       → AreLines (lines_by s line l)
-  line_are s line (Some Comment) e h sends = (h, tt)
-  line_are s line (Some (Input timed)) e h sends = (h, sents_are (course.sends s timed) sends)
-  line_are s line l e h sends = tt
+  line_are s line l e h sends = search (arith, sents_are)
 
-  line_again : (m : ℕ) (s : S) (line : List ℕ) (l : Option Line) (rest : List (List ℕ)) → IsSound line → said line ≡ l
-      → SendsPackets replays s l → m + length (lines_by s line l) ≤ 2 ^ 32
-      → played replays m s (lines_by s line l ++ rest)
-      ≡ prefixed (text_by replays s line l)
-      (played replays (m + length (lines_by s line l)) (after_by replays s l) rest)
-  line_again m s line None rest sound e h few = absurd (sound.says e)
-  line_again m s line (Some Comment) rest sound e h few =
-      sound_step replay_logs m s line rest (Some Comment) (omega (arith, few)) sound e
-  line_again m s line (Some (Input timed)) rest sound e h few =
-      let packets = course.sends s timed in
-      let same : length (map sent_line packets) ≡ length packets = simp length-map refl in
-      let next : m + 1 + length packets ≡ m + suc (length (map sent_line packets)) = omega (arith, same) in
-      rw (
-        sound_step replay_logs m s line (map sent_line packets ++ rest) (Some (Input timed)) (omega (arith, few))
-            sound e,
-        sents_again replay_logs (m + 1) (course.turned s timed) packets rest h (omega (arith, few, next)),
-        next,
-      ) refl
-  line_again m s line l rest sound e h few = ap (λ (k : ℕ). played replays k s rest) (add_zero m)
+  line_again : Repeats replays replays lines_by
+  line_again m s line l rest sound e h few = search (arith, sound_step, replay_logs, length-map, sents_again, add_zero)
 
   pub replay_again : GivesAgain replays replays lines_by
   replay_again = record { writes = record { texts = text_lines; are = line_are }; again = line_again }
 
 -- What is written with what is needed is its own log: replayed, and with what is needed again.
 
-comment_lines : (line : List ℕ) (b : Bool) → cond b [] (ended line) ≡ flat_map ended (cond b [] (line ∷ []))
-comment_lines line true = refl
-comment_lines line false = sym (append-nil (ended line))
-
 comment_are : (line : List ℕ) (b : Bool) → feedless line ≡ true → AreLines (cond b [] (line ∷ []))
-comment_are line true h = tt
-comment_are line false h = (h, tt)
+comment_are line b h = search arith
 
 comment_kept : {S : Type 0} (w : World S) (m : ℕ) (s : S) (line : List ℕ) (rest : List (List ℕ)) (b : Bool)
     → (b ≡ false → m < 2 ^ 32 → played w m s (line ∷ rest) ≡ prefixed (ended line) (played w (m + 1) s rest))
     → m + length (cond b [] (line ∷ [])) ≤ 2 ^ 32 → played w m s (cond b [] (line ∷ []) ++ rest)
     ≡ prefixed (cond b [] (ended line)) (played w (m + length (cond b [] (line ∷ []))) s rest)
-comment_kept w m s line rest true step few = ap (λ (k : ℕ). played w k s rest) (add_zero m)
-comment_kept w m s line rest false step few = step refl (omega (arith, few))
+comment_kept w m s line rest b h k = search (arith, add_zero)
 
 counted : (m : ℕ) (packets told : List (List ℕ)) → m + 1 + length packets + length told
     ≡ m + suc (length (map sent_line packets ++ told))
-counted m packets told =
-    let same : length (map sent_line packets) ≡ length packets = simp length-map refl in
-    omega (arith, same, length-append (map sent_line packets) told)
+counted m packets told = search (arith, length-map, length-append)
 
 module _ {S : Type 0} (course : Course S) (needs : S → Needed) where
   abbrev lives : World S
@@ -327,14 +253,7 @@ module _ {S : Type 0} (course : Course S) (needs : S → Needed) where
   copies = replaying course
 
   pub live_logs : IsLogging lives course.counts
-  live_logs = record {
-    stops = λ s l. refl;
-    drops_sent = λ s line packet. refl;
-    stays_at_sent = λ s packet. refl;
-    drops_count = λ s line. refl;
-    stays_at_count = λ s. refl;
-    ends = λ s. refl;
-  }
+  live_logs = search arith
 
   abbrev pub needs_of : S → List ℕ → Option Line → List (List ℕ)
   needs_of s line (Some Comment) = cond (is_need_line line) [] (line ∷ [])
@@ -343,62 +262,31 @@ module _ {S : Type 0} (course : Course S) (needs : S → Needed) where
   needs_of s line l = []
 
   lived_lines : (s : S) (line : List ℕ) (l : Option Line) → text_by lives s line l ≡ flat_map ended (needs_of s line l)
-  lived_lines s line (Some Comment) = comment_lines line (is_need_line line)
-  lived_lines s line (Some (Input timed)) =
-      let packets = course.sends s timed in
-      let told = need_lines (needs (course.turned s timed)) in
-      rw (
-        append_assoc (ended line) (flat_map sent_text packets) (flat_map ended told),
-        sents_text packets,
-        flat_map-append ended (map sent_line packets) told,
-      ) refl
-  lived_lines s line l = refl
+  lived_lines s line l = search (arith, append_assoc, sents_text, flat_map-append, append-nil)
 
   lived_are : (s : S) (line : List ℕ) (l : Option Line) → said line ≡ l → feedless line ≡ true → SendsPackets lives s l
       → AreLines (needs_of s line l)
-  lived_are s line (Some Comment) e h sends = comment_are line (is_need_line line) h
-  lived_are s line (Some (Input timed)) e h sends =
-      let told = need_lines (needs (course.turned s timed)) in (
-        h,
-        AreLines-append (map sent_line (course.sends s timed)) told (sents_are (course.sends s timed) sends.0)
-            (told_are told (needs_told (needs (course.turned s timed)) sends.1)),
-      )
-  lived_are s line l e h sends = tt
+  lived_are s line l e h sends = search (arith, comment_are, AreLines-append, sents_are, told_are, needs_told)
 
   -- the lines that tell what is needed are dropped, or replayed as they are
 
   told_dropped : (m : ℕ) (s : S) (ls rest : List (List ℕ)) → AreTold ls → m + length ls ≤ 2 ^ 32
       → played lives m s (ls ++ rest) ≡ played lives (m + length ls) s rest
-  told_dropped m s [] rest h few = ap (λ (k : ℕ). played lives k s rest) (add_zero m)
+  told_dropped m s [] rest h few = search (arith, add_zero)
   told_dropped m s (line ∷ more) rest h few =
       let next : m + 1 + length more ≡ m + suc (length more) = omega arith in
-      rw (
-        sound_step live_logs m s line (more ++ rest) (Some Comment) (omega (arith, few)) h.0.sound h.0.said,
-        h.0.tells,
-      )
-      (told_dropped (m + 1) s more rest h.1 (omega (arith, few, next)) ∙ ap (λ (k : ℕ). played lives k s rest) next)
+      let later = told_dropped (m + 1) s more rest h.1 (omega (arith, few, next)) in
+      search (arith, sound_step live_logs m s line, h.0.sound, h.0.said, h.0.tells)
 
   needs_copied : (m : ℕ) (s : S) (ls rest : List (List ℕ)) → AreTold ls → m + length ls ≤ 2 ^ 32
       → played copies m s (ls ++ rest) ≡ prefixed (flat_map ended ls) (played copies (m + length ls) s rest)
-  needs_copied m s [] rest h few = ap (λ (k : ℕ). played copies k s rest) (add_zero m)
+  needs_copied m s [] rest h few = search (arith, add_zero)
   needs_copied m s (line ∷ more) rest h few =
       let next : m + 1 + length more ≡ m + suc (length more) = omega arith in
-      rw (
-        sound_step (replay_logs course) m s line (more ++ rest) (Some Comment) (omega (arith, few)) h.0.sound
-            h.0.said,
-        needs_copied (m + 1) s more rest h.1 (omega (arith, few, next)),
-        next,
-      )
-      (prefixed_twice (ended line) (flat_map ended more) (played copies (m + suc (length more)) s rest))
+      let later = needs_copied (m + 1) s more rest h.1 (omega (arith, few, next)) in
+      search (arith, sound_step (replay_logs course) m s line, h.0.sound, h.0.said, prefixed_twice)
 
-  -- a comment is kept where it tells nothing
-
-  -- an input line, its packets and what is needed
-
-  lived_again : (m : ℕ) (s : S) (line : List ℕ) (l : Option Line) (rest : List (List ℕ)) → IsSound line → said line ≡ l
-      → SendsPackets lives s l → m + length (needs_of s line l) ≤ 2 ^ 32
-      → played lives m s (needs_of s line l ++ rest)
-      ≡ prefixed (text_by lives s line l) (played lives (m + length (needs_of s line l)) (after_by lives s l) rest)
+  lived_again : Repeats lives lives needs_of
   lived_again m s line None rest sound e h few = absurd (sound.says e)
   lived_again m s line (Some Comment) rest sound e h few =
       comment_kept lives m s line rest (is_need_line line)
@@ -406,45 +294,24 @@ module _ {S : Type 0} (course : Course S) (needs : S → Needed) where
       ∙ ap (λ (b : Bool). prefixed (cond b [] (ended line)) (played lives (m + 1) s rest)) keeps) few
   lived_again m s line (Some (Input timed)) rest sound e h few =
       let packets = course.sends s timed in
-      let t = course.turned s timed in
-      let told = need_lines (needs t) in
+      let told = need_lines (needs (course.turned s timed)) in
       let count = counted m packets told in
-      rw (
-        sound_step live_logs m s line ((map sent_line packets ++ told) ++ rest) (Some (Input timed))
-            (omega (arith, few))
-            sound e,
-        append_assoc (map sent_line packets) told rest,
-        sents_again live_logs (m + 1) t packets (told ++ rest) h.0 (omega (arith, few, count)),
-        told_dropped (m + 1 + length packets) t told rest (needs_told (needs t) h.1) (omega (arith, few, count)),
-        count,
-      )
-      refl
-  lived_again m s line l rest sound e h few = ap (λ (k : ℕ). played lives k s rest) (add_zero m)
+      let both = append_assoc (map sent_line packets) told rest in
+      search (arith, sound_step live_logs, sents_again live_logs, told_dropped, needs_told)
+  lived_again m s line l rest sound e h few = search (arith, add_zero)
 
-  replayed_again : (m : ℕ) (s : S) (line : List ℕ) (l : Option Line) (rest : List (List ℕ)) → IsSound line
-      → said line ≡ l → SendsPackets lives s l → m + length (needs_of s line l) ≤ 2 ^ 32
-      → played copies m s (needs_of s line l ++ rest)
-      ≡ prefixed (text_by lives s line l) (played copies (m + length (needs_of s line l)) (after_by lives s l) rest)
+  replayed_again : Repeats lives copies needs_of
   replayed_again m s line None rest sound e h few = absurd (sound.says e)
   replayed_again m s line (Some Comment) rest sound e h few =
-      comment_kept copies m s line rest (is_need_line line)
-      (λ keeps space. sound_step (replay_logs course) m s line rest (Some Comment) space sound e) few
+      search (arith, comment_kept copies m s line rest (is_need_line line), sound_step (replay_logs course))
   replayed_again m s line (Some (Input timed)) rest sound e h few =
       let packets = course.sends s timed in
-      let t = course.turned s timed in
-      let told = need_lines (needs t) in
+      let told = need_lines (needs (course.turned s timed)) in
       let count = counted m packets told in
+      let both = append_assoc (map sent_line packets) told rest in
       let logs = replay_logs course in
-      rw (
-        sound_step logs m s line ((map sent_line packets ++ told) ++ rest) (Some (Input timed)) (omega (arith, few))
-            sound e,
-        append_assoc (map sent_line packets) told rest,
-        sents_again logs (m + 1) t packets (told ++ rest) h.0 (omega (arith, few, count)),
-        needs_copied (m + 1 + length packets) t told rest (needs_told (needs t) h.1) (omega (arith, few, count)),
-        count,
-      )
-      (prefixed_twice (ended line ++ flat_map sent_text packets) (flat_map ended told) _)
-  replayed_again m s line l rest sound e h few = ap (λ (k : ℕ). played copies k s rest) (add_zero m)
+      search (arith, sound_step logs, sents_again logs, needs_copied, needs_told, prefixed_twice)
+  replayed_again m s line l rest sound e h few = search (arith, add_zero)
 
   pub live_again : GivesAgain lives lives needs_of
   live_again = record { writes = record { texts = lived_lines; are = lived_are }; again = lived_again }

@@ -1,5 +1,5 @@
 -- What is said of an answer with meters is said of it without them.
-use Rattle.std.proofs.Common.{ℕ, Bool, List, Option, Result, Ok, Err}
+use Rattle.std.proofs.Common.{ℕ, Bool, List, Option, Result, arith}
 use Rattle.session_log.specs.Command.{PlaysThrough, unmetered}
 use Rattle.session_log.specs.Ending.{ending_of}
 use Rattle.session_log.specs.Replay.{Logs, Makes}
@@ -15,7 +15,4 @@ pub plays_unmetered : {I O : Type 0} (world : World (List Timed)) (h later : Lis
     input output
     → PlaysThrough world h (λ bytes text. Makes world h later bytes text (ending_of (unmetered answer))) left unread
     ended taken unwritten (unmetered answer) input output
-plays_unmetered world h later left unread ended taken unwritten (Ok meters) input output p =
-    ((p.0.0, p.0.1, p.0.2, p.0.3, p.0.4.0), p.1, p.2)
-plays_unmetered world h later left unread ended taken unwritten (Err fault) input output p =
-    ((p.0.0, p.0.1, p.0.2, p.0.3, p.0.4.0), p.1, p.2)
+plays_unmetered world h later left unread ended taken unwritten answer input output k = search arith

@@ -1,13 +1,13 @@
 -- Bytes cut at line feeds, from the front.
-use Rattle.std.proofs.Common.{◌≡◌, ℕ, suc, zero, ◌+◌, ◌≤◌, ◌<◌, ◌==◌, nat_lt, Bool, true, false, cond, List, [], ◌∷◌, ◌++◌, length, get_or, take, drop, position, Some, None, refl, sym, ap, ◌∙◌, arith, add-one, take-append-drop}
-use Rattle.std.proofs.Math.Seq.{take-append_seam, take-suc}
+use Rattle.std.proofs.Common.{◌≡◌, ℕ, suc, zero, ◌+◌, ◌<◌, ◌==◌, Bool, true, false, cond, List, [], ◌∷◌, ◌++◌, length, get_or, take, drop, position, Some, None, refl, sym, ap, ◌∙◌, arith, add-one, take-append-drop}
+use Rattle.std.proofs.Math.Seq.{take-suc}
 use Rattle.std.proofs.lemmas.Bool.{eqb-true, ltb-false}
 use Rattle.std.proofs.lemmas.List.{take-take}
 use Rattle.std.proofs.lemmas.Bool.Decides.{nat_tests}
 use Rattle.std.proofs.lemmas.List.Quantifiers.{position-Some}
 use Rattle.std.proofs.lemmas.List.Sums.{fails_before_first}
 use Rattle.std.proofs.lemmas.List.Splits.{slice_split_none, slice_split-cons_yes, slice_split-cons_no}
-use Rattle.std.specs.List.{onto_first, position_or_len}
+use Rattle.std.specs.List.{onto_first}
 use Rattle.session_log.specs.Text.{ended}
 use Rattle.session_log.specs.Lines.{is_feed, pieces, all_but_last, last_of, lines_of_pieces, lines}
 
@@ -17,15 +17,13 @@ cut_at : (w : List ℕ) (end : ℕ) (tail : List ℕ) → end < length w → is_
 cut_at [] end tail h p q = absurd (omega arith)
 cut_at (x ∷ xs) zero tail h p q = slice_split-cons_yes is_feed x tail p
 cut_at (x ∷ xs) (suc e) tail h p q =
-    slice_split-cons_no is_feed x (take (suc e) xs ++ tail) (q 0 (omega arith))
-    ∙ ap (onto_first x) (cut_at xs e tail (omega arith) p (λ k l. q (suc k) (omega arith)))
+    let later = cut_at xs e tail (omega arith) p (λ k l. q (suc k) (omega arith)) in
+    search (arith, slice_split-cons_no, q 0)
 
 -- a line and its line feed are cut off
 pub first_piece : (w : List ℕ) (end : ℕ) (tail : List ℕ) → position is_feed w ≡ Some end
     → pieces (take (end + 1) w ++ tail) ≡ take end w ∷ pieces tail
-first_piece w end tail e =
-    let at = position-Some is_feed w end 0 e in
-    rw add-one (cut_at w end tail at.0 at.1 at.2)
+first_piece w end tail e = search (arith, position-Some, add-one, cut_at)
 
 -- it ends with its line feed
 pub ends_in_feed : (w : List ℕ) (end : ℕ) → position is_feed w ≡ Some end → take (end + 1) w ≡ ended (take end w)
@@ -36,33 +34,16 @@ ends_in_feed w end e =
 -- what stands in a window was cut after a line feed, and before it
 pub cut_twice : (w held text line : List ℕ) (end : ℕ) → held ≡ w → text ≡ take (end + 1) held → line ≡ take end text
     → (text ≡ take (end + 1) w) × (line ≡ take end w)
-cut_twice w held text line end is whole front =
-    let text_is : text ≡ take (end + 1) w = whole ∙ ap (take (end + 1)) is in
-    (text_is, front ∙ ap (take end) text_is ∙ take-take end (end + 1) w (omega arith))
+cut_twice w held text line end is whole front = search (arith, take-take)
 
 -- that is the line with its line feed
 pub text_of_line : (w text line : List ℕ) (end : ℕ) → position is_feed w ≡ Some end
     → (text ≡ take (end + 1) w) × (line ≡ take end w) → text ≡ ended line
 text_of_line w text line end e cut = cut.0 ∙ ends_in_feed w end e ∙ ap ended (sym cut.1)
 
--- a last line was given its line feed
-pub last_line_of : (w held text line : List ℕ) (n : ℕ) → n ≡ length w → held ≡ ended w → text ≡ held
-    → line ≡ take n text → (text ≡ ended w) × (line ≡ w)
-last_line_of w held text line n count is same front =
-    let text_is : text ≡ ended w = same ∙ is in
-    (text_is, front ∙ (λ i. take (count i) (text_is i)) ∙ take-append_seam w (10 ∷ []))
-
-none_is : (b : Bool) (n : ℕ) → cond b (Some n) None ≡ None → b ≡ false
-none_is true n e = cc
-none_is false n e = refl
-
 -- what has no line feed is one piece
 pub one_piece : (w : List ℕ) → position is_feed w ≡ None → pieces w ≡ w ∷ []
-one_piece w e =
-    let far : length w ≤ position_or_len is_feed w =
-    ltb-false (position_or_len is_feed w) (length w)
-    (none_is (nat_lt (position_or_len is_feed w) (length w)) (position_or_len is_feed w) e) in
-    slice_split_none is_feed w (λ k d l. fails_before_first is_feed w k d (omega arith))
+one_piece w e = search (arith, ltb-false, slice_split_none, fails_before_first)
 
 -- there is a piece
 pub pieces_some : (w : List ℕ) → (p : List ℕ) × (ps : List (List ℕ)) × (pieces w ≡ p ∷ ps)
@@ -97,11 +78,8 @@ pub line_in_front : (w : List ℕ) (end : ℕ) → position is_feed w ≡ Some e
 line_in_front w end e =
     let rest = drop (end + 1) w in
     let some = pieces_some rest in
-    let cut : pieces w ≡ take end w ∷ pieces rest =
-    ap pieces (sym (take-append-drop (end + 1) w)) ∙ first_piece w end rest e in
-    ap lines_of_pieces (cut ∙ ap (λ (ps : List (List ℕ)). take end w ∷ ps) some.2)
-    ∙ lines_beyond (take end w ∷ []) some.0 some.1
-    ∙ ap (λ (ps : List (List ℕ)). take end w ∷ lines_of_pieces ps) (sym some.2)
+    let cut = rw take-append-drop at (first_piece w end rest e) in
+    search (arith, cut, some.2, lines_beyond)
 
 not_zero : (n : ℕ) → (suc n == 0) ≡ false
 not_zero n = grind (arith, nat_tests)
@@ -111,8 +89,7 @@ pub one_line : (x : ℕ) (xs : List ℕ) → lines_of_pieces ((x ∷ xs) ∷ [])
 one_line x xs = ap (λ (b : Bool). cond b [] ((x ∷ xs) ∷ [])) (not_zero (length xs))
 
 pub last_line : (w : List ℕ) → position is_feed w ≡ None → 0 < length w → lines w ≡ w ∷ []
-last_line [] e h = absurd (omega arith)
-last_line (x ∷ xs) e h = ap lines_of_pieces (one_piece (x ∷ xs) e) ∙ one_line x xs
+last_line w h k = search (arith, one_piece, one_line)
 
 first_line : (x : ℕ) (p : List ℕ) (ps : List (List ℕ)) → (l : List ℕ) × (more : List (List ℕ))
     × (lines_of_pieces ((x ∷ p) ∷ ps) ≡ l ∷ more)
@@ -123,14 +100,10 @@ pub some_line : (w : List ℕ) → 0 < length w → (l : List ℕ) × (more : Li
 some_line [] h = absurd (omega arith)
 some_line (x ∷ xs) h = go (is_feed x) refl
   where
+    rest : (p : List ℕ) × (ps : List (List ℕ)) × (pieces xs ≡ p ∷ ps)
+    rest = pieces_some xs
+
     go : (b : Bool) → is_feed x ≡ b → (l : List ℕ) × (more : List (List ℕ)) × (lines (x ∷ xs) ≡ l ∷ more)
-    go true e =
-        let rest = pieces_some xs in (
-          [],
-          lines_of_pieces (rest.0 ∷ rest.1),
-          ap lines_of_pieces (slice_split-cons_yes is_feed x xs e ∙ ap (λ (ps : List (List ℕ)). [] ∷ ps) rest.2),
-        )
-    go false e =
-        let rest = pieces_some xs in
-        let first = first_line x rest.0 rest.1 in
-        (first.0, first.1, ap lines_of_pieces (slice_split-cons_no is_feed x xs e ∙ ap (onto_first x) rest.2) ∙ first.2)
+    go true e = ([], lines_of_pieces (rest.0 ∷ rest.1), search (arith, slice_split-cons_yes, rest.2))
+    go false e = let first = first_line x rest.0 rest.1 in
+        (first.0, first.1, search (slice_split-cons_no, rest.2, first.2))

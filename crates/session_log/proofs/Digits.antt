@@ -1,5 +1,5 @@
 -- Digits are read one at a time.
-use Rattle.std.proofs.Common.{◌≡◌, ℕ, zero, suc, ◌+◌, ◌*◌, ◌-◌, ◌^◌, ◌<◌, ◌≤◌, List, [], ◌∷◌, length, drop, get_or, Option, Some, None, SomeIff, decimal, sym, ap, ◌∙◌, subst, arith, drop_of_length-le}
+use Rattle.std.proofs.Common.{◌≡◌, ℕ, ◌+◌, ◌*◌, ◌-◌, ◌^◌, ◌<◌, ◌≤◌, List, [], ◌∷◌, length, drop, get_or, Option, Some, None, SomeIff, decimal, sym, ap, ◌∙◌, subst, arith, drop_of_length-le}
 use Rattle.std.proofs.lemmas.Fmt.{decimal_digit, decimal_is_IsNumeral, decimal_nonempty, decimal-digits_value, first_decimal}
 use Rattle.std.proofs.lemmas.List.{drop_more}
 use Rattle.std.proofs.lemmas.Str.Parse.{numerals_by_value, tells_digits}
@@ -26,17 +26,12 @@ module _ (ds : List ℕ) (i n : ℕ) (so_far : SoFar ds (drop i ds) n) where
 
     -- what is written is no less than with one digit more
     pub at_least : n * 10 + digit_value (get_or ds i 0) ≤ digits_value 10 ds
-    at_least =
-        subst (λ (v : ℕ). n * 10 + digit_value (get_or ds i 0) ≤ v) opened.value
-        (grows (n * 10 + digit_value (get_or ds i 0)) (drop (i + 1) ds))
+    at_least = search (arith, opened, grows)
 
 -- where no zero stands before other digits, the number that is read has this text
 pub moment_read : (ds : List ℕ) (r : Option ℕ) → 0 < length ds → ((2 ≤ length ds) × (get_or ds 0 0 ≡ 48) → ⊥)
     → SomeIff r (AllDigits 10 ds × (digits_value 10 ds ≤ 2 ^ 64 - 1)) (digits_value 10 ds) → r ≡ moment ds
-moment_read ds None some padded h = sym (no_moment ds (λ n fits e.
-    let read = decimal_is_IsNumeral n fits in
-    let value : digits_value 10 ds ≡ n = ap (digits_value 10) e ∙ read.1 in
-    h (subst (AllDigits 10) (sym e) read.0.1, omega (arith, value))))
+moment_read ds None some padded h = search (arith, no_moment, decimal_is_IsNumeral)
 moment_read ds (Some n) some padded h =
     let fits : digits_value 10 ds < 2 ^ 64 = omega (arith, h.0.1) in
     let single : get_or ds 0 0 ≡ 48 → length ds ≡ 1 =
@@ -49,17 +44,9 @@ no_empty_moment ds empty = no_moment ds (λ n fits e. omega (arith, decimal_none
 
 -- a number over zero has no zero in front
 pub no_padded_moment : (ds : List ℕ) → get_or ds 0 0 ≡ 48 → 2 ≤ length ds → moment ds ≡ None
-no_padded_moment ds zero_first two = no_moment ds (λ n fits e. go n fits e)
-  where
-    go : (n : ℕ) → n < 2 ^ 64 → ds ≡ decimal n → ⊥
-    go zero fits e = let one : length (decimal 0) ≡ 1 = ap length (decimal_digit 0 (omega arith)) in
-        omega (arith, ap length e, one)
-    go (suc n) fits e =
-        omega (arith, first_decimal (suc n) (omega arith) fits, zero_first, ap (λ (l : List ℕ). get_or l 0 0) e)
+no_padded_moment ds zero_first two = search (arith, no_moment, decimal_digit, first_decimal)
 
 -- at the end all digits are read
 pub all_read : (ds : List ℕ) (i n : ℕ) → SoFar ds (drop i ds) n → length ds ≤ i
     → (AllDigits 10 ds × (digits_value 10 ds ≤ 2 ^ 64 - 1)) × (n ≡ digits_value 10 ds)
-all_read ds i n so_far end =
-    let read : SoFar ds [] n = subst (λ (rest : List ℕ). SoFar ds rest n) (drop_of_length-le ds end) so_far in
-    ((read.back tt, omega (arith, read.fits, read.value)), read.value)
+all_read ds i n so_far end = search (arith, drop_of_length-le)

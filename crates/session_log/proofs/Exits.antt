@@ -1,5 +1,5 @@
 -- Each way in which the playing of lines ends.
-use Rattle.std.proofs.Common.{◌≡◌, ℕ, suc, zero, ◌+◌, ◌≤◌, ◌<◌, ◌^◌, cond, is_none, List, [], ◌∷◌, ◌++◌, length, Option, Some, None, Result, Ok, Err, refl, sym, ap, ◌∙◌, subst, take, drop, arith, append_assoc, take-append-drop, length-take-le}
+use Rattle.std.proofs.Common.{◌≡◌, ℕ, ◌+◌, ◌<◌, ◌^◌, cond, is_none, List, [], ◌∷◌, ◌++◌, length, Option, Some, None, Result, Ok, Err, ap, ◌∙◌, take, drop, arith, append_assoc, take-append-drop, length-take-le}
 use Rattle.std.specs.Io.KnownBytes.{Consumes, Appends, Keeps}
 use Rattle.std.proofs.KnownBytes.{Appends-trans, Appends-kept, Consumes-trans}
 use Rattle.session_log.specs.declared.fault.LogFault.{LogFault}
@@ -8,7 +8,7 @@ use Rattle.session_log.specs.Ending.{Ending, ended_by, ending_of}
 use Rattle.session_log.specs.Said.{said}
 use Rattle.session_log.specs.World.{World}
 use Rattle.session_log.specs.Lines.{lines}
-use Rattle.session_log.specs.Log.{text_of, text_by, last_text, after, after_by, fault_by}
+use Rattle.session_log.specs.Log.{text_of, last_text, after, fault_by}
 use Rattle.session_log.specs.declared.line.Line.{Line}
 use Rattle.session_log.specs.Sent.{AllSend, SendsPackets}
 use Rattle.session_log.specs.Streams.{Moves, IsTaken, IsBroken, PutsLine}
@@ -16,7 +16,7 @@ use Rattle.session_log.specs.Window.{HasLine, IsUnfinished, Stops}
 use Rattle.session_log.specs.Replay.{IsRefused, IsUnwritten, IsPlayed, IsDone, Means, Plays, PlaysLine}
 use Rattle.session_log.proofs.Cutting.{last_line, line_in_front, some_line}
 use Rattle.session_log.proofs.Gathering.{in_count}
-use Rattle.session_log.proofs.Through.{Through, first_is_last, through_line, refused, unread, unwritten, unwritten_end, played_last, whole_log, said_fault, too_long, too_many}
+use Rattle.session_log.proofs.Through.{Through, first_is_last, through_line, refused, unread, unwritten, unwritten_end, played_last, said_fault, too_long, too_many}
 
 -- a fault that was passed on
 pub as_err : {A : Type 0} (r : Result A LogFault) (e : LogFault) (P : Ending → Type 0) → r ≡ Err e → P (ended_by e)
@@ -26,40 +26,23 @@ as_err {A} r e P is h = rw is h
 -- what a fault means doesn't hang on what the log's end would mean
 pub passed_on : {S : Type 0} (world : World S) (s t : S) (bytes text : List ℕ) (P Q : Type 0) (e : LogFault)
     → Means world s t bytes text P (ended_by e) → Means world s t bytes text Q (ended_by e)
-passed_on world s t bytes text P Q Write h = h
-passed_on world s t bytes text P Q e h = h
-
--- a line's text was handed over
-hands_over : {S F A : Type 0} (world : World S) (taken : F → Option (List ℕ)) (failed : F
-    → ℕ) (n : ℕ) (s t : S) (line : List ℕ) (target : F × F) (r : Result A LogFault) → fault_by world n s (said line)
-    ≡ None → t ≡ after world s line → SendsPackets world s (said line)
-    → PutsLine taken failed target (text_of world s line) r
-    → PlaysLine world taken failed n s t line target (ending_of r)
-hands_over world taken failed n s t line target (Ok x) sound stood packets put = (sound, stood, packets, put)
-hands_over world taken failed n s t line target (Err e) sound stood packets put = rw put.0 (sound, stood, put.1)
+passed_on world s t bytes text P Q e h = search arith
 
 -- the text for a line that says this was handed over
 pub writes_for : {S F A : Type 0} (world : World S) (taken : F → Option (List ℕ)) (failed : F
     → ℕ) (n : ℕ) (s t : S) (line : List ℕ) (l : Line) (target : F × F) (r : Result A LogFault) (text : List ℕ)
     → said line ≡ Some l → world.stops s l ≡ None → t ≡ world.moves s l → world.sound s l → text ≡ world.writes s line l
     → PutsLine taken failed target text r → PlaysLine world taken failed n s t line target (ending_of r)
-writes_for world taken failed n s t line l target r text is sound stood packets same put =
-    hands_over world taken failed n s t line target r (ap (fault_by world n s) is ∙ sound)
-    (stood ∙ ap (after_by world s) (sym is)) (subst (SendsPackets world s) (sym is) packets)
-    (subst (λ (x : List ℕ). PutsLine taken failed target x r) (same ∙ ap (text_by world s line) (sym is)) put)
+writes_for world taken failed n s t line l target r text is sound stood packets same put = search arith
 
 -- more was read into the window
 pub read_on : (a b c : Option (List ℕ)) (read w w' : List ℕ) → Consumes a b (read ++ w)
     → ((more : List ℕ) × (w' ≡ w ++ more) × Consumes b c more) → Consumes a c (read ++ w')
-read_on a b c read w w' p m =
-    subst (Consumes a c) (append_assoc read w m.0 ∙ ap (λ (l : List ℕ). read ++ l) (sym m.1))
-    (Consumes-trans a b c (read ++ w) m.0 p m.2)
+read_on a b c read w w' p m = search (arith, append_assoc, Consumes-trans)
 
 -- the line in front is short
 pub short_in_front : (w : List ℕ) (n end : ℕ) → HasLine n w end → length (take end w) < 256
-short_in_front w n end has =
-    let inside : end ≤ length w = omega (arith, has.within) in
-    omega (arith, length-take-le end w inside, has.within, has.short)
+short_in_front w n end has = search (arith, length-take-le)
 
 -- What was read is played up to the window w, and this text for it is written.
 module _ {S : Type 0} {world : World S} {s0 s : S} {read text : List ℕ} {n : ℕ}
@@ -72,17 +55,10 @@ module _ {S : Type 0} {world : World S} {s0 s : S} {read text : List ℕ} {n : �
       let some = some_line w h.1 in
       (read ++ w, text, p, q, refused through w some.0 some.1 TooManyLines some.2 (too_many world n s some.0 h.0))
   stops_reading taken (TooLong m) q h =
-      let long : 256 ≤ length w = omega (arith, h.3) in
-      let found = refused through w w [] (TooLong n) (last_line w h.2 (omega arith)) (too_long world n s w h.1 long) in
+      let bad = too_long world n s w h.1 (omega (arith, h.3)) in
+      let found = refused through w w [] (TooLong n) (last_line w h.2 (omega (arith, h.3))) bad in
       (read ++ w, text, p, q, rw h.0 found)
-  stops_reading taken (Read m) q h = (
-    read ++ w,
-    text,
-    p,
-    q,
-    rw h.0
-        (unread through w h.1),
-  )
+  stops_reading taken (Read m) q h = let found = unread through w h.1 in (read ++ w, text, p, q, rw h.0 found)
   stops_reading taken e q h = absurd h
 
   module _ {F : Type 0} (taken : F → Option (List ℕ)) (failed : F → ℕ) (target : F × F) (t : S)
@@ -93,29 +69,19 @@ module _ {S : Type 0} {world : World S} {s0 s : S} {read text : List ℕ} {n : �
       stops_faulty : (fault : LogFault) → fault_by world n s (said line) ≡ Some fault → t ≡ s
           → Keeps (taken target.0) (taken target.1)
           → Moves left left' start (taken target.1) (λ bytes text. IsRefused world s0 t bytes text fault)
-      stops_faulty fault bad stays kept = (
-        read ++ w,
-        text,
-        p,
-        Appends-kept start (taken target.0) (taken target.1) text q kept,
-        rw stays
-            (refused through w line more fault first (said_fault world n s line few short ∙ bad)),
-      )
+      stops_faulty fault bad stays kept =
+          let found = refused through w line more fault first (said_fault world n s line few short ∙ bad) in
+          (read ++ w, text, p, Appends-kept start (taken target.0) (taken target.1) text q kept, rw stays found)
 
       -- the line was faulty, or its text broke off
       pub stops_at_line : (e : LogFault) → PlaysLine world taken failed n s t line target (ended_by e)
           → Moves left left' start (taken target.1) (λ bytes text. Plays world s0 t bytes text (ended_by e))
       stops_at_line (Read m) h = absurd h
       stops_at_line Write h =
-          let broken = h.2.0 in (
-            read ++ w,
-            text ++ broken.0,
-            p,
-            Appends-trans start (taken target.0) (taken target.1) text broken.0 q broken.4,
-            rw h.1
-                (unwritten through w line more broken.0 broken.1 first (said_fault world n s line few short ∙ h.0)
-                broken.2 broken.3),
-          )
+          let broken = h.2.0 in
+          let sound = said_fault world n s line few short ∙ h.0 in
+          let found = unwritten through w line more broken.0 broken.1 first sound broken.2 broken.3 in
+          (read ++ w, text ++ broken.0, p, Appends-trans start (taken target.0) _ text broken.0 q broken.4, rw h.1 found)
       stops_at_line fault h = stops_faulty fault h.0 h.1 h.2
 
     module _ (end : ℕ) (has : HasLine n w end) where
@@ -127,19 +93,11 @@ module _ {S : Type 0} {world : World S} {s0 s : S} {read text : List ℕ} {n : �
           × Appends start (taken target.1) text' × Through world s0 read' text' t (n + 1)
       goes_on rest is_rest sound stood packets wrote =
           let line = take end w in
-          let front = take (end + 1) w in
-          let whole : read ++ w ≡ (read ++ front) ++ rest =
-          ap (λ (l : List ℕ). read ++ l)
-          (sym (take-append-drop (end + 1) w) ∙ ap (λ (l : List ℕ). front ++ l) (sym is_rest))
-          ∙ sym (append_assoc read front rest) in
-          let faultless = said_fault world n s line has.counted (short_in_front w n end has) ∙ sound in (
-            read ++ front,
-            text ++ text_of world s line,
-            subst (Consumes left left') whole p,
-            Appends-trans start (taken target.0) (taken target.1) text (text_of world s line) q wrote.0,
-            rw stood
-                (through_line through w end has.feed faultless packets),
-          )
+          let whole : read ++ w ≡ (read ++ take (end + 1) w) ++ rest = simp (is_rest, append_assoc, take-append-drop) in
+          let faultless = said_fault world n s line has.counted (short_in_front w n end has) ∙ sound in
+          let found = through_line through w end has.feed faultless packets in
+          let text' = Appends-trans start (taken target.0) (taken target.1) text (text_of world s line) q wrote.0 in
+          (read ++ take (end + 1) w, text ++ text_of world s line, rw whole at p, text', rw stood found)
 
       -- the line in front was faulty, or its text broke off
       pub stops_in_front : (e : LogFault) → PlaysLine world taken failed n s t (take end w) target (ended_by e)
@@ -153,19 +111,14 @@ module _ {S : Type 0} {world : World S} {s0 s : S} {read text : List ℕ} {n : �
         → PlaysLine world taken failed n s t w target (ending_of r)
         → Moves left left' start (taken target.1) (λ bytes text. Plays world s0 t bytes text (ending_of r))
     ends (Ok x) u more h =
-        let sound = said_fault world n s w (in_count n w u.counted more) u.short ∙ h.0 in (
-          read ++ w,
-          text ++ text_of world s w,
-          p,
-          Appends-trans start (taken target.0) (taken target.1) text (text_of world s w) q h.3.0,
-          rw h.1
-              (played_last through w (last_line w u.no_feed more) sound h.2),
-        )
+        let sound = said_fault world n s w (in_count n w u.counted more) u.short ∙ h.0 in
+        let found = played_last through w (last_line w u.no_feed more) sound h.2 in
+        let all = Appends-trans start (taken target.0) (taken target.1) text (text_of world s w) q h.3.0 in
+        (read ++ w, text ++ text_of world s w, p, all, rw h.1 found)
     ends (Err e) u more h = stops_at_line w [] (last_line w u.no_feed more) u.short (in_count n w u.counted more) e h
 
 pub some_left : (n : ℕ) → (n ≡ 0 → ⊥) → 0 < n
-some_left zero h = absurd (h refl)
-some_left (suc n) h = omega arith
+some_left n h = search arith
 
 -- All lines are played, and nothing is wrong after the last one.
 module _ {S F : Type 0} {world : World S} {s0 s : S} {bytes text : List ℕ} (taken : F → Option (List ℕ))
@@ -178,29 +131,12 @@ module _ {S F : Type 0} {world : World S} {s0 s : S} {bytes text : List ℕ} (ta
     -- the text after the last line was written
     pub closes : IsTaken taken failed target (world.ending s)
         → Moves left left' start (taken target.1) (λ b t. IsDone world s0 s b t × AllSend world s0 (lines b))
-    closes wrote = (
-      bytes,
-      text ++ world.ending s,
-      p,
-      Appends-trans start (taken target.0) (taken target.1) text (world.ending s) q wrote.0,
-      (
-        record {
-          faultless = first_is_last world s0 s bytes text None whole none;
-          written = sym (whole_log world s0 s bytes text whole ∙ ap (λ (l : List ℕ). text ++ l) last);
-          stands = whole.stands;
-        },
-        whole.sends,
-      ),
-    )
+    closes wrote = search (arith, Appends-trans, first_is_last, last)
 
     -- it broke off
     pub closes_not : IsBroken taken failed target (world.ending s)
         → Moves left left' start (taken target.1) (λ b t. IsUnwritten world s0 s b t)
     closes_not broken =
-        let off = broken.0 in (
-          bytes,
-          text ++ off.0,
-          p,
-          Appends-trans start (taken target.0) (taken target.1) text off.0 q off.4,
-          unwritten_end world s0 s bytes text off.0 off.1 whole (last ∙ off.2) off.3,
-        )
+        let off = broken.0 in
+        let found = unwritten_end world s0 s bytes text off.0 off.1 whole (last ∙ off.2) off.3 in
+        (bytes, text ++ off.0, p, Appends-trans start (taken target.0) (taken target.1) text off.0 q off.4, found)

@@ -1,23 +1,19 @@
 -- Of each way in which the playing of lines ends: what holds at Ok alone, and the failures that it counts.
-use Rattle.std.proofs.Common.{◌≡◌, ℕ, ◌+◌, Bool, false, OnOk, cond, List, Option, Result, Ok, Err, refl, sym, ap, ◌∙◌}
+use Rattle.std.proofs.Common.{◌≡◌, ℕ, ◌+◌, Bool, false, OnOk, cond, List, Option, Result, Err, sym, ap, ◌∙◌, arith}
 use Rattle.session_log.specs.declared.fault.LogFault.{LogFault}
-use Rattle.session_log.specs.declared.fault.LogFault.TheVariants.{Write}
-use Rattle.session_log.specs.Ending.{Ending, Done, Refused, Unread, Unwritten, ended_by, read_fails, write_fails}
+use Rattle.session_log.specs.Ending.{Ending, ended_by, read_fails, write_fails}
 use Rattle.session_log.specs.Replay.{PlaysLine}
 use Rattle.session_log.specs.Window.{Stops}
 use Rattle.session_log.specs.World.{World}
 
 pub on_err : {A : Type 0} (X : Type 0) (r : Result A LogFault) (e : LogFault) → r ≡ Err e → OnOk r X
-on_err X (Ok x) e is = cc
-on_err X (Err f) e is = tt
+on_err X r e h = cc
 
 pub on_any : {A X : Type 0} (r : Result A LogFault) → X → OnOk r X
-on_any (Ok x) h = h
-on_any (Err f) h = tt
+on_any r h = search arith
 
 pub on_ok : {A X Y : Type 0} (r : Result A LogFault) → (X → Y) → OnOk r X → OnOk r Y
-on_ok (Ok x) f h = f h
-on_ok (Err e) f h = tt
+on_ok r h k = search arith
 
 -- a count of failures goes on from where it stood before
 pub counts_on : (a b k : ℕ) (fails : Bool) → a ≡ b → k ≡ cond fails (a + 1) a → k ≡ cond fails (b + 1) b
@@ -29,21 +25,16 @@ counts_none a b fails none is = is ∙ ap (λ (f : Bool). cond f (a + 1) a) (sym
 
 -- where no line can be read, no write failed
 pub stops_unwritten : (n : ℕ) (w : List ℕ) (e : LogFault) → Stops n w e → write_fails (ended_by e) ≡ false
-stops_unwritten n w Write h = absurd h
-stops_unwritten n w e h = refl
+stops_unwritten n w e h = search arith
 
 -- where a line is played, no read fails, and a write fails exactly where its text breaks off
 pub plays_unread : {S F : Type 0} (world : World S) (taken : F → Option (List ℕ)) (failed : F
     → ℕ) (n : ℕ) (s t : S) (line : List ℕ) (target : F × F) (q : Ending)
     → PlaysLine world taken failed n s t line target q → read_fails q ≡ false
-plays_unread world taken failed n s t line target (Unread m) h = absurd h
-plays_unread world taken failed n s t line target q h = refl
+plays_unread world taken failed n s t line target q h = search arith
 
 pub plays_counts : {S F : Type 0} (world : World S) (taken : F → Option (List ℕ)) (failed : F
     → ℕ) (n : ℕ) (s t : S) (line : List ℕ) (target : F × F) (q : Ending)
     → PlaysLine world taken failed n s t line target q → failed target.1
     ≡ cond (write_fails q) (failed target.0 + 1) (failed target.0)
-plays_counts world taken failed n s t line target Done h = h.3.1
-plays_counts world taken failed n s t line target (Refused f) h = h.3
-plays_counts world taken failed n s t line target (Unread m) h = absurd h
-plays_counts world taken failed n s t line target Unwritten h = h.2.1
+plays_counts world taken failed n s t line target q h = search arith

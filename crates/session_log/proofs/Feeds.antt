@@ -1,5 +1,5 @@
 -- Lines with no line feed in them: what they are joined to is cut into them again.
-use Rattle.std.proofs.Common.{◌≡◌, ℕ, suc, ◌<◌, ◌^◌, ◌==◌, Bool, true, false, cond, List, [], ◌∷◌, ◌++◌, length, decimal, flat_map, refl, sym, ap, ◌∙◌, subst, arith, append_assoc, append-nil, ◌≢◌, nat_lt, Option, Some, None}
+use Rattle.std.proofs.Common.{◌≡◌, ℕ, suc, ◌<◌, ◌^◌, ◌==◌, Bool, true, false, cond, List, [], ◌∷◌, ◌++◌, length, decimal, flat_map, refl, ap, ◌∙◌, arith, append_assoc, append-nil, ◌≢◌, Option, Some, None}
 use Rattle.std.proofs.lemmas.Fmt.{decimal_is_IsNumeral}
 use Rattle.std.proofs.lemmas.List.Splits.{slice_split-cons_yes, slice_split-cons_no}
 use Rattle.std.specs.Char.{digit_value}
@@ -10,9 +10,9 @@ use Rattle.session_log.proofs.Cases.{no_some}
 use Rattle.session_log.specs.Lines.{is_feed, pieces, lines_of_pieces, lines}
 use Rattle.session_log.specs.Text.{ended}
 use Rattle.session_log.proofs.Cutting.{pieces_some, lines_beyond}
-use Rattle.std.proofs.lemmas.Bool.{ltb-false, ne_eqb}
+use Rattle.std.proofs.lemmas.Bool.{ne_eqb}
 use Rattle.session_log.specs.declared.fault.LogFault.{LogFault}
-use Rattle.session_log.specs.Log.{Played, played, fault_by, fault_at}
+use Rattle.session_log.specs.Log.{played, fault_at}
 use Rattle.session_log.specs.Said.{said}
 use Rattle.session_log.specs.World.{World}
 use Rattle.session_log.proofs.Through.{played_faulty}
@@ -26,8 +26,7 @@ AreLines [] = Unit {0}
 AreLines (line ∷ more) = (feedless line ≡ true) × AreLines more
 
 pub both : (b c : Bool) → cond b false c ≡ true → (b ≡ false) × (c ≡ true)
-both true c h = cc
-both false c h = (refl, h)
+both b c h = search arith
 
 pub joined : (b c : Bool) → b ≡ false → c ≡ true → cond b false c ≡ true
 joined b c h k = λ i. cond (h i) false (k i)
@@ -52,9 +51,7 @@ cut_line (x ∷ xs) tail h =
 
 pieces_joined : (ls : List (List ℕ)) → AreLines ls → pieces (flat_map ended ls) ≡ ls ++ [] ∷ []
 pieces_joined [] h = refl
-pieces_joined (line ∷ more) h =
-    ap pieces (append_assoc line (10 ∷ []) (flat_map ended more)) ∙ cut_line line (flat_map ended more) h.0
-    ∙ ap (λ (ps : List (List ℕ)). line ∷ ps) (pieces_joined more h.1)
+pieces_joined (line ∷ more) h = search (arith, append_assoc, cut_line, pieces_joined more h.1)
 
 pub lines_joined : (ls : List (List ℕ)) → AreLines ls → lines (flat_map ended ls) ≡ ls
 lines_joined ls h = ap lines_of_pieces (pieces_joined ls h) ∙ lines_beyond ls [] [] ∙ append-nil ls
@@ -63,19 +60,13 @@ lines_joined ls h = ap lines_of_pieces (pieces_joined ls h) ∙ lines_beyond ls 
 
 pieces_are : (bytes : List ℕ) → AreLines (pieces bytes)
 pieces_are [] = (refl, tt)
-pieces_are (x ∷ xs) = go (pieces_some xs) (pieces_are xs) (is_feed x) refl
-  where
-    go : ((p : List ℕ) × (ps : List (List ℕ)) × (pieces xs ≡ p ∷ ps)) → AreLines (pieces xs) → (b : Bool)
-        → is_feed x ≡ b → AreLines (pieces (x ∷ xs))
-    go some h true e = subst AreLines (sym (slice_split-cons_yes is_feed x xs e)) (refl, h)
-    go some h false e =
-        let parts = subst AreLines some.2 h in
-        subst AreLines (sym (slice_split-cons_no is_feed x xs e ∙ ap (onto_first x) some.2))
-        (joined (is_feed x) (feedless some.0) e parts.0, parts.1)
+pieces_are (x ∷ xs) =
+    let some = pieces_some xs in
+    let h = pieces_are xs in
+    search (arith, slice_split-cons_yes, slice_split-cons_no, joined)
 
 last_are : (line : List ℕ) (b : Bool) → feedless line ≡ true → AreLines (cond b [] (line ∷ []))
-last_are line true h = tt
-last_are line false h = (h, tt)
+last_are line b h = search arith
 
 whole_are : (ps : List (List ℕ)) → AreLines ps → AreLines (lines_of_pieces ps)
 whole_are [] h = tt
@@ -88,8 +79,7 @@ lines_are_lines bytes = whole_are (pieces bytes) (pieces_are bytes)
 -- digits are no line feeds
 
 digit_no_feed : (c : ℕ) → digit_value c < 10 → is_feed c ≡ false
-digit_no_feed c h = ne_eqb c 10 (λ e.
-    let at : digit_value 10 < 10 = subst (λ (x : ℕ). digit_value x < 10) e h in omega arith)
+digit_no_feed c h = search (arith, ne_eqb)
 
 digits_feedless : (ds : List ℕ) → AllDigits 10 ds → feedless ds ≡ true
 digits_feedless [] h = refl
@@ -99,8 +89,7 @@ pub decimal_feedless : (n : ℕ) → n < 2 ^ 64 → feedless (decimal n) ≡ tru
 decimal_feedless n fits = digits_feedless (decimal n) (decimal_is_IsNumeral n fits).0.1
 
 hex_no_feed : (c : ℕ) → is_hex_digit c ≡ true → is_feed c ≡ false
-hex_no_feed c h = ne_eqb c 10 (λ e.
-    let at : is_hex_digit 10 ≡ true = subst (λ (x : ℕ). is_hex_digit x ≡ true) e h in cc)
+hex_no_feed c h = search (arith, ne_eqb)
 
 pub hex_feedless : (ds : List ℕ) → AllPass is_hex_digit ds → feedless ds ≡ true
 hex_feedless [] h = refl
@@ -112,12 +101,7 @@ hex_feedless (c ∷ cs) h =
 
 pub none_chosen : (a b : Bool) (x y : LogFault) (o : Option LogFault) → cond a (Some x) (cond b (Some y) o) ≡ None
     → (a ≡ false) × (b ≡ false) × (o ≡ None)
-none_chosen true b x y o h = cc
-none_chosen false true x y o h = cc
-none_chosen false false x y o h = (refl, refl, h)
-
-short_is : (n : ℕ) → nat_lt 255 n ≡ false → n < 256
-short_is n h = omega (arith, ltb-false 255 n h)
+none_chosen a b x y o h = search arith
 
 pub record IsSound (line : List ℕ) : Type 0 where
   pub short : length line < 256
@@ -125,11 +109,8 @@ pub record IsSound (line : List ℕ) : Type 0 where
 
 pub sound_line : {S : Type 0} (world : World S) (n : ℕ) (s : S) (line : List ℕ) → fault_at world n s line ≡ None
     → IsSound line
-sound_line world n s line h =
-    let tests = none_chosen _ (nat_lt 255 (length line)) _ _ (fault_by world n s (said line)) h in
-    record { short = short_is (length line) tests.1; says = λ e. cc (sym (ap (fault_by world n s) e) ∙ tests.2) }
+sound_line world n s line h = search (arith, none_chosen)
 
 pub sound_first : {S : Type 0} (world : World S) (n : ℕ) (s : S) (line : List ℕ) (more : List (List ℕ))
     → (played world n s (line ∷ more)).fault ≡ None → fault_at world n s line ≡ None
-sound_first {S} world n s line more h = no_some (fault_at world n s line) (λ f e.
-    cc (sym (ap (λ (p : Played S). p.fault) (played_faulty world n s line more f e)) ∙ h))
+sound_first {S} world n s line more h = search (arith, no_some, played_faulty)

@@ -1,17 +1,17 @@
 -- What a log that was compared has.
-use Rattle.std.proofs.Common.{◌≡◌, ◌≢◌, ℕ, suc, ◌+◌, ◌^◌, nat_le, nat_lt, ◌==◌, Bool, true, false, cond, List, [], ◌∷◌, ◌++◌, length, sum_by, Option, Some, None, refl, sym, ap, ◌∙◌, subst, arith}
-use Rattle.std.specs.Cmp.Lexicographic.{pointwise, same_text, other_text}
+use Rattle.std.proofs.Common.{◌≡◌, ℕ, suc, ◌+◌, List, [], ◌∷◌, ◌++◌, length, sum_by, Option, Some, None, refl, sym, ap, ◌∙◌, subst, arith}
+use Rattle.std.specs.Cmp.Lexicographic.{same_text, other_text}
 use Rattle.std.proofs.lemmas.List.Sums.{sum_by-cons}
 use Rattle.token_session.specs.declared.input.Timed.{Timed}
 use Rattle.session_log.proofs.Cases.{no_some}
 use Rattle.session_log.specs.declared.fault.LogFault.{LogFault}
-use Rattle.session_log.specs.declared.fault.LogFault.TheVariants.{TooLong, Differs, TooManyLines}
+use Rattle.session_log.specs.declared.fault.LogFault.TheVariants.{Differs}
 use Rattle.session_log.specs.declared.line.Line.{Line}
-use Rattle.session_log.specs.declared.line.Line.TheVariants.{Input, Sent, Comment}
+use Rattle.session_log.specs.declared.line.Line.TheVariants.{Input, Sent}
 use Rattle.session_log.specs.Check.{Compared, begun, difference, missing_of, differs_from, after_first, checking}
 use Rattle.session_log.specs.Groups.{Groups, with_first, grouped, found_groups, sent_groups, number_by, input_lines, DifferFirst, IsFirstDifference}
 use Rattle.session_log.specs.Inputs.{inputs, inputs_by}
-use Rattle.session_log.specs.Log.{Played, played, first_fault, fault_of, fault_by, fault_at, text_by, after, after_by}
+use Rattle.session_log.specs.Log.{played, first_fault, fault_of, fault_by, fault_at, after, after_by}
 use Rattle.session_log.specs.Said.{said}
 use Rattle.session_log.specs.World.{Course, World}
 use Rattle.session_log.proofs.Feeds.{none_chosen, sound_first}
@@ -21,19 +21,11 @@ use Rattle.session_log.proofs.Through.{played_sound, played_faulty, first_is_lin
 
 module _ {S : Type 0} (world : World S) (n : ℕ) (s : S) (line : List ℕ) where
   own_fault : fault_at world n s line ≡ None → fault_by world n s (said line) ≡ None
-  own_fault h =
-      (none_chosen (nat_le (2 ^ 32) n) (nat_lt 255 (length line)) TooManyLines (TooLong n)
-      (fault_by world n s (said line)) h).2
+  own_fault h = search (arith, none_chosen)
 
   own_difference : (l k : ℕ) → fault_at world n s line ≡ Some (Differs l k)
       → fault_by world n s (said line) ≡ Some (Differs l k)
-  own_difference l k = go (nat_le (2 ^ 32) n) (nat_lt 255 (length line)) (fault_by world n s (said line))
-    where
-      go : (a b : Bool) (o : Option LogFault) → cond a (Some TooManyLines) (cond b (Some (TooLong n)) o)
-          ≡ Some (Differs l k) → o ≡ Some (Differs l k)
-      go true b o h = cc
-      go false true o h = cc
-      go false false o h = h
+  own_difference l k h = search arith
 
   faulty_here : (more : List (List ℕ)) (f : LogFault) → fault_at world n s line ≡ Some f
       → fault_of world (played world n s (line ∷ more)) ≡ Some f
@@ -49,28 +41,15 @@ module _ {S : Type 0} (world : World S) (n : ℕ) (s : S) (line : List ℕ) wher
       → fault_at world n s line ≡ None
   first_is_sound more h = no_some (fault_at world n s line) (λ f e. cc (sym (faulty_here more f e) ∙ h))
 
-none_missing : (due : List (List ℕ)) (f : LogFault) → missing_of due f ≡ None → due ≡ []
-none_missing [] f h = refl
-none_missing (p ∷ due) f h = cc
-
-none_missing_last : (due : List (List ℕ)) (f : LogFault) → first_fault (missing_of due f) None ≡ None → due ≡ []
-none_missing_last [] f h = refl
-none_missing_last (p ∷ due) f h = cc
-
 none_differs : (due : List (List ℕ)) (packet : List ℕ) (f : LogFault) → differs_from due packet f ≡ None
     → due ≡ packet ∷ after_first due
 none_differs [] packet f h = cc
-none_differs (p ∷ due) packet f h = go (pointwise ◌==◌ p packet) refl h
-  where
-    go : (b : Bool) → b ≡ pointwise ◌==◌ p packet → cond b None (Some f) ≡ None → p ∷ due ≡ packet ∷ due
-    go true e h = ap (λ (q : List ℕ). q ∷ due) (same_text p packet e)
-    go false e h = cc
+none_differs (p ∷ due) packet f h = search (arith, same_text p packet)
 
 with_one_more : (packet : List ℕ) (groups : Groups) → sum_by length (with_first packet groups)
     ≡ suc (sum_by length groups)
 with_one_more packet [] = refl
-with_one_more packet (group ∷ more) =
-    omega (arith, sum_by-cons length (packet ∷ group) more, sum_by-cons length group more)
+with_one_more packet (group ∷ more) = search (arith, sum_by-cons)
 
 abbrev CountsOn : {S : Type 0} → Compared S → Compared S → List Timed → Groups → Type 0
 CountsOn c d xs groups = (d.inputs ≡ c.inputs + length xs) × (d.packets ≡ c.packets + sum_by length groups)
@@ -86,57 +65,48 @@ record Differing (seen : ℕ) (found sent : Groups) (numbers : List ℕ) (line p
   count : packet ≡ found_before first.before seen + at
 
 none_before : (before : Groups) → found_before before 0 ≡ 0
-none_before [] = refl
-none_before (group ∷ more) = refl
+none_before before = search arith
+
+-- a first difference, by its parts
+abbrev by_parts : {found sent : Groups} {numbers : List ℕ} {line at : ℕ} (before : Groups) (common rest due : List (List ℕ))
+    (later further : Groups) (earlier others : List ℕ) → found ≡ before ++ (common ++ rest) ∷ later
+    → sent ≡ before ++ (common ++ due) ∷ further → numbers ≡ earlier ++ line ∷ others → length earlier ≡ length before
+    → DifferFirst rest due → at ≡ length common + 1 → IsFirstDifference found sent numbers line at
+by_parts before common rest due later further earlier others e f k level differ count = record {
+  before = before;
+  common = common;
+  rest = rest;
+  due = due;
+  later = later;
+  further = further;
+  earlier = earlier;
+  others = others;
+  found_are = e;
+  sent_are = f;
+  lines_are = k;
+  level = level;
+  differ = differ;
+  count = count;
+}
 
 -- the packets that come next differ
 differs_now : (seen line packet input : ℕ) (rest due : List (List ℕ)) (found sent later further : Groups)
     (others : List ℕ) → DifferFirst rest due → found ≡ rest ∷ later → sent ≡ due ∷ further → line ≡ input
     → packet ≡ seen + 1 → Differing seen found sent (input ∷ others) line packet
-differs_now seen line packet input rest due found sent later further others differ e f is_line count = record {
-  at = 1;
-  first = record {
-    before = [];
-    common = [];
-    rest = rest;
-    due = due;
-    later = later;
-    further = further;
-    earlier = [];
-    others = others;
-    found_are = e;
-    sent_are = f;
-    lines_are = ap (λ (k : ℕ). k ∷ others) (sym is_line);
-    level = refl;
-    differ = differ;
-    count = refl;
-  };
-  count = count;
-}
+differs_now seen line packet input rest due found sent later further others differ e f is_line count =
+    record { at = 1; first = by_parts [] [] rest due later further [] others e f (cc) refl differ refl; count = count }
 
 -- an input whose packets were all found stands before
 after_input : (seen line packet input : ℕ) (found sent : Groups) (numbers : List ℕ)
     → Differing 0 found sent numbers line packet → Differing seen ([] ∷ found) ([] ∷ sent) (input ∷ numbers) line packet
 after_input seen line packet input found sent numbers d = record {
   at = d.at;
-  first = record {
-    before = [] ∷ d.first.before;
-    common = d.first.common;
-    rest = d.first.rest;
-    due = d.first.due;
-    later = d.first.later;
-    further = d.first.further;
-    earlier = input ∷ d.first.earlier;
-    others = d.first.others;
-    found_are = ap (λ (gs : Groups). [] ∷ gs) d.first.found_are;
-    sent_are = ap (λ (gs : Groups). [] ∷ gs) d.first.sent_are;
-    lines_are = ap (λ (ns : List ℕ). input ∷ ns) d.first.lines_are;
-    level = ap suc d.first.level;
-    differ = d.first.differ;
-    count = d.first.count;
-  };
-  count = d.count ∙ ap (λ (k : ℕ). k + d.at) (none_before d.first.before);
+  first = by_parts ([] ∷ before) common rest due later further (input ∷ earlier) others (ap (λ (gs : Groups). [] ∷ gs) e)
+      (ap (λ (gs : Groups). [] ∷ gs) f) (ap (λ (ns : List ℕ). input ∷ ns) k) (ap suc level) differ count;
+  count = search (arith, d.count, none_before before);
 }
+  where
+    open d.first use {before, common, rest, due, later, further, earlier, others, found_are as e, sent_are as f, lines_are as k, level, differ, count}
 
 -- a packet that was found stands before
 after_packet : (seen line packet : ℕ) (p : List ℕ) (found sent : Groups) (numbers : List ℕ)
@@ -145,49 +115,22 @@ after_packet : (seen line packet : ℕ) (p : List ℕ) (found sent : Groups) (nu
 after_packet seen line packet p found sent numbers d =
     go d.first.before d.first.earlier d.first.found_are d.first.sent_are d.first.lines_are d.first.level d.count
   where
-    go : (before : Groups) (earlier : List ℕ) → found ≡ before ++ (d.first.common ++ d.first.rest) ∷ d.first.later
-        → sent ≡ before ++ (d.first.common ++ d.first.due) ∷ d.first.further
-        → numbers ≡ earlier ++ line ∷ d.first.others → length earlier ≡ length before
-        → packet ≡ found_before before (seen + 1) + d.at
+    open d.first use {common, rest, due, later, further, others, differ, count as long}
+
+    go : (before : Groups) (earlier : List ℕ) → found ≡ before ++ (common ++ rest) ∷ later
+        → sent ≡ before ++ (common ++ due) ∷ further → numbers ≡ earlier ++ line ∷ others
+        → length earlier ≡ length before → packet ≡ found_before before (seen + 1) + d.at
         → Differing seen (with_first p found) (with_first p sent) numbers line packet
     go [] earlier e f k level count = record {
       at = suc d.at;
-      first = record {
-        before = [];
-        common = p ∷ d.first.common;
-        rest = d.first.rest;
-        due = d.first.due;
-        later = d.first.later;
-        further = d.first.further;
-        earlier = earlier;
-        others = d.first.others;
-        found_are = ap (with_first p) e;
-        sent_are = ap (with_first p) f;
-        lines_are = k;
-        level = level;
-        differ = d.first.differ;
-        count = omega (arith, d.first.count);
-      };
+      first = by_parts [] (p ∷ common) rest due later further earlier others (ap (with_first p) e) (ap (with_first p) f)
+          k level differ (omega (arith, long));
       count = omega (arith, count);
     }
     go (group ∷ more) earlier e f k level count = record {
       at = d.at;
-      first = record {
-        before = (p ∷ group) ∷ more;
-        common = d.first.common;
-        rest = d.first.rest;
-        due = d.first.due;
-        later = d.first.later;
-        further = d.first.further;
-        earlier = earlier;
-        others = d.first.others;
-        found_are = ap (with_first p) e;
-        sent_are = ap (with_first p) f;
-        lines_are = k;
-        level = level;
-        differ = d.first.differ;
-        count = d.first.count;
-      };
+      first = by_parts ((p ∷ group) ∷ more) common rest due later further earlier others (ap (with_first p) e)
+          (ap (with_first p) f) k level differ long;
       count = count;
     }
 
@@ -214,49 +157,29 @@ packet_in _ = 0
 missing_differs : (due : List (List ℕ)) (input seen line packet : ℕ) → missing_of due (Differs input (seen + 1))
     ≡ Some (Differs line packet) → DifferFirst [] due × (line ≡ input) × (packet ≡ seen + 1)
 unfolding line_in packet_in
-missing_differs [] input seen line packet h = cc
-missing_differs (p ∷ due) input seen line packet h = (tt, sym (ap line_in h), sym (ap packet_in h))
+missing_differs due input seen line packet h = search arith
 
 missing_differs_last : (due : List (List ℕ)) (input seen line packet : ℕ)
     → first_fault (missing_of due (Differs input (seen + 1))) None ≡ Some (Differs line packet)
     → DifferFirst [] due × (line ≡ input) × (packet ≡ seen + 1)
 unfolding line_in packet_in
-missing_differs_last [] input seen line packet h = cc
-missing_differs_last (p ∷ due) input seen line packet h = (tt, sym (ap line_in h), sym (ap packet_in h))
+missing_differs_last due input seen line packet h = search arith
 
 -- a packet differs, or is too many
 packet_differs : (due : List (List ℕ)) (q : List ℕ) (group : List (List ℕ)) (input seen line packet : ℕ)
     → differs_from due q (Differs input (seen + 1)) ≡ Some (Differs line packet)
     → DifferFirst (q ∷ group) due × (line ≡ input) × (packet ≡ seen + 1)
 unfolding line_in packet_in
-packet_differs [] q group input seen line packet h = (tt, sym (ap line_in h), sym (ap packet_in h))
-packet_differs (p ∷ due) q group input seen line packet h = go (pointwise ◌==◌ p q) refl h
-  where
-    go : (b : Bool) → b ≡ pointwise ◌==◌ p q → cond b None (Some (Differs input (seen + 1)))
-        ≡ Some (Differs line packet) → (q ≢ p) × (line ≡ input) × (packet ≡ seen + 1)
-    go true e h = cc
-    go false e h = (λ is. other_text p q e (sym is), sym (ap line_in h), sym (ap packet_in h))
+packet_differs due q group input seen line packet h = search (arith, other_text)
 
 module _ {S : Type 0} (course : Course S) where
   abbrev compares : World (Compared S)
   compares = checking course
 
-  writes_nothing : (c : Compared S) (line : List ℕ) (l : Option Line) → text_by compares c line l ≡ []
-  writes_nothing c line None = refl
-  writes_nothing c line (Some l) = refl
-
   pub check_is_silent : (n : ℕ) (c : Compared S) (ls : List (List ℕ)) → (played compares n c ls).text ≡ []
   check_is_silent n c [] = refl
   check_is_silent n c (line ∷ more) =
-      go (check_is_silent (n + 1) (after compares c line) more) (fault_at compares n c line) refl
-    where
-      go : (played compares (n + 1) (after compares c line) more).text ≡ [] → (o : Option LogFault)
-          → fault_at compares n c line ≡ o → (played compares n c (line ∷ more)).text ≡ []
-      go rest (Some f) e = ap (λ (p : Played (Compared S)). p.text) (played_faulty compares n c line more f e)
-      go rest None e =
-          ap (λ (p : Played (Compared S)). p.text) (played_sound compares n c line more e)
-          ∙ ap (λ (t : List ℕ). t ++ (played compares (n + 1) (after compares c line) more).text)
-          (writes_nothing c line (said line)) ∙ rest
+      search (arith, played_faulty, played_sound, check_is_silent (n + 1) (after compares c line) more)
 
   -- No difference: the groups are those that are sent.
 
@@ -264,32 +187,22 @@ module _ {S : Type 0} (course : Course S) where
       → fault_by compares n c l ≡ None → groups
       ≡ (after_by compares c l).due ∷ sent_groups course (after_by compares c l).session xs
       → grouped l groups ≡ c.due ∷ sent_groups course c.session (inputs_by l ++ xs)
-  line_groups n c None groups xs own h = cc
-  line_groups n c (Some (Input x)) groups xs own h =
-      ap (λ (gs : Groups). [] ∷ gs) h ∙ ap (λ (due : List (List ℕ)). due ∷ sent_groups course c.session (x ∷ xs))
-      (sym (none_missing c.due (difference c) own))
-  line_groups n c (Some (Sent p)) groups xs own h =
-      ap (with_first p.0) h ∙ ap (λ (due : List (List ℕ)). due ∷ sent_groups course c.session xs)
-      (sym (none_differs c.due p.0 (difference c) own))
-  line_groups n c (Some l) groups xs own h = h
+  line_groups n c l groups xs h k = search (arith, none_differs)
 
   pub same_groups : (n : ℕ) (c : Compared S) (ls : List (List ℕ)) → fault_of compares (played compares n c ls) ≡ None
       → found_groups ls ≡ c.due ∷ sent_groups course c.session (inputs ls)
-  same_groups n c [] h = ap (λ (due : List (List ℕ)). due ∷ []) (sym (none_missing_last c.due (difference c) h))
+  same_groups n c [] h = search arith
   same_groups n c (line ∷ more) h =
       let e = first_is_sound compares n c line more h in
-      let later = same_groups (n + 1) (after compares c line) more (sym (sound_here compares n c line more e) ∙ h) in
-      line_groups n c (said line) (found_groups more) (inputs more) (own_fault compares n c line e) later
+      line_groups n c (said line) (found_groups more) (inputs more) (own_fault compares n c line e)
+      (same_groups (n + 1) (after compares c line) more (cc (sound_here compares n c line more e)))
 
   -- What was counted.
 
   line_counts : (n : ℕ) (c d : Compared S) (l : Option Line) (groups : Groups) (xs : List Timed)
       → fault_by compares n c l ≡ None → CountsOn (after_by compares c l) d xs groups
       → CountsOn c d (inputs_by l ++ xs) (grouped l groups)
-  line_counts n c d None groups xs own h = cc
-  line_counts n c d (Some (Input x)) groups xs own h = (omega (arith, h.0), omega (arith, h.1))
-  line_counts n c d (Some (Sent p)) groups xs own h = (h.0, omega (arith, h.1, with_one_more p.0 groups))
-  line_counts n c d (Some l) groups xs own h = h
+  line_counts n c d l groups xs h k = search (arith, with_one_more)
 
   pub counts_on : (n : ℕ) (c : Compared S) (ls : List (List ℕ)) → (played compares n c ls).fault ≡ None
       → CountsOn c (played compares n c ls).state (inputs ls) (found_groups ls)
@@ -297,11 +210,9 @@ module _ {S : Type 0} (course : Course S) where
   counts_on n c (line ∷ more) h =
       let e = sound_first compares n c line more h in
       let step = played_sound compares n c line more e in
-      let later =
-      counts_on (n + 1) (after compares c line) more (sym (ap (λ (p : Played (Compared S)). p.fault) step) ∙ h) in
       rw step
       (line_counts n c (played compares (n + 1) (after compares c line) more).state (said line) (found_groups more)
-      (inputs more) (own_fault compares n c line e) later)
+      (inputs more) (own_fault compares n c line e) (counts_on (n + 1) (after compares c line) more cc))
 
   -- The first difference.
 
@@ -330,10 +241,7 @@ module _ {S : Type 0} (course : Course S) where
       → Differing c.found (grouped l groups) (c.due ∷ sent_groups course c.session (inputs_by l ++ xs))
       (c.input ∷ number_by n l ++ others) line packet
   later_differs n c None groups xs others line packet at own d = cc
-  later_differs n c (Some (Input x)) groups xs others line packet at own d =
-      let sent = sent_groups course c.session (x ∷ xs) in
-      rw (none_missing c.due (difference c) own)
-      (after_input c.found line packet c.input groups sent (n ∷ others) (rw at d))
+  later_differs n c (Some (Input x)) groups xs others line packet at own d = search (arith, after_input)
   later_differs n c (Some (Sent p)) groups xs others line packet at own d =
       let sent = sent_groups course c.session xs in
       subst
@@ -344,9 +252,7 @@ module _ {S : Type 0} (course : Course S) where
 
   lines_after : (n : ℕ) (c : Compared S) (l : Option Line) → fault_by compares n c l ≡ None
       → (after_by compares c l).lines ≡ c.lines + 1
-  lines_after n c None own = cc
-  lines_after n c (Some Comment) own = refl
-  lines_after n c (Some l) own = refl
+  lines_after n c l h = search arith
 
   differing : (n : ℕ) (c : Compared S) (ls : List (List ℕ)) (line packet : ℕ) → n ≡ c.lines + 1
       → fault_of compares (played compares n c ls) ≡ Some (Differs line packet)
@@ -382,7 +288,5 @@ module _ {S : Type 0} (course : Course S) where
   pub first_difference : (s : S) (ls : List (List ℕ)) (line packet : ℕ)
       → fault_of compares (played compares 1 (begun s) ls) ≡ Some (Differs line packet)
       → IsFirstDifference (found_groups ls) ([] ∷ sent_groups course s (inputs ls)) (0 ∷ input_lines 1 ls) line packet
-  first_difference s ls line packet h =
-      let d = differing 1 (begun s) ls line packet refl h in
-      let is : packet ≡ d.at = omega (arith, d.count, none_before d.first.before) in
-      rw is d.first
+  first_difference s ls line packet h = let d = differing 1 (begun s) ls line packet refl h in
+      let is : packet ≡ d.at = search (arith, none_before) in rw is d.first

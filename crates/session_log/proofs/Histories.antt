@@ -1,5 +1,5 @@
 -- A session after a history sends and counts what the history names.
-use Rattle.std.proofs.Common.{◌≡◌, ℕ, Bool, cond, List, [], ◌∷◌, ◌++◌, flat_map, Option, Result, refl, sym, ap, ◌∙◌}
+use Rattle.std.proofs.Common.{◌≡◌, ℕ, Bool, List, [], Option, Result, refl, sym, ap, arith}
 use Rattle.authn_core.specs.Turn.{Start}
 use Rattle.token_session.specs.declared.input.Timed.{Timed}
 use Rattle.token_session.specs.declared.input.Meters.{Meters}
@@ -10,17 +10,15 @@ use Rattle.token_session.proofs.Noise.{noise_is_named}
 use Rattle.token_session.proofs.Follows.{step_sends}
 use Rattle.session_log.specs.declared.fault.LogFault.{LogFault}
 use Rattle.session_log.specs.declared.line.Line.{Line}
-use Rattle.session_log.specs.declared.line.Line.TheVariants.{Input, Sent}
 use Rattle.session_log.specs.Command.{PlaysLog, PlaysThrough}
 use Rattle.session_log.specs.declared.command.LogCommand.TheVariants.{Check, Quiet}
-use Rattle.session_log.specs.Check.{Compared, begun, difference, missing, differs_from, stops_compared, moves_compared, check_machine, check_history}
+use Rattle.session_log.specs.Check.{Compared, begun, missing, stops_compared, moves_compared, check_machine, check_history}
 use Rattle.session_log.specs.Ending.{Ending, ending_of}
 use Rattle.session_log.specs.Replay.{Logs, Makes, Plays, ReadsTo, Writes}
 use Rattle.token_session.specs.Law.{named}
-use Rattle.session_log.specs.Needs.{need_lines}
 use Rattle.session_log.specs.Session.{sessions, histories, machine, history, quiet_machine, quiet_history, live_machine, live_history, session_needs, history_needs}
 use Rattle.session_log.specs.Streams.{Moves}
-use Rattle.session_log.specs.Text.{ended, sent_text, tick_text, meters_line}
+use Rattle.session_log.specs.Text.{ended}
 use Rattle.session_log.specs.World.{World, moves_input, writes_again}
 use Rattle.session_log.proofs.Whole.{there}
 use Rattle.session_log.proofs.Worlds.{Follows, makes_alike, logs_alike, plays_alike, reads_alike}
@@ -32,44 +30,23 @@ module _ (start : Start) where
 
   moved : (s : SessionState) (h : List Timed) (l : Line) → StandsAfter s start h
       → StandsAfter (moves_input sessions s l) start (moves_input (histories start) h l)
-  moved s h (Input timed) r = stands_longer s start h timed r
-  moved s h l r = r
+  moved s h l r = search (arith, stands_longer)
 
   wrote : (s : SessionState) (h : List Timed) (line : List ℕ) (l : Line) → StandsAfter s start h
       → writes_again sessions s line l ≡ writes_again (histories start) h line l
-  wrote s h line (Input timed) r =
-      ap (λ (ps : List (List ℕ)). ended line ++ flat_map sent_text ps)
-      (step_sends s.machine start h timed (machine_after s start h r))
-  wrote s h line l r = refl
+  wrote s h line l r = search (arith, step_sends, machine_after)
 
   pub follows : Follows machine (history start) (λ s h. StandsAfter s start h)
-  follows = record {
-    stops = λ s h l r. refl;
-    moves = moved;
-    writes = wrote;
-    lacks = λ s h r. refl;
-    ending = λ s h r. ap meters_line (counted s h r);
-    counts = counted;
-  }
+  follows = search (arith, moved, wrote, counted)
 
   -- Made quiet.
 
   noised : (s : SessionState) (h : List Timed) (line : List ℕ) (l : Line) → StandsAfter s start h
       → quiet_machine.writes s line l ≡ (quiet_history start).writes h line l
-  noised s h line (Input timed) r =
-      ap (λ (b : Bool). ended (cond b (tick_text timed.at) line))
-      (noise_is_named s.machine start h timed (machine_after s start h r))
-  noised s h line l r = refl
+  noised s h line l r = search (arith, noise_is_named, machine_after)
 
   quiet_follows : Follows quiet_machine (quiet_history start) (λ s h. StandsAfter s start h)
-  quiet_follows = record {
-    stops = λ s h l r. refl;
-    moves = moved;
-    writes = noised;
-    lacks = λ s h r. refl;
-    ending = λ s h r. refl;
-    counts = counted;
-  }
+  quiet_follows = search (arith, moved, noised, counted)
 
   -- With what is needed.
 
@@ -79,21 +56,10 @@ module _ (start : Start) where
 
   told : (s : SessionState) (h : List Timed) (line : List ℕ) (l : Line) → StandsAfter s start h
       → live_machine.writes s line l ≡ (live_history start).writes h line l
-  told s h line (Input timed) r =
-      let sends = step_sends s.machine start h timed (machine_after s start h r) in
-      let needs = needed_after (sessions.turned s timed) (timed ∷ h) (stands_longer s start h timed r) in
-      λ i. ended line ++ flat_map sent_text (sends i) ++ flat_map ended (need_lines (needs i))
-  told s h line l r = refl
+  told s h line l r = search (arith, step_sends, machine_after, needed_after, stands_longer)
 
   pub live_follows : Follows live_machine (live_history start) (λ s h. StandsAfter s start h)
-  live_follows = record {
-    stops = λ s h l r. refl;
-    moves = moved;
-    writes = told;
-    lacks = λ s h r. refl;
-    ending = λ s h r. ap meters_line (counted s h r);
-    counts = counted;
-  }
+  live_follows = search (arith, moved, told, counted)
 
 pub lines_history : (left left' taken taken' : Option (List ℕ)) (s t : SessionState) (ending : Ending) (all : Type 0)
     → Moves left left' taken taken' (λ bytes text. Plays live_machine s t bytes text ending)
@@ -159,22 +125,11 @@ module _ (start : Start) where
 
   same_stops : (c : Compared SessionState) (d : Compared (List Timed)) (l : Line) → IsBeside c d
       → stops_compared c l ≡ stops_compared d l
-  same_stops c d (Input timed) r = sym (ap missing r.1)
-  same_stops c d (Sent packet) r =
-      sym (ap (λ (z : Compared (List Timed)). differs_from z.due packet.0 (difference z)) r.1)
-  same_stops c d l r = refl
+  same_stops c d l r = search arith
 
   same_moves : (c : Compared SessionState) (d : Compared (List Timed)) (l : Line) → IsBeside c d
       → IsBeside (moves_compared sessions c l) (moves_compared (histories start) d l)
-  same_moves c d (Input timed) r =
-      let sends = step_sends c.session.machine start d.session timed (machine_after c.session start d.session r.0) in (
-        stands_longer c.session start d.session timed r.0,
-        ap (λ (z : Compared (List Timed)). moves_compared (histories start) z (Input timed)) r.1
-            ∙ ap
-            (λ (due : List (List ℕ)). record (moves_compared (histories start) (onto_history d.session c) (Input timed))
-            { due = due }) (sym sends),
-      )
-  same_moves c d l r = (r.0, ap (λ (z : Compared (List Timed)). moves_compared (histories start) z l) r.1)
+  same_moves c d l r = search (arith, step_sends, machine_after, stands_longer)
 
   check_follows : Follows check_machine (check_history start) (IsBeside)
   check_follows = record {

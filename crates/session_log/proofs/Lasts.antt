@@ -1,12 +1,12 @@
 -- How far was read where a line is faulty.
-use Rattle.std.proofs.Common.{◌≡◌, ℕ, suc, ◌+◌, ◌≤◌, ◌^◌, List, [], ◌∷◌, ◌++◌, length, take, drop, Option, Some, Result, Ok, Err, inl, inr, IfErr, refl, sym, ap, ◌∙◌, subst, arith, append-nil, length-append, take-append-drop}
+use Rattle.std.proofs.Common.{◌≡◌, ℕ, suc, ◌+◌, ◌≤◌, ◌^◌, List, [], ◌∷◌, ◌++◌, length, take, drop, Option, Some, Result, Ok, Err, inl, inr, IfErr, refl, sym, ap, ◌∙◌, arith, append-nil, length-append, take-append-drop}
 use Rattle.std.specs.Io.KnownBytes.{Consumes}
 use Rattle.session_log.specs.declared.fault.LogFault.{LogFault}
-use Rattle.session_log.specs.declared.fault.LogFault.TheVariants.{BadLine, TooLong, Differs, Read, Write, TooManyLines, Memory}
+use Rattle.session_log.specs.declared.fault.LogFault.TheVariants.{TooLong, Read, Write, TooManyLines, Memory}
 use Rattle.session_log.specs.Ending.{ended_by, ending_of}
 use Rattle.session_log.specs.World.{World}
-use Rattle.session_log.specs.Lines.{pieces, all_but_last, last_of, whole_lines, last_piece}
-use Rattle.session_log.specs.Log.{Played, played, prefixed, fault_at}
+use Rattle.session_log.specs.Lines.{pieces, all_but_last, whole_lines, last_piece}
+use Rattle.session_log.specs.Log.{fault_at}
 use Rattle.session_log.specs.Window.{HasLine, Stops}
 use Rattle.session_log.specs.Replay.{IsNear, IsOfLine, IsShown, PlaysLine, ReadsTo}
 use Rattle.session_log.proofs.Cutting.{first_piece, one_piece, pieces_some, front_of, last_is}
@@ -20,8 +20,7 @@ length-all_but_last x (y ∷ ys) = ap suc (length-all_but_last y ys)
 after_some : (done : List (List ℕ)) (x y : List ℕ) (more : List (List ℕ))
     → length done + 1 ≤ length (all_but_last (done ++ x ∷ y ∷ more))
 after_some [] x y more = omega (arith, length-all_but_last x (y ∷ more))
-after_some (d ∷ ds) x y more =
-    omega (arith, length-all_but_last d (ds ++ x ∷ y ∷ more), length-append ds (x ∷ y ∷ more))
+after_some (d ∷ ds) x y more = search (arith, length-all_but_last, length-append)
 
 first_lines : (done : List (List ℕ)) (x y : List ℕ) (more : List (List ℕ))
     → take (suc (length done)) (all_but_last (done ++ x ∷ y ∷ more)) ≡ done ++ x ∷ []
@@ -40,50 +39,27 @@ module _ {S : Type 0} {world : World S} {s0 : S} {read text : List ℕ} {s : S} 
       let cut : pieces w ≡ line ∷ rest.0 ∷ rest.1 =
       ap pieces (sym (take-append-drop (end + 1) w)) ∙ first_piece w end (drop (end + 1) w) has.feed
       ∙ ap (λ (l : List (List ℕ)). line ∷ l) rest.2 in
-      let is : whole_lines (read ++ w) ≡ all_but_last (t.done ++ line ∷ rest.0 ∷ rest.1) =
-      ap all_but_last (t.cut w ∙ ap (λ (l : List (List ℕ)). t.done ++ l) cut) in
+      let is : whole_lines (read ++ w) ≡ all_but_last (t.done ++ line ∷ rest.0 ∷ rest.1) = rw (t.cut w, cut) refl in
       let count : n ≡ suc (length t.done) = omega (arith, t.count) in
       let upto : take n (whole_lines (read ++ w)) ≡ t.done ++ line ∷ [] =
       (λ i. take (count i) (is i)) ∙ first_lines t.done line rest.0 rest.1 in
+      let stop = played_faulty world n s line [] f bad in
       inl (
         omega (arith, t.count, ap length is, after_some t.done line rest.0 rest.1),
-        ap (λ (ls : List (List ℕ)). (played world 1 s0 ls).fault) upto
-            ∙ ap (λ (p : Played S). p.fault)
-            (t.plays (line ∷ []) ∙ ap (prefixed text) (played_faulty world n s line [] f bad)),
+        rw (upto, t.plays (line ∷ []), stop) refl,
       )
 
   -- the lines that were played stand before the window
   near : (w : List ℕ) → length w ≤ 256 → IsNear world s0 (read ++ w) n
   near w small =
-      let cut : pieces read ≡ t.done ++ [] ∷ [] = ap pieces (sym (append-nil read)) ∙ t.cut [] in
-      let whole : whole_lines read ≡ t.done = ap all_but_last cut ∙ front_of t.done [] in
-      record {
-        before = read;
-        front = w;
-        cut = refl;
-        whole = ap last_of cut ∙ last_is t.done [];
-        faultless = ap (λ (ls : List (List ℕ)). (played world 1 s0 ls).fault) (whole ∙ sym (append-nil t.done))
-            ∙ ap (λ (p : Played S). p.fault) (t.plays []);
-        count = t.count ∙ ap (λ (l : List (List ℕ)). length l + 1) (sym whole);
-        near = small;
-      }
+      let cut : pieces read ≡ t.done ++ [] ∷ [] = cc (append-nil read, t.cut []) in
+      grind (arith, front_of t.done [], last_is t.done [], append-nil t.done, t.plays [], t.count)
 
 -- a line that was played was faulty
 faulty_reaches : {S : Type 0} {world : World S} {s0 : S} {bytes : List ℕ} {n : ℕ} (a b : Option (List ℕ)) (all : Type 0)
     (e : LogFault) → IsOfLine n e → Consumes a b bytes → IsNear world s0 bytes n → IsShown world s0 bytes all n e
     → ReadsTo world s0 a b all (ended_by e)
-faulty_reaches {world = world} {s0 = s0} {bytes = bytes} a b all (BadLine m) is p near seen = (
-  bytes,
-  p,
-  (
-    rw is near,
-    subst (λ (k : ℕ). IsShown world s0 bytes all k (BadLine m)) (sym is) seen,
-  ),
-)
-faulty_reaches {bytes = bytes} {n = n} a b all (Differs l k) is p near seen = (bytes, p, inl (n, near, seen))
-faulty_reaches a b all (Read m) is p near seen = tt
-faulty_reaches a b all Write is p near seen = tt
-faulty_reaches a b all e is p near seen = absurd is
+faulty_reaches a b all e is p near seen = search (arith, near)
 
 module _ {S : Type 0} {world : World S} {s0 s : S} {read text : List ℕ} {n : ℕ}
     (through : Through world s0 read text s n)
@@ -112,19 +88,10 @@ module _ {S : Type 0} {world : World S} {s0 s : S} {read text : List ℕ} {n : �
   none_bad Write most h = tt
   none_bad (Read m) most h = tt
   none_bad (TooLong m) most h =
-      let cut : pieces (read ++ w) ≡ through.done ++ w ∷ [] =
-      through.cut w ∙ ap (λ (l : List (List ℕ)). through.done ++ l) (one_piece w h.2) in
-      let whole : whole_lines (read ++ w) ≡ through.done = ap all_but_last cut ∙ front_of through.done w in
-      let last : last_piece (read ++ w) ≡ w = ap last_of cut ∙ last_is through.done w in (
-        read ++ w,
-        p,
-        (
-          rw h.0 (near through w (omega (arith, h.3))),
-          h.0 ∙ through.count ∙ ap (λ (l : List (List ℕ)). length l + 1) (sym whole),
-          ap length last ∙ h.3,
-        ),
-      )
+      let cut : pieces (read ++ w) ≡ through.done ++ w ∷ [] = cc (through.cut w, one_piece w h.2) in
+      let whole : whole_lines (read ++ w) ≡ through.done = cc (front_of through.done w) in
+      let last : last_piece (read ++ w) ≡ w = cc (last_is through.done w) in
+      (read ++ w, p, (rw h.0 (near through w (omega (arith, h.3))), cc (through.count, h.0), cc (h.3)))
   none_bad TooManyLines most h =
-      let is : n ≡ 2 ^ 32 = omega (arith, h.0, most) in
-      (read ++ w, p, subst (λ (k : ℕ). IsNear world s0 (read ++ w) k) is (near through w h.2))
+      let is : n ≡ 2 ^ 32 = omega (arith, h.0, most) in (read ++ w, p, rw is at (near through w h.2))
   none_bad e most h = absurd h

@@ -1,5 +1,5 @@
 -- What a log that was made quiet says.
-use Rattle.std.proofs.Common.{◌≡◌, ◌≢◌, ℕ, ◌+◌, ◌≤◌, ◌<◌, ◌^◌, nat_le, nat_lt, Bool, true, false, cond, List, [], ◌∷◌, ◌++◌, length, flat_map, codes, decimal, Option, Some, None, inl, inr, refl, sym, ap, ◌∙◌, arith, append-nil, length-append}
+use Rattle.std.proofs.Common.{◌≡◌, ◌≢◌, ℕ, ◌+◌, ◌≤◌, ◌<◌, ◌^◌, nat_le, Bool, true, false, cond, List, [], ◌∷◌, ◌++◌, length, flat_map, codes, decimal, Option, Some, None, inl, refl, sym, ap, ◌∙◌, arith, append-nil, length-append}
 use Rattle.std.proofs.lemmas.Bool.Decides.{nat_tests}
 use Rattle.std.proofs.lemmas.Fmt.{length-decimal-le}
 use Rattle.authn_core.specs.Turn.{Start}
@@ -9,7 +9,6 @@ use Rattle.token_session.specs.Law.{named, onto}
 use Rattle.token_session.specs.Meters.{SessionState, session_of}
 use Rattle.token_session.specs.Noise.{Quiet, IsQuiet, is_noise_after, tick_at}
 use Rattle.token_session.proofs.Noise.{noise_is_named, quiet_alike}
-use Rattle.session_log.specs.declared.fault.LogFault.TheVariants.{TooLong, TooManyLines}
 use Rattle.session_log.specs.declared.line.Line.{Line}
 use Rattle.session_log.specs.declared.line.Line.TheVariants.{Input, Comment}
 use Rattle.session_log.specs.Inputs.{inputs, inputs_by}
@@ -30,8 +29,7 @@ tick_feedless at fits = feedless-append (codes "t ") (decimal at) refl (decimal_
 
 either_feedless : (b : Bool) (a line : List ℕ) → feedless a ≡ true → feedless line ≡ true
     → feedless (cond b a line) ≡ true
-either_feedless true a line h k = h
-either_feedless false a line h k = k
+either_feedless b a line h k = search arith
 
 tick_said : (at : ℕ) → at < 2 ^ 64 → said (tick_text at) ≡ Some (Input (tick_at at))
 tick_said at fits = spelled_is_read (tick_text at) (Input (tick_at at)) (fits, refl)
@@ -54,26 +52,13 @@ few_lines n h = grind (arith, nat_tests)
 
 few_before : {S : Type 0} (world : World S) (n : ℕ) (s : S) (line : List ℕ) → fault_at world n s line ≡ None
     → n < 2 ^ 32
-few_before world n s line h =
-    few_lines n
-    (none_chosen (nat_le (2 ^ 32) n) (nat_lt 255 (length line)) TooManyLines (TooLong n)
-    (fault_by world n s (said line)) h).0
+few_before world n s line h = search (arith, few_lines, none_chosen)
 
 tick_sound : (at : ℕ) → at < 2 ^ 64 → IsSound (tick_text at)
-tick_sound at fits =
-    record {
-      short =
-          omega (
-            arith,
-            length-append (codes "t ") (decimal at),
-            length-decimal-le 20 at (omega arith) (omega (arith, fits)) fits,
-          );
-      says = λ e. cc (sym e ∙ tick_said at fits);
-    }
+tick_sound at fits = search (arith, length-append, length-decimal-le, tick_said)
 
 either_sound : (b : Bool) (a line : List ℕ) → IsSound a → IsSound line → IsSound (cond b a line)
-either_sound true a line h k = h
-either_sound false a line h k = k
+either_sound b a line h k = search arith
 
 -- The lines that are written, without their line feeds: each of them is one, and none is faulty.
 module _ {S : Type 0} (course : Course S) (noises : S → Timed → Bool) where
@@ -89,9 +74,7 @@ module _ {S : Type 0} (course : Course S) (noises : S → Timed → Bool) where
   kept = written quiets kept_by
 
   kept_text_by : (s : S) (line : List ℕ) (l : Option Line) → text_by quiets s line l ≡ flat_map ended (kept_by s line l)
-  kept_text_by s line (Some Comment) = sym (append-nil (ended line))
-  kept_text_by s line (Some (Input x)) = sym (append-nil (ended (cond (noises s x) (tick_text x.at) line)))
-  kept_text_by s line l = refl
+  kept_text_by s line l = search (arith, append-nil)
 
   line_kept : (s : S) (line : List ℕ) (l : Option Line) → said line ≡ l → feedless line ≡ true → SendsPackets quiets s l
       → AreLines (kept_by s line l)
@@ -107,15 +90,10 @@ module _ {S : Type 0} (course : Course S) (noises : S → Timed → Bool) where
 
   all_send : (s : S) (ls : List (List ℕ)) → AllSend quiets s ls
   all_send s [] = tt
-  all_send s (line ∷ more) = (sends (said line), all_send (after quiets s line) more)
-    where
-      sends : (l : Option Line) → SendsPackets quiets s l
-      sends None = tt
-      sends (Some l) = tt
+  all_send s (line ∷ more) = search (arith, all_send (after quiets s line) more)
 
   read_is_sound : (n : ℕ) (s : S) (l : Option Line) → l ≢ None → fault_by quiets n s l ≡ None
-  read_is_sound n s None h = absurd (h refl)
-  read_is_sound n s (Some l) h = refl
+  read_is_sound n s l h = search arith
 
   sound_is_played : (n : ℕ) (s : S) (ls : List (List ℕ)) → AreSound ls → n + length ls ≤ 2 ^ 32
       → (played quiets n s ls).fault ≡ None
@@ -150,15 +128,13 @@ module _ {S : Type 0} (course : Course S) (noises : S → Timed → Bool) where
       )
 
 same_tick : (c : Bool) (line : List ℕ) → cond c line line ≡ line
-same_tick true line = refl
-same_tick false line = refl
+same_tick c line = search arith
 
 module _ (start : Start) where
   either_quiet : (h : List Timed) (x : Timed) (b : Bool)
       → is_noise_after start (judge start x (judged start h)) (judged start h) ≡ b
       → IsQuiet start h x (cond b (tick_at x.at) x)
-  either_quiet h x true e = inr (refl, e)
-  either_quiet h x false e = inl refl
+  either_quiet h x b k = search arith
 
   abbrev is_noise : List Timed → Timed → Bool
   is_noise h x = is_noise_after start (judge start x (judged start h)) (judged start h)
@@ -181,11 +157,7 @@ module _ (start : Start) where
       → (h g : List Timed) → Quiet start h g
       → Quiet start (onto (inputs_by l ++ inputs more) h)
       (onto (inputs (kept_of h line l ++ kept_lines (after_by quiet h l) more)) g)
-  line_goes_on line more (Some Comment) e on h g q = rw e (on h g q)
-  line_goes_on line more (Some (Input x)) e on h g q =
-      let b = is_noise h x in
-      rw (either_said b line x e) (on (x ∷ h) (cond b (tick_at x.at) x ∷ g) (q, either_quiet h x b refl))
-  line_goes_on line more l e on h g q = on h g q
+  line_goes_on line more l e on h g q = search (arith, either_said, either_quiet)
 
   goes_on : (ls : List (List ℕ)) → GoesOn ls
   goes_on [] h g q = q
@@ -213,8 +185,7 @@ module _ (start : Start) where
   either_again : (h g : List Timed) (x : Timed) (line : List ℕ) (b : Bool) → Quiet start h g → is_noise h x ≡ b
       → cond (is_noise g (cond b (tick_at x.at) x)) (tick_text (cond b (tick_at x.at) x).at)
       (cond b (tick_text x.at) line) ≡ cond b (tick_text x.at) line
-  either_again h g x line true q e = same_tick (is_noise g (tick_at x.at)) (tick_text x.at)
-  either_again h g x line false q e = ap (λ c. cond c (tick_text x.at) line) (sym (noise_alike h g x q) ∙ e)
+  either_again h g x line b k l = search (arith, same_tick, noise_alike)
 
   abbrev StaysKept : List (List ℕ) → Type 0
   StaysKept ls = (h g : List Timed) → Quiet start h g → kept_lines g (kept_lines h ls) ≡ kept_lines h ls
@@ -222,14 +193,7 @@ module _ (start : Start) where
   line_stays : (line : List ℕ) (more : List (List ℕ)) (l : Option Line) → said line ≡ l → StaysKept more
       → (h g : List Timed) → Quiet start h g → kept_lines g (kept_of h line l ++ kept_lines (after_by quiet h l) more)
       ≡ kept_of h line l ++ kept_lines (after_by quiet h l) more
-  line_stays line more (Some Comment) e on h g q = rw e (ap (λ (ls : List (List ℕ)). line ∷ ls) (on h g q))
-  line_stays line more (Some (Input x)) e on h g q =
-      let b = is_noise h x in
-      let y = cond b (tick_at x.at) x in
-      let shown = cond b (tick_text x.at) line in
-      rw (either_said b line x e, either_again h g x line b q refl)
-      (ap (λ (ls : List (List ℕ)). shown ∷ ls) (on (x ∷ h) (y ∷ g) (q, either_quiet h x b refl)))
-  line_stays line more l e on h g q = on h g q
+  line_stays line more l e on h g q = search (arith, either_said, either_again, either_quiet)
 
   stays_kept : (ls : List (List ℕ)) → StaysKept ls
   stays_kept [] h g q = refl

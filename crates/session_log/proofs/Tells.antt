@@ -1,5 +1,5 @@
 -- Bytes in pieces of 96, and the lines of what is needed.
-use Rattle.std.proofs.Common.{◌≡◌, ℕ, zero, suc, ◌+◌, ◌-◌, ◌*◌, ◌/◌, ◌<◌, ◌≤◌, true, false, List, [], ◌∷◌, ◌++◌, length, take, drop, min, map, flat_map, All, refl, sym, ap, ◌∙◌, arith, length-drop, take-append-drop, ◌%◌, codes, Some, length-append, slice_index}
+use Rattle.std.proofs.Common.{◌≡◌, ℕ, zero, suc, ◌+◌, ◌-◌, ◌*◌, ◌/◌, ◌<◌, ◌≤◌, true, false, List, [], ◌∷◌, ◌++◌, length, take, drop, min, map, flat_map, All, refl, ap, ◌∙◌, arith, length-drop, take-append-drop, codes, Some, length-append, slice_index}
 use Rattle.std.proofs.lemmas.List.{length-take, take_min, drop_min}
 use Rattle.std.proofs.lemmas.List.Elements.{All-nil, All-cons}
 use Rattle.std.specs.Simd.{first_chunks}
@@ -11,7 +11,7 @@ use Rattle.authn_core.specs.Needs.{IsNeed}
 use Rattle.session_log.specs.declared.line.Line.TheVariants.{Comment}
 use Rattle.session_log.specs.Lines.{is_feed}
 use Rattle.session_log.specs.Said.{said}
-use Rattle.session_log.proofs.Feeds.{feedless, AreLines, both, joined, feedless-append, IsSound}
+use Rattle.session_log.proofs.Feeds.{feedless, AreLines, both, feedless-append, IsSound}
 
 -- as many as it takes
 pub one_less : (n m : ℕ) → 0 < n → m ≡ n - 96 → (n + 95) / 96 ≡ suc ((m + 95) / 96)
@@ -19,9 +19,7 @@ one_less n m some less = omega (arith, some, less)
 
 pub pieces_more : (bytes : List ℕ) → 0 < length bytes → pieces_of bytes
     ≡ take (min 96 (length bytes)) bytes ∷ pieces_of (drop (min 96 (length bytes)) bytes)
-pieces_more bytes some =
-    ap (λ k. first_chunks 96 k bytes) (one_less (length bytes) (length (drop 96 bytes)) some (length-drop 96 bytes))
-    ∙ (λ i. sym (take_min 96 bytes) i ∷ pieces_of (sym (drop_min 96 bytes) i))
+pieces_more bytes some = search (arith, one_less, length-drop, take_min, drop_min)
 
 -- joined they are the bytes
 chunks_joined : (k : ℕ) (bytes : List ℕ) → length bytes ≤ 96 * k → flat_map (λ piece. piece) (first_chunks 96 k bytes)
@@ -47,8 +45,7 @@ pieces_short bytes = chunks_short ((length bytes + 95) / 96) bytes
 -- their lines don't say what is needed
 none_says : (pieces : List (List ℕ)) → All (λ line. says_need line ≡ false) (map signed_line pieces)
 none_says [] = All-nil (λ line. says_need line ≡ false)
-none_says (piece ∷ more) =
-    All-cons (λ line. says_need line ≡ false) (signed_line piece) (map signed_line more) refl (none_says more)
+none_says (piece ∷ more) = search (arith, All-cons, none_says more)
 
 pub last_says : (n : Needed) → (before : List (List ℕ)) × (last : List ℕ) × (need_lines n ≡ before ++ last ∷ [])
     × (says_need last ≡ true) × All (λ line. says_need line ≡ false) before
@@ -65,16 +62,10 @@ from_digits [] h n = refl
 from_digits (d ∷ ds) h zero = (both (is_feed d) (feedless ds) h).0
 from_digits (d ∷ ds) h (suc n) = from_digits ds (both (is_feed d) (feedless ds) h).1 n
 
-two_more : (a b : ℕ) (xs : List ℕ) → is_feed a ≡ false → is_feed b ≡ false → feedless xs ≡ true
-    → feedless (a ∷ b ∷ xs) ≡ true
-two_more a b xs h k l = joined (is_feed a) (feedless (b ∷ xs)) h (joined (is_feed b) (feedless xs) k l)
-
 pub encoded_feedless : (bytes : List ℕ) → feedless (encode_lower bytes) ≡ true
 unfolding encode_with
 encoded_feedless [] = refl
-encoded_feedless (b ∷ more) =
-    two_more (slice_index lower_digits (b / 16)) (slice_index lower_digits (b % 16)) (encode_lower more)
-    (from_digits lower_digits refl (b / 16)) (from_digits lower_digits refl (b % 16)) (encoded_feedless more)
+encoded_feedless (b ∷ more) = search (arith, from_digits, encoded_feedless more)
 
 -- each is a line of a log
 
@@ -94,20 +85,19 @@ AreTold-append (x ∷ xs) ys h k = (h.0, AreTold-append xs ys h.1 k)
 
 told : (line : List ℕ) → feedless line ≡ true → length line < 256 → said line ≡ Some Comment → is_need_line line ≡ true
     → IsTold line
-told line whole short is tells =
-    record { feedless = whole; sound = record { short = short; says = λ e. cc (sym e ∙ is) }; said = is; tells = tells }
+told line whole short is tells = search (arith, feedless)
 
 signed_told : (bytes : List ℕ) → length bytes ≤ 96 → IsTold (signed_line bytes)
-signed_told bytes few =
-    told (signed_line bytes) (feedless-append (codes "# signed ") (encode_lower bytes) refl (encoded_feedless bytes))
-    (omega (arith, few, length-append (codes "# signed ") (encode_lower bytes), length-encode_with lower_digits bytes))
-    refl refl
+signed_told bytes few = search (arith, told, feedless-append, encoded_feedless, length-append, length-encode_with)
 
 signature_told : (id : List ℕ) → length id ≡ 32 → IsTold (signature_line id)
 signature_told id is =
-    told (signature_line id) (feedless-append (codes "# need signature ") (encode_lower id) refl (encoded_feedless id))
-    (omega (arith, is, length-append (codes "# need signature ") (encode_lower id), length-encode_with lower_digits id))
-    refl refl
+    grind (
+      arith,
+      encoded_feedless id,
+      length-append (codes "# need signature ") (encode_lower id),
+      length-encode_with lower_digits id,
+    )
 
 chunks_told : (k : ℕ) (bytes : List ℕ) → AreTold (map signed_line (first_chunks 96 k bytes))
 chunks_told zero bytes = tt
@@ -118,9 +108,7 @@ pub needs_told : (n : Needed) → IsNeed n → AreTold (need_lines n)
 needs_told nothing h = (told (codes "# need nothing") refl (omega arith) refl refl, tt)
 needs_told presence h = (told (codes "# need presence") refl (omega arith) refl refl, tt)
 needs_told key h = (told (codes "# need key") refl (omega arith) refl refl, tt)
-needs_told (sign id signed) h =
-    AreTold-append (map signed_line (pieces_of signed)) (signature_line id ∷ [])
-    (chunks_told ((length signed + 95) / 96) signed) (signature_told id h.0, tt)
+needs_told (sign id signed) h = search (arith, AreTold-append, chunks_told, signature_told)
 
 pub told_are : (ls : List (List ℕ)) → AreTold ls → AreLines ls
 told_are [] h = tt

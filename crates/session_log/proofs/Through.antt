@@ -1,12 +1,12 @@
 -- What has been played when lines were read and played one by one.
-use Rattle.std.proofs.Common.{◌≡◌, ℕ, ◌+◌, ◌≤◌, ◌<◌, ◌^◌, nat_le, nat_lt, Bool, true, false, cond, List, [], ◌∷◌, ◌++◌, length, take, position, Option, Some, None, is_none, refl, sym, ap, ◌∙◌, subst, arith, append_assoc, append-nil, length-append}
+use Rattle.std.proofs.Common.{◌≡◌, ℕ, ◌+◌, ◌≤◌, ◌<◌, ◌^◌, nat_le, nat_lt, Bool, true, false, cond, List, [], ◌∷◌, ◌++◌, length, take, position, Option, Some, None, is_none, refl, sym, ap, ◌∙◌, arith, append_assoc, append-nil, length-append}
 use Rattle.std.proofs.lemmas.Bool.{le-leb, le-ltb, lt-leb, lt-ltb}
 use Rattle.session_log.specs.declared.fault.LogFault.{LogFault}
 use Rattle.session_log.specs.declared.fault.LogFault.TheVariants.{TooLong, TooManyLines}
 use Rattle.session_log.specs.Said.{said}
 use Rattle.session_log.specs.World.{World}
-use Rattle.session_log.specs.Lines.{is_feed, pieces, all_but_last, last_of, lines, whole_lines, last_piece}
-use Rattle.session_log.specs.Log.{Played, prefixed, played, playing, log_of, log, first_fault, fault_of, fault_by, fault_at, text_of, last_text, after}
+use Rattle.session_log.specs.Lines.{is_feed, pieces, lines}
+use Rattle.session_log.specs.Log.{Played, prefixed, played, playing, log_of, first_fault, fault_of, fault_by, fault_at, text_of, last_text, after}
 use Rattle.session_log.specs.Sent.{SendsPackets, AllSend}
 use Rattle.session_log.specs.Window.{IsUnfinished}
 use Rattle.session_log.specs.Replay.{IsRefused, IsUnread, IsUnwritten, IsPlayed}
@@ -46,17 +46,12 @@ module _ {S : Type 0} {world : World S} {s0 : S} {read text : List ℕ} {s : S} 
       (n + 1)
   through_line w end feed sound packets =
       let line = take end w in
-      let front = take (end + 1) w in
       record {
         done = t.done ++ line ∷ [];
-        cut = λ tail. rw (append_assoc read front tail, t.cut (front ++ tail), first_piece w end tail feed)
-            (sym (append_assoc t.done (line ∷ []) (pieces tail)));
+        cut = λ tail. simp (append_assoc, t.cut, first_piece w end tail feed);
         count = omega (arith, t.count, length-append t.done (line ∷ []));
-        plays =
-            λ more. rw
-            (append_assoc t.done (line ∷ []) more, t.plays (line ∷ more), played_sound world n s line more sound)
-            (prefixed_twice text (text_of world s line) (played world (n + 1) (after world s line) more));
-        sends = λ more h. rw (append_assoc t.done (line ∷ []) more) (t.sends (line ∷ more) (packets, h));
+        plays = λ more. rw (append_assoc, t.plays, played_sound world n s line more sound) (prefixed_twice text _ _);
+        sends = λ more h. rw append_assoc (t.sends (line ∷ more) (packets, h));
       }
 
   -- the lines of all that was read
@@ -68,50 +63,23 @@ module _ {S : Type 0} {world : World S} {s0 : S} {read text : List ℕ} {s : S} 
 
 -- the fault of a line is the first, and what is wrong after the last line is where no line is faulty
 pub first_is_line : (last : Option LogFault) (f : LogFault) → first_fault last (Some f) ≡ Some f
-first_is_line None f = refl
-first_is_line (Some e) f = refl
+first_is_line last f = search arith
 
 pub first_is_last : {S : Type 0} (world : World S) (s0 s : S) (bytes text : List ℕ) (o : Option LogFault)
     → IsPlayed world s0 s bytes text → world.lacks s ≡ o → fault_of world (playing world s0 bytes) ≡ o
-first_is_last {S} world s0 s bytes text o p is =
-    ap (λ (f : Option LogFault). first_fault (world.lacks (playing world s0 bytes).state) f) p.faultless
-    ∙ ap (λ (l : Option LogFault). first_fault l None) (ap (λ (z : S). world.lacks z) (sym p.stands) ∙ is) ∙ whole o
-  where
-    whole : (o : Option LogFault) → first_fault o None ≡ o
-    whole None = refl
-    whole (Some f) = refl
+first_is_last world s0 s bytes text o h k = search arith
 
 module _ {S : Type 0} {world : World S} {s0 : S} {read text : List ℕ} {s : S} {n : ℕ}
     (t : Through world s0 read text s n) where
   -- the first line of the window is faulty
   pub refused : (w line : List ℕ) (more : List (List ℕ)) (f : LogFault) → lines w ≡ line ∷ more
       → fault_at world n s line ≡ Some f → IsRefused world s0 s (read ++ w) text f
-  refused w line more f e bad =
-      let is : playing world s0 (read ++ w) ≡ prefixed text (record { text = []; fault = Some f; state = s }) =
-      playing_is t w ∙ rw (e, played_faulty world n s line more f bad) refl in
-      record {
-        faulty = ap (fault_of world) is ∙ first_is_line (world.lacks s) f;
-        written = sym (ap (λ (p : Played S). p.text) is ∙ append-nil text);
-        stands = sym (ap (λ (p : Played S). p.state) is);
-      }
+  refused w line more f e bad = search (arith, playing_is t, played_faulty, first_is_line, append-nil)
 
   -- reading failed in the window's line
   pub unread : (w : List ℕ) → IsUnfinished n w → IsUnread world s0 s (read ++ w) text n
   unread w u =
-      let cut : pieces (read ++ w) ≡ t.done ++ w ∷ [] =
-      t.cut w ∙ ap (λ (l : List (List ℕ)). t.done ++ l) (one_piece w u.no_feed) in
-      let whole : whole_lines (read ++ w) ≡ t.done = ap all_but_last cut ∙ front_of t.done w in
-      let last : last_piece (read ++ w) ≡ w = ap last_of cut ∙ last_is t.done w in
-      let is : played world 1 s0 (whole_lines (read ++ w)) ≡ prefixed text (played world n s []) =
-      ap (played world 1 s0) (whole ∙ sym (append-nil t.done)) ∙ t.plays [] in
-      record {
-        faultless = ap (λ (p : Played S). p.fault) is;
-        written = sym (ap (λ (p : Played S). p.text) is ∙ append-nil text);
-        stands = sym (ap (λ (p : Played S). p.state) is);
-        named = t.count ∙ ap (λ (l : List (List ℕ)). length l + 1) (sym whole);
-        short = rw last u.short;
-        counted = λ many. last ∙ u.counted many;
-      }
+      grind (arith, one_piece w u.no_feed, front_of t.done w, last_is t.done w, append-nil t.done, append-nil text)
 
   -- the text of the window's first line broke off
   pub unwritten : (w line : List ℕ) (more : List (List ℕ)) (front rest : List ℕ) → lines w ≡ line ∷ more
@@ -130,56 +98,25 @@ module _ {S : Type 0} {world : World S} {s0 : S} {read text : List ℕ} {s : S} 
         others = line ∷ more;
         front = front;
         rest = rest;
-        cut = lines_are t w ∙ ap (λ (l : List (List ℕ)). t.done ++ l) e;
+        cut = rw e at (lines_are t w);
         faultless = ap (λ (p : Played S). p.fault) is;
-        written = ap (λ (l : List ℕ). l ++ front) (sym (ap (λ (p : Played S). p.text) is ∙ append-nil text));
-        broken = ap (λ (z : S). text_of world z line) stood ∙ broken;
+        written = search (arith, is, append-nil text);
+        broken = rw stood broken;
         missing = missing;
-        stands = ap (λ (z : S). after world z line) (sym stood);
-        beginning = (
-          (rest ++ others.text) ++ tail,
-          ap (log_of world) all
-              ∙ regroup text (text_of world s line) front rest others.text tail broken,
-        );
+        stands = rw stood refl;
+        beginning = ((rest ++ others.text) ++ tail, ap (log_of world) all ∙ rw broken (simp append_assoc));
       }
-    where
-      regroup : (a t x y b c : List ℕ) → t ≡ x ++ y → (a ++ (t ++ b)) ++ c ≡ (a ++ x) ++ ((y ++ b) ++ c)
-      regroup a t x y b c e = rw e (simp append_assoc)
 
 pub log_is : {S : Type 0} (world : World S) (q : Played S) (s : S) (text : List ℕ) → q.fault ≡ None → text ≡ q.text
     → s ≡ q.state → log_of world q ≡ text ++ last_text world s
-log_is {S} world q s text faultless written stands =
-    ap (λ (o : Option LogFault). q.text ++ cond (is_none o) (last_text world q.state) []) faultless
-    ∙ ap (λ (l : List ℕ). l ++ last_text world q.state) (sym written)
-    ∙ ap (λ (z : S). text ++ last_text world z) (sym stands)
-
--- the log of what was played whole
-pub whole_log : {S : Type 0} (world : World S) (s0 s : S) (bytes text : List ℕ) → IsPlayed world s0 s bytes text
-    → log world s0 bytes ≡ text ++ last_text world s
-whole_log world s0 s bytes text p = log_is world (playing world s0 bytes) s text p.faultless p.written p.stands
+log_is {S} world q s text faultless written stands = search arith
 
 -- all was played, and the meters line broke off
 pub unwritten_end : {S : Type 0} (world : World S) (s0 s : S) (bytes text front rest : List ℕ)
     → IsPlayed world s0 s bytes text → last_text world s ≡ front ++ rest → 0 < length rest
     → IsUnwritten world s0 s bytes (text ++ front)
 unwritten_end {S} world s0 s bytes text front rest p broken missing =
-    record {
-      first = lines bytes;
-      others = [];
-      front = front;
-      rest = rest;
-      cut = sym (append-nil (lines bytes));
-      faultless = p.faultless;
-      written = ap (λ (l : List ℕ). l ++ front) p.written;
-      broken = ap (λ (z : S). last_text world z) (sym p.stands) ∙ broken;
-      missing = missing;
-      stands = p.stands;
-      beginning = (
-        rest,
-        whole_log world s0 s bytes text p ∙ ap (λ (l : List ℕ). text ++ l) broken
-            ∙ sym (append_assoc text front rest),
-      );
-    }
+    grind (arith, append-nil (lines bytes), append_assoc text front rest)
 
 module _ {S : Type 0} {world : World S} {s0 : S} {read text : List ℕ} {s : S} {n : ℕ}
     (t : Through world s0 read text s n) where
@@ -187,29 +124,11 @@ module _ {S : Type 0} {world : World S} {s0 : S} {read text : List ℕ} {s : S} 
   pub played_last : (w : List ℕ) → lines w ≡ w ∷ [] → fault_at world n s w ≡ None → SendsPackets world s (said w)
       → IsPlayed world s0 (after world s w) (read ++ w) (text ++ text_of world s w)
   played_last w e sound packets =
-      let is : playing world s0 (read ++ w)
-      ≡ prefixed text (prefixed (text_of world s w) (played world (n + 1) (after world s w) [])) =
-      playing_is t w ∙ rw (e, played_sound world n s w [] sound) refl in
-      record {
-        sends =
-            subst (AllSend world s0) (sym (lines_are t w ∙ ap (λ (ls : List (List ℕ)). t.done ++ ls) e))
-            (t.sends (w ∷ []) (packets, tt));
-        faultless = ap (λ (p : Played S). p.fault) is;
-        written =
-            sym (ap (λ (p : Played S). p.text) is ∙ ap (λ (l : List ℕ). text ++ l) (append-nil (text_of world s w)));
-        stands = sym (ap (λ (p : Played S). p.state) is);
-      }
+      grind (arith, playing_is t w, played_sound world n s w, lines_are t w, append-nil (text_of world s w))
 
   -- nothing was left to play
   pub played_none : IsPlayed world s0 s (read ++ []) text
-  played_none =
-      let is : playing world s0 (read ++ []) ≡ prefixed text (played world n s []) = playing_is t [] in
-      record {
-        sends = subst (AllSend world s0) (sym (lines_are t [])) (t.sends [] tt);
-        faultless = ap (λ (p : Played S). p.fault) is;
-        written = sym (ap (λ (p : Played S). p.text) is ∙ append-nil text);
-        stands = sym (ap (λ (p : Played S). p.state) is);
-      }
+  played_none = grind (arith, playing_is t, lines_are t, append-nil text)
 
 -- which fault a line has
 abbrev chosen : ℕ → Bool → Bool → Option LogFault → Option LogFault

@@ -1,5 +1,5 @@
 -- Lines that were played, and then the end of their log. A source is i and then j, a target o and then p.
-use Rattle.std.proofs.Common.{◌≡◌, ◌∙◌, ℕ, ◌+◌, Bool, IfErr, List, Option, Result, Ok, Err, Some, inr, ap}
+use Rattle.std.proofs.Common.{◌≡◌, ◌∙◌, ℕ, ◌+◌, Bool, IfErr, List, Option, Result, Ok, Err, Some, inr, ap, arith}
 use Rattle.std.proofs.KnownBytes.{Appends-kept}
 use Rattle.token_session.specs.declared.input.Meters.{Meters}
 use Rattle.session_log.specs.Command.{PlaysThrough}
@@ -38,8 +38,7 @@ module _ {S I O : Type 0} (world : World S) (s t : S) (left : I → Option (List
       → Ends (ended_by e) (λ bytes text. Plays world s t bytes text (ended_by e)) X
       → PlaysThrough world s (λ bytes text. MakesSoundly world s t bytes text r) left unread ended taken unwritten r
       (i, j) (o, p)
-  fails_with r e is h =
-      rw is ((h.0.0, h.0.1, h.0.2, h.0.3, (passed_on world s t h.0.0 h.0.1 _ _ e h.0.4, tt)), h.1, (h.2.0, h.2.1, tt))
+  fails_with r e is h = search (arith, passed_on)
 
   -- What is said of a whole log, without what is known of the packets that were sent.
   pub makes : {A : Type 0} (r : Result A LogFault)

@@ -1,12 +1,10 @@
-use Rattle.std.proofs.Common.{◌*◌, ◌∷◌, [], ◌++◌, List, ℕ, suc, take, length, ◌-◌, replicate, ap, ◌∙◌, append_assoc}
+use Rattle.std.proofs.Common.{◌∷◌, [], ◌++◌, List, ℕ, suc, take, length, ◌-◌, replicate, ap, ◌∙◌, append_assoc, arith}
 use Rattle.hex.specs.Hex.{encode_lower}
 use Rattle.session_log.proofs.Zeros.{digits_of_eights, last_two_are, zero_pair}
 use Rattle.session_log.proofs.hexadecimal.without_zero_pairs.Goals as goal
 
 pub loop-used-init : goal.loop-used-init
-loop-used-init c =
-    let found = c.without_eights-used.ensures in
-    (4 * found.0, found.1 ∙ ap (λ (t : List ℕ). c.without_eights-used.result.now ++ t) (digits_of_eights found.0))
+loop-used-init c = search (arith, digits_of_eights)
 
 pub loop-used-preserved : goal.loop-used-preserved
 loop-used-preserved c =

@@ -9,12 +9,10 @@ pub returns-clause-same : goal.returns-clause-same
 returns-clause-same c = λ start h bytes sound. same_groups (histories start) 1 (begun h) (lines bytes) sound
 
 pub returns-clause-inputs : goal.returns-clause-inputs
-returns-clause-inputs c = λ start h bytes sound. let counted =
-    counts_on (histories start) 1 (begun h) (lines bytes) sound in omega (arith, counted.0)
+returns-clause-inputs c = search (arith, counts_on)
 
 pub returns-clause-packets : goal.returns-clause-packets
-returns-clause-packets c = λ start h bytes sound. let counted =
-    counts_on (histories start) 1 (begun h) (lines bytes) sound in omega (arith, counted.1)
+returns-clause-packets c = search (arith, counts_on)
 
 pub returns-clause-silent : goal.returns-clause-silent
 returns-clause-silent c = λ start h bytes. check_is_silent (histories start) 1 (begun h) (lines bytes)

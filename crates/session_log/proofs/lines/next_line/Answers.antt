@@ -1,4 +1,5 @@
-use Rattle.std.proofs.Common.{◌≡◌, ◌<◌, ◌≤◌, ◌+◌, ◌-◌, ◌^◌, ℕ, [], append-nil, length, refl, arith, sym, subst, ap, ◌∙◌}
+use Rattle.std.proofs.lemmas.Grind.{common_steps}
+use Rattle.std.proofs.Common.{◌<◌, ◌≤◌, ◌+◌, ◌-◌, ◌^◌, ℕ, append-nil, length, refl, arith, sym, subst, ap, ◌∙◌}
 use Rattle.std.proofs.KnownBytes.{Consumes-nil}
 use Rattle.session_log.specs.Window.{IsUnfinished}
 use Rattle.session_log.proofs.Gathering.{gathers, in_count}
@@ -8,10 +9,7 @@ below_full : (n : ℕ) → (256 ≤ n → ⊥) → n < 256
 below_full n few = grind (arith, few)
 
 pub reading-init : goal.reading-init
-reading-init g c = record {
-  same = refl;
-  done = ([], sym (append-nil c.args.window.now), Consumes-nil (g.S.Source.left c.args.reader.now));
-}
+reading-init g c = search (arith, append-nil, Consumes-nil)
 
 pub fill-requires-clause-read : goal.fill-requires-clause-read
 fill-requires-clause-read g c = subst (λ (k : ℕ). k < 2 ^ 64 - 1) (sym c.reading.invariant.same) c.requires
@@ -20,57 +18,19 @@ pub fill-requires-clause-space : goal.fill-requires-clause-space
 fill-requires-clause-space g c = below_full (length c.reading.window) (λ full. cc (c.if-is_full.ensures.1 full))
 
 pub reading-preserved : goal.reading-preserved
-reading-preserved g c = record {
-  same = ◌∙◌ {b = g.S.Source.failed c.reading.reader} c.in-Ok-true.ensures.counted c.reading.invariant.same;
-  done = gathers c.args.window.now c.reading.window c.fill.new.self _ _ _ c.reading.invariant.done c.fill.ensures.bytes;
-}
+reading-preserved g c = grind (arith, common_steps, gathers)
 
 pub reading-smaller : goal.reading-smaller
-reading-smaller g c =
-    let space : length c.reading.window < 256 =
-    below_full (length c.reading.window) (λ full. cc (c.if-is_full.ensures.1 full)) in
-    let grown = rw c.in-Ok-true.field-0-test at c.in-Ok-true.ensures.grown in
-    omega (arith, space, grown)
+reading-smaller g c = search arith
 
 pub returns-then-is_too_many : goal.returns-then-is_too_many
-returns-then-is_too_many g c =
-    let many = c.if-is_too_many.ensures.value in
-    record {
-      bytes = c.reading.invariant.done;
-      found = tt;
-      stopped = (many.0, many.1, c.is_too_many.ensures.fits);
-      reads = c.reading.invariant.same;
-    }
+returns-then-is_too_many g c = search arith
 
 pub returns-in-Some : goal.returns-in-Some
-returns-in-Some g c =
-    let inside : c.in-Some.end < length c.reading.window = c.in-Some.ensures.within in
-    record {
-      bytes = c.reading.invariant.done;
-      found = record {
-        feed = sym c.first_feed.ensures.value ∙ c.in-Some.is;
-        within = inside;
-        short = c.is_too_many.ensures.fits;
-        counted = in_count c.args.number c.reading.window c.if-is_too_many.ensures.value (omega (arith, inside));
-      };
-      stopped = tt;
-      reads = c.reading.invariant.same;
-    }
+returns-in-Some g c = search (arith, in_count)
 
 pub returns-then-is_full : goal.returns-then-is_full
-returns-then-is_full g c =
-    let full : length c.reading.window ≡ 256 = omega (arith, c.if-is_full.ensures.0 refl, c.is_too_many.ensures.fits) in
-    record {
-      bytes = c.reading.invariant.done;
-      found = tt;
-      stopped = (
-        refl,
-        in_count c.args.number c.reading.window c.if-is_too_many.ensures.value (omega (arith, full)),
-        sym c.first_feed.ensures.value ∙ c.in_default.is,
-        full,
-      );
-      reads = c.reading.invariant.same;
-    }
+returns-then-is_full g c = search (arith, in_count)
 
 pub returns-in-Ok-false : goal.returns-in-Ok-false
 returns-in-Ok-false g c =

@@ -1,4 +1,4 @@
-use Rattle.std.proofs.Common.{◌≡◌, ◌<◌, ◌+◌, ◌-◌, ◌^◌, ℕ, List, [], ◌++◌, length, take, Err, refl, sym, ap, ◌∙◌, subst, arith}
+use Rattle.std.proofs.Common.{◌≡◌, ◌<◌, ◌+◌, ◌^◌, ℕ, List, [], ◌++◌, length, take, Err, refl, ap, ◌∙◌, subst, arith}
 use Rattle.std.specs.Io.KnownBytes.{Consumes}
 use Rattle.std.proofs.KnownBytes.{Consumes-nil, Appends-nil}
 use Rattle.std.proofs.lemmas.List.{nil_from_length}
@@ -13,22 +13,7 @@ use Rattle.session_log.proofs.Gathering.{in_count}
 use Rattle.session_log.proofs.playing.play_lines.Goals as goal
 
 pub lines-init : goal.lines-init
-lines-init g c =
-    let state = g.P.Player.state in
-    record {
-      reads = refl;
-      writes = refl;
-      ready = c.requires.ready;
-      counted = omega arith;
-      done = (
-        [],
-        [],
-        subst (Consumes (g.S.Source.left c.args.reader.now) (g.S.Source.left c.args.reader.now))
-            (sym c.new-window.ensures) (Consumes-nil (g.S.Source.left c.args.reader.now)),
-        Appends-nil (g.T.Target.taken c.args.writer.now),
-        through_none g.P.Player.world (state c.args.player.now c.args.session.now),
-      );
-    }
+lines-init g c = search (arith, Consumes-nil, Appends-nil, through_none)
 
 pub lines-preserved : goal.lines-preserved
 lines-preserved g c =
@@ -165,26 +150,13 @@ returns g c =
     }
 
 pub overflow_add-number : goal.overflow_add-number
-overflow_add-number g c =
-    let has = rw c.in-Some.is at c.in_ok-end.ensures.found in
-    omega (arith, has.counted)
+overflow_add-number g c = search arith
 
 pub lines-smaller : goal.lines-smaller
-lines-smaller g c =
-    let has = rw c.in-Some.is at c.in_ok-end.ensures.found in
-    omega (arith, has.counted)
+lines-smaller g c = search arith
 
 pub play_first-requires : goal.play_first-requires
-play_first-requires g c =
-    let unfailed : g.T.Target.failed c.lines.writer < 2 ^ 64 - 1 =
-    subst (λ (k : ℕ). k < 2 ^ 64 - 1) (sym c.lines.invariant.writes) c.requires.write in
-    (assumption, (unfailed, (rw c.in-Some.is at c.in_ok-end.ensures.found, c.lines.invariant.ready)))
+play_first-requires g c = search arith
 
 pub play_last-requires : goal.play_last-requires
-play_last-requires g c =
-    let w = c.next_line.new.window in
-    let at = rw c.in_default.is at c.in_ok-end.ensures.found in
-    let some = some_left (length w) (λ e. cc (c.if-is_empty.ensures.1 (nil_from_length w e))) in
-    let unfailed : g.T.Target.failed c.lines.writer < 2 ^ 64 - 1 =
-    subst (λ (k : ℕ). k < 2 ^ 64 - 1) (sym c.lines.invariant.writes) c.requires.write in
-    (assumption, (unfailed, (at.0.short, (in_count c.lines.number w at.0.counted some, c.lines.invariant.ready))))
+play_last-requires g c = search (arith, some_left, nil_from_length, in_count)

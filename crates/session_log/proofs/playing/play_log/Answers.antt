@@ -1,4 +1,4 @@
-use Rattle.std.proofs.Common.{◌<◌, ◌-◌, ◌^◌, Err, sym, ap, ◌∙◌, subst}
+use Rattle.std.proofs.Common.{sym, subst, arith}
 use Rattle.std.proofs.lemmas.Result.{err_from_is_err_and}
 use Rattle.session_log.specs.Command.{PlaysThrough}
 use Rattle.session_log.specs.Replay.{MakesSoundly}
@@ -6,14 +6,7 @@ use Rattle.session_log.proofs.Whole.{ends_with, fails_with}
 use Rattle.session_log.proofs.playing.play_log.Goals as goal
 
 pub returns-in_err-play_lines : goal.returns-in_err-play_lines
-returns-in_err-play_lines g c =
-    let state = g.P.Player.state in
-    let is = err_from_is_err_and c.from_residual.result c.from_residual.ensures.1 in
-    let new = c.play_lines.new in
-    fails_with g.P.Player.world (state c.args.player.now c.args.session.now) (state new.player new.session)
-    g.S.Source.left g.S.Source.failed g.S.Source.ended g.T.Target.taken g.T.Target.failed c.args.reader.now new.reader
-    c.args.writer.now new.writer c.from_residual.result c.in_err-play_lines.field-0.0 (is.1 ∙ ap Err is.2)
-    c.in_err-play_lines.ensures.played
+returns-in_err-play_lines g c = search (arith, err_from_is_err_and, fails_with)
 
 pub returns : goal.returns
 returns g c =
@@ -31,6 +24,4 @@ returns g c =
     c.finish.ensures.own c.finish.ensures.closed c.in_ok-play_lines.ensures.played)
 
 pub finish-requires : goal.finish-requires
-finish-requires g c =
-    let writes = c.in_ok-play_lines.ensures.played.2.1 in
-    (assumption, (subst (λ k. k < 2 ^ 64 - 1) (sym writes) c.requires.write, c.in_ok-play_lines.ensures.ready))
+finish-requires g c = search arith
