@@ -1,30 +1,22 @@
 -- A log that is played again gives the same bytes.
 use Rattle.std.proofs.Common.{◌≡◌, ℕ, suc, ◌+◌, ◌≤◌, ◌<◌, ◌^◌, true, List, [], ◌∷◌, ◌++◌, length, map, flat_map, codes, decimal, Option, Some, None, Ok, IsOk, refl, sym, ap, ◌∙◌, arith, append_assoc, append-nil, length-append, Bool, false, cond, subst}
-use Rattle.std.proofs.lemmas.Fmt.{length-decimal-le}
-use Rattle.std.proofs.lemmas.Grind.{flat_map-append}
+use Rattle.std.proofs.lemmas.{Fmt.length-decimal-le, Grind.flat_map-append, List.length-map}
 use Rattle.hex.specs.Hex.{decode_sized, encode_lower}
 use Rattle.hex.proofs.HexLemmas.{decode_sized-encode_lower, length-encode_with, IsOk-decode_sized}
 use Rattle.hid_packet.specs.declared.packet.Packet.{Packet}
-use Rattle.token_session.specs.declared.input.Meters.{Meters}
-use Rattle.session_log.specs.declared.line.Line.{Line}
+use Rattle.token_session.specs.{declared.input.Meters.Meters, Meters.SessionState}
+use Rattle.session_log.specs.{declared.line.Line.Line, Lines.lines, Said.said, Replay.IsDone, Session.RepeatsIn}
 use Rattle.session_log.specs.declared.line.Line.TheVariants.{Sent, Count, Input, Comment}
-use Rattle.session_log.specs.Lines.{lines}
 use Rattle.session_log.specs.Log.{Played, prefixed, played, playing, log_of, log, last_text, text_by, after, after_by}
-use Rattle.session_log.specs.Said.{said}
-use Rattle.session_log.specs.Sent.{SendsPackets, AllSend, FitsMeters}
+use Rattle.session_log.specs.{Sent.SendsPackets, Sent.AllSend, Sent.FitsMeters, Needs.need_lines, Needs.is_need_line}
 use Rattle.session_log.specs.Text.{IsPacket, ArePackets, ended, sent_text, meters_line}
 use Rattle.session_log.specs.World.{World, Course, replaying, living}
 use Rattle.session_log.proofs.Feeds.{feedless, AreLines, feedless-append, AreLines-append, lines_joined, lines_are_lines, decimal_feedless, hex_feedless, IsSound, sound_line, sound_first}
 use Rattle.session_log.proofs.Spelled.{count_rest, spelled_is_read}
 use Rattle.session_log.proofs.Through.{played_sound, prefixed_twice, said_fault, log_is}
-use Rattle.std.proofs.lemmas.List.{length-map}
 use Rattle.authn_core.specs.Views.{Needed}
-use Rattle.session_log.specs.Needs.{need_lines, is_need_line}
 use Rattle.session_log.proofs.Tells.{AreTold, needs_told, told_are}
 use Rattle.std.specs.Io.KnownBytes.{Appends}
-use Rattle.session_log.specs.Replay.{IsDone}
-use Rattle.token_session.specs.Meters.{SessionState}
-use Rattle.session_log.specs.Session.{RepeatsIn}
 
 -- A world in which no line is faulty but for its text. What was sent and counted in an earlier run is dropped, and at
 -- the end

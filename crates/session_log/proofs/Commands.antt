@@ -1,12 +1,8 @@
 -- What is said of an answer with meters is said of it without them.
 use Rattle.std.proofs.Common.{ℕ, Bool, List, Option, Result, arith}
-use Rattle.session_log.specs.Command.{PlaysThrough, unmetered}
-use Rattle.session_log.specs.Ending.{ending_of}
-use Rattle.session_log.specs.Replay.{Logs, Makes}
-use Rattle.session_log.specs.World.{World}
-use Rattle.session_log.specs.declared.fault.LogFault.{LogFault}
-use Rattle.token_session.specs.declared.input.Meters.{Meters}
-use Rattle.token_session.specs.declared.input.Timed.{Timed}
+use Rattle.session_log.specs.{Command.PlaysThrough, Command.unmetered, Replay.Logs, Replay.Makes}
+use Rattle.session_log.specs.{Ending.ending_of, World.World, declared.fault.LogFault.LogFault}
+use Rattle.token_session.specs.declared.input.{Meters.Meters, Timed.Timed}
 
 pub plays_unmetered : {I O : Type 0} (world : World (List Timed)) (h later : List Timed) (left : I
     → Option (List ℕ)) (unread : I → ℕ) (ended : I → Bool) (taken : O → Option (List ℕ)) (unwritten : O

@@ -1,11 +1,7 @@
 -- Bytes cut at line feeds, from the front.
 use Rattle.std.proofs.Common.{◌≡◌, ℕ, suc, zero, ◌+◌, ◌<◌, ◌==◌, Bool, true, false, cond, List, [], ◌∷◌, ◌++◌, length, get_or, take, drop, position, Some, None, refl, sym, ap, ◌∙◌, arith, add-one, take-append-drop}
-use Rattle.std.proofs.Math.Seq.{take-suc}
-use Rattle.std.proofs.lemmas.Bool.{eqb-true, ltb-false}
-use Rattle.std.proofs.lemmas.List.{take-take}
-use Rattle.std.proofs.lemmas.Bool.Decides.{nat_tests}
-use Rattle.std.proofs.lemmas.List.Quantifiers.{position-Some}
-use Rattle.std.proofs.lemmas.List.Sums.{fails_before_first}
+use Rattle.std.proofs.{Math.Seq.take-suc, lemmas.Bool.eqb-true, lemmas.Bool.ltb-false, lemmas.Bool.Decides.nat_tests}
+use Rattle.std.proofs.lemmas.List.{take-take, Quantifiers.position-Some, Sums.fails_before_first}
 use Rattle.std.proofs.lemmas.List.Splits.{slice_split_none, slice_split-cons_yes, slice_split-cons_no}
 use Rattle.std.specs.List.{onto_first}
 use Rattle.session_log.specs.Text.{ended}

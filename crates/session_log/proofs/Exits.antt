@@ -2,31 +2,21 @@
 use Rattle.std.proofs.Common.{◌≡◌, ℕ, ◌+◌, ◌<◌, ◌^◌, cond, is_none, List, [], ◌∷◌, ◌++◌, length, Option, Some, None, Result, Ok, Err, ap, ◌∙◌, take, drop, arith, append_assoc, take-append-drop, length-take-le}
 use Rattle.std.specs.Io.KnownBytes.{Consumes, Appends, Keeps}
 use Rattle.std.proofs.KnownBytes.{Appends-trans, Appends-kept, Consumes-trans}
-use Rattle.session_log.specs.declared.fault.LogFault.{LogFault}
+use Rattle.session_log.specs.declared.{fault.LogFault.LogFault, line.Line.Line}
 use Rattle.session_log.specs.declared.fault.LogFault.TheVariants.{TooLong, Read, Write, TooManyLines}
 use Rattle.session_log.specs.Ending.{Ending, ended_by, ending_of}
-use Rattle.session_log.specs.Said.{said}
-use Rattle.session_log.specs.World.{World}
-use Rattle.session_log.specs.Lines.{lines}
+use Rattle.session_log.specs.{Said.said, World.World, Lines.lines, Sent.AllSend, Sent.SendsPackets}
 use Rattle.session_log.specs.Log.{text_of, last_text, after, fault_by}
-use Rattle.session_log.specs.declared.line.Line.{Line}
-use Rattle.session_log.specs.Sent.{AllSend, SendsPackets}
 use Rattle.session_log.specs.Streams.{Moves, IsTaken, IsBroken, PutsLine}
 use Rattle.session_log.specs.Window.{HasLine, IsUnfinished, Stops}
-use Rattle.session_log.specs.Replay.{IsRefused, IsUnwritten, IsPlayed, IsDone, Means, Plays, PlaysLine}
-use Rattle.session_log.proofs.Cutting.{last_line, line_in_front, some_line}
-use Rattle.session_log.proofs.Gathering.{in_count}
+use Rattle.session_log.specs.Replay.{IsRefused, IsUnwritten, IsPlayed, IsDone, Plays, PlaysLine}
+use Rattle.session_log.proofs.{Cutting.last_line, Cutting.line_in_front, Cutting.some_line, Gathering.in_count}
 use Rattle.session_log.proofs.Through.{Through, first_is_last, through_line, refused, unread, unwritten, unwritten_end, played_last, said_fault, too_long, too_many}
 
 -- a fault that was passed on
 pub as_err : {A : Type 0} (r : Result A LogFault) (e : LogFault) (P : Ending → Type 0) → r ≡ Err e → P (ended_by e)
     → P (ending_of r)
 as_err {A} r e P is h = rw is h
-
--- what a fault means doesn't hang on what the log's end would mean
-pub passed_on : {S : Type 0} (world : World S) (s t : S) (bytes text : List ℕ) (P Q : Type 0) (e : LogFault)
-    → Means world s t bytes text P (ended_by e) → Means world s t bytes text Q (ended_by e)
-passed_on world s t bytes text P Q e h = search arith
 
 -- the text for a line that says this was handed over
 pub writes_for : {S F A : Type 0} (world : World S) (taken : F → Option (List ℕ)) (failed : F

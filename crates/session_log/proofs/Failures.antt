@@ -1,10 +1,7 @@
 -- Of each way in which the playing of lines ends: what holds at Ok alone, and the failures that it counts.
 use Rattle.std.proofs.Common.{◌≡◌, ℕ, ◌+◌, Bool, false, OnOk, cond, List, Option, Result, Err, sym, ap, ◌∙◌, arith}
-use Rattle.session_log.specs.declared.fault.LogFault.{LogFault}
+use Rattle.session_log.specs.{declared.fault.LogFault.LogFault, Replay.PlaysLine, Window.Stops, World.World}
 use Rattle.session_log.specs.Ending.{Ending, ended_by, read_fails, write_fails}
-use Rattle.session_log.specs.Replay.{PlaysLine}
-use Rattle.session_log.specs.Window.{Stops}
-use Rattle.session_log.specs.World.{World}
 
 pub on_err : {A : Type 0} (X : Type 0) (r : Result A LogFault) (e : LogFault) → r ≡ Err e → OnOk r X
 on_err X r e h = cc

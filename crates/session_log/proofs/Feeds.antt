@@ -1,21 +1,12 @@
 -- Lines with no line feed in them: what they are joined to is cut into them again.
-use Rattle.std.proofs.Common.{◌≡◌, ℕ, suc, ◌<◌, ◌^◌, ◌==◌, Bool, true, false, cond, List, [], ◌∷◌, ◌++◌, length, decimal, flat_map, refl, ap, ◌∙◌, arith, append_assoc, append-nil, ◌≢◌, Option, Some, None}
-use Rattle.std.proofs.lemmas.Fmt.{decimal_is_IsNumeral}
+use Rattle.std.proofs.Common.{◌≡◌, ℕ, suc, ◌<◌, ◌^◌, ◌==◌, Bool, true, false, cond, List, [], ◌∷◌, ◌++◌, length, decimal, flat_map, refl, ap, ◌∙◌, arith, append_assoc, append-nil, ◌≢◌, None}
+use Rattle.std.proofs.lemmas.{Fmt.decimal_is_IsNumeral, Bool.ne_eqb}
 use Rattle.std.proofs.lemmas.List.Splits.{slice_split-cons_yes, slice_split-cons_no}
-use Rattle.std.specs.Char.{digit_value}
-use Rattle.std.specs.List.{AllPass, onto_first}
-use Rattle.std.specs.Str.Parse.{AllDigits}
+use Rattle.std.specs.{Char.digit_value, Str.Parse.AllDigits, List.AllPass, List.onto_first}
 use Rattle.hex.specs.Hex.{is_hex_digit}
-use Rattle.session_log.proofs.Cases.{no_some}
-use Rattle.session_log.specs.Lines.{is_feed, pieces, lines_of_pieces, lines}
-use Rattle.session_log.specs.Text.{ended}
-use Rattle.session_log.proofs.Cutting.{pieces_some, lines_beyond}
-use Rattle.std.proofs.lemmas.Bool.{ne_eqb}
-use Rattle.session_log.specs.declared.fault.LogFault.{LogFault}
-use Rattle.session_log.specs.Log.{played, fault_at}
-use Rattle.session_log.specs.Said.{said}
-use Rattle.session_log.specs.World.{World}
-use Rattle.session_log.proofs.Through.{played_faulty}
+use Rattle.session_log.proofs.{Cases.no_some, Through.played_faulty, Cutting.pieces_some, Cutting.lines_beyond}
+use Rattle.session_log.specs.{Lines.is_feed, Lines.pieces, Lines.lines_of_pieces, Lines.lines, Log.played, Log.fault_at}
+use Rattle.session_log.specs.{Text.ended, Said.said, World.World}
 
 abbrev pub feedless : List ℕ → Bool
 feedless [] = true
@@ -99,17 +90,13 @@ hex_feedless (c ∷ cs) h =
 
 -- Lines that aren't faulty.
 
-pub none_chosen : (a b : Bool) (x y : LogFault) (o : Option LogFault) → cond a (Some x) (cond b (Some y) o) ≡ None
-    → (a ≡ false) × (b ≡ false) × (o ≡ None)
-none_chosen a b x y o h = search arith
-
 pub record IsSound (line : List ℕ) : Type 0 where
   pub short : length line < 256
   pub says : said line ≢ None
 
 pub sound_line : {S : Type 0} (world : World S) (n : ℕ) (s : S) (line : List ℕ) → fault_at world n s line ≡ None
     → IsSound line
-sound_line world n s line h = search (arith, none_chosen)
+sound_line world n s line h = search arith
 
 pub sound_first : {S : Type 0} (world : World S) (n : ℕ) (s : S) (line : List ℕ) (more : List (List ℕ))
     → (played world n s (line ∷ more)).fault ≡ None → fault_at world n s line ≡ None

@@ -3,25 +3,20 @@ use Rattle.std.proofs.Common.{◌≡◌, ℕ, suc, ◌+◌, List, [], ◌∷◌,
 use Rattle.std.specs.Cmp.Lexicographic.{same_text, other_text}
 use Rattle.std.proofs.lemmas.List.Sums.{sum_by-cons}
 use Rattle.token_session.specs.declared.input.Timed.{Timed}
-use Rattle.session_log.proofs.Cases.{no_some}
-use Rattle.session_log.specs.declared.fault.LogFault.{LogFault}
-use Rattle.session_log.specs.declared.fault.LogFault.TheVariants.{Differs}
-use Rattle.session_log.specs.declared.line.Line.{Line}
-use Rattle.session_log.specs.declared.line.Line.TheVariants.{Input, Sent}
+use Rattle.session_log.proofs.{Cases.no_some, Feeds.sound_first}
+use Rattle.session_log.specs.declared.fault.LogFault.{LogFault, TheVariants.Differs}
+use Rattle.session_log.specs.declared.line.Line.{Line, TheVariants.Input, TheVariants.Sent}
 use Rattle.session_log.specs.Check.{Compared, begun, difference, missing_of, differs_from, after_first, checking}
 use Rattle.session_log.specs.Groups.{Groups, with_first, grouped, found_groups, sent_groups, number_by, input_lines, DifferFirst, IsFirstDifference}
-use Rattle.session_log.specs.Inputs.{inputs, inputs_by}
+use Rattle.session_log.specs.{Inputs.inputs, Inputs.inputs_by, Said.said, World.Course, World.World}
 use Rattle.session_log.specs.Log.{played, first_fault, fault_of, fault_by, fault_at, after, after_by}
-use Rattle.session_log.specs.Said.{said}
-use Rattle.session_log.specs.World.{Course, World}
-use Rattle.session_log.proofs.Feeds.{none_chosen, sound_first}
 use Rattle.session_log.proofs.Through.{played_sound, played_faulty, first_is_line}
 
 -- The fault of a first line, and what follows where it has none.
 
 module _ {S : Type 0} (world : World S) (n : ℕ) (s : S) (line : List ℕ) where
   own_fault : fault_at world n s line ≡ None → fault_by world n s (said line) ≡ None
-  own_fault h = search (arith, none_chosen)
+  own_fault h = search arith
 
   own_difference : (l k : ℕ) → fault_at world n s line ≡ Some (Differs l k)
       → fault_by world n s (said line) ≡ Some (Differs l k)

@@ -1,25 +1,18 @@
 -- A session after a history sends and counts what the history names.
 use Rattle.std.proofs.Common.{◌≡◌, ℕ, Bool, List, [], Option, Result, refl, sym, ap, arith}
 use Rattle.authn_core.specs.Turn.{Start}
-use Rattle.token_session.specs.declared.input.Timed.{Timed}
-use Rattle.token_session.specs.declared.input.Meters.{Meters}
-use Rattle.token_session.specs.History.{judged}
-use Rattle.token_session.specs.Meters.{SessionState, StandsAfter, session_of}
+use Rattle.token_session.specs.declared.input.{Timed.Timed, Meters.Meters}
+use Rattle.token_session.specs.{History.judged, Law.named, Meters.SessionState, Meters.StandsAfter, Meters.session_of}
 use Rattle.token_session.proofs.Metering.{stands_longer, machine_after}
-use Rattle.token_session.proofs.Noise.{noise_is_named}
-use Rattle.token_session.proofs.Follows.{step_sends}
-use Rattle.session_log.specs.declared.fault.LogFault.{LogFault}
-use Rattle.session_log.specs.declared.line.Line.{Line}
+use Rattle.token_session.proofs.{Noise.noise_is_named, Follows.step_sends}
+use Rattle.session_log.specs.declared.{fault.LogFault.LogFault, line.Line.Line}
 use Rattle.session_log.specs.Command.{PlaysLog, PlaysThrough}
 use Rattle.session_log.specs.declared.command.LogCommand.TheVariants.{Check, Quiet}
-use Rattle.session_log.specs.Check.{Compared, begun, missing, stops_compared, moves_compared, check_machine, check_history}
-use Rattle.session_log.specs.Ending.{Ending, ending_of}
+use Rattle.session_log.specs.Check.{Compared, compared, begun, missing, stops_compared, moves_compared, check_machine, check_history}
+use Rattle.session_log.specs.{Ending.Ending, Ending.ending_of, Streams.Moves, Text.ended}
 use Rattle.session_log.specs.Replay.{Logs, Makes, Plays, ReadsTo, Writes}
-use Rattle.token_session.specs.Law.{named}
 use Rattle.session_log.specs.Session.{sessions, histories, machine, history, quiet_machine, quiet_history, live_machine, live_history, session_needs, history_needs}
-use Rattle.session_log.specs.Streams.{Moves}
-use Rattle.session_log.specs.Text.{ended}
-use Rattle.session_log.specs.World.{World, moves_input, writes_again}
+use Rattle.session_log.specs.World.{World, writes_again}
 use Rattle.session_log.proofs.Whole.{there}
 use Rattle.session_log.proofs.Worlds.{Follows, makes_alike, logs_alike, plays_alike, reads_alike}
 
@@ -28,16 +21,12 @@ module _ (start : Start) where
   unfolding session_of
   counted s h r = ap (λ (z : SessionState). z.meters) r
 
-  moved : (s : SessionState) (h : List Timed) (l : Line) → StandsAfter s start h
-      → StandsAfter (moves_input sessions s l) start (moves_input (histories start) h l)
-  moved s h l r = search (arith, stands_longer)
-
   wrote : (s : SessionState) (h : List Timed) (line : List ℕ) (l : Line) → StandsAfter s start h
       → writes_again sessions s line l ≡ writes_again (histories start) h line l
   wrote s h line l r = search (arith, step_sends, machine_after)
 
   pub follows : Follows machine (history start) (λ s h. StandsAfter s start h)
-  follows = search (arith, moved, wrote, counted)
+  follows = search (arith, wrote, counted, stands_longer)
 
   -- Made quiet.
 
@@ -46,7 +35,7 @@ module _ (start : Start) where
   noised s h line l r = search (arith, noise_is_named, machine_after)
 
   quiet_follows : Follows quiet_machine (quiet_history start) (λ s h. StandsAfter s start h)
-  quiet_follows = search (arith, moved, noised, counted)
+  quiet_follows = search (arith, noised, counted, stands_longer)
 
   -- With what is needed.
 
@@ -59,7 +48,7 @@ module _ (start : Start) where
   told s h line l r = search (arith, step_sends, machine_after, needed_after, stands_longer)
 
   pub live_follows : Follows live_machine (live_history start) (λ s h. StandsAfter s start h)
-  live_follows = search (arith, moved, told, counted)
+  live_follows = search (arith, told, counted, stands_longer)
 
 pub lines_history : (left left' taken taken' : Option (List ℕ)) (s t : SessionState) (ending : Ending) (all : Type 0)
     → Moves left left' taken taken' (λ bytes text. Plays live_machine s t bytes text ending)
@@ -68,12 +57,9 @@ pub lines_history : (left left' taken taken' : Option (List ℕ)) (s t : Session
     × Moves left left' taken taken' (λ bytes text. Writes (live_history start) h later bytes text ending)
     × ReadsTo (live_history start) h left left' all ending
 lines_history left left' taken taken' s t ending all m reach start h stands =
-    let found = plays_alike (live_follows start) s t h stands m.0 m.1 ending m.4 in (
-      found.0,
-      found.1,
-      (m.0, m.1, m.2, m.3, found.2),
-      reads_alike (live_follows start) s h stands left left' all ending reach,
-    )
+    let found = plays_alike (live_follows start) s t h stands m.0 m.1 ending m.4 in
+    let reads = reads_alike (live_follows start) s h stands left left' all ending reach in
+    (found.0, found.1, (m.0, m.1, m.2, m.3, found.2), reads)
 
 -- What a log means of a session, it means of each history that the session stands after.
 module _ {I O : Type 0} (left : I → Option (List ℕ)) (unread : I → ℕ) (ended : I → Bool) (taken : O → Option (List ℕ))
@@ -108,16 +94,7 @@ module _ {I O : Type 0} (left : I → Option (List ℕ)) (unread : I → ℕ) (e
 
 -- all but what the session holds is the same
 abbrev onto_history : List Timed → Compared SessionState → Compared (List Timed)
-onto_history h c =
-    record {
-      session = h;
-      lines = c.lines;
-      input = c.input;
-      found = c.found;
-      due = c.due;
-      inputs = c.inputs;
-      packets = c.packets;
-    }
+onto_history h c = compared h c.lines c.input c.found c.due c.inputs c.packets
 
 module _ (start : Start) where
   abbrev IsBeside : Compared SessionState → Compared (List Timed) → Type 0

@@ -1,17 +1,13 @@
 -- How far was read where a line is faulty.
 use Rattle.std.proofs.Common.{◌≡◌, ℕ, suc, ◌+◌, ◌≤◌, ◌^◌, List, [], ◌∷◌, ◌++◌, length, take, drop, Option, Some, Result, Ok, Err, inl, inr, IfErr, refl, sym, ap, ◌∙◌, arith, append-nil, length-append, take-append-drop}
 use Rattle.std.specs.Io.KnownBytes.{Consumes}
-use Rattle.session_log.specs.declared.fault.LogFault.{LogFault}
+use Rattle.session_log.specs.{declared.fault.LogFault.LogFault, World.World, Log.fault_at, Window.HasLine, Window.Stops}
 use Rattle.session_log.specs.declared.fault.LogFault.TheVariants.{TooLong, Read, Write, TooManyLines, Memory}
 use Rattle.session_log.specs.Ending.{ended_by, ending_of}
-use Rattle.session_log.specs.World.{World}
 use Rattle.session_log.specs.Lines.{pieces, all_but_last, whole_lines, last_piece}
-use Rattle.session_log.specs.Log.{fault_at}
-use Rattle.session_log.specs.Window.{HasLine, Stops}
 use Rattle.session_log.specs.Replay.{IsNear, IsOfLine, IsShown, PlaysLine, ReadsTo}
 use Rattle.session_log.proofs.Cutting.{first_piece, one_piece, pieces_some, front_of, last_is}
-use Rattle.session_log.proofs.Exits.{short_in_front}
-use Rattle.session_log.proofs.Through.{Through, played_faulty, said_fault}
+use Rattle.session_log.proofs.{Exits.short_in_front, Through.Through, Through.played_faulty, Through.said_fault}
 
 length-all_but_last : {A : Type 0} (x : A) (xs : List A) → length (all_but_last (x ∷ xs)) ≡ length xs
 length-all_but_last x [] = refl

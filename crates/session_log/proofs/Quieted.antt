@@ -1,26 +1,18 @@
 -- What a log that was made quiet says.
 use Rattle.std.proofs.Common.{◌≡◌, ◌≢◌, ℕ, ◌+◌, ◌≤◌, ◌<◌, ◌^◌, nat_le, Bool, true, false, cond, List, [], ◌∷◌, ◌++◌, length, flat_map, codes, decimal, Option, Some, None, inl, refl, sym, ap, ◌∙◌, arith, append-nil, length-append}
-use Rattle.std.proofs.lemmas.Bool.Decides.{nat_tests}
-use Rattle.std.proofs.lemmas.Fmt.{length-decimal-le}
+use Rattle.std.proofs.lemmas.{Bool.Decides.nat_tests, Fmt.length-decimal-le}
 use Rattle.authn_core.specs.Turn.{Start}
-use Rattle.token_session.specs.declared.input.Timed.{Timed}
+use Rattle.token_session.specs.{declared.input.Timed.Timed, Law.named, Law.onto, Meters.SessionState, Meters.session_of}
 use Rattle.token_session.specs.History.{judge, judged}
-use Rattle.token_session.specs.Law.{named, onto}
-use Rattle.token_session.specs.Meters.{SessionState, session_of}
 use Rattle.token_session.specs.Noise.{Quiet, IsQuiet, is_noise_after, tick_at}
 use Rattle.token_session.proofs.Noise.{noise_is_named, quiet_alike}
-use Rattle.session_log.specs.declared.line.Line.{Line}
-use Rattle.session_log.specs.declared.line.Line.TheVariants.{Input, Comment}
-use Rattle.session_log.specs.Inputs.{inputs, inputs_by}
-use Rattle.session_log.specs.Lines.{lines}
-use Rattle.session_log.specs.Log.{Played, played, playing, text_by, after, after_by, fault_by, fault_at}
-use Rattle.session_log.specs.Said.{said}
-use Rattle.session_log.specs.Session.{histories, quiet_history}
-use Rattle.session_log.specs.Text.{ended, tick_text}
+use Rattle.session_log.specs.declared.line.Line.{Line, TheVariants.Input, TheVariants.Comment}
+use Rattle.session_log.specs.{Inputs.inputs, Inputs.inputs_by, Session.histories, Session.quiet_history}
+use Rattle.session_log.specs.{Lines.lines, Said.said, Text.ended, Text.tick_text, Sent.AllSend, Sent.SendsPackets}
+use Rattle.session_log.specs.Log.{played, playing, text_by, after, after_by, fault_by, fault_at}
 use Rattle.session_log.specs.World.{Course, World, quieting}
-use Rattle.session_log.specs.Sent.{AllSend, SendsPackets}
 use Rattle.session_log.proofs.Again.{WritesLines, written, written_are, written_text}
-use Rattle.session_log.proofs.Feeds.{IsSound, none_chosen, sound_first, sound_line, feedless, AreLines, feedless-append, lines_joined, lines_are_lines, decimal_feedless}
+use Rattle.session_log.proofs.Feeds.{IsSound, sound_first, sound_line, feedless, AreLines, feedless-append, lines_joined, lines_are_lines, decimal_feedless}
 use Rattle.session_log.proofs.Spelled.{read_is_spelled, spelled_is_read}
 use Rattle.session_log.proofs.Through.{played_sound, said_fault}
 
@@ -52,7 +44,7 @@ few_lines n h = grind (arith, nat_tests)
 
 few_before : {S : Type 0} (world : World S) (n : ℕ) (s : S) (line : List ℕ) → fault_at world n s line ≡ None
     → n < 2 ^ 32
-few_before world n s line h = search (arith, few_lines, none_chosen)
+few_before world n s line h = search (arith, few_lines)
 
 tick_sound : (at : ℕ) → at < 2 ^ 64 → IsSound (tick_text at)
 tick_sound at fits = search (arith, length-append, length-decimal-le, tick_said)
@@ -78,12 +70,9 @@ module _ {S : Type 0} (course : Course S) (noises : S → Timed → Bool) where
 
   line_kept : (s : S) (line : List ℕ) (l : Option Line) → said line ≡ l → feedless line ≡ true → SendsPackets quiets s l
       → AreLines (kept_by s line l)
-  line_kept s line (Some Comment) e h sends = (h, tt)
-  line_kept s line (Some (Input x)) e h sends = (
-    either_feedless (noises s x) (tick_text x.at) line (tick_feedless x.at (read_is_spelled line (Input x) e).0) h,
-    tt,
-  )
-  line_kept s line l e h sends = tt
+  line_kept s line (Some (Input x)) e h sends =
+      let spells = read_is_spelled line (Input x) e in search (arith, either_feedless, tick_feedless)
+  line_kept s line l e h sends = search arith
 
   lines_kept : WritesLines quiets kept_by
   lines_kept = record { texts = kept_text_by; are = line_kept }
@@ -99,36 +88,25 @@ module _ {S : Type 0} (course : Course S) (noises : S → Timed → Bool) where
       → (played quiets n s ls).fault ≡ None
   sound_is_played n s [] h few = refl
   sound_is_played n s (line ∷ more) h few =
-      let sound = said_fault quiets n s line (omega (arith, few)) h.0.short ∙ read_is_sound n s (said line) h.0.says in
-      ap (λ (p : Played S). p.fault) (played_sound quiets n s line more sound)
-      ∙ sound_is_played (n + 1) (after quiets s line) more h.1 (omega (arith, few))
+      let later = sound_is_played (n + 1) (after quiets s line) more h.1 (omega (arith, few)) in
+      search (arith, said_fault, read_is_sound, played_sound, h.0.short, h.0.says)
 
   line_sound : (s : S) (line : List ℕ) (l : Option Line) → said line ≡ l → IsSound line
       → AreSound (kept_by s line l) × (length (kept_by s line l) ≤ 1)
-  line_sound s line (Some Comment) e h = ((h, tt), omega arith)
-  line_sound s line (Some (Input x)) e h = (
-    (either_sound (noises s x) (tick_text x.at) line (tick_sound x.at (read_is_spelled line (Input x) e).0) h, tt),
-    omega arith,
-  )
-  line_sound s line l e h = (tt, omega arith)
+  line_sound s line (Some (Input x)) e h =
+      let spells = read_is_spelled line (Input x) e in search (arith, either_sound, tick_sound)
+  line_sound s line l e h = search arith
 
   kept_sound : (n : ℕ) (s : S) (ls : List (List ℕ)) → n ≤ 2 ^ 32 → (played quiets n s ls).fault ≡ None
       → AreSound (kept s ls) × (n + length (kept s ls) ≤ 2 ^ 32)
   kept_sound n s [] few h = (tt, omega arith)
   kept_sound n s (line ∷ more) few h =
-      let t = after quiets s line in
       let sound = sound_first quiets n s line more h in
       let step = played_sound quiets n s line more sound in
-      let later : (played quiets (n + 1) t more).fault ≡ None = sym (ap (λ (p : Played S). p.fault) step) ∙ h in
       let under = few_before quiets n s line sound in
       let here = line_sound s line (said line) refl (sound_line quiets n s line sound) in
-      let rest = kept_sound (n + 1) t more (omega (arith, under)) later in (
-        AreSound-append (kept_by s line (said line)) (kept t more) here.0 rest.0,
-        omega (arith, here.1, rest.1, length-append (kept_by s line (said line)) (kept t more)),
-      )
-
-same_tick : (c : Bool) (line : List ℕ) → cond c line line ≡ line
-same_tick c line = search arith
+      let rest = kept_sound (n + 1) (after quiets s line) more (omega (arith, under)) (search (arith, step)) in
+      search (arith, AreSound-append, length-append)
 
 module _ (start : Start) where
   either_quiet : (h : List Timed) (x : Timed) (b : Bool)
@@ -163,17 +141,19 @@ module _ (start : Start) where
   goes_on [] h g q = q
   goes_on (line ∷ more) h g q = line_goes_on line more (said line) refl (goes_on more) h g q
 
+  -- the lines of the text that is written
+  kept_are : (h : List Timed) (bytes : List ℕ) → (playing quiet h bytes).fault ≡ None
+      → lines (playing quiet h bytes).text ≡ kept_lines h (lines bytes)
+  kept_are h bytes sound =
+      let kept_is = lines_kept (histories start) is_noise in
+      let sends = all_send (histories start) is_noise h (lines bytes) in
+      ap lines (written_text kept_is 1 h (lines bytes) sound)
+      ∙ lines_joined _ (written_are kept_is h (lines bytes) (lines_are_lines bytes) sends)
+
   -- The inputs of a log and those of the log made quiet make quiet histories of quiet histories.
   pub quiet_text_is_quiet : (h g : List Timed) (bytes : List ℕ) → (playing quiet h bytes).fault ≡ None → Quiet start h g
       → Quiet start (onto (inputs (lines bytes)) h) (onto (inputs (lines (playing quiet h bytes).text)) g)
-  quiet_text_is_quiet h g bytes sound q =
-      let text : (playing quiet h bytes).text ≡ flat_map ended (kept_lines h (lines bytes)) =
-      written_text (lines_kept (histories start) is_noise) 1 h (lines bytes) sound in
-      let cut : lines (playing quiet h bytes).text ≡ kept_lines h (lines bytes) =
-      ap lines text ∙ lines_joined (kept_lines h (lines bytes))
-      (written_are (lines_kept (histories start) is_noise) h (lines bytes) (lines_are_lines bytes)
-      (all_send (histories start) is_noise h (lines bytes))) in
-      rw cut (goes_on (lines bytes) h g q)
+  quiet_text_is_quiet h g bytes sound q = rw (kept_are h bytes sound) (goes_on (lines bytes) h g q)
 
   pub noise_alike : (h g : List Timed) (x : Timed) → Quiet start h g → is_noise h x ≡ is_noise g x
   unfolding session_of
@@ -185,7 +165,7 @@ module _ (start : Start) where
   either_again : (h g : List Timed) (x : Timed) (line : List ℕ) (b : Bool) → Quiet start h g → is_noise h x ≡ b
       → cond (is_noise g (cond b (tick_at x.at) x)) (tick_text (cond b (tick_at x.at) x).at)
       (cond b (tick_text x.at) line) ≡ cond b (tick_text x.at) line
-  either_again h g x line b k l = search (arith, same_tick, noise_alike)
+  either_again h g x line b k l = search (arith, noise_alike)
 
   abbrev StaysKept : List (List ℕ) → Type 0
   StaysKept ls = (h g : List Timed) → Quiet start h g → kept_lines g (kept_lines h ls) ≡ kept_lines h ls
@@ -209,17 +189,8 @@ module _ (start : Start) where
       × ((playing quiet h (playing quiet h bytes).text).text ≡ (playing quiet h bytes).text)
   quiet_again h bytes sound =
       let first = kept_lines h (lines bytes) in
-      let text : (playing quiet h bytes).text ≡ flat_map ended first =
-      written_text (lines_kept (histories start) is_noise) 1 h (lines bytes) sound in
-      let cut : lines (playing quiet h bytes).text ≡ first =
-      ap lines text
-      ∙ lines_joined first (written_are (lines_kept (histories start) is_noise) h (lines bytes) (lines_are_lines bytes)
-      (all_send (histories start) is_noise h (lines bytes))) in
+      let all = λ (ls : List (List ℕ)). written_text (lines_kept (histories start) is_noise) 1 h ls in
       let well = kept_sound (histories start) is_noise 1 h (lines bytes) (omega arith) sound in
-      let none : (played quiet 1 h first).fault ≡ None =
-      sound_is_played (histories start) is_noise 1 h first well.0 well.1 in (
-        ap (λ (ls : List (List ℕ)). (played quiet 1 h ls).fault) cut ∙ none,
-        ap (λ (ls : List (List ℕ)). (played quiet 1 h ls).text) cut
-            ∙ written_text (lines_kept (histories start) is_noise) 1 h first none
-            ∙ ap (λ (ls : List (List ℕ)). flat_map ended ls) (stays_kept (lines bytes) h h (quiet_self h)) ∙ sym text,
-      )
+      let none = sound_is_played (histories start) is_noise 1 h first well.0 well.1 in
+      let stays = ap (λ (ls : List (List ℕ)). flat_map ended ls) (stays_kept (lines bytes) h h (quiet_self h)) in
+      rw (kept_are h bytes sound) (none, all first none ∙ stays ∙ sym (all (lines bytes) sound))

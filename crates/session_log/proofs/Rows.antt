@@ -5,16 +5,13 @@ use Rattle.hex.proofs.OnLiterals.{hex_on_literals}
 use Rattle.token_session.specs.declared.input.Input.{Input as AnyInput}
 use Rattle.authn_core.specs.declared.replies.Presence.TheVariants.{Granted, Denied, TimedOut}
 use Rattle.token_session.specs.declared.input.Input.TheVariants.{Packet, Tick, Presence, Key, Signature}
-use Rattle.session_log.specs.declared.fault.LogFault.{LogFault}
+use Rattle.session_log.specs.declared.{fault.LogFault.LogFault, line.Line.Line}
 use Rattle.session_log.specs.declared.fault.LogFault.TheVariants.{BadLine, TooLong, Differs, TooManyLines}
-use Rattle.session_log.specs.Check.{Compared, begun, checking}
-use Rattle.session_log.specs.declared.line.Line.{Line}
+use Rattle.session_log.specs.{Check.Compared, Check.begun, Check.checking, Said.moment, Said.said, Needs.need_lines}
 use Rattle.session_log.specs.declared.line.Line.TheVariants.{Input, Sent, Comment, Count}
 use Rattle.session_log.specs.Lines.{lines, whole_lines, last_piece}
 use Rattle.session_log.specs.Log.{fault_at, fault_of, playing, log}
-use Rattle.session_log.specs.Said.{moment, said}
 use Rattle.session_log.specs.World.{Course, World, replaying, quieting, living}
-use Rattle.session_log.specs.Needs.{need_lines}
 use Rattle.authn_core.specs.Views.{nothing, presence, sign}
 use Rattle.hex.specs.Hex.{encode_with}
 

@@ -1,24 +1,19 @@
 -- A number has one spelling in digits.
 use Rattle.std.proofs.Common.{◌≡◌, ℕ, ◌<◌, ◌^◌, ◌==◌, ◌&&◌, nat_lt, Bool, true, false, cond, List, Option, Some, None, decimal, refl, sym, ap, ◌∙◌, subst, suc, ◌+◌, [], ◌∷◌, ◌++◌, length, get_or, take, drop, position, arith, add-one, length-append, take-append-drop, ◌*◌, ◌≤◌, codes}
 use Rattle.std.proofs.lemmas.Bool.{ne_eqb, lt-ltb, ltb-true, eqb-true, le-leb, leb-true}
-use Rattle.std.proofs.lemmas.Fmt.{decimal_is_IsNumeral}
+use Rattle.std.proofs.lemmas.{Fmt.decimal_is_IsNumeral, List.Quantifiers.position-Some}
 use Rattle.std.specs.Cmp.Lexicographic.{pointwise, same_text, other_text}
-use Rattle.std.specs.Str.Parse.{digits_value, AllDigits}
+use Rattle.std.specs.{Str.Parse.digits_value, Str.Parse.AllDigits, Char.digit_value, List.AllPass, List.position_or_len}
 use Rattle.session_log.proofs.Cases.{no_some, refuted}
 use Rattle.session_log.specs.Said.{moment, first_field, ◌>>=◌, is_word, packet_said, presence_said, key_of, key_said, signature_of, signature_said, input_by, input_line, said}
-use Rattle.std.proofs.lemmas.List.Quantifiers.{position-Some}
 use Rattle.std.proofs.Math.Seq.{take-append_seam, drop-append-add, drop-cons}
-use Rattle.std.specs.Char.{digit_value}
-use Rattle.std.specs.List.{AllPass, position_or_len}
 use Rattle.hex.specs.Hex.{is_hex_digit}
 use Rattle.hex.proofs.HexLemmas.{IsOk-decode_sized, decode_sized-ok, decode_sized-twice, decode_of-ok}
-use Rattle.authn_core.specs.declared.replies.NewKey.{NewKey}
-use Rattle.authn_core.specs.declared.replies.Presence.{Presence as AnyPresence}
+use Rattle.authn_core.specs.declared.replies.{NewKey.NewKey, Presence.Presence as AnyPresence}
 use Rattle.authn_core.specs.declared.replies.Presence.TheVariants.{Granted, Denied, TimedOut}
 use Rattle.token_session.specs.declared.input.Input.{Input as AnyInput}
 use Rattle.token_session.specs.declared.input.Input.TheVariants.{Packet, Tick, Presence, Key, Signature}
-use Rattle.session_log.specs.declared.line.Line.{Line}
-use Rattle.session_log.specs.declared.line.Line.TheVariants.{Input, Count}
+use Rattle.session_log.specs.declared.line.Line.{Line, TheVariants.Input, TheVariants.Count}
 use Rattle.session_log.specs.Grammar.{IsHexOf, SpellsField, SpellsInput, Spells, front_of}
 use Rattle.session_log.specs.Words.{presence_word, refusal_word}
 

@@ -1,16 +1,12 @@
 -- Bytes in pieces of 96, and the lines of what is needed.
 use Rattle.std.proofs.Common.{◌≡◌, ℕ, zero, suc, ◌+◌, ◌-◌, ◌*◌, ◌/◌, ◌<◌, ◌≤◌, true, false, List, [], ◌∷◌, ◌++◌, length, take, drop, min, map, flat_map, All, refl, ap, ◌∙◌, arith, length-drop, take-append-drop, codes, Some, length-append, slice_index}
-use Rattle.std.proofs.lemmas.List.{length-take, take_min, drop_min}
-use Rattle.std.proofs.lemmas.List.Elements.{All-nil, All-cons}
+use Rattle.std.proofs.lemmas.List.{length-take, take_min, drop_min, Elements.All-nil, Elements.All-cons}
 use Rattle.std.specs.Simd.{first_chunks}
-use Rattle.authn_core.specs.Views.{Needed, nothing, presence, key, sign}
+use Rattle.authn_core.specs.{Views.Needed, Views.nothing, Views.presence, Views.key, Views.sign, Needs.IsNeed}
 use Rattle.session_log.specs.Needs.{need_lines, pieces_of, says_need, signature_line, signed_line, is_need_line}
 use Rattle.hex.specs.Hex.{encode_with, encode_lower, lower_digits}
 use Rattle.hex.proofs.HexLemmas.{length-encode_with}
-use Rattle.authn_core.specs.Needs.{IsNeed}
-use Rattle.session_log.specs.declared.line.Line.TheVariants.{Comment}
-use Rattle.session_log.specs.Lines.{is_feed}
-use Rattle.session_log.specs.Said.{said}
+use Rattle.session_log.specs.{declared.line.Line.TheVariants.Comment, Lines.is_feed, Said.said}
 use Rattle.session_log.proofs.Feeds.{feedless, AreLines, both, feedless-append, IsSound}
 
 -- as many as it takes

@@ -2,18 +2,13 @@
 use Rattle.std.proofs.Common.{◌≡◌, ◌∙◌, ℕ, ◌+◌, Bool, IfErr, List, Option, Result, Ok, Err, Some, inr, ap, arith}
 use Rattle.std.proofs.KnownBytes.{Appends-kept}
 use Rattle.token_session.specs.declared.input.Meters.{Meters}
-use Rattle.session_log.specs.Command.{PlaysThrough}
+use Rattle.session_log.specs.{Command.PlaysThrough, Lines.lines, Sent.AllSend, World.World}
 use Rattle.session_log.specs.Ending.{Ending, Done, ended_by, ending_of, read_fails, write_fails}
 use Rattle.session_log.specs.Replay.{Closes, IsOfEnd, IsPlayed, Logs, Makes, MakesSoundly, Plays, ReadsTo}
-use Rattle.session_log.specs.Lines.{lines}
-use Rattle.session_log.specs.Sent.{AllSend}
 use Rattle.session_log.specs.Streams.{Counts, IsAllRead, Moves}
-use Rattle.session_log.specs.World.{World}
-use Rattle.session_log.specs.declared.fault.LogFault.{LogFault}
-use Rattle.session_log.specs.declared.fault.LogFault.TheVariants.{Differs, Write}
-use Rattle.session_log.proofs.Exits.{closes, closes_not, passed_on}
-use Rattle.session_log.proofs.Through.{first_is_last}
-use Rattle.session_log.proofs.Worlds.{Follows, reads_alike}
+use Rattle.session_log.specs.declared.fault.LogFault.{LogFault, TheVariants.Differs, TheVariants.Write}
+use Rattle.session_log.proofs.Exits.{closes, closes_not}
+use Rattle.session_log.proofs.{Through.first_is_last, Worlds.Follows, Worlds.reads_alike}
 
 module _ {S I O : Type 0} (world : World S) (s t : S) (left : I → Option (List ℕ)) (unread : I → ℕ) (ended : I → Bool)
     (taken : O → Option (List ℕ)) (unwritten : O → ℕ) (i j : I) (o p : O) where
@@ -38,7 +33,7 @@ module _ {S I O : Type 0} (world : World S) (s t : S) (left : I → Option (List
       → Ends (ended_by e) (λ bytes text. Plays world s t bytes text (ended_by e)) X
       → PlaysThrough world s (λ bytes text. MakesSoundly world s t bytes text r) left unread ended taken unwritten r
       (i, j) (o, p)
-  fails_with r e is h = search (arith, passed_on)
+  fails_with r e is h = search arith
 
   -- What is said of a whole log, without what is known of the packets that were sent.
   pub makes : {A : Type 0} (r : Result A LogFault)
@@ -73,14 +68,9 @@ ends_with world s t left unread ended taken unwritten i j o between p (Ok x) own
     let m = closes taken unwritten _ _ _ (between, p) h.0.2 h.0.3 h.0.4 close.0 close.1 in
     (m, tt, (h.2.0, close.1.1 ∙ h.2.1, h.2.2))
 ends_with world s t left unread ended taken unwritten i j o between p (Err (Differs line packet)) own close h =
-    let faulty = first_is_last world s t h.0.0 h.0.1 (Some (Differs line packet)) h.0.4 close.0 in (
-      (
-        h.0.0,
-        h.0.1,
-        h.0.2,
-        Appends-kept (taken o) (taken between) (taken p) h.0.1 h.0.3 close.1,
-        (record { faulty = faulty; written = h.0.4.written; stands = h.0.4.stands }, tt),
-      ),
+    let faulty = first_is_last world s t h.0.0 h.0.1 (Some (Differs line packet)) h.0.4 close.0 in
+    let kept = Appends-kept (taken o) (taken between) (taken p) h.0.1 h.0.3 close.1 in (
+      (h.0.0, h.0.1, h.0.2, kept, (search (arith, faulty), tt)),
       (h.0.0, h.0.2, inr (h.0.4.faultless, h.2.2)),
       (h.2.0, close.2 ∙ h.2.1, tt),
     )
@@ -98,12 +88,6 @@ pub there : {A B Q I O : Type 0} {v : World A} {w : World B} {R : A → B → Ty
     → PlaysThrough v s V left unread ended taken unwritten r input output
     → (c : B) × T c × PlaysThrough w b (W c) left unread ended taken unwritten r input output
 there f s b k V T W alike left unread ended taken unwritten r input output h =
-    let found = alike h.0.0 h.0.1 h.0.4 in (
-      found.0,
-      found.1,
-      (
-        (h.0.0, h.0.1, h.0.2, h.0.3, found.2),
-        reads_alike f s b k (left input.0) (left input.1) (IsAllRead left ended input.1) (ending_of r) h.1,
-        h.2,
-      ),
-    )
+    let found = alike h.0.0 h.0.1 h.0.4 in
+    let reads = reads_alike f s b k (left input.0) (left input.1) (IsAllRead left ended input.1) (ending_of r) h.1 in
+    (found.0, found.1, ((h.0.0, h.0.1, h.0.2, h.0.3, found.2), reads, h.2))

@@ -1,7 +1,6 @@
 -- Digits of bytes that end in zeros.
 use Rattle.std.proofs.Common.{◌≡◌, ◌+◌, ◌*◌, ◌/◌, ◌%◌, ◌++◌, ◌∷◌, [], ℕ, zero, suc, List, length, take, drop, replicate, refl, sym, ap, ◌∙◌, arith, append_assoc, ◌-◌, ◌≤◌, Some, None, Ok, Err, Result}
-use Rattle.std.specs.Prelude.{slice_index_or}
-use Rattle.std.specs.Option.{option_map}
+use Rattle.std.specs.{Prelude.slice_index_or, Option.option_map}
 use Rattle.std.specs.Result.{result_ok, IsOk, MatchResult, OnOk}
 use Rattle.hex.specs.Hex.{decode_pairs, decode_sized, encode_lower, encode_with, lower_digits, pair_value, ◌>>=◌, IsBytes}
 use Rattle.hex.specs.declared.error.FromHexError.{FromHexError}

@@ -1,10 +1,7 @@
 use Rattle.std.proofs.Common.{refl, subst}
 use Rattle.session_log.specs.Check.{check_machine, compared, due_packets}
-use Rattle.session_log.specs.Command.{PlaysThrough}
-use Rattle.session_log.specs.Ending.{ending_of}
-use Rattle.session_log.specs.Replay.{Makes}
-use Rattle.session_log.proofs.Histories.{checks_history}
-use Rattle.session_log.proofs.Whole.{makes}
+use Rattle.session_log.specs.{Command.PlaysThrough, Ending.ending_of, Replay.Makes}
+use Rattle.session_log.proofs.{Histories.checks_history, Whole.makes}
 use Rattle.session_log.proofs.checking.check.Goals as goal
 
 pub returns : goal.returns

@@ -1,7 +1,5 @@
 use Rattle.std.proofs.Common.{arith}
-use Rattle.session_log.specs.Check.{begun}
-use Rattle.session_log.specs.Lines.{lines}
-use Rattle.session_log.specs.Session.{histories}
+use Rattle.session_log.specs.{Check.begun, Lines.lines, Session.histories}
 use Rattle.session_log.proofs.Groups.{check_is_silent, same_groups, counts_on}
 use Rattle.session_log.proofs.laws.a_checked_log_has_what_is_sent.Goals as goal
 

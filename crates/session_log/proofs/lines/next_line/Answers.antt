@@ -1,6 +1,5 @@
-use Rattle.std.proofs.lemmas.Grind.{common_steps}
+use Rattle.std.proofs.{lemmas.Grind.common_steps, KnownBytes.Consumes-nil}
 use Rattle.std.proofs.Common.{◌<◌, ◌≤◌, ◌+◌, ◌-◌, ◌^◌, ℕ, append-nil, length, refl, arith, sym, subst, ap, ◌∙◌}
-use Rattle.std.proofs.KnownBytes.{Consumes-nil}
 use Rattle.session_log.specs.Window.{IsUnfinished}
 use Rattle.session_log.proofs.Gathering.{gathers, in_count}
 use Rattle.session_log.proofs.lines.next_line.Goals as goal
@@ -34,16 +33,12 @@ returns-then-is_full g c = search (arith, in_count)
 
 pub returns-in-Ok-false : goal.returns-in-Ok-false
 returns-in-Ok-false g c =
-    let before : IsUnfinished c.args.number c.reading.window = record {
-      no_feed = sym c.first_feed.ensures.value ∙ c.in_default.is;
-      short = below_full (length c.reading.window) (λ full. cc (c.if-is_full.ensures.1 full));
-      counted = c.if-is_too_many.ensures.value;
-    } in
+    let feed = sym c.first_feed.ensures.value ∙ c.in_default.is in
+    let short = below_full (length c.reading.window) (λ full. cc (c.if-is_full.ensures.1 full)) in
+    let before : IsUnfinished c.args.number c.reading.window = search arith in
     let ended = rw c.in-Ok-false.field-0-test at c.in-Ok-false.ensures.grown in
     record {
-      bytes =
-          gathers c.args.window.now c.reading.window c.fill.new.self _ _ _ c.reading.invariant.done
-          c.fill.ensures.bytes;
+      bytes = gathers _ c.reading.window c.fill.new.self _ _ _ c.reading.invariant.done c.fill.ensures.bytes;
       found = (subst (IsUnfinished c.args.number) (sym ended.0) before, (ended.1, ended.2));
       stopped = tt;
       reads = ◌∙◌ {b = g.S.Source.failed c.reading.reader} c.in-Ok-false.ensures.counted c.reading.invariant.same;
@@ -51,18 +46,11 @@ returns-in-Ok-false g c =
 
 pub returns-in-Err : goal.returns-in-Err
 returns-in-Err g c =
-    let before : IsUnfinished c.args.number c.reading.window = record {
-      no_feed = sym c.first_feed.ensures.value ∙ c.in_default.is;
-      short = below_full (length c.reading.window) (λ full. cc (c.if-is_full.ensures.1 full));
-      counted = c.if-is_too_many.ensures.value;
-    } in
+    let short = below_full (length c.reading.window) (λ full. cc (c.if-is_full.ensures.1 full)) in
+    let feed = sym c.first_feed.ensures.value ∙ c.in_default.is in
     record {
-      bytes =
-          gathers c.args.window.now c.reading.window c.fill.new.self _ _ _ c.reading.invariant.done
-          c.fill.ensures.bytes;
+      bytes = gathers _ c.reading.window c.fill.new.self _ _ _ c.reading.invariant.done c.fill.ensures.bytes;
       found = tt;
-      stopped = (refl, subst (IsUnfinished c.args.number) (sym c.in-Err.ensures.err) before);
-      reads =
-          ◌∙◌ {b = g.S.Source.failed c.reading.reader + 1} c.in-Err.ensures.counted
-          (ap (λ (k : ℕ). k + 1) c.reading.invariant.same);
+      stopped = (refl, rw (c.in-Err.ensures.err) (record { no_feed = feed; short = short; counted = c.if-is_too_many.ensures.value }));
+      reads = c.in-Err.ensures.counted ∙ ap (λ (k : ℕ). k + 1) c.reading.invariant.same;
     }

@@ -2,10 +2,9 @@ use Rattle.std.proofs.Common.{rules, ◌≡◌, Ok, Err, ap, ◌∙◌, subst}
 use Rattle.std.proofs.lemmas.Result.{err_from_is_err_and}
 use Rattle.session_log.specs.Sent.{FitsMeters}
 use Rattle.session_log.specs.Session.{live_history, live_machine, session_needs, sessions}
-use Rattle.session_log.proofs.Failures.{on_err}
+use Rattle.session_log.proofs.{Failures.on_err, Whole.logs_fault, Whole.logs_whole}
 use Rattle.session_log.proofs.Histories.{live_follows, logs_history}
 use Rattle.session_log.proofs.Again.{live_again, live_logs, live_replayed, repeats_in, replay_logs}
-use Rattle.session_log.proofs.Whole.{logs_fault, logs_whole}
 use Rattle.session_log.proofs.living.live.Goals as goal
 
 pub returns-in_err-play_log : goal.returns-in_err-play_log
@@ -33,22 +32,18 @@ returns g c =
     let s = c.args.session.now in
     let new = c.play_log.new in
     let h = c.in_ok-play_log.ensures in
+    let logs = live_logs sessions session_needs in
+    let copies = live_replayed sessions session_needs in
+    let again = live_again sessions session_needs in
     let through =
     logs_whole live_machine s new.session g.S.Source.left g.S.Source.failed g.S.Source.ended g.T.Target.taken
-    g.T.Target.failed
-    c.args.reader.now new.reader c.args.writer.now new.writer c.meters.result c.meters.ensures.value h in
+    g.T.Target.failed c.args.reader.now new.reader c.args.writer.now new.writer _ c.meters.ensures.value h in
     let fits : FitsMeters c.meters.result = search rules in
+    let held = subst FitsMeters c.meters.ensures.value fits in
     record {
       lived = through;
-      again =
-          repeats_in (live_logs sessions session_needs) (live_logs sessions session_needs)
-          (live_again sessions session_needs) (g.T.Target.taken c.args.writer.now) (g.T.Target.taken new.writer) s
-          new.session h.0.0 h.0.1 h.0.3 h.0.4.0 h.0.4.0.faultless h.0.4.1
-          (subst FitsMeters c.meters.ensures.value fits);
-      replays =
-          repeats_in (live_logs sessions session_needs) (replay_logs sessions) (live_replayed sessions session_needs)
-          (g.T.Target.taken c.args.writer.now) (g.T.Target.taken new.writer) s new.session h.0.0 h.0.1 h.0.3 h.0.4.0
-          h.0.4.0.faultless h.0.4.1 (subst FitsMeters c.meters.ensures.value fits);
+      again = repeats_in logs logs again _ _ s _ _ _ h.0.3 h.0.4.0 h.0.4.0.faultless h.0.4.1 held;
+      replays = repeats_in logs (replay_logs sessions) copies _ _ s _ _ _ h.0.3 h.0.4.0 h.0.4.0.faultless h.0.4.1 held;
       history = logs_history g.S.Source.left g.S.Source.failed g.S.Source.ended g.T.Target.taken g.T.Target.failed
           (c.args.reader.now, new.reader) (c.args.writer.now, new.writer) live_machine live_history live_follows s
           new.session (Ok c.meters.result) through;

@@ -1,15 +1,11 @@
-use Rattle.std.proofs.Common.{◌≡◌, ◌<◌, ◌+◌, ◌^◌, ℕ, List, [], ◌++◌, length, take, Err, refl, ap, ◌∙◌, subst, arith}
-use Rattle.std.specs.Io.KnownBytes.{Consumes}
+use Rattle.std.proofs.Common.{◌≡◌, ◌<◌, ◌+◌, ◌^◌, [], ◌++◌, length, take, Err, refl, ap, ◌∙◌, arith}
 use Rattle.std.proofs.KnownBytes.{Consumes-nil, Appends-nil}
-use Rattle.std.proofs.lemmas.List.{nil_from_length}
-use Rattle.std.proofs.lemmas.Result.{err_from_is_err_and}
+use Rattle.std.proofs.lemmas.{List.nil_from_length, Result.err_from_is_err_and}
 use Rattle.session_log.specs.Ending.{ended_by, ending_of}
-use Rattle.session_log.proofs.Through.{through_none, played_none}
+use Rattle.session_log.proofs.{Through.through_none, Through.played_none, Whole.stops, Gathering.in_count}
 use Rattle.session_log.proofs.Exits.{read_on, goes_on, stops_reading, stops_in_front, ends, some_left}
 use Rattle.session_log.proofs.Failures.{on_any, on_err, on_ok, counts_none, counts_on, plays_counts, plays_unread, stops_unwritten}
 use Rattle.session_log.proofs.Lasts.{faulty_in_front, faulty_last, none_bad}
-use Rattle.session_log.proofs.Whole.{stops}
-use Rattle.session_log.proofs.Gathering.{in_count}
 use Rattle.session_log.proofs.playing.play_lines.Goals as goal
 
 pub lines-init : goal.lines-init
@@ -88,29 +84,17 @@ returns-in_err-play_first g c =
 
 pub returns-then-is_empty : goal.returns-then-is_empty
 returns-then-is_empty g c =
-    let state = g.P.Player.state in
-    let left = g.S.Source.left in
     let before = c.lines.invariant.done in
     let w = c.next_line.new.window in
     let none : w ≡ [] = c.if-is_empty.ensures.0 refl in
     let at = rw c.in_default.is at c.in_ok-end.ensures.found in
+    let read = read_on _ _ _ before.0 c.lines.window w before.2 c.in_ok-end.ensures.bytes in
+    let reads = ◌∙◌ {b = g.S.Source.failed c.lines.reader} c.in_ok-end.ensures.reads c.lines.invariant.reads in
     record {
       played = (
-        (
-          before.0 ++ [],
-          before.1,
-          subst (λ (l : List ℕ). Consumes (left c.args.reader.now) (left c.next_line.new.reader) (before.0 ++ l)) none
-              (read_on (left c.args.reader.now) (left c.lines.reader) (left c.next_line.new.reader) before.0
-              c.lines.window w before.2 c.in_ok-end.ensures.bytes),
-          before.3,
-          played_none before.4,
-        ),
+        (before.0 ++ [], before.1, rw none at read, before.3, played_none before.4),
         tt,
-        (
-          ◌∙◌ {b = g.S.Source.failed c.lines.reader} c.in_ok-end.ensures.reads c.lines.invariant.reads,
-          c.lines.invariant.writes,
-          at.1,
-        ),
+        (reads, c.lines.invariant.writes, at.1),
       );
       ready = (c.lines.number, c.lines.invariant.counted, c.lines.invariant.ready);
     }

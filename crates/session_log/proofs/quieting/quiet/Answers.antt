@@ -1,6 +1,5 @@
 use Rattle.std.proofs.Common.{arith}
-use Rattle.session_log.proofs.Histories.{quiets_history}
-use Rattle.session_log.proofs.Whole.{makes}
+use Rattle.session_log.proofs.{Histories.quiets_history, Whole.makes}
 use Rattle.session_log.proofs.quieting.quiet.Goals as goal
 
 pub returns : goal.returns

@@ -1,10 +1,8 @@
 use Rattle.std.proofs.Common.{rules, ◌≡◌, Ok, Err, ap, ◌∙◌, subst}
 use Rattle.std.proofs.lemmas.Result.{err_from_is_err_and}
-use Rattle.session_log.specs.Sent.{FitsMeters}
-use Rattle.session_log.specs.Session.{history, machine, sessions}
-use Rattle.session_log.proofs.Failures.{on_err}
+use Rattle.session_log.specs.{Sent.FitsMeters, Session.history, Session.machine, Session.sessions}
+use Rattle.session_log.proofs.{Failures.on_err, Whole.logs_fault, Whole.logs_whole}
 use Rattle.session_log.proofs.Histories.{follows, logs_history}
-use Rattle.session_log.proofs.Whole.{logs_fault, logs_whole}
 use Rattle.session_log.proofs.Again.{repeats_in, replay_again, replay_logs}
 use Rattle.session_log.proofs.replaying.replay.Goals as goal
 
@@ -32,17 +30,15 @@ returns g c =
     let s = c.args.session.now in
     let new = c.play_log.new in
     let h = c.in_ok-play_log.ensures in
+    let logs = replay_logs sessions in
     let through =
     logs_whole machine s new.session g.S.Source.left g.S.Source.failed g.S.Source.ended g.T.Target.taken
-    g.T.Target.failed
-    c.args.reader.now new.reader c.args.writer.now new.writer c.meters.result c.meters.ensures.value h in
+    g.T.Target.failed c.args.reader.now new.reader c.args.writer.now new.writer _ c.meters.ensures.value h in
     let fits : FitsMeters c.meters.result = search rules in
+    let held = subst FitsMeters c.meters.ensures.value fits in
     record {
       replayed = through;
-      again = repeats_in (replay_logs sessions) (replay_logs sessions) (replay_again sessions)
-          (g.T.Target.taken c.args.writer.now) (g.T.Target.taken new.writer) s new.session h.0.0 h.0.1 h.0.3 h.0.4.0
-          h.0.4.0.faultless h.0.4.1 (subst FitsMeters c.meters.ensures.value fits);
+      again = repeats_in logs logs (replay_again sessions) _ _ s _ _ _ h.0.3 h.0.4.0 h.0.4.0.faultless h.0.4.1 held;
       history = logs_history g.S.Source.left g.S.Source.failed g.S.Source.ended g.T.Target.taken g.T.Target.failed
-          (c.args.reader.now, new.reader) (c.args.writer.now, new.writer) machine history follows s new.session
-          (Ok c.meters.result) through;
+          (c.args.reader.now, new.reader) (c.args.writer.now, new.writer) machine history follows s new.session (Ok c.meters.result) through;
     }

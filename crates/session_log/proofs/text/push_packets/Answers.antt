@@ -1,6 +1,5 @@
-use Rattle.std.proofs.lemmas.Grind.{common_steps}
+use Rattle.std.proofs.lemmas.Grind.{common_steps, flat_map-append}
 use Rattle.std.proofs.Common.{[], refl, sym, append_assoc, append-nil, arith}
-use Rattle.std.proofs.lemmas.Grind.{flat_map-append}
 use Rattle.session_log.proofs.Sends.{ArePackets-snoc}
 use Rattle.session_log.proofs.text.push_packets.Goals as goal
 

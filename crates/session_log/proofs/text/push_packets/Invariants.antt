@@ -1,6 +1,5 @@
 use Rattle.std.proofs.Common.{◌≡◌, ◌≤◌, ◌+◌, ◌*◌, ℕ, List, ◌++◌, length, flat_map}
-use Rattle.session_log.specs.Text.{ArePackets, sent_text}
-use Rattle.session_log.specs.declared.text.TheConstants.{SENT_LINE}
+use Rattle.session_log.specs.{Text.ArePackets, Text.sent_text, declared.text.TheConstants.SENT_LINE}
 use Rattle.session_log.proofs.text.push_packets.Given as goal
 
 -- what was appended and what is left are the packets

@@ -1,6 +1,5 @@
-use Rattle.std.proofs.lemmas.Grind.{common_steps}
+use Rattle.std.proofs.lemmas.{Grind.common_steps, List.drop-take, List.take-take, List.take-append-le}
 use Rattle.std.proofs.Common.{arith, length-take-le}
-use Rattle.std.proofs.lemmas.List.{drop-take, take-take, take-append-le}
 use Rattle.session_log.proofs.window.get_after.Goals as goal
 
 pub returns-clause-kept : goal.returns-clause-kept

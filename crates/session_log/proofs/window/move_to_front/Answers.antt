@@ -1,6 +1,4 @@
-use Rattle.std.proofs.lemmas.Grind.{common_steps}
-use Rattle.std.proofs.Common.{arith, length-drop}
-use Rattle.std.proofs.lemmas.List.Edits.{take-paste}
+use Rattle.std.proofs.{lemmas.Grind.common_steps, lemmas.List.Edits.take-paste, Common.arith, Common.length-drop}
 use Rattle.session_log.proofs.window.move_to_front.Goals as goal
 
 pub returns : goal.returns

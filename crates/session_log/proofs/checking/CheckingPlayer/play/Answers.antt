@@ -3,12 +3,8 @@ use Rattle.std.proofs.KnownBytes.{Appends-nil}
 use Rattle.hid_packet.specs.declared.packet.Packet.{Packet}
 use Rattle.session_log.specs.Check.{check_machine, compared, due_packets, missing_of, moves_compared, stops_compared}
 use Rattle.session_log.specs.Log.{after_by, fault_by, text_by}
-use Rattle.session_log.specs.Said.{said}
-use Rattle.session_log.specs.Sent.{SendsPackets}
-use Rattle.session_log.specs.Session.{sessions}
-use Rattle.session_log.specs.Streams.{IsTaken}
-use Rattle.session_log.specs.declared.fault.LogFault.TheVariants.{Differs}
-use Rattle.session_log.specs.declared.line.Line.TheVariants.{Input}
+use Rattle.session_log.specs.{Said.said, Sent.SendsPackets, Session.sessions, Streams.IsTaken}
+use Rattle.session_log.specs.declared.{fault.LogFault.TheVariants.Differs, line.Line.TheVariants.Input}
 use Rattle.session_log.proofs.checking.CheckingPlayer.play.Goals as goal
 
 -- no packet is due

@@ -6,31 +6,28 @@ use Rattle.session_log.proofs.command.LogCommand.play.Goals as goal
 pub returns-in-Replay : goal.returns-in-Replay
 returns-in-Replay g c =
     let after = c.replay.new in
-    let unmetered_is = c.unmetered.ensures in
-    rw (c.in-Replay.is, unmetered_is) (record {
+    rw (c.in-Replay.is, c.unmetered.ensures) (record {
       plays = λ start h stands.
           let found = c.replay.ensures.history start h stands in
           let q =
           plays_unmetered (history start) h found.0 g.S.Source.left g.S.Source.failed g.S.Source.ended g.T.Target.taken
-          g.T.Target.failed c.replay.result (c.args.reader.now, after.reader) (c.args.writer.now, after.writer)
-          found.2 in
+          g.T.Target.failed _ (c.args.reader.now, after.reader) (c.args.writer.now, after.writer) found.2 in
           (found.0, found.1, q.0, q.1, q.2);
-      grown = (c.replay.ensures.replayed.0.1, c.replay.ensures.replayed.0.3);
+      grown = search;
     })
 
 pub returns-in-Live : goal.returns-in-Live
 returns-in-Live g c =
     let after = c.live.new in
-    let unmetered_is = c.unmetered-in-Live.ensures in
-    rw (c.in-Live.is, unmetered_is) (record {
+    rw (c.in-Live.is, c.unmetered-in-Live.ensures) (record {
       plays = λ start h stands.
           let found = c.live.ensures.history start h stands in
           let q =
           plays_unmetered (live_history start) h found.0 g.S.Source.left g.S.Source.failed g.S.Source.ended
-          g.T.Target.taken
-          g.T.Target.failed c.live.result (c.args.reader.now, after.reader) (c.args.writer.now, after.writer) found.2 in
+          g.T.Target.taken g.T.Target.failed _ (c.args.reader.now, after.reader) (c.args.writer.now, after.writer)
+          found.2 in
           (found.0, found.1, q.0, q.1, q.2);
-      grown = (c.live.ensures.lived.0.1, c.live.ensures.lived.0.3);
+      grown = search;
     })
 
 pub returns-in-Check : goal.returns-in-Check

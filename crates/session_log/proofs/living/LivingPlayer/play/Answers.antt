@@ -1,10 +1,7 @@
 use Rattle.std.proofs.Common.{◌≡◌, Bool, cond, Some, [], flat_map, ◌++◌, refl, sym, ◌∙◌, ap, subst}
-use Rattle.authn_core.specs.Needs.{IsNeed}
-use Rattle.authn_core.specs.Views.{needed}
+use Rattle.authn_core.specs.{Needs.IsNeed, Views.needed}
 use Rattle.token_session.specs.Meters.{stepped}
-use Rattle.session_log.specs.Session.{live_machine, session_needs}
-use Rattle.session_log.specs.Needs.{need_lines}
-use Rattle.session_log.specs.Said.{said}
+use Rattle.session_log.specs.{Session.live_machine, Session.session_needs, Needs.need_lines, Said.said}
 use Rattle.session_log.specs.Text.{ArePackets, ended, sent_text}
 use Rattle.session_log.specs.declared.line.Line.TheVariants.{Comment, Input}
 use Rattle.session_log.proofs.Exits.{writes_for}

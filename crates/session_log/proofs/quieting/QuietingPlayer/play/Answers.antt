@@ -1,7 +1,5 @@
 use Rattle.std.proofs.Common.{◌≡◌, Bool, cond, Some, refl, sym, ◌∙◌, ap}
-use Rattle.session_log.specs.Session.{quiet_machine}
-use Rattle.session_log.specs.Said.{said}
-use Rattle.session_log.specs.Text.{ended, tick_text}
+use Rattle.session_log.specs.{Session.quiet_machine, Said.said, Text.ended, Text.tick_text}
 use Rattle.session_log.specs.declared.line.Line.TheVariants.{Comment, Input}
 use Rattle.session_log.proofs.Exits.{writes_for}
 use Rattle.session_log.proofs.quieting.QuietingPlayer.play.Goals as goal
@@ -30,8 +28,6 @@ returns-else-noise-clause-played g c =
 pub returns-in-Comment-clause-played : goal.returns-in-Comment-clause-played
 returns-in-Comment-clause-played g c =
     let s = c.args.session.now in
-    let line = c.args._line.now in
-    let is : said line ≡ Some Comment = c.requires.means ∙ ap Some c.in-Comment.is in
-    writes_for quiet_machine g.T.Target.taken g.T.Target.failed c.args._number s s line Comment
-    (c.args.writer.now, c.put_text.new.writer) c.put_text.result c.args.text.now is refl refl tt c.requires.ended
-    c.put_text.ensures
+    let is : said c.args._line.now ≡ Some Comment = c.requires.means ∙ ap Some c.in-Comment.is in
+    writes_for quiet_machine g.T.Target.taken g.T.Target.failed c.args._number s s _ Comment
+    (c.args.writer.now, c.put_text.new.writer) _ _ is refl refl tt c.requires.ended c.put_text.ensures

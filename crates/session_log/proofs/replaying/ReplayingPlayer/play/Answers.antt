@@ -1,7 +1,5 @@
 use Rattle.std.proofs.Common.{◌≡◌, Some, flat_map, ◌++◌, refl, ◌∙◌, ap, subst}
-use Rattle.session_log.specs.Session.{machine}
-use Rattle.session_log.specs.Said.{said}
-use Rattle.session_log.specs.Text.{ArePackets, sent_text}
+use Rattle.session_log.specs.{Session.machine, Said.said, Text.ArePackets, Text.sent_text}
 use Rattle.session_log.specs.declared.line.Line.TheVariants.{Comment, Input}
 use Rattle.session_log.proofs.Exits.{writes_for}
 use Rattle.session_log.proofs.replaying.ReplayingPlayer.play.Goals as goal
@@ -20,8 +18,6 @@ returns-in-Input-clause-played g c =
 pub returns-in-Comment-clause-played : goal.returns-in-Comment-clause-played
 returns-in-Comment-clause-played g c =
     let s = c.args.session.now in
-    let line = c.args._line.now in
-    let is : said line ≡ Some Comment = c.requires.means ∙ ap Some c.in-Comment.is in
-    writes_for machine g.T.Target.taken g.T.Target.failed c.args._number s s line Comment
-    (c.args.writer.now, c.put_text.new.writer) c.put_text.result c.args.text.now is refl refl tt c.requires.ended
-    c.put_text.ensures
+    let is : said c.args._line.now ≡ Some Comment = c.requires.means ∙ ap Some c.in-Comment.is in
+    writes_for machine g.T.Target.taken g.T.Target.failed c.args._number s s _ Comment
+    (c.args.writer.now, c.put_text.new.writer) _ _ is refl refl tt c.requires.ended c.put_text.ensures

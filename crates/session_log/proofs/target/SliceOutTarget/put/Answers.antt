@@ -1,5 +1,4 @@
-use Rattle.std.proofs.Common.{arith}
-use Rattle.std.proofs.lemmas.Slice.{drop-put_mid}
+use Rattle.std.proofs.{Common.arith, lemmas.Slice.drop-put_mid}
 use Rattle.session_log.proofs.target.SliceOutTarget.put.Goals as goal
 
 pub returns-clause-rest : goal.returns-clause-rest
