@@ -15,6 +15,7 @@ mod lent;
 mod lines;
 mod memory;
 mod outcome;
+mod owners;
 mod reports;
 mod rows;
 mod showing;
@@ -24,10 +25,12 @@ mod telling;
 ghost use Rattle.session_log.specs.declared.command.LogCommand.TheVariants as commands;
 ghost use Rattle.hidlog_c.specs.Commands.{Answers};
 ghost use Rattle.hidlog_c.specs.Shown.{IsShown, wording_for};
+ghost use Rattle.session_show.specs.declared.wording.Wording.TheVariants.{Fixed as fixed};
 ghost use Rattle.std.specs.Prelude.{◌≡◌, ◌≤◌, ◌==◌, length, not};
 
 use crate::commands::run;
 use crate::outcome::CallOutcome;
+use crate::owners::show_transactions;
 use crate::showing::show_log;
 use crate::telling::put_fault;
 use session_log::LogCommand;
@@ -105,6 +108,15 @@ pub extern "C" fn hidlog_show(log: &[u8], explain: u32, out: &mut [u8], outcome:
     ensures { IsShown (wording_for (not (explain == 0))) log.now out.new outcome.new }
 {
     *outcome = show_log(wording_for(explain), log, out);
+}
+
+/// Writes which transaction each line of the log belongs to, and how each ends, in numbers (hidlog.h). They go to the
+/// front of `out`.
+#[unsafe(no_mangle)]
+pub extern "C" fn hidlog_transactions(log: &[u8], out: &mut [u8], outcome: &mut CallOutcome)
+    ensures { IsShown fixed log.now out.new outcome.new }
+{
+    *outcome = show_transactions(log, out);
 }
 
 /// Writes the line that the program writes for the fault of an outcome, `hidlog: line 3: not a log line`, or for a
