@@ -10,75 +10,103 @@
         setTimeout(done, 0);
     });
 
-    /** Takes steps for some milliseconds. Returns the last one. */
-    const taken = (steps, milliseconds) => {
+    const isAwaited = (step) => step.value instanceof Promise;
+
+    /** Takes steps for some milliseconds, the first of them with what came. Returns the last one. */
+    const taken = (steps, milliseconds, came) => {
         const end = performance.now() + milliseconds;
-        for (;;) {
-            const step = steps.next();
-            if (step.done || performance.now() >= end) {
-                return step;
-            }
+        let step = steps.next(came);
+        while (!step.done && !isAwaited(step) && performance.now() < end) {
+            step = steps.next();
         }
+        return step;
     };
 
     /**
      * Takes all steps of a generator, and calls `done` with what it returns: at once, where that is quick. Between
-     * slices `part` is called with the last step. The first slice may take another time. Returns what ends the work.
+     * slices `part` is called with the last step. A step that is a promise is awaited, and what comes of it handed in.
+     * The first slice may take another time. Returns what ends the work.
      */
     const drive = (steps, part, done, milliseconds = SLICE) => {
-        const job = { isOver: false, end: () => { job.isOver = true; } };
+        const job = { isOver: false, end: () => { job.isOver = true; steps.return(); } };
         const first = taken(steps, milliseconds);
         if (first.done) {
             done(first.value);
             return job;
         }
         (async () => {
-            for (let step = first; !job.isOver; step = taken(steps, SLICE)) {
-                if (step.done) {
-                    done(step.value);
-                    return;
+            let step = first;
+            while (!job.isOver && !step.done) {
+                if (!isAwaited(step)) {
+                    part(step.value);
                 }
-                part(step.value);
-                await breathe();
+                const came = await (isAwaited(step) ? step.value : breathe());
+                step = job.isOver ? step : taken(steps, SLICE, came);
+            }
+            if (!job.isOver) {
+                done(step.value);
             }
         })();
         return job;
     };
 
+    // Bytes that are handed to a worker at once: a long log as a whole would stop the page.
+    const PART = 16 * 1024 * 1024;
     const WORK = `
-        onmessage = async ({ data: { wasm, command, log, snapshot } }) => {
+        let [task, log, came] = [null, null, 0];
+        onmessage = async ({ data: { part, ...given } }) => {
             try {
-                globalThis.HIDLOG_WASM = wasm;
-                const core = await hidlog.load();
-                const outcome = core.run(command, log, snapshot);
-                postMessage({ outcome }, [outcome.text.buffer]);
+                task ??= given;
+                log ??= new Uint8Array(task.length);
+                log.set(part, came);
+                came += part.length;
+                if (came === log.length) {
+                    globalThis.HIDLOG_WASM = task.wasm;
+                    const core = await hidlog.load();
+                    const outcome = core.run(task.command, log, task.snapshot);
+                    postMessage({ outcome }, [outcome.text.buffer]);
+                }
             } catch (error) {
                 postMessage({ error: error.message });
             }
         };`;
 
-    /** Runs a command of the core in a worker. Returns a promise of its outcome, and what ends it. */
-    const run = (command, log, snapshot) => {
+    /** Hands a log to a worker, and with its first part what is to be done. */
+    const hand = async (worker, log, task) => {
+        for (let from = 0; from < log.length; from += PART) {
+            const part = log.slice(from, from + PART);
+            worker.postMessage({ part, ...(from ? {} : task) }, [part.buffer]);
+            await breathe();
+        }
+    };
+
+    /**
+     * Runs a command of the core in a worker; in this thread, where none can be made. Returns a promise of its outcome,
+     * and what ends it.
+     */
+    const run = (core, command, log, snapshot) => {
         const sources = globalThis.HIDLOG_SOURCES;
         const text = [sources["dist/bytes.js"], sources["core.js"], WORK].join("\n");
         const address = URL.createObjectURL(new Blob([text], { type: "text/javascript" }));
-        const worker = new Worker(address);
-        const over = () => {
-            worker.terminate();
+        let worker = null;
+        const end = () => {
+            worker?.terminate();
             URL.revokeObjectURL(address);
         };
-        const outcome = new Promise((done, fail) => {
-            worker.onmessage = ({ data }) => {
-                over();
-                (data.error ? fail : done)(data.error ? new Error(data.error) : data.outcome);
-            };
-            worker.onerror = (event) => {
-                over();
-                fail(new Error(event.message || "the worker failed"));
-            };
-            worker.postMessage({ wasm: globalThis.HIDLOG_WASM, command, log, snapshot });
+        const answered = new Promise((done, fail) => {
+            worker = new Worker(address);
+            worker.onmessage = ({ data }) => done(data);
+            worker.onerror = () => fail(new Error("there is no worker"));
+            const task = { wasm: globalThis.HIDLOG_WASM, command, length: log.length, snapshot };
+            hand(worker, log, task).catch(fail);
         });
-        return { outcome, end: over };
+        const outcome = answered.catch(() => ({ outcome: core.run(command, log, snapshot) })).then((came) => {
+            if (came.error) {
+                throw new Error(came.error);
+            }
+            return came.outcome;
+        }).finally(end);
+        return { outcome, end };
     };
 
     globalThis.hidlogBackground = { drive, run };

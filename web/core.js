@@ -6,11 +6,12 @@
 (() => {
     const OUTCOME_BYTES = 32;
     const WRITE_FAULT = 5;
-    // hidlog_show explains: a person reads it.
+    // What takes no snapshot. hidlog_show explains: a person reads it.
     const EXPLAINED = 1;
+    const BETWEEN = { show: [EXPLAINED], transactions: [] };
     const PAGE = 65536;
     // No more memory than that is asked of the browser.
-    const MOST = 128 * 1024 * 1024;
+    const MOST = 2048 * 1024 * 1024;
 
     const { fromBase64 } = globalThis.hidlogBytes;
 
@@ -74,7 +75,7 @@
             this.grow(outAt + room);
             this.bytes.set(log, logAt);
             this.bytes.set(snapshot, snapshotAt);
-            const between = command === "show" ? [EXPLAINED] : [snapshotAt, snapshot.length].map(BigInt);
+            const between = BETWEEN[command] ?? [snapshotAt, snapshot.length].map(BigInt);
             const [from, size, to, most, at] = [logAt, log.length, outAt, room, this.base].map(BigInt);
             this.exports[`hidlog_${command}`](from, size, ...between, to, most, at);
             return {
@@ -88,7 +89,9 @@
 
         /** Runs a command. Where the room was too small, it is run again with more, as far as the memory goes. */
         run(command, log, snapshot = new Uint8Array(0)) {
-            let room = 2 * log.length + Math.min(6 * log.length, 1024 * 1024) + 8192;
+            const { length } = log;
+            const wanted = command === "transactions" ? length / 2 : 2 * length + Math.min(6 * length, 1024 * 1024);
+            let room = Math.ceil(wanted) + 8192;
             let outcome = this.call(command, log, snapshot, room);
             while (outcome.fault === WRITE_FAULT && outcome.status === 1 && room < MOST) {
                 room *= 4;

@@ -3,8 +3,8 @@
 
 (() => {
     const {
-        AT_ONCE, MOST_BYTES, ROW, Reader, at, choose, commanded, decoder, firstLines, hasAnswers, inMegabytes, reading,
-        refresh, render, rest, rowAt, session, setView, state, tell, tellStory, withBar, withView,
+        AT_ONCE, MOST_BYTES, ROW, at, choose, commanded, decoder, firstLines, hasAnswers, inMegabytes, readSession,
+        reading, refresh, render, rest, rowAt, session, setView, state, tell, tellStory, withBar, withView,
     } = globalThis.hidlogViewer;
     const { Shown } = globalThis.hidlogShown;
     const { HEAD } = globalThis.hidlogDrawing;
@@ -69,8 +69,8 @@
     };
 
     /** Shows a session that was read. */
-    const showRead = (reader, outcome) => {
-        state.sessions = { recorded: reader.session() };
+    const showRead = (recorded, outcome) => {
+        state.sessions = { recorded };
         if (outcome.line > 0 && outcome.status === 1) {
             state.sessions.recorded.fault = faultyLine(outcome);
             state.reason = reasonOf(outcome.line);
@@ -89,10 +89,15 @@
         const isFaulty = outcome.status === 1 && outcome.line > 0;
         const sound = isFaulty ? firstLines(state.bytes, outcome.line - 1) : state.bytes;
         state.texts = { recorded: sound, replayed: outcome.text };
-        const reader = new Reader(sound);
-        reader.readUntil(Infinity);
-        reader.countUntil(Infinity);
-        showRead(reader, outcome);
+        showRead(readSession(sound, state.core), outcome);
+    };
+
+    /** The fault of a long log: the core's, or what was seen in reading it, where the core gave up before. */
+    const faultOf = ({ faulty, outcome }) => {
+        if (outcome.status === 1 && outcome.line) {
+            return outcome;
+        }
+        return faulty ? { status: 1, fault: 1, line: faulty, packet: 0 } : { status: 0, line: 0 };
     };
 
     /** Reads a long log, and shows its first lines meanwhile. */
@@ -105,9 +110,13 @@
             refresh();
         };
         withBar(reading(bytes), `${state.name} is read …`, (reader) => {
-            const { faulty } = reader;
-            state.texts = { recorded: faulty ? firstLines(bytes, faulty - 1) : bytes };
-            showRead(reader, faulty ? { status: 1, fault: 1, line: faulty, packet: 0 } : { status: 0, line: 0 });
+            const fault = faultOf(reader);
+            state.texts = { recorded: fault.line ? firstLines(bytes, fault.line - 1) : bytes };
+            showRead(reader.session(fault.line ? fault.line - 1 : undefined), fault);
+            const { error } = reader.outcome;
+            if (error) {
+                tell(`${state.name}: its transactions aren't known: ${error}`, true);
+            }
         }, first);
     };
 

@@ -11,8 +11,8 @@
     const LONGEST = 7609;
     const KINDS = ["host", "key", "tick", "presence", "new key", "signature", "comment", "need", "count", "empty"];
     const [HOST, KEY, TICK, PRESENCE, NEW_KEY, SIGNATURE, COMMENT, NEED, COUNT, EMPTY] = KINDS.keys();
-    const ENDS = ["", "answered", "refused", "timed out", "replaced", "dropped"];
-    const [, ANSWERED, REFUSED, TIMED_OUT, REPLACED, DROPPED] = ENDS.keys();
+    const ENDS = ["", "answered", "refused", "timed out", "replaced", "dropped", "forgotten"];
+    const [, ANSWERED, REFUSED, TIMED_OUT, REPLACED, DROPPED, FORGOTTEN] = ENDS.keys();
     // Lines whose words are kept.
     const MOST_WORDS = 300_000;
     const decoder = new TextDecoder("utf-8", { ignoreBOM: true });
@@ -387,6 +387,8 @@
     globalThis.hidlogLog = {
         Log, Answer, Transaction, digits, readMoment, PACKET_DIGITS,
         KIND: { HOST, KEY, TICK, PRESENCE, NEW_KEY, SIGNATURE, COMMENT, NEED, COUNT, EMPTY },
-        END: { ANSWERED, REFUSED, TIMED_OUT, REPLACED, DROPPED },
+        END: { ANSWERED, REFUSED, TIMED_OUT, REPLACED, DROPPED, FORGOTTEN },
+        // Those of CTAPHID, by their numbers (CTAP 2.1, section 11.2.9).
+        COMMANDS: { PING: 0x01, INIT: 0x06, CBOR: 0x10, KEEPALIVE: 0x3b, ERROR: 0x3f },
     };
 })();

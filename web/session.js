@@ -1,10 +1,10 @@
-// A log as a session: its lines, and the transactions that they make (walk.js). Lines are read in slices, so that a page
-// stays usable. It sets `globalThis.hidlogSession`.
+// A log as a session: its lines, and the transactions that they make (transactions.js). Lines are read in slices, so
+// that a page stays usable. It sets `globalThis.hidlogSession`.
 "use strict";
 
 (() => {
     const { Log, Transaction, KIND, PACKET_DIGITS, digits, readMoment } = globalThis.hidlogLog;
-    const { Walk } = globalThis.hidlogWalk;
+    const { Filling } = globalThis.hidlogTransactions;
     const decoder = new TextDecoder();
     const [NEWLINE, SPACE] = [10, 32];
     const LINE_MOST = 255;
@@ -37,14 +37,13 @@
         constructor(bytes) {
             this.bytes = bytes;
             this.log = new Log(bytes);
-            this.walk = new Walk(this.log);
             this.from = 0;
             this.latest = 0;
             this.latestLine = 0;
+            this.met = new Set();
             this.channels = [];
             // The number of the line that is none, where one is met.
             this.faulty = 0;
-            this.counted = 0;
         }
 
         get isDone() {
@@ -81,11 +80,19 @@
                 this.latestLine = place + 1;
             }
             log.latest.values[place] = this.latestLine;
-            if (kind <= KIND.SIGNATURE) {
-                this.walk.add(place, kind, this.latest);
+            if (kind <= KIND.KEY) {
+                this.meet(place);
             }
-            if (kind <= KIND.KEY && this.channels.length < Math.min(this.walk.channels.size, MOST_CHANNELS)) {
-                this.channels.push(log.line(place).channel);
+        }
+
+        /** Notes the channel of a packet. */
+        meet(place) {
+            const channel = this.log.channelAt(place);
+            if (!this.met.has(channel)) {
+                this.met.add(channel);
+                if (this.met.size <= MOST_CHANNELS) {
+                    this.channels.push(this.log.line(place).channel);
+                }
             }
         }
 
@@ -118,30 +125,13 @@
                 && /^# (need|signed) /.test(decoder.decode(this.bytes.subarray(from, from + 9)));
         }
 
-        /** Counts the lines of transactions, once all are read, until a moment of the clock. Returns whether it did. */
-        countUntil(end) {
-            const { owners, transactions: { count, until } } = this.log;
-            while (this.counted < owners.length) {
-                const transaction = owners.values[this.counted] - 1;
-                this.counted += 1;
-                if (transaction >= 0) {
-                    count.values[transaction] += 1;
-                    until.values[transaction] = this.counted;
-                }
-                if (this.counted % BATCH === 0 && performance.now() >= end) {
-                    return false;
-                }
-            }
-            return true;
+        /** The session of the first lines: of those so far, where no number is given. */
+        session(size = this.log.length) {
+            const { log, channels, met } = this;
+            return new Session(log, { size, channels, many: met.size, transactions: log.transactions.length });
         }
 
-        /** The session of the lines so far. */
-        session() {
-            const { log, channels, walk } = this;
-            return new Session(log, { size: log.length, channels, many: walk.channels.size, transactions: log.transactions.length });
-        }
-
-        /** The lines so far, while others are read: of no transactions, since some are open. */
+        /** The lines so far, while others are read: of no transactions, since those aren't known yet. */
         soFar() {
             return new Session(this.log, { size: this.log.length, channels: [], many: 0, transactions: 0 });
         }
@@ -205,11 +195,11 @@
         }
     }
 
-    /** Reads a log at once. */
-    const readSession = (bytes) => {
+    /** Reads a log at once, with the transactions that the core finds in it. */
+    const readSession = (bytes, core) => {
         const reader = new Reader(bytes);
         reader.readUntil(Infinity);
-        reader.countUntil(Infinity);
+        new Filling(reader.log, core.run("transactions", bytes).text).fillUntil(Infinity);
         return reader.session();
     };
 

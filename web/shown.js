@@ -116,10 +116,12 @@
         /** What a host asked, and how that ended. */
         title(transaction) {
             const { answer, by, end, code } = transaction;
-            const ends = { replaced: "replaced by", dropped: "dropped by" }[end];
+            const ends = {
+                replaced: `replaced by line ${by?.number}`, dropped: `dropped by line ${by?.number}`,
+                forgotten: `not followed beyond line ${by?.number}`, "not whole": "not whole",
+            };
             const last = answer ?? (code !== null && by ? by.message : null);
-            const ended = ends ? `${ends} line ${by.number}` : end === "not whole" ? "not whole" : "no answer";
-            return `${this.name(transaction)} → ${last ? this.name(last) : ended}`;
+            return `${this.name(transaction)} → ${last ? this.name(last) : ends[end] ?? "no answer"}`;
         }
 
         /** The id of the relying party that a request names, or nothing. */

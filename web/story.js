@@ -3,7 +3,7 @@
 "use strict";
 
 (() => {
-    const { CBOR, INIT, PING } = globalThis.hidlogWalk.COMMANDS;
+    const { CBOR, INIT, PING } = globalThis.hidlogLog.COMMANDS;
     const BATCH = 1024;
     const COMMANDS = {
         0x01: ["Registration", "registration"], 0x02: ["Sign-in", "sign-in"], 0x04: ["Capabilities", ""],
@@ -40,8 +40,11 @@
             const status = answer.command === CBOR && answer.length ? answer.byteAt(0) : 0;
             return answer.isWhole ? ENDS[status] ?? `status ${hex(status)}` : "its answer isn't whole";
         }
-        return { replaced: `given up for line ${by?.number}`, dropped: `given up at line ${by?.number}` }[end]
-            ?? (end === "not whole" ? "it never came whole" : "no answer");
+        const ends = {
+            replaced: `given up for line ${by?.number}`, dropped: `given up at line ${by?.number}`,
+            forgotten: "not followed to its end: too many channels are in use", "not whole": "it never came whole",
+        };
+        return ends[end] ?? "no answer";
     };
 
     /** Whether it ended as its host wanted. */

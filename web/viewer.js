@@ -14,7 +14,8 @@
     const SHOWN_KINDS = ["host", "key", "comment", "need"];
     const ARROWS = { host: "→", key: "←", caller: "⇠", need: "?", time: "·", comment: "#", fault: "!" };
     const { KIND } = globalThis.hidlogLog;
-    const { Reader, firstLines } = globalThis.hidlogSession;
+    const { Reader, firstLines, readSession } = globalThis.hidlogSession;
+    const { Filling } = globalThis.hidlogTransactions;
     const { making } = globalThis.hidlogRows;
     const { drive, run } = globalThis.hidlogBackground;
     const { kindOf, endOf, isDone, summing } = globalThis.hidlogStory;
@@ -239,14 +240,32 @@
 
     // ---- the log, played
 
-    /** Reads a log a slice at a time. */
-    const reading = function* reading(bytes, reader = new Reader(bytes)) {
-        while (!reader.isDone) {
-            reader.readUntil(0);
-            yield reader;
+    /** What the core says of the transactions of a log: at once, or later from a worker where the log is long. */
+    const finding = (bytes) => {
+        if (!isLong()) {
+            return { outcome: state.core.run("transactions", bytes), end: () => {} };
         }
-        while (!reader.countUntil(0)) {
-            yield reader;
+        const { outcome, end } = run(state.core, "transactions", bytes, new Uint8Array(0));
+        return { outcome: outcome.catch(({ message }) => ({ error: message, text: new Uint8Array(0) })), end };
+    };
+
+    /** Reads a log a slice at a time, and fills in its transactions, which the core finds meanwhile. */
+    const reading = function* reading(bytes) {
+        const reader = new Reader(bytes);
+        const { outcome, end } = finding(bytes);
+        try {
+            while (!reader.isDone) {
+                reader.readUntil(0);
+                yield reader;
+            }
+            reader.outcome = outcome instanceof Promise ? yield outcome : outcome;
+            const filling = new Filling(reader.log, reader.outcome.text);
+            while (!filling.isDone) {
+                filling.fillUntil(0);
+                yield reader;
+            }
+        } finally {
+            end();
         }
         return reader;
     };
@@ -314,7 +333,7 @@
             done(state.core.run(command, state.bytes, state.snapshot));
             return;
         }
-        const { outcome, end } = run(command, state.bytes, state.snapshot);
+        const { outcome, end } = run(state.core, command, state.bytes, state.snapshot);
         busy(`${command} of ${inMegabytes(state.bytes.length)} …`, { end });
         at("bar").removeAttribute("value");
         outcome.then((it) => {
@@ -379,7 +398,7 @@
     };
 
     globalThis.hidlogViewer = {
-        AT_ONCE, MOST_BYTES, ROW, Reader, at, choose, commanded, decoder, firstLines, hasAnswers, inMegabytes, reading,
-        rest, refresh, render, rowAt, session, setView, state, tell, tellStory, withBar, withView,
+        AT_ONCE, MOST_BYTES, ROW, at, choose, commanded, decoder, firstLines, hasAnswers, inMegabytes, readSession,
+        reading, rest, refresh, render, rowAt, session, setView, state, tell, tellStory, withBar, withView,
     };
 })();

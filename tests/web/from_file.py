@@ -1,5 +1,5 @@
 #!/usr/bin/env python3
-"""Opens web/index.html from its file, with no server, and waits until it shows the example."""
+"""Opens web/index.html from its file, with no server: it shows the example, and a long log, which a worker looks at."""
 
 import sys
 from pathlib import Path
@@ -8,6 +8,20 @@ from driver import Driver, is_there
 
 PAGE = Path(__file__).resolve().parents[2] / "web" / "index.html"
 
+# Drops 5 MB of sessions, and notes whether a worker answers.
+DROP = """
+    globalThis.Worker = class extends Worker {
+        constructor(...given) {
+            super(...given);
+            this.addEventListener("message", () => { document.documentElement.dataset.answered = "yes"; });
+        }
+    };
+    const session = atob(HIDLOG_EXAMPLE).replace(/^[=#].*\\n/gm, "");
+    const data = new DataTransfer();
+    data.items.add(new File([session.repeat(Math.ceil(5e6 / session.length))], "long.log"));
+    document.dispatchEvent(new DragEvent("drop", { dataTransfer: data, cancelable: true }));
+    arguments[0]();
+"""
 
 # What a screen reader is told, by role and name.
 ROLES = [
@@ -51,7 +65,10 @@ def main():
         driver.open(f"{PAGE.as_uri()}#registration")
         driver.wait_for("document.body.textContent.includes('authenticatorMakeCredential → CTAP2_OK')")
         wrong = missing_roles(driver)
-    print("ok  the page from a file")
+        driver.run(DROP)
+        driver.wait_for("/^[\\d,]+ registrations: done\\./.test(document.getElementById('story').textContent)")
+        driver.wait_for("document.documentElement.dataset.answered === 'yes'")
+    print("ok  the page from a file, and a worker that it makes")
     print(f"FAILED  a screen reader's view lacks {wrong}" if wrong else "ok  a screen reader's view of it")
     return 1 if wrong else 0
 

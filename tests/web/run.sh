@@ -19,7 +19,7 @@ run_pages() {
     echo "== $("$1" --version 2>/dev/null)"
     ran=1
     mkdir -p "$room/$browser"
-    "$with_fido2" "$here/serve.py" "$room/$browser" viewer.html,key.html,long.html "$@" || failed=1
+    "$with_fido2" "$here/serve.py" "$room/$browser" viewer.html,transactions.html,key.html,long.html "$@" || failed=1
     if [ "$browser" = chromium ]; then
         "$with_fido2" "$here/from_file.py" || [ $? = 3 ] || failed=1
         "$with_fido2" "$here/virtual_authenticator.py" || [ $? = 3 ] || failed=1

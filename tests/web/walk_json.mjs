@@ -1,12 +1,9 @@
-// Reads the paths of logs from standard input, and writes what the page's walk (web/walk.js) says of each, in a line of
-// JSON: the objects `packet`, `presence`, `key`, `signature` and `transaction` of `hidlog show --json`, without what they
-// say besides.
+// Reads the paths of logs from standard input, and writes what the page says of each (web/transactions.js), in a line
+// of JSON: the objects `packet`, `presence`, `key`, `signature` and `transaction` of `hidlog show --json`, without what
+// they say besides.
 import { readFileSync } from "node:fs";
-import vm from "node:vm";
+import { readSession } from "./session_in_node.mjs";
 
-for (const name of ["web/dist/bytes.js", "web/log.js", "web/walk.js", "web/session.js"]) {
-    vm.runInThisContext(readFileSync(new URL(`../../${name}`, import.meta.url), "utf8"));
-}
 const [CBOR, KEEPALIVE] = [0x10, 0x3b];
 const KINDS = { host: "packet", key: "packet", presence: "presence", "new key": "key", signature: "signature" };
 
@@ -18,7 +15,8 @@ const endOf = ({ answer, by, code, end }) => {
     if (end === "answered") {
         return answer.command === CBOR ? { end: "status", status: answer.byteAt(0) } : { end: "answer" };
     }
-    return by ? { end, by: by.number } : { end: "open" };
+    const ends = { replaced: { end, by: by?.number }, dropped: { end, by: by?.number }, forgotten: { end } };
+    return ends[end] ?? { end: "open" };
 };
 
 const transactionOf = (it) => {
@@ -28,7 +26,7 @@ const transactionOf = (it) => {
 };
 
 const saidOf = (path) => {
-    const session = globalThis.hidlogSession.readSession(new Uint8Array(readFileSync(path)));
+    const session = readSession(new Uint8Array(readFileSync(path)));
     const lines = session.slice(0, session.length).filter((line) => KINDS[line.kind]);
     const transactions = Array.from({ length: session.transactions }, (_, place) => session.transaction(place));
     return [

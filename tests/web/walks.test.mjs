@@ -1,14 +1,11 @@
-// The walk over a log (web/walk.js) beside another one that was written apart, in Python: walks/expected.txt has what that
-// found in the logs beside it and in the examples, line by line and message by message.
+// The core's walk over a log, as the page has it (web/transactions.js), beside another one that was written apart, in
+// Python: walks/expected.txt has what that found in the logs beside it and in the examples, line by line and message by
+// message.
 import assert from "node:assert/strict";
 import { readFileSync } from "node:fs";
 import { test } from "node:test";
-import vm from "node:vm";
+import { core, fileOf, readSession } from "./session_in_node.mjs";
 
-const fileOf = (name) => new URL(`../../${name}`, import.meta.url);
-for (const name of ["web/dist/bytes.js", "web/log.js", "web/walk.js", "web/session.js"]) {
-    vm.runInThisContext(readFileSync(fileOf(name), "utf8"));
-}
 const NAMES = {
     0x01: "PING", 0x03: "MSG", 0x04: "LOCK", 0x06: "INIT", 0x08: "WINK", 0x10: "CBOR", 0x11: "CANCEL", 0x3b: "KEEPALIVE",
     0x3f: "ERROR",
@@ -30,7 +27,7 @@ const ended = ({ answer, by, came, code, end, isWhole, length }) => {
 
 /** What the walk finds in a log. */
 const found = (name) => {
-    const session = globalThis.hidlogSession.readSession(new Uint8Array(readFileSync(fileOf(name))));
+    const session = readSession(new Uint8Array(readFileSync(fileOf(name))));
     const isWalked = (line) => !["comment", "need", "count", "empty"].includes(line.kind);
     const transactions = Array.from({ length: session.transactions }, (_, place) => session.transaction(place));
     return [
@@ -66,10 +63,10 @@ const [ONE, TWO] = ["00000001", "00000002"];
 
 // Sessions of keys that do what ours doesn't, with what the rules say of them, by hand.
 const OTHERS = {
-    "a request that takes the channel has the KEEPALIVEs behind it": [
+    "a KEEPALIVE is of the request that has the channel so far": [
         [host(0, ONE, CBOR, [4]), key(ONE, KEEPALIVE, [1]), host(5, ONE, CBOR, [4]), key(ONE, KEEPALIVE, [1]),
             key(ONE, CBOR, [0])],
-        [1, 1, 3, 3, 3], ["1 replaced by 3", "3 answered by 5"],
+        [1, 1, 3, 1, 3], ["1 replaced by 3", "3 answered by 5"],
     ],
     "of two requests that wait none has the user's reply": [
         [host(0, ONE, CBOR, [4]), host(1, TWO, CBOR, [4]), "p 2 granted", key(ONE, CBOR, [0]), "p 3 granted",
@@ -86,14 +83,69 @@ const OTHERS = {
             Array(57).fill(4)).replace("900039", "90003c"), key(ONE, ERROR, [5])],
         [1, 2, 2], ["1 replaced by 2", "2 timed out by 3"],
     ],
+    "of seven channels the one that was used first isn't followed any longer": [
+        [1, 2, 3, 4, 5, 6, 7].map((at) => host(at, `0000000${at}`, CBOR, [4])),
+        [1, 2, 3, 4, 5, 6, 7],
+        ["1 forgotten by 7", ...[2, 3, 4, 5, 6, 7].map((at) => `${at} unanswered by undefined`)],
+    ],
 };
 
 test("what other keys do is told as the rules have it", () => {
     for (const [name, [lines, owners, ends]] of Object.entries(OTHERS)) {
-        const session = globalThis.hidlogSession.readSession(new TextEncoder().encode(`${lines.join("\n")}\n`));
+        const session = readSession(new TextEncoder().encode(`${lines.join("\n")}\n`));
         const told = session.slice(0, session.length).map(({ transaction }) => transaction?.line.number ?? 0);
         const all = Array.from({ length: session.transactions }, (_, place) => session.transaction(place));
         assert.deepEqual(told, owners, name);
         assert.deepEqual(all.map(({ by, end, line }) => `${line.number} ${end} by ${by?.number}`), ends, name);
     }
+});
+
+const more = (at, channel, sequence) => `> ${at} ${channel}${hex(sequence)}${"00".repeat(59)}`;
+const whole = (line, length) => line.replace("0039", length.toString(16).padStart(4, "0"));
+const FIRST = Array(57).fill(4);
+
+// The core's text for logs, by hand from hidlog.h.
+const TEXTS = {
+    "an answer, a CANCEL that nothing waits for, a comment and a tick": [
+        [host(0, ONE, CBOR, [4]), "# a comment", "t 1", key(ONE, CBOR, [0x2e]), host(2, ONE, CANCEL, [])],
+        ["1 1 1", "3 0 0", "4 1 4 s1:46", "5 0 0"],
+    ],
+    "a PING's answer of two packets": [
+        [whole(host(0, ONE, 1, FIRST), 60), more(1, ONE, 0), whole(key(ONE, 1, FIRST), 60),
+            more(0, ONE, 0).replace("> 0", "<")],
+        ["1 1 1", "2 1 1", "3 1 3", "4 1 3 a1"],
+    ],
+    "an answer of which a packet is missing": [
+        [host(0, ONE, CBOR, [4]), whole(key(ONE, CBOR, FIRST), 60), key(ONE, KEEPALIVE, [1])],
+        ["1 1 1", "2 1 2", "3 0 3 c1"],
+    ],
+    "a packet that came too late, and one that is out of sequence": [
+        [whole(host(0, ONE, CBOR, FIRST), 300), more(1, ONE, 0), more(2, ONE, 5), more(700, ONE, 1),
+            key(ONE, ERROR, [5])],
+        ["1 1 1", "2 1 1", "3 1 0", "4 1 1", "5 1 5 l4 e1:5"],
+    ],
+    "an INIT that drops a message, and a message that takes the channel": [
+        [whole(host(0, ONE, CBOR, FIRST), 300), host(1, ONE, 6, [1, 2, 3, 4, 5, 6, 7, 8]),
+            key(ONE, 6, [1, 2, 3, 4, 5, 6, 7, 8, 0, 0, 0, 1, 2, 1, 0, 0, 4]), host(2, ONE, CBOR, [4]),
+            host(3, ONE, CBOR, [4]), key(ONE, CBOR, [0])],
+        ["1 1 1", "2 2 2", "3 2 3 d1:2 a2", "4 4 4", "5 5 5", "6 5 6 r4:5 s5:0"],
+    ],
+    "more channels than are followed": [
+        [1, 2, 3, 4, 5, 6, 7].map((at) => host(at, `0000000${at}`, CBOR, [4])),
+        ["1 1 1", "2 2 2", "3 3 3", "4 4 4", "5 5 5", "6 6 6", "7 7 7 f1"],
+    ],
+};
+
+test("the core writes what its header says", () => {
+    for (const [name, [lines, text]] of Object.entries(TEXTS)) {
+        const outcome = core.run("transactions", new TextEncoder().encode(`${lines.join("\n")}\n`));
+        assert.equal(new TextDecoder().decode(outcome.text), `${text.join("\n")}\n`, name);
+        assert.equal(outcome.status, 0, name);
+    }
+});
+
+test("lines before a faulty one are told", () => {
+    const log = new TextEncoder().encode("t 1\n\nwhat is this\nt 2\n");
+    const { status, fault, line, text } = core.run("transactions", log);
+    assert.deepEqual([status, fault, line, new TextDecoder().decode(text)], [1, 1, 3, "1 0 0\n"]);
 });

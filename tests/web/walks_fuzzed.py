@@ -1,5 +1,5 @@
 #!/usr/bin/env python3
-"""Has the page's walk (web/walk.js) read hostile logs of up to four hosts, and judges what it says of their transactions.
+"""Has the page's reader (web/transactions.js) read hostile logs of up to four hosts, and judges what it says of them.
 
     tests/web/walks_fuzzed.py [--seed N] [--count N] [--program FILE]
 

@@ -1,0 +1,63 @@
+// Transactions in web/index.html: those of long logs, which a worker finds, and those that are not followed any longer.
+import { expect, run, until } from "./harness.js";
+import { at, choose, drop, encode, fetched, notice, open, page, texts } from "./viewing.js";
+
+/** Opens 5 MB of sessions, and returns what happened in them. */
+const opensSessions = async (Worker) => {
+    const session = new TextDecoder().decode(await fetched("sign_in.log")).replace(/^[=#].*\n/gm, "");
+    await open("", null);
+    page().Worker = Worker ?? page().Worker;
+    drop("sessions.log", encode(session.repeat(Math.ceil((5 * 1024 * 1024) / session.length))));
+    await until(() => /^sessions\.log: \d+ lines/.test(notice()) && at("story").textContent, "the lines");
+    expect(texts().some((text) => text.includes("Registration: done at example.com")), texts().join());
+    return at("story").textContent;
+};
+
+/** Long logs are looked at by a worker, and where there is none by the page itself. */
+const needsNoWorker = async () => {
+    const story = await opensSessions();
+    expect(/^(\d+) registrations: done\. [\d,]+ sign-ins: done\./.test(story.replaceAll(",", "")), story);
+    class Refused {
+        constructor() {
+            throw new Error("no worker is made here");
+        }
+    }
+    class Blocked {
+        postMessage() {
+            setTimeout(() => this.onerror(new Event("error")));
+        }
+
+        terminate() {
+            this.onerror = null;
+        }
+    }
+    for (const Worker of [Refused, Blocked]) {
+        expect(await opensSessions(Worker) === story, at("story").textContent);
+    }
+};
+
+/** Reading a long log is cancelled, and the page goes on with another one. */
+const cancelsReading = async () => {
+    await open("", null);
+    drop("long.log", encode(`t 1\n`.repeat(5 * 1024 * 1024)));
+    await until(() => !at("progress").hidden, "the progress");
+    at("cancel").click();
+    expect(notice() === "long.log: cancelled.", notice());
+    drop("two_hosts.log", await fetched("two_hosts.log"));
+    await until(() => /^two_hosts\.log/.test(notice()), "the other log");
+};
+
+/** Six channels are followed at once; of another one the page says that it isn't. */
+const saysWhatIsForgotten = async () => {
+    const packet = (channel) => `> 0 0000000${channel}90000104${"0".repeat(112)}\n`;
+    await open("seven.log", encode([1, 2, 3, 4, 5, 6, 7].map(packet).join("")), true);
+    choose("view", "recorded");
+    const said = texts().filter((text) => text.includes("not followed to its end: too many channels are in use"));
+    expect(said.length === 1 && said[0].includes("not followed beyond line 7"), texts().join("\n"));
+};
+
+run({
+    "long logs without a worker": needsNoWorker,
+    "reading is cancelled": cancelsReading,
+    "more channels than are followed": saysWhatIsForgotten,
+});
