@@ -237,7 +237,7 @@ const saysWhatIsFaulty = async () => {
     await open("empty.log", new Uint8Array(0));
     expect(notice() === "empty.log is empty: a log has a line at least.", notice());
     await open("huge.log", new Uint8Array(16 * 1024 * 1024));
-    await until(() => notice() === "This is no session log: line 1: not a log line.", "no text");
+    await until(() => notice() === "This is no session log: line 1: longer than 255 bytes.", "no text");
     expect(at("story").textContent.startsWith("This file is no text: it begins with the bytes 00 00 00 00."), "why");
     await open("windows.log", encode(text.replaceAll("\n", "\r\n")));
     expect(at("story").textContent.startsWith("Its lines end with CR LF"), at("story").textContent);
