@@ -71,7 +71,8 @@ module _ {S : Type 0} {world : World S} {s0 s : S} {read text : List ℕ} {n : �
           let broken = h.2.0 in
           let sound = said_fault world n s line few short ∙ h.0 in
           let found = unwritten through w line more broken.0 broken.1 first sound broken.2 broken.3 in
-          (read ++ w, text ++ broken.0, p, Appends-trans start (taken target.0) _ text broken.0 q broken.4, rw h.1 found)
+          let all = Appends-trans start (taken target.0) _ text broken.0 q broken.4 in
+          (read ++ w, text ++ broken.0, p, all, rw h.1 found)
       stops_at_line fault h = stops_faulty fault h.0 h.1 h.2
 
     module _ (end : ℕ) (has : HasLine n w end) where

@@ -63,10 +63,11 @@ none_before : (before : Groups) → found_before before 0 ≡ 0
 none_before before = search arith
 
 -- a first difference, by its parts
-abbrev by_parts : {found sent : Groups} {numbers : List ℕ} {line at : ℕ} (before : Groups) (common rest due : List (List ℕ))
-    (later further : Groups) (earlier others : List ℕ) → found ≡ before ++ (common ++ rest) ∷ later
-    → sent ≡ before ++ (common ++ due) ∷ further → numbers ≡ earlier ++ line ∷ others → length earlier ≡ length before
-    → DifferFirst rest due → at ≡ length common + 1 → IsFirstDifference found sent numbers line at
+abbrev by_parts : {found sent : Groups} {numbers : List ℕ} {line at : ℕ} (before : Groups)
+    (common rest due : List (List ℕ)) (later further : Groups) (earlier others : List ℕ)
+    → found ≡ before ++ (common ++ rest) ∷ later → sent ≡ before ++ (common ++ due) ∷ further
+    → numbers ≡ earlier ++ line ∷ others → length earlier ≡ length before → DifferFirst rest due
+    → at ≡ length common + 1 → IsFirstDifference found sent numbers line at
 by_parts before common rest due later further earlier others e f k level differ count = record {
   before = before;
   common = common;
@@ -96,12 +97,14 @@ after_input : (seen line packet input : ℕ) (found sent : Groups) (numbers : Li
     → Differing 0 found sent numbers line packet → Differing seen ([] ∷ found) ([] ∷ sent) (input ∷ numbers) line packet
 after_input seen line packet input found sent numbers d = record {
   at = d.at;
-  first = by_parts ([] ∷ before) common rest due later further (input ∷ earlier) others (ap (λ (gs : Groups). [] ∷ gs) e)
-      (ap (λ (gs : Groups). [] ∷ gs) f) (ap (λ (ns : List ℕ). input ∷ ns) k) (ap suc level) differ count;
+  first = by_parts ([] ∷ before) common rest due later further (input ∷ earlier) others
+      (ap (λ (gs : Groups). [] ∷ gs) e) (ap (λ (gs : Groups). [] ∷ gs) f)
+      (ap (λ (ns : List ℕ). input ∷ ns) k) (ap suc level) differ count;
   count = search (arith, d.count, none_before before);
 }
   where
-    open d.first use {before, common, rest, due, later, further, earlier, others, found_are as e, sent_are as f, lines_are as k, level, differ, count}
+    open d.first use {before, common, rest, due, later, further, earlier, others, level, differ, count}
+    open d.first use {found_are as e, sent_are as f, lines_are as k}
 
 -- a packet that was found stands before
 after_packet : (seen line packet : ℕ) (p : List ℕ) (found sent : Groups) (numbers : List ℕ)

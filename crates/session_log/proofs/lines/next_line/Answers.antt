@@ -51,6 +51,6 @@ returns-in-Err g c =
     record {
       bytes = gathers _ c.reading.window c.fill.new.self _ _ _ c.reading.invariant.done c.fill.ensures.bytes;
       found = tt;
-      stopped = (refl, rw (c.in-Err.ensures.err) (record { no_feed = feed; short = short; counted = c.if-is_too_many.ensures.value }));
+      stopped = (refl, rw (c.in-Err.ensures.err) (search arith));
       reads = c.in-Err.ensures.counted ∙ ap (λ (k : ℕ). k + 1) c.reading.invariant.same;
     }

@@ -40,5 +40,6 @@ returns g c =
       replayed = through;
       again = repeats_in logs logs (replay_again sessions) _ _ s _ _ _ h.0.3 h.0.4.0 h.0.4.0.faultless h.0.4.1 held;
       history = logs_history g.S.Source.left g.S.Source.failed g.S.Source.ended g.T.Target.taken g.T.Target.failed
-          (c.args.reader.now, new.reader) (c.args.writer.now, new.writer) machine history follows s new.session (Ok c.meters.result) through;
+          (c.args.reader.now, new.reader) (c.args.writer.now, new.writer) machine history follows s new.session
+          (Ok c.meters.result) through;
     }
