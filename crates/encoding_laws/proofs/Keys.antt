@@ -1,7 +1,6 @@
 -- A COSE key's bytes are the encoding of its map.
 use Rattle.std.proofs.Common.{◌≡◌, ℕ, ◌<◌, ◌^◌, List, [], ◌∷◌, ◌++◌, length, refl, sym, ◌∙◌, ap, arith, append-nil, append_assoc}
-use Rattle.ctap_cbor.specs.Head.{AreBytes, head}
-use Rattle.ctap_cbor.specs.Tree.{Int, Bytes, Plain}
+use Rattle.ctap_cbor.specs.{Head.AreBytes, Head.head, Tree.Int, Tree.Bytes, Tree.Plain}
 use Rattle.ctap_cbor.specs.Grammar.{IsCanonical, IsEncoding, IsLawful, text}
 use Rattle.fido_authdata.specs.CoseKey.{cose_key_bytes}
 use Rattle.encoding_laws.specs.CoseTree.{cose_key_tree}

@@ -1,8 +1,7 @@
 -- Authenticator data: WebAuthn Level 2, section 6.1.
 use Rattle.std.specs.Prelude.{ℕ, List, [], ◌∷◌, ◌++◌, length, Bool, true, false, bit_or, if◌then◌else◌, Option, Some, None, is_some}
 use Rattle.byteorder.specs.Endian.{big_bytes}
-use Rattle.fido_authdata.specs.CoseKey.{cose_key_bytes}
-use Rattle.fido_authdata.specs.declared.auth_data.AttestedCredential.{AttestedCredential}
+use Rattle.fido_authdata.specs.{CoseKey.cose_key_bytes, declared.auth_data.AttestedCredential.AttestedCredential}
 
 -- bit 0 is UP, user present, bit 6 AT, attested credential data
 abbrev pub flags_byte : (user_present attested : Bool) → ℕ

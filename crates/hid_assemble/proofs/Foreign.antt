@@ -6,8 +6,7 @@ use Rattle.hid_packet.specs.Packet.{Fields, initialization, continuation, channe
 use Rattle.hid_assemble.specs.declared.table.ReplyRow.{ReplyRow}
 use Rattle.hid_assemble.specs.Table.{Open, Begins, Continues, LAST_CHANNEL, is_given, is_on, initialization_row, continuation_row, ruling_of}
 use Rattle.hid_assemble.specs.Assembly.{Assembly, open_after, accepted}
-use Rattle.hid_assemble.proofs.ByCommand.{init_row, begin_row, by_command}
-use Rattle.hid_assemble.proofs.Comparing.{cond_case}
+use Rattle.hid_assemble.proofs.{ByCommand.init_row, ByCommand.begin_row, ByCommand.by_command, Comparing.cond_case}
 
 apart : (a b : ℕ) → (a ≡ b → ⊥) → (a == b) ≡ false
 apart a b never = grind (arith, nat_tests)

@@ -1,14 +1,11 @@
 -- What the fields of an assembler tell of what is kept.
-use Rattle.std.proofs.lemmas.Bool.Decides.{nat_tests}
-use Rattle.std.proofs.Common.{rules}
+use Rattle.std.proofs.lemmas.{Bool.Decides.nat_tests, List.take-append-le}
+use Rattle.std.proofs.{Common.rules, Math.Seq.take-append_seam}
 use Rattle.std.proofs.Common.{◌≡◌, ℕ, ◌+◌, ◌≤◌, ◌<◌, List, [], ◌++◌, length, take, drop, Option, Some, None, option_map, sym, ◌∙◌, ap, subst, arith, length-take-le}
-use Rattle.std.proofs.lemmas.List.{take-append-le}
-use Rattle.std.proofs.Math.Seq.{take-append_seam}
 use Rattle.hid_assemble.specs.declared.assembler.Contents.{Contents}
 use Rattle.hid_assemble.specs.declared.assembler.Contents.TheVariants.{Open as HoldsOpen, Finished}
 use Rattle.hid_packet.specs.Packet.{initialization}
-use Rattle.hid_assemble.specs.declared.table.ReplyRow.{ReplyRow}
-use Rattle.hid_assemble.specs.declared.table.ReplyRow.TheVariants.{Short, Long}
+use Rattle.hid_assemble.specs.declared.table.ReplyRow.{ReplyRow, TheVariants.Short, TheVariants.Long}
 use Rattle.hid_assemble.specs.Table.{Begins, LAST_CHANNEL, initialization_row, ruling_of}
 use Rattle.hid_assemble.specs.Assembly.{Assembly, IsLawful, OpenIsLawful, open_after, message_after, kept_by, accepted}
 use Rattle.hid_assemble.specs.Kept.{open_in, finished_in, assembly, IsKept, MayBeHeld}

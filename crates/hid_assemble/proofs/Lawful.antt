@@ -1,10 +1,8 @@
 -- What is kept stays lawful, whatever the packet.
-use Rattle.std.proofs.lemmas.Grind.{common_steps}
-use Rattle.std.proofs.Common.{rules}
+use Rattle.std.proofs.{lemmas.Grind.common_steps, Common.rules}
 use Rattle.std.proofs.Common.{◌≡◌, ℕ, ◌+◌, ◌≤◌, List, [], length, Option, Some, refl, arith, length-append, length-take}
 use Rattle.hid_packet.specs.Packet.{Fields, initialization, continuation, FillsPacket}
-use Rattle.hid_assemble.specs.declared.table.ReplyRow.{ReplyRow}
-use Rattle.hid_assemble.specs.declared.table.Continuation.{Continuation}
+use Rattle.hid_assemble.specs.declared.table.{ReplyRow.ReplyRow, Continuation.Continuation}
 use Rattle.hid_assemble.specs.Table.{Open, Begins, Continues, continuation_row, ruling_of}
 use Rattle.hid_assemble.specs.Assembly.{Assembly, IsLawful, OpenIsLawful, drop_on, open_after, message_after, kept_by, accepted}
 use Rattle.hid_assemble.proofs.Says.{RowSays, ContinuationSays, row_says, continuation_says}

@@ -1,7 +1,6 @@
 -- The packets of a message finish it.
-use Rattle.std.proofs.Common.{rules}
+use Rattle.std.proofs.{Common.rules, lemmas.Bool.Decides.nat_tests}
 use Rattle.std.proofs.Common.{◌≡◌, ℕ, ◌+◌, ◌*◌, ◌≤◌, ◌<◌, ◌⊎◌, Bool, true, false, cond, not, ◌&&◌, ◌||◌, ◌==◌, nat_le, nat_lt, List, [], ◌∷◌, ◌++◌, length, take, flat_map, append-nil, append_assoc, Some, None, refl, sym, ◌∙◌, ap, arith}
-use Rattle.std.proofs.lemmas.Bool.Decides.{nat_tests}
 use Rattle.hid_packet.specs.Commands.{PING, INIT, CBOR, CANCEL, BROADCAST}
 use Rattle.hid_packet.specs.Packet.{Fields, fields, channel, is_initialization, command, message_length, sequence, initialization_data, continuation_data, initialization, continuation}
 use Rattle.hid_packet.specs.Carries.{Continue, IsLeast, Carries, CarriesMessage}
@@ -11,8 +10,7 @@ use Rattle.hid_assemble.specs.Table.{Open, Ruling, Begins, Continues, is_given, 
 use Rattle.hid_assemble.proofs.ByCommand.{begin_row, by_command}
 use Rattle.hid_assemble.specs.Assembly.{Assembly, is_overdue, still_open, open_after, message_after, kept_by, accepted}
 use Rattle.hid_assemble.specs.Receiving.{Arrival, packets_of, received_one, received, last_verdict, InTime, ComeInTime, IsServed}
-use Rattle.hid_assemble.specs.Verdicts.{verdict, ruling_verdict}
-use Rattle.hid_assemble.specs.declared.verdict.Verdict.TheVariants.{Finished}
+use Rattle.hid_assemble.specs.{Verdicts.verdict, Verdicts.ruling_verdict, declared.verdict.Verdict.TheVariants.Finished}
 use Rattle.hid_packet.specs.Limits.{LONGEST_MESSAGE}
 
 -- the fields of either kind of packet

@@ -2,14 +2,11 @@
 use Rattle.std.proofs.Common.{◌≡◌, ℕ, ◌+◌, ◌*◌, ◌≤◌, ◌<◌, false, not, ◌&&◌, ◌||◌, ◌==◌, nat_le, nat_lt, ◌⊎◌, Option, sym, subst, arith}
 use Rattle.std.proofs.lemmas.Bool.Decides.{nat_tests}
 use Rattle.hid_packet.specs.Commands.{PING, INIT, CBOR, CANCEL, BROADCAST}
-use Rattle.hid_assemble.specs.declared.table.ReplyRow.{ReplyRow}
+use Rattle.hid_assemble.specs.{declared.table.ReplyRow.ReplyRow, Assembly.IsOpenMessage}
 use Rattle.hid_assemble.specs.declared.table.ReplyRow.TheVariants.{InitNew, Short, Long}
-use Rattle.hid_assemble.specs.declared.table.Continuation.{Continuation}
-use Rattle.hid_assemble.specs.declared.table.Continuation.TheVariants.{Kept, Whole}
+use Rattle.hid_assemble.specs.declared.table.Continuation.{Continuation, TheVariants.Kept, TheVariants.Whole}
 use Rattle.hid_assemble.specs.Table.{LAST_CHANNEL, is_given, is_on, initialization_row, continues}
-use Rattle.hid_assemble.specs.Assembly.{IsOpenMessage}
-use Rattle.hid_assemble.proofs.Comparing.{cond_case}
-use Rattle.hid_assemble.proofs.ByCommand.{init_row, begin_row, by_command}
+use Rattle.hid_assemble.proofs.{Comparing.cond_case, ByCommand.init_row, ByCommand.begin_row, ByCommand.by_command}
 use Rattle.hid_packet.specs.Limits.{LONGEST_MESSAGE}
 
 -- what the row of an initialization packet says of it

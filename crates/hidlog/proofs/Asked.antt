@@ -1,8 +1,7 @@
 -- What the program answers where no task was found.
 use Rattle.std.proofs.Common.{◌≡◌, ◌≢◌, ◌⊎◌, inl, inr, ℕ, List, [], ◌∷◌, Option, Some, None, MatchOption, refl, subst}
 use Rattle.clap.specs.Kinds.{IsAmong, Kinds}
-use Rattle.clap.specs.declared.error.kind.ErrorKind.{ErrorKind}
-use Rattle.clap.specs.declared.error.kind.ErrorKind.TheVariants.{OutOfMemory}
+use Rattle.clap.specs.declared.error.kind.ErrorKind.{ErrorKind, TheVariants.OutOfMemory}
 use Rattle.hidlog.specs.declared.command_line.Manner.{Manner}
 use Rattle.hidlog.specs.CommandLine.{Ask, answers_to, asked_by, unless}
 

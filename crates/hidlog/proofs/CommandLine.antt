@@ -1,31 +1,20 @@
 -- What follows from the rules of `clap` for the words of the program.
 use Rattle.std.proofs.Common.{◌≡◌, ℕ, Bool, true, false, not, ◌&&◌, List, [], ◌∷◌, ◌++◌, ◌+◌, ◌<◌, ap₂, length, take, get_or, map, Option, Some, None, is_some, codes, option_and_then, option_map, unwrap_or, refl, sym, ◌∙◌, ap, subst, cond, if◌then◌else◌, ◌||◌}
-use Rattle.std.specs.List.{fold, slice_index_or}
-use Rattle.std.specs.Str.{bytes_eq}
-use Rattle.std.proofs.lemmas.Slice.Eq.{bytes_eq-Decides}
-use Rattle.clap.proofs.OnLiterals.{clap_on_literals}
-use Rattle.std.proofs.lemmas.List.{map-append, take_more}
-use Rattle.std.proofs.lemmas.List.Sums.{fold-append}
-use Rattle.clap.specs.Built.{AddsArg, AddsSubcommand}
-use Rattle.clap.specs.declared.builder.arg.Arg.{Arg}
+use Rattle.std.specs.{List.fold, List.slice_index_or, Str.bytes_eq}
+use Rattle.std.proofs.lemmas.{Slice.Eq.bytes_eq-Decides, List.map-append, List.take_more, List.Sums.fold-append}
+use Rattle.clap.proofs.{OnLiterals.clap_on_literals, WalkLemmas.first_value-rows, WalkLemmas.raw_values-rows}
+use Rattle.clap.specs.{Built.AddsArg, Built.AddsSubcommand, declared.builder.arg.Arg.Arg, Lexer.long_of, Lexer.short_of}
 use Rattle.clap.specs.Walk.{rule_of, Held, Names, Outcome, done, waits, plain, refused, Row, Rule, Step, next, trailing, subcommand, value, Text, Waiting, idle, option, positional, Walk, after_flag, after_step, arg_by_index, arg_by_long, bundle, finished, long_met, long_or_other, plain_word, settled, short_or_plain, subcommand_met, subcommand_or_other, to_positional, walk, walk_from, walked, word_met, nothing_held, first_of, rows_of}
-use Rattle.clap.specs.Lexer.{long_of, short_of}
 use Rattle.clap.specs.Kinds.{Kinds, or_else, check_kinds}
 use Rattle.clap.specs.Faults.{fault_of, check_fault, defaults_fault, entered_fault, level_fault, other_fault, settle_fault, step_fault, turn_fault, walk_fault, word_fault, is_simple_and_free}
 use Rattle.clap.specs.Simple.{new_app, on_top, App, HasMatchesOf, Shape, is_simple, subcommand_of, argument_words, built, entered, help_shape, names_of, rows_at, shape_of, app_of, subcommand_rows_of, with_subcommand}
 use Rattle.clap.specs.Matches.{first_value, matched_of, raw_values, subcommand_name_of}
-use Rattle.clap.proofs.WalkLemmas.{first_value-rows, raw_values-rows}
-use Rattle.clap.specs.declared.builder.command.Command.{Command}
-use Rattle.clap.specs.declared.builder.command.Command.TheViews.{out-Command as fields_of}
-use Rattle.clap.specs.declared.parser.matches.ArgMatches.{ArgMatches}
-use Rattle.clap.specs.declared.parser.matches.Found.{Found}
-use Rattle.clap.specs.declared.error.kind.ErrorKind.TheVariants as kind
-use Rattle.hidlog.specs.declared.command_line.Form.TheVariants.{Lines}
-use Rattle.hidlog.specs.declared.command_line.Manner.{Manner}
-use Rattle.hidlog.specs.declared.command_line.Manner.TheVariants.{ByTerminal}
-use Rattle.hidlog.specs.declared.grammar.CommandName.{CommandName}
-use Rattle.hidlog.specs.declared.grammar.CommandParameter.{CommandParameter}
+use Rattle.clap.specs.declared.builder.command.Command.{Command, TheViews.out-Command as fields_of}
+use Rattle.clap.specs.declared.parser.matches.{ArgMatches.ArgMatches, Found.Found}
+use Rattle.hidlog.specs.declared.command_line.{Form.TheVariants.Lines, Manner.Manner, Manner.TheVariants.ByTerminal}
+use Rattle.hidlog.specs.declared.grammar.{CommandName.CommandName, CommandParameter.CommandParameter}
 use Rattle.hidlog.specs.CommandLine.{Ask, command, command_for, rule_for, ask_of, asked_by, grammar, answers_to, logs_of, manner_of, play, check, show, task_by}
+use Rattle.clap.specs.declared.error.kind.ErrorKind.TheVariants as kind
 use Rattle.session_log.specs.declared.command.LogCommand.TheVariants as playing
 
 -- the rules of which clap's clauses speak

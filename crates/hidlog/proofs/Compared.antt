@@ -3,9 +3,7 @@ use Rattle.std.proofs.Common.{◌≡◌, ◌∙◌, ℕ, ◌+◌, ◌<◌, false
 use Rattle.std.specs.Borrow.{Bor}
 use Rattle.std.proofs.lemmas.List.{map-append, take_more}
 use Rattle.session_log.specs.Command.{Status}
-use Rattle.hidlog.specs.CommandLine.{texts_of}
-use Rattle.hidlog.specs.Model.{Model}
-use Rattle.hidlog.specs.Several.{AreSame, IsSameAt}
+use Rattle.hidlog.specs.{CommandLine.texts_of, Model.Model, Several.AreSame, Several.IsSameAt}
 
 pub on_ok : {P : Type 0} (r : Status) → P → OnOk r P
 on_ok (Ok x) h = h

@@ -1,8 +1,7 @@
 -- The definitions at worked words: a reader's check that they say which words ask for what.
 use Rattle.std.proofs.Common.{◌≡◌, ℕ, true, false, List, [], ◌∷◌, Option, Some, None, codes, refl}
 use Rattle.clap.proofs.OnLiterals.{clap_on_literals}
-use Rattle.clap.specs.Kinds.{Kinds}
-use Rattle.clap.specs.declared.error.kind.ErrorKind.TheVariants.{DisplayVersion}
+use Rattle.clap.specs.{Kinds.Kinds, declared.error.kind.ErrorKind.TheVariants.DisplayVersion}
 use Rattle.hidlog.specs.declared.command_line.Form.TheVariants.{Json, JsonSummary, Lines, Summary}
 use Rattle.hidlog.specs.declared.command_line.Manner.{Manner}
 use Rattle.hidlog.specs.declared.command_line.Manner.TheVariants.{ByTerminal, Explained, Fixed}

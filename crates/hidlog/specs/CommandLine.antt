@@ -1,25 +1,17 @@
 -- Which words ask for what, by the rules of `clap`.
 use Rattle.std.specs.Prelude.{ℕ, Bool, true, false, List, [], ◌∷◌, Option, Some, None, codes, option_map, option_and_then, unwrap_or, map, if◌then◌else◌}
-use Rattle.std.specs.Borrow.{Bor}
-use Rattle.std.specs.Option.{option_map_or}
-use Rattle.std.specs.Str.{bytes_eq}
+use Rattle.std.specs.{Borrow.Bor, Option.option_map_or, Str.bytes_eq}
 use Rattle.clap.specs.Simple.{App, Shape, new_rule, new_shape, subcommand_of}
-use Rattle.clap.specs.Kinds.{Kinds}
-use Rattle.clap.specs.Faults.{fault_of}
-use Rattle.clap.specs.Walk.{Row, Rule, all_of, first_of}
+use Rattle.clap.specs.{Kinds.Kinds, Faults.fault_of, Walk.Row, Walk.Rule, Walk.all_of, Walk.first_of}
 use Rattle.clap.specs.declared.builder.action.ArgAction.TheVariants.{Append, SetTrue}
-use Rattle.hidlog.specs.declared.command_line.Form.{Form}
+use Rattle.hidlog.specs.declared.command_line.{Form.Form, Manner.Manner, Invocation.Invocation, ProgramTask.ProgramTask}
 use Rattle.hidlog.specs.declared.command_line.Form.TheVariants.{Json, JsonSummary, Lines, Summary}
-use Rattle.hidlog.specs.declared.grammar.CommandParameter.{CommandParameter}
+use Rattle.hidlog.specs.declared.grammar.{CommandParameter.CommandParameter, CommandName.CommandName}
 use Rattle.hidlog.specs.declared.grammar.CommandParameter.TheVariants.{Load, Save, All, Summary as SummaryFlag, Json as JsonFlag, Wide, Explain, Plain, Log, Logs}
-use Rattle.hidlog.specs.declared.command_line.Manner.{Manner}
 use Rattle.hidlog.specs.declared.command_line.Manner.TheVariants.{ByTerminal, Explained, Fixed}
-use Rattle.hidlog.specs.declared.command_line.Invocation.{Invocation}
-use Rattle.hidlog.specs.declared.grammar.CommandName.{CommandName}
-use Rattle.hidlog.specs.declared.grammar.CommandName.TheVariants as name
-use Rattle.hidlog.specs.declared.command_line.ProgramTask.{ProgramTask}
 use Rattle.hidlog.specs.declared.command_line.ProgramTask.TheVariants.{Play, Check, Show}
 use Rattle.session_log.specs.declared.command.LogCommand.{LogCommand}
+use Rattle.hidlog.specs.declared.grammar.CommandName.TheVariants as name
 use Rattle.session_log.specs.declared.command.LogCommand.TheVariants as playing
 
 -- ---- the grammar

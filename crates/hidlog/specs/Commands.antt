@@ -2,29 +2,21 @@
 use Rattle.std.specs.Prelude.{◌≡◌, ◌≢◌, ◌⊎◌, ℕ, Bool, true, false, List, [], ◌∷◌, Option, Some, None, Ok, Err, MatchOption, MatchResult, IsSomeAnd, OnOk, codes}
 use Rattle.std.specs.Bool.{MatchBool}
 use Rattle.clap.specs.Words.{IsAmong}
-use Rattle.clap.specs.declared.error.kind.ErrorKind.{ErrorKind}
-use Rattle.clap.specs.declared.error.kind.ErrorKind.TheVariants.{OutOfMemory}
+use Rattle.clap.specs.declared.error.kind.ErrorKind.{ErrorKind, TheVariants.OutOfMemory}
 use Rattle.authn_core.specs.Turn.{Start}
 use Rattle.cred_table.specs.declared.row.Row.{Row}
 use Rattle.token_session.specs.Meters.{SessionState}
 use Rattle.session_log.specs.Command.{IsCounted, PlaysLog, Status, start_with}
-use Rattle.session_log.specs.Ending.{ending_of}
-use Rattle.session_log.specs.Replay.{ReadsTo}
-use Rattle.session_log.specs.Streams.{IsAllRead, PutsLine}
-use Rattle.session_log.specs.declared.command.LogCommand.{LogCommand}
-use Rattle.session_log.specs.declared.command.LogCommand.TheVariants.{Check, Live}
+use Rattle.session_log.specs.{Ending.ending_of, Replay.ReadsTo, Streams.IsAllRead, Streams.PutsLine}
+use Rattle.session_log.specs.declared.command.LogCommand.{LogCommand, TheVariants.Check, TheVariants.Live}
 use Rattle.session_show.specs.Shown.{IsLineText, Shows, reading}
-use Rattle.session_show.specs.declared.wording.Wording.{Wording}
-use Rattle.session_show.specs.declared.wording.Wording.TheVariants.{Explained, Fixed}
+use Rattle.session_show.specs.declared.wording.Wording.{Wording, TheVariants.Explained, TheVariants.Fixed}
 use Rattle.hidlog.specs.CommandLine.{Ask, answers_to, asked_by, explains, named, play, check, show}
-use Rattle.hidlog.specs.declared.command_line.Form.{Form}
-use Rattle.hidlog.specs.declared.command_line.Form.TheVariants.{Lines}
-use Rattle.hidlog.specs.declared.host.Host.{Host}
+use Rattle.hidlog.specs.declared.command_line.Form.{Form, TheVariants.Lines}
+use Rattle.hidlog.specs.{declared.host.Host.Host, Model.Model, Several.AreSame}
 use Rattle.hidlog.specs.Fault.{Came, Tells, came_from, of_log, reasoned}
-use Rattle.hidlog.specs.Model.{Model}
 use Rattle.hidlog.specs.Program.{Ended, IsGiven, IsWhole, SaysMore, Settles, cannot_read_log, is_help, no_memory, writing_failed}
 use Rattle.hidlog.specs.Saved.{FailsToOpen, FailsToSave, Opens, Saves}
-use Rattle.hidlog.specs.Several.{AreSame}
 
 -- The path to save at that is looked at before the log is read: that of `live`, whose log may take long to come.
 abbrev pub looked_at : LogCommand → Option (List ℕ) → Option (List ℕ)

@@ -1,7 +1,6 @@
 -- What is left of a stream that is standard input or a file.
 use Rattle.std.specs.Prelude.{ℕ, List, Option}
-use Rattle.hidlog.specs.declared.logs.Stream.{Stream}
-use Rattle.hidlog.specs.declared.logs.Stream.TheVariants.{Standard, Named}
+use Rattle.hidlog.specs.declared.logs.Stream.{Stream, TheVariants.Standard, TheVariants.Named}
 
 abbrev pub stream_left : {I F : Type 0} → (I → Option (List ℕ)) → (F → Option (List ℕ)) → Stream I F → Option (List ℕ)
 stream_left input file (Standard s) = input s

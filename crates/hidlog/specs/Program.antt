@@ -1,14 +1,11 @@
 -- What the program answers, and what it writes. A pair is a source or a target before and after the call.
 use Rattle.std.specs.Prelude.{◌≡◌, ◌⊎◌, ◌<◌, ◌+◌, ◌-◌, ◌^◌, ℕ, Bool, true, false, List, [], ◌∷◌, ◌++◌, length, Option, Result, Err, codes}
-use Rattle.std.specs.Bool.{MatchBool}
-use Rattle.clap.specs.declared.error.kind.ErrorKind.{ErrorKind}
-use Rattle.clap.specs.declared.error.kind.ErrorKind.TheVariants.{DisplayHelp, DisplayVersion}
+use Rattle.std.specs.{Bool.MatchBool, Io.KnownBytes.Keeps}
+use Rattle.clap.specs.declared.error.kind.ErrorKind.{ErrorKind, TheVariants.DisplayHelp, TheVariants.DisplayVersion}
 use Rattle.cred_table.specs.declared.fault.SnapshotFault.{SnapshotFault}
 use Rattle.cred_table.specs.declared.fault.SnapshotFault.TheVariants.{NotSnapshot, TooMany, RowBroken, Memory}
-use Rattle.std.specs.Io.KnownBytes.{Keeps}
 use Rattle.session_log.specs.Streams.{IsAllRead, IsTaken, IsBroken}
-use Rattle.session_log.specs.declared.fault.LogFault.{LogFault}
-use Rattle.session_log.specs.declared.fault.LogFault.TheVariants.{Write}
+use Rattle.session_log.specs.declared.fault.LogFault.{LogFault, TheVariants.Write}
 
 -- a text was given to a target, whole or its front
 abbrev pub IsGiven : {F : Type 0} → (F → Option (List ℕ)) → (F → ℕ) → (F × F) → List ℕ → Type 0

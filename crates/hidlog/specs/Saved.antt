@@ -1,7 +1,6 @@
 -- The snapshots that a session begins with and ends in. What files hold is said by `Files` (src/files.rt).
 use Rattle.std.specs.Prelude.{◌≡◌, ◌⊎◌, ℕ, true, List, [], Option, Some, None, Ok, Err}
-use Rattle.cred_table.specs.declared.fault.SnapshotFault.{SnapshotFault}
-use Rattle.cred_table.specs.declared.row.Row.{Row}
+use Rattle.cred_table.specs.declared.{fault.SnapshotFault.SnapshotFault, row.Row.Row}
 use Rattle.cred_table.specs.Snapshots.{IsSnapshot, Loads, Refuses}
 use Rattle.token_session.specs.Meters.{SessionState}
 use Rattle.hidlog.specs.Fault.{Came, alone, reasoned}

@@ -3,12 +3,8 @@ use Rattle.std.specs.Prelude.{◌≡◌, ℕ, List, [], ◌∷◌, Option, Some,
 use Rattle.std.specs.Io.KnownBytes.{Consumes}
 use Rattle.cred_table.specs.declared.row.Row.{Row}
 use Rattle.session_log.specs.Check.{begun, check_history}
-use Rattle.session_log.specs.Command.{start_with}
-use Rattle.session_log.specs.Log.{fault_of, playing}
-use Rattle.session_log.specs.Streams.{IsAllRead}
-use Rattle.hidlog.specs.CommandLine.{named}
-use Rattle.hidlog.specs.Model.{Model}
-use Rattle.hidlog.specs.Saved.{Opens}
+use Rattle.session_log.specs.{Command.start_with, Streams.IsAllRead, Log.fault_of, Log.playing}
+use Rattle.hidlog.specs.{CommandLine.named, Model.Model, Saved.Opens}
 
 module _ {D I O F : Type 0} (model : Model D I O F) where
   -- All of a log was read, and it is what a key sends that begins with the credentials of the snapshot at the path.

@@ -1,14 +1,10 @@
 -- A device after lines were played on it, and after a snapshot of it was written.
 use Rattle.std.proofs.Common.{◌≡◌, ◌≤◌, ◌++◌, ℕ, ℤ, pos, List, [], length, take, drop, Some, Result, Ok, Err, to_z, w32, refl, arith, sym, ap, ◌∙◌, append_assoc, length-append, length-drop, length-take-le, take-append-drop}
-use Rattle.std.proofs.lemmas.Int.{to_z_pos}
-use Rattle.std.proofs.lemmas.List.{drop-append-le}
+use Rattle.std.proofs.lemmas.{Int.to_z_pos, List.drop-append-le}
 use Rattle.session_log.specs.declared.fault.LogFault.{LogFault}
 use Rattle.token_session.specs.Meters.{SessionState}
-use Rattle.hidlog_c.specs.declared.outcome.CallOutcome.{CallOutcome}
-use Rattle.hidlog_c.specs.Changed.{SavesLen}
-use Rattle.hidlog_c.specs.Key.{DeviceState}
-use Rattle.hidlog_c.specs.Lines.{ArePlayed, PlaysOn}
-use Rattle.hidlog_c.specs.Numbers.{outcome_of}
+use Rattle.hidlog_c.specs.{declared.outcome.CallOutcome.CallOutcome, Changed.SavesLen, Key.DeviceState}
+use Rattle.hidlog_c.specs.{Lines.ArePlayed, Lines.PlaysOn, Numbers.outcome_of}
 
 -- the status of an outcome is a small number
 status_small : (answer : Result (Unit {0}) LogFault) (outcome : CallOutcome) (written : ℕ)

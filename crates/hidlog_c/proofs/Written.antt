@@ -1,24 +1,18 @@
 -- What a call that plays a log over a slice into a lent buffer did.
 use Rattle.std.proofs.Common.{◌≡◌, ◌+◌, ◌<◌, ◌≤◌, ℕ, Bool, true, false, List, [], ◌∷◌, ◌++◌, length, take, drop, Option, Some, Result, Ok, Err, OnOk, inl, inr, if◌then◌else◌, ap, ◌∙◌, sym, refl, subst, arith}
 use Rattle.std.proofs.lemmas.List.{append_cancel_right}
-use Rattle.session_log.specs.declared.fault.LogFault.{LogFault}
+use Rattle.session_log.specs.declared.{fault.LogFault.LogFault, command.LogCommand.LogCommand, source.SliceIn.SliceIn}
 use Rattle.session_log.specs.declared.fault.LogFault.TheVariants.{BadLine, TooLong, Differs, Read, Write, TooManyLines, Memory}
 use Rattle.session_log.specs.Ending.{Ending, Done, Refused, Unread, Unwritten, ending_of, read_fails, write_fails}
 use Rattle.session_log.specs.Replay.{Finds, IsShown, Makes, Reaches, ReadsTo}
 use Rattle.cred_table.specs.declared.row.Row.{Row}
 use Rattle.session_log.specs.Check.{Compared, begun, check_history}
-use Rattle.session_log.specs.Command.{IsCounted, PlaysLog}
+use Rattle.session_log.specs.{Command.IsCounted, Command.PlaysLog, World.World, Streams.IsAllRead, Streams.Moves}
 use Rattle.session_log.specs.Session.{history, live_history, quiet_history}
-use Rattle.session_log.specs.Streams.{IsAllRead, Moves}
-use Rattle.session_log.specs.World.{World}
-use Rattle.session_log.specs.declared.command.LogCommand.{LogCommand}
 use Rattle.session_log.specs.declared.command.LogCommand.TheVariants.{Check, Live, Quiet, Replay}
-use Rattle.token_session.specs.Meters.{SessionState}
-use Rattle.token_session.specs.declared.input.Timed.{Timed}
+use Rattle.token_session.specs.{Meters.SessionState, declared.input.Timed.Timed}
 use Rattle.hidlog_c.specs.Commands.{IsWritten, PlaysSlice, PlaysSliceIn}
-use Rattle.session_log.specs.declared.source.SliceIn.{SliceIn}
-use Rattle.hidlog_c.specs.declared.lent.Lent.{Lent}
-use Rattle.hidlog_c.specs.Switched.{start_with}
+use Rattle.hidlog_c.specs.{declared.lent.Lent.Lent, Switched.start_with}
 
 -- to what begins with the name of a borrow a text was appended
 appended : (old new : ℕ) (none front text : List ℕ) → none ≡ [] → new ∷ front ≡ (old ∷ none) ++ text → front ≡ text

@@ -1,21 +1,13 @@
 -- What a command does: the log, the buffer after it, and the outcome.
 use Rattle.std.specs.Prelude.{◌≡◌, ◌≢◌, ◌⊎◌, ◌≤◌, ℕ, true, false, List, [], ◌++◌, length, take, OnOk, Result}
-use Rattle.cred_table.specs.declared.fault.SnapshotFault.{SnapshotFault}
-use Rattle.cred_table.specs.declared.row.Row.{Row}
-use Rattle.cred_table.specs.Snapshots.{Refuses}
-use Rattle.session_log.specs.declared.fault.LogFault.{LogFault}
-use Rattle.session_log.specs.declared.command.LogCommand.{LogCommand}
+use Rattle.cred_table.specs.{declared.fault.SnapshotFault.SnapshotFault, declared.row.Row.Row, Snapshots.Refuses}
+use Rattle.session_log.specs.declared.{fault.LogFault.LogFault, command.LogCommand.LogCommand}
 use Rattle.session_log.specs.declared.command.LogCommand.TheVariants.{Check, Live, Quiet, Replay}
-use Rattle.session_log.specs.Check.{begun, check_history}
+use Rattle.session_log.specs.{Check.begun, Check.check_history, World.World, Replay.Finds, Replay.Makes}
 use Rattle.session_log.specs.Ending.{Ending, ending_of, read_fails, write_fails}
-use Rattle.session_log.specs.Replay.{Finds, Makes}
 use Rattle.session_log.specs.Session.{history, live_history, quiet_history}
-use Rattle.session_log.specs.World.{World}
-use Rattle.hidlog_c.specs.declared.capacity.TheConstants.{CAPACITY}
-use Rattle.hidlog_c.specs.declared.outcome.CallOutcome.{CallOutcome}
-use Rattle.hidlog_c.specs.Begin.{Opens}
-use Rattle.hidlog_c.specs.Numbers.{outcome_of, refused}
-use Rattle.hidlog_c.specs.Switched.{start_with}
+use Rattle.hidlog_c.specs.declared.{capacity.TheConstants.CAPACITY, outcome.CallOutcome.CallOutcome}
+use Rattle.hidlog_c.specs.{Begin.Opens, Switched.start_with, Numbers.outcome_of, Numbers.refused}
 
 -- A log was played in this world from the state x on: `bytes` of it were read, which is all but `rest`, and this text
 -- was written. Where it ended at a fault, no more need be read to find it.

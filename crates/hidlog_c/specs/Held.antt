@@ -1,7 +1,6 @@
 -- What a key holds.
 use Rattle.std.specs.Prelude.{Option, None, if◌then◌else◌, nat_eq}
-use Rattle.hidlog_c.specs.Key.{DeviceState}
-use Rattle.hidlog_c.specs.declared.key.KeyHandle.{KeyHandle}
+use Rattle.hidlog_c.specs.{Key.DeviceState, declared.key.KeyHandle.KeyHandle}
 
 -- the device of a key that is made
 abbrev pub held : KeyHandle → Option DeviceState

@@ -1,8 +1,7 @@
 -- A key that C holds: what it is before and after a call, and what the call returns.
 use Rattle.std.specs.Prelude.{◌≡◌, ℕ, ℤ, pos, List, [], ◌∷◌, length, Option, Some, None}
 use Rattle.authn_core.specs.Turn.{Start}
-use Rattle.token_session.specs.declared.input.Timed.{Timed}
-use Rattle.token_session.specs.Law.{sent_now}
+use Rattle.token_session.specs.{declared.input.Timed.Timed, Law.sent_now}
 use Rattle.token_session.specs.Meters.{SessionState, StandsAfter, stepped, sent_by}
 use Rattle.hidlog_c.specs.declared.fault.TheConstants.{NOT_MADE, PACKETS_WAIT, NO_PACKET}
 

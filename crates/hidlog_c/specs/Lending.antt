@@ -1,10 +1,7 @@
 -- What memory is after its device was lent.
-use Rattle.std.specs.Borrow.{Lends, MutBor, Fml}
-use Rattle.std.specs.Prelude.{Some}
-use Rattle.hidlog_c.specs.contracts.device.Device.{the_row as device_row}
-use Rattle.hidlog_c.specs.Key.{DeviceState}
-use Rattle.hidlog_c.specs.declared.memory.Memory.{Memory}
-use Rattle.hidlog_c.specs.contracts.memory.Memory.{the_row}
+use Rattle.std.specs.{Borrow.Lends, Borrow.MutBor, Borrow.Fml, Prelude.Some}
+use Rattle.hidlog_c.specs.contracts.{device.Device.the_row as device_row, memory.Memory.the_row}
+use Rattle.hidlog_c.specs.{Key.DeviceState, declared.memory.Memory.Memory}
 
 -- the memory with a device in another state
 abbrev pub with_device : Memory → DeviceState → Memory

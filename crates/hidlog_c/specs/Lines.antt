@@ -1,16 +1,11 @@
 -- Lines of a log that are played on the session of a key.
 use Rattle.std.specs.Prelude.{◌≡◌, ℕ, ℤ, pos, List, [], ◌∷◌, Option, Some, None, Result}
 use Rattle.authn_core.specs.Turn.{Start}
-use Rattle.token_session.specs.declared.input.Timed.{Timed}
-use Rattle.token_session.specs.Meters.{SessionState, StandsAfter}
-use Rattle.session_log.specs.declared.fault.LogFault.{LogFault}
-use Rattle.session_log.specs.Ending.{Ending}
-use Rattle.session_log.specs.Replay.{Finds, Plays, Writes}
-use Rattle.session_log.specs.Session.{live_history, live_machine}
+use Rattle.token_session.specs.{declared.input.Timed.Timed, Meters.SessionState, Meters.StandsAfter}
+use Rattle.session_log.specs.{declared.fault.LogFault.LogFault, Ending.Ending}
+use Rattle.session_log.specs.{Replay.Finds, Replay.Plays, Replay.Writes, Session.live_history, Session.live_machine}
 use Rattle.hidlog_c.specs.declared.fault.TheConstants.{NOT_MADE, PACKETS_WAIT}
-use Rattle.hidlog_c.specs.declared.outcome.CallOutcome.{CallOutcome}
-use Rattle.hidlog_c.specs.Commands.{IsWritten}
-use Rattle.hidlog_c.specs.Key.{DeviceState}
+use Rattle.hidlog_c.specs.{declared.outcome.CallOutcome.CallOutcome, Commands.IsWritten, Key.DeviceState}
 use Rattle.hidlog_c.specs.Numbers.{outcome_of}
 
 -- The lines were played from one state of the session to another, as `live` plays them: `bytes` of them were read,

@@ -1,10 +1,8 @@
 -- What memory of the caller's holds.
-use Rattle.std.specs.Borrow.{Fml, full_share}
+use Rattle.std.specs.{Borrow.Fml, Borrow.full_share, Ptr.lies_at, Ptr.room_at}
 use Rattle.std.specs.Prelude.{Option, Some, None}
-use Rattle.std.specs.Ptr.{lies_at, room_at}
 use denote.RawPtr.{Ptr}
-use Rattle.hidlog_c.specs.contracts.device.Device.{the_row as device_row}
-use Rattle.hidlog_c.specs.Key.{DeviceState}
+use Rattle.hidlog_c.specs.{contracts.device.Device.the_row as device_row, Key.DeviceState}
 
 -- bytes of its size lie there that nothing else uses, or a device does
 abbrev pub holds : Ptr → Option DeviceState → Fml

@@ -1,13 +1,10 @@
 -- What a key reports to C.
 use Rattle.std.specs.Prelude.{◌≡◌, ◌<◌, ◌≤◌, ℕ, ℤ, pos, ◌-◌, List, ◌++◌, length, replicate, Bool, true, false, Option, Some, None, slice_index_or}
 use Rattle.authn_core.specs.Views.{Needed, needs, nothing, presence, key, sign}
-use Rattle.cred_table.specs.declared.row.Row.{Row}
-use Rattle.cred_table.specs.Waiting.{pending_count}
+use Rattle.cred_table.specs.{declared.row.Row.Row, Waiting.pending_count}
 use Rattle.token_session.specs.declared.input.Meters.{Meters}
 use Rattle.hidlog_c.specs.declared.fault.TheConstants.{BAD_ARGUMENT, NOT_MADE}
-use Rattle.hidlog_c.specs.declared.reports.NeedReport.{NeedReport}
-use Rattle.hidlog_c.specs.declared.reports.Credential.{Credential}
-use Rattle.hidlog_c.specs.declared.reports.MetersReport.{MetersReport}
+use Rattle.hidlog_c.specs.declared.reports.{NeedReport.NeedReport, Credential.Credential, MetersReport.MetersReport}
 use Rattle.hidlog_c.specs.Key.{DeviceState}
 
 -- the bytes, with zeros up to n places

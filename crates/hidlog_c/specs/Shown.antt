@@ -1,14 +1,9 @@
 -- What is said of a log that is shown.
 use Rattle.std.specs.Prelude.{◌≡◌, ℕ, Bool, true, false, List, [], Result}
-use Rattle.session_log.specs.declared.fault.LogFault.{LogFault}
-use Rattle.session_log.specs.Ending.{Ending}
-use Rattle.session_log.specs.Replay.{Finds, Plays}
+use Rattle.session_log.specs.{declared.fault.LogFault.LogFault, Ending.Ending, Replay.Finds, Replay.Plays}
 use Rattle.session_show.specs.Shown.{IsLineText, IsTextTo, reading}
-use Rattle.session_show.specs.declared.wording.Wording.{Wording}
-use Rattle.session_show.specs.declared.wording.Wording.TheVariants.{Explained, Fixed}
-use Rattle.hidlog_c.specs.declared.outcome.CallOutcome.{CallOutcome}
-use Rattle.hidlog_c.specs.Commands.{IsWritten}
-use Rattle.hidlog_c.specs.Numbers.{outcome_of}
+use Rattle.session_show.specs.declared.wording.Wording.{Wording, TheVariants.Explained, TheVariants.Fixed}
+use Rattle.hidlog_c.specs.{declared.outcome.CallOutcome.CallOutcome, Commands.IsWritten, Numbers.outcome_of}
 
 -- how lines are worded
 abbrev pub wording_for : (explained : Bool) → Wording

@@ -1,15 +1,11 @@
 -- A key that is switched on.
 use Rattle.std.specs.Prelude.{◌≡◌, ◌≢◌, ◌⊎◌, ℕ, ℤ, pos, List, [], Option, Some, None, replicate}
 use Rattle.authn_core.specs.Turn.{Start}
-use Rattle.cred_table.specs.declared.fault.SnapshotFault.{SnapshotFault}
+use Rattle.cred_table.specs.{declared.fault.SnapshotFault.SnapshotFault, declared.row.Row.Row, Snapshots.Refuses}
 use Rattle.cred_table.specs.declared.fault.SnapshotFault.TheVariants.{NotSnapshot, TooMany, RowBroken, Memory}
-use Rattle.cred_table.specs.declared.row.Row.{Row}
-use Rattle.cred_table.specs.Snapshots.{Refuses}
 use Rattle.token_session.specs.Meters.{StandsAfter}
-use Rattle.hidlog_c.specs.Begin.{Opens}
-use Rattle.hidlog_c.specs.declared.capacity.TheConstants.{CAPACITY}
+use Rattle.hidlog_c.specs.{Begin.Opens, declared.capacity.TheConstants.CAPACITY, Key.DeviceState}
 use Rattle.hidlog_c.specs.declared.fault.TheConstants.{ALREADY_MADE, NOT_SNAPSHOT, TOO_MANY_ROWS, ROW_BROKEN, NO_MEMORY}
-use Rattle.hidlog_c.specs.Key.{DeviceState}
 
 -- the start of a session with capacity for as many credentials as a key of this library
 abbrev pub start_of : (aaguid : List ℕ) → (moment : ℕ) → List Row → Start

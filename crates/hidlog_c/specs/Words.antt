@@ -2,8 +2,7 @@
 use Rattle.std.specs.Prelude.{◌≡◌, ℕ, ℤ, List, length, ◌&&◌, nat_eq, nat_le, if◌then◌else◌, Option, Some, None}
 use Rattle.authn_core.specs.declared.replies.Presence.{Presence as Reply}
 use Rattle.authn_core.specs.declared.replies.Presence.TheVariants.{Granted, Denied, TimedOut}
-use Rattle.token_session.specs.declared.input.Input.{Input}
-use Rattle.token_session.specs.declared.input.Input.TheVariants.{Signature}
+use Rattle.token_session.specs.declared.input.Input.{Input, TheVariants.Signature}
 use Rattle.hidlog_c.specs.declared.fault.TheConstants.{BAD_ARGUMENT, NOT_MADE}
 use Rattle.hidlog_c.specs.Key.{Answers, DeviceState}
 

@@ -1,9 +1,7 @@
 -- What was shown of one line.
 use Rattle.std.proofs.Common.{◌≡◌, ℕ, ◌+◌, List, None, Some, rules}
-use Rattle.session_log.specs.declared.line.Line.{Line}
-use Rattle.session_log.specs.declared.fault.LogFault.TheVariants.{BadLine}
+use Rattle.session_log.specs.{declared.line.Line.Line, declared.fault.LogFault.TheVariants.BadLine, Said.said}
 use Rattle.session_log.specs.Ending.{Done, Refused, Unwritten}
-use Rattle.session_log.specs.Said.{said}
 use Rattle.session_show.specs.Shown.{ShowsLine}
 
 -- a line that is none: nothing was written

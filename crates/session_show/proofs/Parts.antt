@@ -2,9 +2,7 @@
 use Rattle.std.proofs.Common.{◌≡◌, ℕ, ◌+◌, List, ◌∷◌, ◌++◌, Option, Result, Ok, Err, ap, ◌∙◌, subst, append_assoc, decimal}
 use Rattle.std.specs.Io.KnownBytes.{Appends}
 use Rattle.std.proofs.KnownBytes.{Appends-trans}
-use Rattle.session_log.specs.Streams.{IsTaken, Puts}
-use Rattle.session_log.specs.declared.fault.Failed.{Failed}
-use Rattle.session_log.specs.Streams.{Grows}
+use Rattle.session_log.specs.{Streams.IsTaken, Streams.Puts, Streams.Grows, declared.fault.Failed.Failed}
 use Rattle.session_show.specs.Written.{Writes, WritesNumbered}
 
 -- after the parts so far a part was appended, or broke off

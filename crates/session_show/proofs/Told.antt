@@ -1,22 +1,15 @@
 -- The text of lines that are shown one after the other.
 use Rattle.std.proofs.Common.{◌≡◌, ℕ, ◌+◌, ◌≤◌, ◌<◌, ◌^◌, List, [], ◌∷◌, ◌++◌, length, take, drop, flat_map, Option, Some, None, Result, Ok, Err, refl, sym, ap, ◌∙◌, subst, arith, append-nil, append_assoc, length-append, take-append-drop}
 use Rattle.std.specs.Io.KnownBytes.{Consumes, Appends, Keeps}
-use Rattle.std.proofs.KnownBytes.{Appends-trans, Appends-kept}
-use Rattle.std.proofs.lemmas.Grind.{flat_map-append}
+use Rattle.std.proofs.{KnownBytes.Appends-trans, KnownBytes.Appends-kept, lemmas.Grind.flat_map-append}
 use Rattle.session_log.specs.Ending.{Refused, ended_by, ending_of}
-use Rattle.session_log.specs.Lines.{lines}
+use Rattle.session_log.specs.{Lines.lines, Said.said, Sent.SendsPackets, Text.ended, Replay.IsRefused, Replay.IsUnread}
 use Rattle.session_log.specs.Log.{fault_at, fault_by, text_by, text_of}
-use Rattle.session_log.specs.Replay.{IsRefused, IsUnread}
-use Rattle.session_log.specs.Said.{said}
-use Rattle.session_log.specs.Sent.{SendsPackets}
-use Rattle.session_log.specs.Text.{ended}
 use Rattle.session_log.specs.Window.{HasLine, IsUnfinished, Stops}
-use Rattle.session_log.specs.declared.fault.LogFault.{LogFault}
+use Rattle.session_log.specs.declared.{fault.LogFault.LogFault, line.Line.Line}
 use Rattle.session_log.specs.declared.fault.LogFault.TheVariants.{BadLine, TooLong, Differs, Read, Write, TooManyLines, Memory}
-use Rattle.session_log.specs.declared.line.Line.{Line}
 use Rattle.session_log.proofs.Cutting.{last_line, some_line}
-use Rattle.session_log.proofs.Exits.{short_in_front, stops_at_line}
-use Rattle.session_log.proofs.Gathering.{in_count}
+use Rattle.session_log.proofs.{Exits.short_in_front, Exits.stops_at_line, Gathering.in_count}
 use Rattle.session_log.proofs.Through.{Through, played_last, refused, said_fault, through_line, too_long, too_many, unread}
 use Rattle.session_show.specs.Shown.{AreTold, IsShownText, Shows, ShowsLine, TellsLine, Told, failures_of, reading, unknown}
 

@@ -1,17 +1,11 @@
 -- Which lines of a log were shown, and what is said of the text for each.
 use Rattle.std.specs.Prelude.{◌≡◌, ℕ, ◌+◌, Bool, true, false, not, ◌==◌, List, [], ◌∷◌, ◌++◌, length, flat_map, decimal, Option, Some, None}
-use Rattle.std.specs.Bool.{MatchBool}
-use Rattle.std.specs.Io.KnownBytes.{Appends, Keeps}
+use Rattle.std.specs.{Bool.MatchBool, Io.KnownBytes.Appends, Io.KnownBytes.Keeps}
 use Rattle.session_log.specs.Ending.{Done, Ending, Refused, Unread, Unwritten}
 use Rattle.session_log.specs.Replay.{Plays, PlaysLine}
-use Rattle.session_log.specs.Said.{said}
-use Rattle.session_log.specs.Streams.{Grows, Moves}
-use Rattle.session_log.specs.Text.{ended}
-use Rattle.session_log.specs.World.{World}
-use Rattle.session_log.specs.declared.line.Line.{Line}
+use Rattle.session_log.specs.{Said.said, Text.ended, World.World, declared.line.Line.Line, Streams.Grows, Streams.Moves}
 use Rattle.session_log.specs.declared.line.Line.TheVariants.{Input, Sent, Comment, Count}
-use Rattle.session_show.specs.declared.wording.Wording.{Wording}
-use Rattle.session_show.specs.declared.wording.Wording.TheVariants.{Fixed, Explained}
+use Rattle.session_show.specs.declared.wording.Wording.{Wording, TheVariants.Fixed, TheVariants.Explained}
 
 -- ---- the text for a line
 

@@ -1,6 +1,5 @@
 use Rattle.std.proofs.Common.{Some, None, codes, ◌∙◌, ap, false}
-use Rattle.std.specs.Option.{option_map_or}
-use Rattle.std.specs.Str.{bytes_eq}
+use Rattle.std.specs.{Option.option_map_or, Str.bytes_eq}
 use Rattle.clap.specs.Matches.{found_of}
 use Rattle.hidlog.proofs.CommandLine.{path_is}
 use Rattle.hidlog.proofs.command_line.is_set.Goals as goal

@@ -1,6 +1,5 @@
 use Rattle.std.proofs.Common.{Some, None, false, ◌∙◌, ap, sym}
-use Rattle.hidlog.specs.declared.command_line.Manner.TheVariants.{ByTerminal}
-use Rattle.hidlog.specs.CommandLine.{check, texts_of}
+use Rattle.hidlog.specs.{declared.command_line.Manner.TheVariants.ByTerminal, CommandLine.check, CommandLine.texts_of}
 use Rattle.hidlog.proofs.CommandLine.{plain_replay, plain_live, plain_check, plain_quiet, plain_show}
 use Rattle.hidlog.proofs.command_line.plain_task.Goals as goal
 

@@ -1,6 +1,5 @@
 use Rattle.std.proofs.Common.{Some, codes, sym, ◌∙◌, ap}
-use Rattle.clap.specs.Matches.{found_of}
-use Rattle.clap.specs.Walk.{first_of, rows_of}
+use Rattle.clap.specs.{Matches.found_of, Walk.first_of, Walk.rows_of}
 use Rattle.hidlog.specs.CommandLine.{play, check, show, path_of, task_by}
 use Rattle.session_log.specs.declared.command.LogCommand.TheVariants.{Replay, Live}
 use Rattle.hidlog.proofs.CommandLine.{path_is, three_parts, four_parts}

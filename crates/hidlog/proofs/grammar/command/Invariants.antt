@@ -1,6 +1,5 @@
 use Rattle.std.proofs.Common.{◌≡◌, take, false, map}
-use Rattle.clap.specs.Words.{shape_of}
-use Rattle.clap.specs.declared.builder.command.Command.TheViews.{out-Command as fields_of}
+use Rattle.clap.specs.{Words.shape_of, declared.builder.command.Command.TheViews.out-Command as fields_of}
 use Rattle.hidlog.specs.CommandLine.{command, rule_for, word_for, parameters_for}
 use Rattle.hidlog.proofs.grammar.command.Given as goal
 

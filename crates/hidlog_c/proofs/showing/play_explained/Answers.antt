@@ -1,6 +1,5 @@
 use Rattle.std.proofs.Common.{ℕ, List, rules}
-use Rattle.session_log.specs.Ending.{Ending}
-use Rattle.session_log.specs.Replay.{Plays}
+use Rattle.session_log.specs.{Ending.Ending, Replay.Plays}
 use Rattle.session_show.specs.Shown.{IsLineText, IsTextTo, reading}
 use Rattle.session_show.specs.declared.wording.Wording.TheVariants.{Explained}
 use Rattle.hidlog_c.proofs.Written.{written}

@@ -1,12 +1,9 @@
 use Rattle.std.proofs.Common.{◌≡◌, refl, ap, sym, List, ℕ, [], ◌∷◌, length}
-use Rattle.std.proofs.lemmas.Bool.{eqb-true, eqb-false}
-use Rattle.std.proofs.lemmas.List.{nil_from_length}
+use Rattle.std.proofs.lemmas.{Bool.eqb-true, Bool.eqb-false, List.nil_from_length}
 use Rattle.std.specs.Prelude.{◌≢◌, Ok}
-use Rattle.cred_table.specs.declared.row.Row.{Row}
-use Rattle.cred_table.specs.Snapshots.{Loads}
+use Rattle.cred_table.specs.{declared.row.Row.Row, Snapshots.Loads}
 use Rattle.session_log.proofs.Histories.{begins}
-use Rattle.hidlog_c.specs.Begin.{Opens}
-use Rattle.hidlog_c.specs.declared.capacity.TheConstants.{CAPACITY}
+use Rattle.hidlog_c.specs.{Begin.Opens, declared.capacity.TheConstants.CAPACITY}
 use Rattle.hidlog_c.proofs.started.open.Goals as goal
 
 opens_none : (s : List ℕ) → s ≡ [] → Opens s []

@@ -1,17 +1,11 @@
 use Rattle.std.proofs.Common.{◌≡◌, ◌<◌, ◌+◌, ℕ, List, [], ◌∷◌, ◌++◌, length, take, drop, Err, refl, sym, ap, ◌∙◌, subst, arith}
 use Rattle.std.specs.Io.KnownBytes.{Consumes}
 use Rattle.std.proofs.KnownBytes.{Consumes-nil, Appends-nil, Appends-trans}
-use Rattle.std.proofs.lemmas.List.{nil_from_length}
-use Rattle.std.proofs.lemmas.Result.{err_from_is_err_and}
+use Rattle.std.proofs.lemmas.{List.nil_from_length, Result.err_from_is_err_and}
 use Rattle.session_log.specs.Ending.{Ending, ended_by, ending_of, read_fails, write_fails}
-use Rattle.session_log.specs.Replay.{ReadsTo}
-use Rattle.session_log.specs.Lines.{lines}
-use Rattle.session_log.specs.Log.{text_of}
-use Rattle.session_log.specs.Streams.{Counts, IsAllRead}
-use Rattle.session_log.specs.Window.{IsUnfinished}
-use Rattle.session_log.specs.declared.fault.LogFault.{LogFault}
-use Rattle.session_log.proofs.Through.{through_none, played_none}
-use Rattle.session_log.proofs.Cutting.{line_in_front}
+use Rattle.session_log.specs.{Replay.ReadsTo, Lines.lines, Log.text_of, Window.IsUnfinished}
+use Rattle.session_log.specs.{Streams.Counts, Streams.IsAllRead, declared.fault.LogFault.LogFault}
+use Rattle.session_log.proofs.{Through.through_none, Through.played_none, Cutting.line_in_front}
 use Rattle.session_log.proofs.Exits.{as_err, read_on, short_in_front, some_left}
 use Rattle.session_log.proofs.Failures.{on_any, on_err, counts_none, counts_on, plays_counts, plays_unread, stops_unwritten}
 use Rattle.session_log.proofs.Lasts.{faulty_in_front, faulty_last, none_bad}

@@ -1,8 +1,6 @@
 use Rattle.std.proofs.Common.{◌≡◌, ◌∙◌, refl, rules, arith}
 use Rattle.cred_table.specs.Rows.{ids}
-use Rattle.ctap_message.specs.Members.{has_entries}
-use Rattle.ctap_message.specs.Descriptors.{ids_of}
-use Rattle.ctap_message.specs.DescriptorWalk.{left_of}
+use Rattle.ctap_message.specs.{Members.has_entries, Descriptors.ids_of, DescriptorWalk.left_of}
 use Rattle.authn_core.specs.GetAssertion.{applicable}
 use Rattle.authn_core.proofs.Readiness.{applicable_there}
 use Rattle.authn_core.proofs.authenticator.Core.begin_assert.Goals as goal

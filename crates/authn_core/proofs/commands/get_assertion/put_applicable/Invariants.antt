@@ -1,6 +1,5 @@
 use Rattle.std.proofs.Common.{◌≡◌, []}
-use Rattle.ctap_message.specs.Descriptors.{ids_of}
-use Rattle.ctap_message.specs.DescriptorWalk.{left_of}
+use Rattle.ctap_message.specs.{Descriptors.ids_of, DescriptorWalk.left_of}
 use Rattle.authn_core.specs.GetAssertion.{find_named}
 use Rattle.authn_core.proofs.commands.get_assertion.put_applicable.Given as goal
 

@@ -1,6 +1,4 @@
-use Rattle.std.proofs.Common.{ℕ, length, arith}
-use Rattle.std.proofs.lemmas.Grind.{common_steps}
-use Rattle.std.proofs.lemmas.List.{drop-replicate}
+use Rattle.std.proofs.{Common.ℕ, Common.length, Common.arith, lemmas.Grind.common_steps, lemmas.List.drop-replicate}
 use Rattle.authn_core.proofs.replies.Signature.new.Goals as goal
 
 pub invariant_of-result : goal.invariant_of-result

@@ -1,8 +1,7 @@
 use Rattle.std.proofs.Common.{◌∙◌, sym}
 use Rattle.hidlog.specs.CommandLine.{path_of}
 use Rattle.hidlog.proofs.Compared.{next_same}
-use Rattle.hidlog.proofs.host.Host.check_each.Goals.{then-has_failed, else-has_failed}
-use Rattle.hidlog.proofs.host.Host.check_each.Invariants.{model}
+use Rattle.hidlog.proofs.host.Host.check_each.{Goals.then-has_failed, Goals.else-has_failed, Invariants.model}
 use Rattle.hidlog.proofs.host.Host.check_each.Goals as goal
 
 pub loop-path-preserved : goal.loop-path-preserved

@@ -1,7 +1,5 @@
 use Rattle.std.proofs.Common.{◌≡◌, false, take}
-use Rattle.hidlog.specs.CommandLine.{path_of, texts_of}
-use Rattle.hidlog.specs.Model.{Model}
-use Rattle.hidlog.specs.Several.{AreSame}
+use Rattle.hidlog.specs.{CommandLine.path_of, CommandLine.texts_of, Model.Model, Several.AreSame}
 use Rattle.hidlog.proofs.host.Host.check_each.Given as goal
 
 -- what is said of the host

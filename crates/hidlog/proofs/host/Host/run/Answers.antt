@@ -1,7 +1,6 @@
 use Rattle.std.proofs.Common.{inl, sym}
 use Rattle.clap.specs.Words.{kind_of}
-use Rattle.hidlog.specs.CommandLine.{asked_as, texts_of}
-use Rattle.hidlog.specs.Fault.{came_of}
+use Rattle.hidlog.specs.{CommandLine.asked_as, CommandLine.texts_of, Fault.came_of}
 use Rattle.hidlog.proofs.Asked.{done, unasked}
 use Rattle.hidlog.proofs.host.Host.run.Goals as goal
 

@@ -1,8 +1,7 @@
 use Rattle.std.proofs.Common.{◌≡◌, ◌∙◌, ap, subst, List, ℕ, []}
 use Rattle.session_log.proofs.Histories.{begins}
 use Rattle.token_session.specs.Meters.{StandsAfter}
-use Rattle.hidlog_c.specs.Key.{DeviceState}
-use Rattle.hidlog_c.specs.Switched.{start_of}
+use Rattle.hidlog_c.specs.{Key.DeviceState, Switched.start_of}
 use Rattle.hidlog_c.proofs.device.Device.load.Goals as goal
 
 pub returns-clause-started : goal.returns-clause-started

@@ -1,7 +1,5 @@
 use Rattle.std.proofs.Common.{ℕ, List, Some, to_z, w32, subst}
-use Rattle.hidlog_c.specs.declared.outcome.CallOutcome.{CallOutcome}
-use Rattle.hidlog_c.specs.Key.{DeviceState}
-use Rattle.hidlog_c.specs.Lines.{PlaysOn}
+use Rattle.hidlog_c.specs.{declared.outcome.CallOutcome.CallOutcome, Key.DeviceState, Lines.PlaysOn}
 use Rattle.hidlog_c.proofs.Kept.{plays_on, status_as}
 use Rattle.hidlog_c.proofs.device.Device.play.Goals as goal
 

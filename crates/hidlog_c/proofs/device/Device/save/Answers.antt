@@ -1,5 +1,4 @@
-use Rattle.std.proofs.Common.{arith, inl, w32}
-use Rattle.std.proofs.lemmas.Int.{to_z_pos}
+use Rattle.std.proofs.{Common.arith, Common.inl, Common.w32, lemmas.Int.to_z_pos}
 use Rattle.hidlog_c.proofs.Kept.{saves_len}
 use Rattle.hidlog_c.specs.declared.capacity.TheConstants.{SNAPSHOT_LONGEST}
 use Rattle.hidlog_c.proofs.device.Device.save.Goals as goal

@@ -1,7 +1,6 @@
 -- `device` lends the device in the caller's memory: a walk over a raw pointer.
 use Rattle.std.proofs.Common.{◌≢◌, Option, Some, None, ◌≡◌, ℕ, List, [], ◌∷◌, refl, sym, ap, ◌∙◌}
-use Rattle.std.proofs.raw_atomic.Walks.{proved}
-use Rattle.std.proofs.VecSteps.Shapes.{after}
+use Rattle.std.proofs.{raw_atomic.Walks.proved, VecSteps.Shapes.after}
 use seplogic.Ra.Ura.{Ura}
 use base.Fraction.{full_share}
 use base.Logic.{ent, sep, id⊢}
@@ -26,16 +25,12 @@ use denote.Steps.{nothing, opens, peeks, heard}
 use denote.Struct.Owning.{shape}
 use denote.Struct.Struct.{Struct}
 use denote.Triple.Walked.{Stays, walk_of, says, stay_dropped, Goes-spent_ref, ends_at}
-use Rattle.hidlog_c.specs.Key.{DeviceState}
-use Rattle.hidlog_c.specs.contracts.device.Device.{the_row as S}
-use Rattle.hidlog_c.specs.Owned.{holds}
-use Rattle.hidlog_c.specs.Lending.{with_device}
+use Rattle.hidlog_c.specs.{Key.DeviceState, contracts.device.Device.the_row as S, Owned.holds, Lending.with_device}
 use Rattle.hidlog_c.specs.declared.memory.Memory.{Memory}
 use Rattle.hidlog_c.specs.contracts.memory.Memory.{the_row as R, the_type}
+use Rattle.hidlog_c.proofs.memory.Memory.{device.Statement.statement, TheLaws.lowers}
 use Rattle.hidlog_c.specs.contracts.memory.Memory.device as f
-use Rattle.hidlog_c.proofs.memory.Memory.device.Statement.{statement}
 use Rattle.hidlog_c.proofs.memory.Memory.device.Code as code
-use Rattle.hidlog_c.proofs.memory.Memory.TheLaws.{lowers}
 
 abbrev stayed : Stays f.ended.signature.params f.ended.kept
 stayed = (stay_dropped (mut_ref_to (0 ∷ []) tt (plain (λ _. R))) no, tt)

@@ -1,7 +1,6 @@
 -- `put` writes a device into the caller's memory: a walk over a raw pointer.
 use Rattle.std.proofs.Common.{◌≡◌, List, [], ◌∷◌, Option, Some, None, refl, sym, ap, ◌∙◌, subst}
-use Rattle.std.proofs.raw_atomic.Walks.{proved_at}
-use Rattle.std.proofs.VecSteps.Shapes.{after}
+use Rattle.std.proofs.{raw_atomic.Walks.proved_at, VecSteps.Shapes.after}
 use base.Fraction.{full_share}
 use base.Logic.{ent, id⊢}
 use base.Fml.{ftrue, flft}
@@ -25,15 +24,12 @@ use denote.Ref.{MutRef}
 use denote.Signature.{plain}
 use denote.Steps.{nothing, opens, closes, peeks, heard}
 use denote.Triple.Walked.{Stays, walk_of, says, stay_ref, stay_dropped, Goes-ref, Goes-dropped, ends_at}
-use Rattle.hidlog_c.specs.Key.{DeviceState}
+use Rattle.hidlog_c.specs.{Key.DeviceState, Owned.holds}
+use Rattle.hidlog_c.specs.contracts.{device.Device.the_row as S, memory.Memory.the_row as R}
+use Rattle.hidlog_c.proofs.memory.Memory.{put.Statement.statement, TheLaws.lowers}
 use Rattle.hidlog_c.proofs.device.Device.TheLaws as device
-use Rattle.hidlog_c.specs.contracts.device.Device.{the_row as S}
-use Rattle.hidlog_c.specs.Owned.{holds}
-use Rattle.hidlog_c.specs.contracts.memory.Memory.{the_row as R}
 use Rattle.hidlog_c.specs.contracts.memory.Memory.put as f
-use Rattle.hidlog_c.proofs.memory.Memory.put.Statement.{statement}
 use Rattle.hidlog_c.proofs.memory.Memory.put.Code as code
-use Rattle.hidlog_c.proofs.memory.Memory.TheLaws.{lowers}
 
 abbrev stayed : Stays f.ended.signature.params f.ended.kept
 stayed = (stay_ref (0 ∷ []) tt (plain (λ _. R)), (stay_dropped (plain (λ _. S)) yes, tt))

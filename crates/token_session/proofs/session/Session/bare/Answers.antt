@@ -1,9 +1,7 @@
 use Rattle.std.proofs.Common.{ap, length, sym}
 use Rattle.authn_core.specs.Turn.{Held}
 use Rattle.token_session.specs.Machine.{start_state}
-use Rattle.token_session.proofs.Metering.{begins, bounded_first}
-use Rattle.token_session.proofs.Passing.{whole}
-use Rattle.token_session.proofs.Serving.{at_most}
+use Rattle.token_session.proofs.{Metering.begins, Metering.bounded_first, Passing.whole, Serving.at_most}
 use Rattle.token_session.proofs.session.Session.bare.Goals as goal
 
 pub returns : goal.returns

@@ -1,7 +1,6 @@
 use Rattle.std.proofs.Common.{ap, ◌∙◌}
 use Rattle.hid_assemble.specs.Assembly.{held_bytes}
-use Rattle.token_session.specs.History.{judged}
-use Rattle.token_session.specs.Meters.{SessionState}
+use Rattle.token_session.specs.{History.judged, Meters.SessionState}
 use Rattle.token_session.proofs.Metering.{session_held}
 use Rattle.token_session.proofs.session.Session.held.Goals as goal
 

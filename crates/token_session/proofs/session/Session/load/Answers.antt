@@ -1,6 +1,5 @@
 use Rattle.token_session.specs.Machine.{start_state}
-use Rattle.token_session.proofs.Metering.{begins}
-use Rattle.token_session.proofs.Passing.{whole}
+use Rattle.token_session.proofs.{Metering.begins, Passing.whole}
 use Rattle.token_session.proofs.session.Session.load.Goals as goal
 
 pub returns : goal.returns

@@ -4,8 +4,7 @@ use Rattle.authn_core.specs.State.{Request, PresenceIs, KeyIs, SignatureIs, Canc
 use Rattle.authn_core.specs.Turn.{working}
 use Rattle.hid_assemble.specs.declared.verdict.Verdict.TheVariants.{Finished, Refuse, Greet, GreetAndDrop, CancelWork}
 use Rattle.token_session.specs.Meters.{counted}
-use Rattle.token_session.proofs.Few.{event_few, verdict_few}
-use Rattle.token_session.proofs.Serving.{served_quietly, served_by}
+use Rattle.token_session.proofs.{Few.event_few, Few.verdict_few, Serving.served_quietly, Serving.served_by}
 use Rattle.token_session.proofs.session.Session.serve.Goals as goal
 
 pub take-requires : goal.take-requires

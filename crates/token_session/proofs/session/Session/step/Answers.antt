@@ -1,12 +1,8 @@
 use Rattle.std.proofs.Common.{◌≡◌, ℕ, ◌≤◌, max, refl, ap, ◌∙◌, arith}
-use Rattle.token_session.proofs.Few.{time_few, turn_few}
-use Rattle.token_session.proofs.Follows.{step_sends}
-use Rattle.token_session.proofs.Serving.{step_turn}
+use Rattle.token_session.proofs.{Few.time_few, Few.turn_few, Follows.step_sends, Serving.step_turn}
 use Rattle.token_session.proofs.Metering.{stepped_is, stands_longer, machine_after}
-use Rattle.token_session.specs.declared.input.Timed.{Timed}
-use Rattle.token_session.specs.Effects.{request_in}
+use Rattle.token_session.specs.{declared.input.Timed.Timed, Effects.request_in, Machine.MachineTurn}
 use Rattle.token_session.specs.Meters.{SessionState, counted}
-use Rattle.token_session.specs.Machine.{MachineTurn}
 use Rattle.token_session.proofs.session.Session.step.Goals as goal
 
 pub serve-requires : goal.serve-requires
