@@ -17,8 +17,6 @@
             this.log = log;
             this.text = text;
             this.at = 0;
-            // The line with the packet before the last one of the message that went on last.
-            this.before = 0;
         }
 
         get isDone() {
@@ -112,7 +110,6 @@
             const id = messages.values[first];
             const { last, more } = this.tableOf(id);
             const place = Math.abs(id) - 1;
-            this.before = last.values[place];
             more.values[place] += 1;
             last.values[place] = line;
             messages.values[line] = id;
@@ -135,12 +132,9 @@
 
         /** Takes a line, which came too late, from its transaction and out of its message. */
         giveBack(line) {
-            const { messages, owners, transactions: { count, last, more } } = this.log;
+            const { messages, owners, transactions: { count, more } } = this.log;
             const place = owners.values[line] - 1;
-            if (messages.values[line]) {
-                more.values[place] -= 1;
-                last.values[place] = this.before;
-            }
+            more.values[place] -= messages.values[line] ? 1 : 0;
             count.values[place] -= 1;
             owners.values[line] = 0;
             messages.values[line] = 0;

@@ -136,6 +136,21 @@ const TEXTS = {
     ],
 };
 
+// Of the first transaction: all its lines, those with its packets, how many bytes came, and those of its answer.
+const PARTS = {
+    "a PING's answer of two packets": { all: [1, 2, 3, 4], own: [1, 2], came: 60, answer: [3, 4] },
+    "a packet that came too late, and one that is out of sequence": { all: [1, 2, 3, 5], own: [1, 2], came: 116 },
+};
+
+test("transactions have their lines, and messages their packets", () => {
+    for (const [name, { all, own, came, answer = [] }] of Object.entries(PARTS)) {
+        const it = readSession(new TextEncoder().encode(`${TEXTS[name][0].join("\n")}\n`)).transaction(0);
+        const found = [it.all, it.lines, it.answer?.lines ?? []].map((lines) => lines.map(({ number }) => number));
+        assert.deepEqual([...found, it.came, it.count], [all, own, answer, came, all.length], name);
+        assert.equal(it.answer ? it.answer.asks.place : it.place, it.place, name);
+    }
+});
+
 test("the core writes what its header says", () => {
     for (const [name, [lines, text]] of Object.entries(TEXTS)) {
         const outcome = core.run("transactions", new TextEncoder().encode(`${lines.join("\n")}\n`));
