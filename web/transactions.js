@@ -1,5 +1,5 @@
-// The transactions of a log, which the core finds (hidlog_transactions in crates/hidlog_c/hidlog.h): its text fills what
-// log.js keeps of lines, messages and transactions, a slice at a time. It sets `globalThis.hidlogTransactions`.
+// The transactions of a log, which the core finds (hidlog_transactions in crates/hidlog_c/hidlog.h): its text fills
+// what log.js keeps of lines, messages and transactions, a slice at a time. It sets `globalThis.hidlogTransactions`.
 "use strict";
 
 (() => {
@@ -52,7 +52,7 @@
             return this.text[this.at - 1];
         }
 
-        /** Takes what is said of a line: its number, the first lines of its transaction and of its message, and words. */
+        /** Takes what is said of a line: its number, the first lines of its transaction and its message, and words. */
         fillLine() {
             const [line, transaction, message] = [this.number() - 1, this.number() - 1, this.number() - 1];
             if (line >= this.log.length) {

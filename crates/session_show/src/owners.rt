@@ -98,8 +98,8 @@ impl Telling for Owners {
 /// Writes which transaction each line of a log belongs to (hidlog.h, `hidlog_transactions`): a line of numbers for each
 /// packet, tick and reply. All else is as at [`crate::show`].
 ///
-/// A continuation packet that may have come too late is said to be of its message. If it did come too late, the next line
-/// says so.
+/// A continuation packet that may have come too late is said to be of its message. If it did come too late, the next
+/// line says so.
 pub fn show_owners<S: Source, T: Target>(reader: &mut S, writer: &mut T) -> Result<(), LogFault>
     requires read { S.failed reader.old < 2 ^ 64 - 1 }
     requires write { T.failed writer.old < 2 ^ 64 - 1 }
