@@ -90,6 +90,13 @@ extern "C" {
         room: usize,
         outcome: *mut hidlog_outcome,
     );
+    pub fn hidlog_transactions(
+        log: *const u8,
+        log_len: usize,
+        out: *mut u8,
+        room: usize,
+        outcome: *mut hidlog_outcome,
+    );
     pub fn hidlog_fault_text(outcome: *const hidlog_outcome, out: *mut u8, room: usize) -> usize;
     pub fn hidlog_key_size() -> usize;
     pub fn hidlog_key_make(
