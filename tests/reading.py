@@ -252,8 +252,10 @@ def take_uses(found: File, line: str) -> bool:
     if use is None:
         return False
     for word in use.group(2).split(","):
-        name, _, other = word.strip().partition(" as ")
-        found.uses[other or name] = (use.group(1), name)
+        taken, _, other = word.strip().partition(" as ")
+        # A name of a module below: `use Rattle.cred_table.specs.{Rows.ids, Snapshots.Loads}`.
+        below, _, name = taken.rpartition(".")
+        found.uses[other or name] = (".".join(filter(None, (use.group(1), below))), name)
     return True
 
 
