@@ -48,10 +48,22 @@ show_form() {
     shown=$((shown + 1))
 }
 
-# Shows a log in its fixed text and explained: show_log LOG [WORD ..]
+# Compares which transaction each line belongs to with what the program's JSON says: show_owners LOG [WORD ..]
+show_owners() {
+    { "$top/release/hidlog" show --json <"$1" 2>/dev/null || true; } | sed -nE \
+        's/^\{"line":([0-9]+),"kind":"(packet|tick|presence|key|signature)"(.*"transaction":([0-9]+))?.*/\1 \4/p' |
+        awk '{ print $1, $2 + 0 }' | sort -n >"$room/shown"
+    { "${@:2}" "$room/show" transactions <"$1" 2>/dev/null || true; } | awk '
+        { of[$1] = $2; for (word = 4; word <= NF; word++) if ($word ~ /^l/) of[substr($word, 2)] = 0 }
+        END { for (line in of) print line, of[line] }' | sort -n >"$room/held"
+    cmp -s "$room/shown" "$room/held" || stop "the transactions of lines differ at $1"
+}
+
+# Shows a log in its fixed text and explained, and its transactions: show_log LOG [WORD ..]
 show_log() {
     show_form "$1" --plain "" "${@:2}"
     show_form "$1" --explain explain "${@:2}"
+    show_owners "$@"
 }
 
 # Makes hostile logs, those of the fuzzer's seed 1.
@@ -78,7 +90,7 @@ show_logs() {
         show_log "$room/front" "$@"
     done
     [ "$shown" -ge 300 ] || stop "only $shown logs were shown"
-    echo "tests/c: $((shown / 2)) logs shown as the program shows them, in both forms"
+    echo "tests/c: $((shown / 2)) logs shown as the program shows them, in both forms, and their transactions"
 }
 
 # Runs the programs with the words before them.

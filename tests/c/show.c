@@ -1,6 +1,6 @@
-/* Writes what hidlog_show writes for the log on standard input, explained where a word is given, and ends with
- * its fault: show [explain]. The buffer begins with a few bytes and grows while it is too small, so that each
- * call with less room is tried on the way. */
+/* Writes what hidlog_show writes for the log on standard input, explained with that word, or what hidlog_transactions
+ * writes, and ends with its fault: show [explain | transactions]. The buffer begins with a few bytes and grows while it
+ * is too small, so that each call with less room is tried on the way. */
 #include "hidlog.h"
 
 #include <stdio.h>
@@ -8,6 +8,7 @@
 #include <string.h>
 
 enum { MOST = 1 << 26, CANARY = 0xa5 };
+enum form { FIXED, EXPLAINED, TRANSACTIONS };
 
 /* Reads all of standard input into memory of its own. */
 static uint8_t *read_log(size_t *size)
@@ -22,7 +23,7 @@ static uint8_t *read_log(size_t *size)
 }
 
 /* Shows the log into memory of just so many bytes, which a sanitizer watches, and one for a byte that stays. */
-static uint8_t *show(const uint8_t *log, size_t size, uint32_t explain, size_t room, struct hidlog_outcome *outcome)
+static uint8_t *show(const uint8_t *log, size_t size, enum form form, size_t room, struct hidlog_outcome *outcome)
 {
     uint8_t *out = malloc(room + 1);
     if (!out) {
@@ -30,7 +31,10 @@ static uint8_t *show(const uint8_t *log, size_t size, uint32_t explain, size_t r
         exit(2);
     }
     out[room] = CANARY;
-    hidlog_show(log, size, explain, out, room, outcome);
+    if (form == TRANSACTIONS)
+        hidlog_transactions(log, size, out, room, outcome);
+    else
+        hidlog_show(log, size, form == EXPLAINED, out, room, outcome);
     if (out[room] != CANARY || outcome->written > room || outcome->packet != 0 || outcome->status > HIDLOG_FAULT) {
         fprintf(stderr, "show: a call with %zu bytes of room did what it may not\n", room);
         exit(2);
@@ -40,12 +44,12 @@ static uint8_t *show(const uint8_t *log, size_t size, uint32_t explain, size_t r
 
 int main(int count, char **words)
 {
-    (void)words;
+    enum form form = count < 2 ? FIXED : strcmp(words[1], "transactions") ? EXPLAINED : TRANSACTIONS;
     size_t size, room = 3, known = 0;
     uint8_t *log = read_log(&size), *before = malloc(1);
     struct hidlog_outcome outcome;
     for (;;) {
-        uint8_t *out = show(log, size, count > 1, room, &outcome);
+        uint8_t *out = show(log, size, form, room, &outcome);
         if (known > outcome.written || memcmp(before, out, known)) {
             fprintf(stderr, "show: the text begins otherwise with %zu bytes of room\n", room);
             return 2;
