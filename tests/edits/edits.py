@@ -84,6 +84,10 @@ class Edit:
         """Returns why the edit can't be applied to the crate as it is here, if it can't."""
         if not NAMES.fullmatch(self.file.name):
             return "its name is not one of letters, digits, _, - and . that ends in .edit"
+        lines = self.file.read_text(encoding="utf-8").splitlines()
+        other = [it for it in lines if it.strip() and not it.startswith(("file: ", "old: ", "new:"))]
+        if other:
+            return f"a line is neither 'file:', 'old:' nor 'new:', and each is one line: {other[0].strip()}"
         texts: dict[str, str] = {}
         for path, old, new in self.pairs:
             whole = TOP / "crates" / self.crate / path
