@@ -1,10 +1,10 @@
 /* Session logs of a security key: the commands of `hidlog` as functions over bytes (docs/use/LOG_FORMAT.md). Link with
  * libhidlog.a or libhidlog.so.0 of release/, which release/build.sh makes from crates/hidlog_c.
  *
- * Each function reads a whole log and a snapshot (0 bytes of it: no credentials; hidlog_show takes none), and writes
- * what the command writes to the front of `out`, at most `room` bytes. What came of it is in *outcome. The log is the
- * state: nothing is kept between two calls, nothing is allocated, and calls in several threads don't meet. To hand the
- * key one more input, put its line after the log and call again.
+ * Each function reads a whole log and a snapshot (0 bytes of it: no credentials; hidlog_show and hidlog_transactions
+ * take none), and writes what the command writes to the front of `out`, at most `room` bytes. What came of it is in
+ * *outcome. The log is the state: nothing is kept between two calls, nothing is allocated, and calls in several threads
+ * don't meet. To hand the key one more input, put its line after the log and call again.
  *
  * No pointer may be null, also where the length beside it is 0, and *outcome and the buffer overlap nothing else. Where
  * the buffer is too small, it is full, and the fault is 5; no byte past it is touched. Bytes of the buffer behind what
@@ -71,6 +71,24 @@ void hidlog_quiet(const uint8_t *log, size_t log_len, const uint8_t *snapshot, s
  * with a larger buffer while the fault is HIDLOG_WRITE. */
 void hidlog_show(const uint8_t *log, size_t log_len, uint32_t explain, uint8_t *out, size_t room,
                  struct hidlog_outcome *outcome);
+
+/* Writes which transaction each line belongs to, by the rules of docs/use/EXPLAINED.md: for each packet, tick and reply
+ * a line of decimal numbers with a space between two. They are the line's number; the line that its transaction began
+ * at, 0 where it belongs to none; and the line that the message began at which its packet is of, 0 where it is of none,
+ * as a CANCEL, a packet out of sequence and a reply. Then comes a word for each thing that it shows of lines before:
+ *
+ *     l12     line 12 is a packet that came too late: it belongs to no transaction, and is of no message
+ *     s12:46  the transaction from line 12 ends, by an answer with the status 46
+ *     a12     .. by an answer that has no status
+ *     c12     .. since no further packet comes of its answer, which isn't whole
+ *     e12:6   .. by an ERROR with the code 6
+ *     d12:17  .. since the CANCEL or the INIT of line 17 dropped it
+ *     r12:17  .. since the message from line 17 took its channel
+ *     f12     it isn't followed any longer: too many channels are in use
+ *
+ * A transaction that no such word ends is open at the log's end, or its answer isn't whole there. The text is about a
+ * sixth as long as the log. Faults are as at hidlog_show. */
+void hidlog_transactions(const uint8_t *log, size_t log_len, uint8_t *out, size_t room, struct hidlog_outcome *outcome);
 
 /* Writes the line that the program writes to standard error for an outcome, as `hidlog: line 3: not a log line` or
  * `hidlog: snapshot refused: 1`, with its line feed, to the front of `out`; of more than `room` bytes the front. Where the
