@@ -115,7 +115,7 @@
             messages.values[line] = id;
         }
 
-        /** Gives a line to a transaction. Where the key's answer to it begins there, that is noted at both. */
+        /** Adds a line to a transaction. Where the key's answer to it begins there, that is noted at both. */
         own(line, id, isStart) {
             const { answers, kinds, messages, owners, transactions } = this.log;
             owners.values[line] = id;
