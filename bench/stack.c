@@ -49,6 +49,16 @@ static void live(void) { on_log(hidlog_live, 0); }
 static void check(void) { on_log(hidlog_check, 0); }
 static void quiet(void) { on_log(hidlog_quiet, 0); }
 
+static void show(void) {
+    struct hidlog_outcome outcome;
+    hidlog_show(session_log.data, session_log.len, 1, out, sizeof out, &outcome);
+}
+
+static void transactions(void) {
+    struct hidlog_outcome outcome;
+    hidlog_transactions(session_log.data, session_log.len, out, sizeof out, &outcome);
+}
+
 static void make(void) {
     static const uint8_t aaguid[16];
     hidlog_key_make(&key, aaguid, 0, snapshot.data, snapshot.len);
@@ -127,6 +137,8 @@ int main(int count, char **words) {
         {"hidlog_live", live},
         {"hidlog_check", check},
         {"hidlog_quiet", quiet},
+        {"hidlog_show", show},
+        {"hidlog_transactions", transactions},
         {"hidlog_key_make", make},
         {"hidlog_key_packet, _next", packet},
         {"hidlog_key_lines", lines},
