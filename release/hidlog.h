@@ -107,7 +107,7 @@ size_t hidlog_fault_text(const struct hidlog_outcome *outcome, uint8_t *out, siz
  * was. No pointer may be null. Moments are milliseconds; one that is earlier than the latest counts as the latest.
  *
  * hidlog_key_make takes 40 kB of the stack, hidlog_key_add 80 kB, _remove 60 kB, _clear 20 kB, _lines 45 kB, each
- * other call on a key under 20 kB (x86-64); hidlog_show takes 60 kB, each other function on a whole log 85 kB. A call of
+ * other call on a key under 20 kB (x86-64); hidlog_show takes 65 kB, each other function on a whole log 85 kB. A call of
  * libhidlog-256 takes 310 kB at most. */
 
 struct hidlog_key {
