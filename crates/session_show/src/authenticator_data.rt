@@ -1,6 +1,6 @@
 //! Authenticator data in lines (WebAuthn, section 6.1).
 
-use crate::escape::write_line;
+use crate::escape::write_escaped;
 use crate::field::{write_bytes, write_front, write_item, write_member};
 use crate::member_names::Map;
 use crate::pairs::{Pairs, value_at};
@@ -59,7 +59,7 @@ fn write_hash(pen: &mut Pen, number: u64, hash: &[u8], rp_id: &[u8]) {
     if !rp_id.is_empty() {
         let is_its = Sha256::digest(rp_id).as_slice() == hash;
         pen.text(if is_its { "  " } else { "  not that of " });
-        write_line(pen, rp_id);
+        write_escaped(pen, rp_id);
     }
     pen.text("\n");
 }

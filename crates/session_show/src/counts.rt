@@ -2,7 +2,7 @@
 
 use crate::entry::{EXCLUDED, Entry};
 use crate::exchange::{End, Ended};
-use crate::json::{JsonValue, write_members};
+use crate::json::{begin_member, write_number};
 use crate::json_line::write_code;
 use crate::pen::Pen;
 use crate::walk::Role;
@@ -16,24 +16,30 @@ struct TallyKind {
     unnamed: &'static str,
     names: Names,
     /// The names of members: that of all, that of the list, that of a number and that of its name.
-    members: (&'static str, &'static str),
-    number: (&'static str, &'static str),
+    all: &'static str,
+    list: &'static str,
+    number: &'static str,
+    name: &'static str,
 }
 
 const REQUESTS: &TallyKind = &TallyKind {
     title: "requests refused:",
     unnamed: "status",
     names: STATUSES,
-    members: ("requestsRefused", ",\"statuses\":"),
-    number: ("status", "statusName"),
+    all: "requestsRefused",
+    list: "statuses",
+    number: "status",
+    name: "statusName",
 };
 
 const MESSAGES: &TallyKind = &TallyKind {
     title: "messages refused by ERROR:",
     unnamed: "ERROR",
     names: ERRORS,
-    members: ("messagesRefused", ",\"errors\":"),
-    number: ("code", "codeName"),
+    all: "messagesRefused",
+    list: "errors",
+    number: "code",
+    name: "codeName",
 };
 
 /// How often each number came.
@@ -75,15 +81,15 @@ impl Tally {
 
     /// Writes a member with how many came, and an array with an object for each number that did.
     fn write_json(&self, pen: &mut Pen, kind: &TallyKind) {
-        write_members(pen, &[(kind.members.0, JsonValue::Number(Some(self.sum)))]);
-        pen.text(kind.members.1);
+        write_number(pen, kind.all, Some(self.sum));
+        begin_member(pen, kind.list);
         let mut front = "[{\"times\":";
         for number in 0..=255_u8 {
             let times = self.times[usize::from(number)];
             if times > 0 {
                 pen.text(front);
                 pen.decimal(times);
-                write_code(pen, kind.number, number, kind.names);
+                write_code(pen, kind.number, kind.name, number, kind.names);
                 front = "},{\"times\":";
             }
         }
@@ -195,30 +201,14 @@ impl Counts {
     /// Writes an object of JSON with all counts.
     pub fn write_json(&self, pen: &mut Pen) {
         pen.text("{\"kind\":\"summary\"");
-        write_members(
-            pen,
-            &[
-                ("credentialsMade", JsonValue::Number(Some(self.made))),
-                ("credentialsUsed", JsonValue::Number(Some(self.used))),
-                (
-                    "credentialsExcluded",
-                    JsonValue::Number(Some(self.excluded)),
-                ),
-            ],
-        );
+        write_number(pen, "credentialsMade", Some(self.made));
+        write_number(pen, "credentialsUsed", Some(self.used));
+        write_number(pen, "credentialsExcluded", Some(self.excluded));
         self.refused.write_json(pen, REQUESTS);
         self.errors.write_json(pen, MESSAGES);
-        write_members(
-            pen,
-            &[
-                (
-                    "strayContinuations",
-                    JsonValue::Number(Some(self.continuations)),
-                ),
-                ("strayCancels", JsonValue::Number(Some(self.cancels))),
-                ("strayReplies", JsonValue::Number(Some(self.replies))),
-            ],
-        );
+        write_number(pen, "strayContinuations", Some(self.continuations));
+        write_number(pen, "strayCancels", Some(self.cancels));
+        write_number(pen, "strayReplies", Some(self.replies));
         pen.text("}\n");
     }
 }

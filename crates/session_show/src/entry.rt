@@ -1,6 +1,6 @@
 //! The text for a line of a log.
 
-use crate::escape::write_line;
+use crate::escape::write_escaped;
 use crate::exchange::{End, Ended, Extent, Followed, Transaction};
 use crate::item::write_checked;
 use crate::member_names::Map;
@@ -184,7 +184,7 @@ impl Written for Entry<'_> {
                 pen.text("< ");
                 write_packet(pen, packet);
             }
-            Line::Comment => write_line(pen, self.own.line),
+            Line::Comment => write_escaped(pen, self.own.line),
             Line::Count => {}
         }
         pen.text("\n");

@@ -55,8 +55,9 @@ pub fn write_char(pen: &mut Pen, c: char, is_json: bool) {
     }
 }
 
-/// Writes a line. Where it isn't UTF-8, `\x` and two digits are for each byte that is no character of ASCII.
-pub fn write_line(pen: &mut Pen, line: &[u8]) {
+/// Writes bytes of other people as text, with what can't be seen in it escaped. Where they aren't UTF-8, `\x` and two digits
+/// are for each byte that is no character of ASCII.
+pub fn write_escaped(pen: &mut Pen, line: &[u8]) {
     if is_plain(line) {
         pen.bytes(line);
         return;

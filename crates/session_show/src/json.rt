@@ -1,76 +1,10 @@
-//! Members of objects of JSON (RFC 8259).
+//! Members of objects of JSON (RFC 8259), each with a comma before it. One without a value isn't written.
 
-use crate::item::{Diagnostic, JSON, write_scalar, write_text, write_value};
+use crate::item::{Diagnostic, JSON, write_text, write_value};
 use crate::pen::Pen;
 use crate::putting::Written;
 use crate::words::Names;
-use ctap_cbor::{Cursor, Item};
-
-/// What a member of an object is. One without a value isn't written.
-#[derive(Clone, Copy)]
-pub enum JsonValue<'a> {
-    Number(Option<u64>),
-    /// A word of ours, without anything to escape.
-    Word(Option<&'static str>),
-    /// A text of other people.
-    Text(Option<&'a str>),
-    Flag(bool),
-    /// A channel, in hexadecimal digits.
-    Channel(u32),
-    /// Bytes, in hexadecimal digits.
-    Hex(&'a [u8]),
-    /// A data item in diagnostic notation.
-    Diagnostic(&'a [u8]),
-    /// A data item whose bytes were checked, and the names of its members.
-    Item(&'a [u8], Names),
-}
-
-impl JsonValue<'_> {
-    /// Writes the value.
-    fn write(&self, pen: &mut Pen) {
-        match *self {
-            JsonValue::Number(number) => pen.decimal(number.unwrap_or(0)),
-            JsonValue::Word(word) => {
-                pen.text("\"");
-                pen.text(word.unwrap_or(""));
-                pen.text("\"");
-            }
-            JsonValue::Text(text) => write_text(pen, text.unwrap_or(""), true),
-            JsonValue::Flag(flag) => pen.text(if flag { "true" } else { "false" }),
-            JsonValue::Channel(channel) => {
-                write_scalar(pen, Item::Bytes(&channel.to_be_bytes()), JSON);
-            }
-            JsonValue::Hex(bytes) => write_scalar(pen, Item::Bytes(bytes), JSON),
-            JsonValue::Diagnostic(item) => {
-                pen.text("\"");
-                pen.is_quoted = true;
-                Diagnostic(item).write(pen);
-                pen.is_quoted = false;
-                pen.text("\"");
-            }
-            JsonValue::Item(item, names) => write_value(
-                pen,
-                &mut Cursor::new(item),
-                1,
-                JSON,
-                names,
-            ),
-        }
-    }
-}
-
-/// Writes members of an object that has others before them.
-pub fn write_members(pen: &mut Pen, members: &[(&'static str, JsonValue<'_>)]) {
-    for (name, value) in members {
-        if let JsonValue::Number(None) | JsonValue::Word(None) | JsonValue::Text(None) = value {
-            continue;
-        }
-        pen.text(",\"");
-        pen.text(name);
-        pen.text("\":");
-        value.write(pen);
-    }
-}
+use ctap_cbor::Cursor;
 
 /// Begins the object of this kind for a line.
 pub fn begin_object(pen: &mut Pen, number: u64, kind: &str) {
@@ -81,14 +15,65 @@ pub fn begin_object(pen: &mut Pen, number: u64, kind: &str) {
     pen.text("\"");
 }
 
-/// Writes the object of this kind for a line, with these members.
-pub fn write_object(
-    pen: &mut Pen,
-    number: u64,
-    kind: &str,
-    members: &[(&'static str, JsonValue<'_>)],
-) {
-    begin_object(pen, number, kind);
-    write_members(pen, members);
-    pen.text("}\n");
+/// Begins a member: its value comes next.
+pub fn begin_member(pen: &mut Pen, name: &str) {
+    pen.text(",\"");
+    pen.text(name);
+    pen.text("\":");
+}
+
+/// Writes a member that is a number.
+pub fn write_number(pen: &mut Pen, name: &str, number: Option<u64>) {
+    if let Some(number) = number {
+        begin_member(pen, name);
+        pen.decimal(number);
+    }
+}
+
+/// Writes a member that is a word of ours, without anything to escape.
+pub fn write_word(pen: &mut Pen, name: &str, word: Option<&str>) {
+    if let Some(word) = word {
+        begin_member(pen, name);
+        pen.text("\"");
+        pen.text(word);
+        pen.text("\"");
+    }
+}
+
+/// Writes a member that is a text of other people.
+pub fn write_string(pen: &mut Pen, name: &str, text: Option<&str>) {
+    if let Some(text) = text {
+        begin_member(pen, name);
+        write_text(pen, text, true);
+    }
+}
+
+/// Writes a member that is true or false.
+pub fn write_flag(pen: &mut Pen, name: &str, flag: bool) {
+    begin_member(pen, name);
+    pen.text(if flag { "true" } else { "false" });
+}
+
+/// Writes a member that is bytes, in hexadecimal digits.
+pub fn write_hex(pen: &mut Pen, name: &str, bytes: &[u8]) {
+    begin_member(pen, name);
+    pen.text("\"");
+    pen.hex(bytes);
+    pen.text("\"");
+}
+
+/// Writes a member that is a data item in diagnostic notation.
+pub fn write_diagnostic(pen: &mut Pen, name: &str, item: &[u8]) {
+    begin_member(pen, name);
+    pen.text("\"");
+    pen.is_quoted = true;
+    Diagnostic(item).write(pen);
+    pen.is_quoted = false;
+    pen.text("\"");
+}
+
+/// Writes a member that is a data item, whose bytes were checked, with the names of its members.
+pub fn write_item(pen: &mut Pen, name: &str, item: &[u8], names: Names) {
+    begin_member(pen, name);
+    write_value(pen, &mut Cursor::new(item), 1, JSON, names);
 }

@@ -1,8 +1,11 @@
 //! The JSON objects for a line of a log.
 
 use crate::entry::{CborMessage, MessageKind, Own};
-use crate::exchange::{End, Ended, Followed};
-use crate::json::{JsonValue, begin_object, write_members, write_object};
+use crate::exchange::{End, Ended, Extent};
+use crate::json::{
+    begin_object, write_diagnostic, write_flag, write_hex, write_item, write_number, write_string,
+    write_word,
+};
 use crate::packet_line::{channel_of, codes_of};
 use crate::pen::Pen;
 use crate::rp_id::RpId;
@@ -12,75 +15,69 @@ use hid_packet::{Packet, View};
 use session_log::Line;
 use token_session::{Input, Timed};
 
-/// Writes the objects of a line. A comment that isn't UTF-8 is written in hexadecimal digits.
+/// Writes the objects of a line.
 pub fn write_line(pen: &mut Pen, own: &Own<'_>) {
     match own.said {
         Line::Input(timed) => match &timed.input {
-            Input::Packet(packet) => write_packet(pen, own, ("host", Some(timed.at)), packet),
+            Input::Packet(packet) => write_packet(pen, own, "host", Some(timed.at), packet),
             _ => write_reply(pen, own, timed),
         },
-        Line::Sent(packet) => write_packet(pen, own, ("key", None), packet),
-        Line::Comment if !own.line.is_empty() => {
-            let text = match std::str::from_utf8(own.line) {
-                Ok(text) => ("text", JsonValue::Text(Some(text))),
-                Err(_) => ("bytes", JsonValue::Hex(own.line)),
-            };
-            write_object(pen, own.number, "comment", &[text]);
-        }
+        Line::Sent(packet) => write_packet(pen, own, "key", None, packet),
+        Line::Comment if !own.line.is_empty() => write_comment(pen, own),
         Line::Comment | Line::Count => {}
     }
 }
 
-/// Returns the line that the transaction of a line began at.
-fn began(own: &Own<'_>) -> JsonValue<'static> {
-    match &own.of {
-        Some(transaction) => JsonValue::Number(Some(transaction.line)),
-        None => JsonValue::Number(None),
+/// Writes the object of a comment. One that isn't UTF-8 is written in hexadecimal digits.
+fn write_comment(pen: &mut Pen, own: &Own<'_>) {
+    begin_object(pen, own.number, "comment");
+    match std::str::from_utf8(own.line) {
+        Ok(text) => write_string(pen, "text", Some(text)),
+        Err(_) => write_hex(pen, "bytes", own.line),
+    }
+    pen.text("}\n");
+}
+
+/// Writes the line that the transaction of a line began at.
+fn write_began(pen: &mut Pen, own: &Own<'_>) {
+    if let Some(transaction) = &own.of {
+        write_number(pen, "transaction", Some(transaction.line));
     }
 }
 
 /// Writes the object of a tick or a reply.
 fn write_reply(pen: &mut Pen, own: &Own<'_>, timed: &Timed) {
-    let (kind, reply) = match &timed.input {
-        Input::Presence(presence) => {
-            let word = presence_word(*presence);
-            ("presence", ("reply", JsonValue::Word(Some(word))))
-        }
-        Input::Key(key) => ("key", ("had", JsonValue::Flag(key.is_some()))),
-        Input::Signature(signature) => ("signature", ("had", JsonValue::Flag(signature.is_some()))),
-        Input::Packet(_) | Input::Tick => ("tick", ("reply", JsonValue::Word(None))),
+    let kind = match &timed.input {
+        Input::Presence(_) => "presence",
+        Input::Key(_) => "key",
+        Input::Signature(_) => "signature",
+        Input::Packet(_) | Input::Tick => "tick",
     };
-    let moment = JsonValue::Number(Some(timed.at));
-    let members = [("moment", moment), ("transaction", began(own)), reply];
-    write_object(pen, own.number, kind, &members);
+    begin_object(pen, own.number, kind);
+    write_number(pen, "moment", Some(timed.at));
+    write_began(pen, own);
+    match &timed.input {
+        Input::Presence(presence) => write_word(pen, "reply", Some(presence_word(*presence))),
+        Input::Key(key) => write_flag(pen, "had", key.is_some()),
+        Input::Signature(signature) => write_flag(pen, "had", signature.is_some()),
+        Input::Packet(_) | Input::Tick => {}
+    }
+    pen.text("}\n");
 }
 
 /// Writes the object of a packet, which came from there at a moment, and that of the message that it ends.
-fn write_packet(
-    pen: &mut Pen,
-    own: &Own<'_>,
-    (from, moment): (&'static str, Option<u64>),
-    packet: &Packet,
-) {
-    let channel = JsonValue::Channel(channel_of(packet));
+fn write_packet(pen: &mut Pen, own: &Own<'_>, from: &str, moment: Option<u64>, packet: &Packet) {
+    let channel = channel_of(packet);
     begin_object(pen, own.number, "packet");
-    write_members(
-        pen,
-        &[
-            ("from", JsonValue::Word(Some(from))),
-            ("moment", JsonValue::Number(moment)),
-            ("transaction", began(own)),
-            ("channel", channel),
-        ],
-    );
+    write_word(pen, "from", Some(from));
+    write_number(pen, "moment", moment);
+    write_began(pen, own);
+    write_hex(pen, "channel", &channel.to_be_bytes());
     match packet.view() {
         View::Start { cmd, len, part, .. } => write_start(pen, cmd, len, part),
         View::More { seq, part, .. } => {
-            let sequence = JsonValue::Number(Some(u64::from(seq)));
-            write_members(
-                pen,
-                &[("sequence", sequence), ("data", JsonValue::Hex(part))],
-            );
+            write_number(pen, "sequence", Some(u64::from(seq)));
+            write_hex(pen, "data", part);
         }
     }
     pen.text("}\n");
@@ -91,56 +88,42 @@ fn write_packet(
 
 /// Writes what an initialization packet says.
 fn write_start(pen: &mut Pen, command: u8, len: u16, part: &[u8]) {
+    write_number(pen, "command", Some(u64::from(command)));
+    write_word(pen, "name", name_in(MESSAGES, i128::from(command)));
+    write_number(pen, "length", Some(u64::from(len)));
+    if let (Some(names), [code, ..]) = (codes_of(command), part) {
+        write_code(pen, "code", "codeName", *code, names);
+    }
     let carried = part.len().min(usize::from(len));
-    let (code, name) = match (codes_of(command), part) {
-        (Some(names), [code, ..]) => (Some(u64::from(*code)), name_in(names, i128::from(*code))),
-        _ => (None, None),
-    };
-    write_members(
-        pen,
-        &[
-            ("command", JsonValue::Number(Some(u64::from(command)))),
-            (
-                "name",
-                JsonValue::Word(name_in(MESSAGES, i128::from(command))),
-            ),
-            ("length", JsonValue::Number(Some(u64::from(len)))),
-            ("code", JsonValue::Number(code)),
-            ("codeName", JsonValue::Word(name)),
-            ("data", JsonValue::Hex(part.split_at(carried).0)),
-        ],
-    );
+    write_hex(pen, "data", part.split_at(carried).0);
 }
 
 /// Writes the object of a message.
-fn write_message(
-    pen: &mut Pen,
-    own: &Own<'_>,
-    channel: JsonValue<'static>,
-    message: &CborMessage<'_>,
-) {
+fn write_message(pen: &mut Pen, own: &Own<'_>, channel: u32, message: &CborMessage<'_>) {
     let Some([first, item @ ..]) = message.bytes else {
-        write_object(pen, own.number, "lost", &[]);
+        begin_object(pen, own.number, "lost");
+        pen.text("}\n");
         return;
     };
-    let checked = check(item).result;
     let kind = match message.kind {
         MessageKind::Request => "request",
         MessageKind::Answer => "answer",
     };
     begin_object(pen, own.number, kind);
-    write_members(pen, &[("transaction", began(own)), ("channel", channel)]);
-    match (message.kind, message.exchange) {
-        (MessageKind::Request, _) => {
+    write_began(pen, own);
+    write_hex(pen, "channel", &channel.to_be_bytes());
+    let checked = check(item).result;
+    match message.kind {
+        MessageKind::Request => {
             let rp_id = match checked {
                 Ok(()) => RpId::of_request(*first, item),
                 Err(_) => RpId::default(),
             };
             write_command(pen, *first, &rp_id);
         }
-        (MessageKind::Answer, exchange) => {
-            write_code(pen, ("status", "statusName"), *first, STATUSES);
-            if let Some(exchange) = exchange
+        MessageKind::Answer => {
+            write_code(pen, "status", "statusName", *first, STATUSES);
+            if let Some(exchange) = message.exchange
                 && let Some(command) = exchange.transaction.command
             {
                 write_command(pen, command, &exchange.rp_id);
@@ -151,90 +134,62 @@ fn write_message(
         Some(map) => map.names(),
         None => &[],
     };
-    write_item(pen, item, &checked, names);
+    write_data(pen, item, &checked, names);
     pen.text("}\n");
 }
 
-/// Writes a number and its name.
-pub fn write_code(
-    pen: &mut Pen,
-    (number_is, name_is): (&'static str, &'static str),
-    number: u8,
-    names: Names,
-) {
-    let name = name_in(names, i128::from(number));
-    let number = JsonValue::Number(Some(u64::from(number)));
-    write_members(
-        pen,
-        &[(number_is, number), (name_is, JsonValue::Word(name))],
-    );
+/// Writes a number and its name, as two members.
+pub fn write_code(pen: &mut Pen, number_is: &str, name_is: &str, number: u8, names: Names) {
+    write_number(pen, number_is, Some(u64::from(number)));
+    write_word(pen, name_is, name_in(names, i128::from(number)));
 }
 
 /// Writes a command of the authenticator and the RP id that it is about.
 fn write_command(pen: &mut Pen, command: u8, rp_id: &RpId) {
-    write_code(pen, ("command", "name"), command, COMMANDS);
-    write_members(pen, &[("rpId", JsonValue::Text(rp_id.text()))]);
+    write_code(pen, "command", "name", command, COMMANDS);
+    write_string(pen, "rpId", rp_id.text());
 }
 
 /// Writes the data item after a message's first byte: as text and as JSON, or as why it is none, and its bytes.
-fn write_item(pen: &mut Pen, item: &[u8], checked: &Result<(), Fault>, names: Names) {
+fn write_data(pen: &mut Pen, item: &[u8], checked: &Result<(), Fault>, names: Names) {
     if item.is_empty() {
         return;
     }
-    let [first, second] = match checked {
-        Ok(()) => [
-            ("item", JsonValue::Diagnostic(item)),
-            ("value", JsonValue::Item(item, names)),
-        ],
-        Err(fault) => [
-            (
-                "fault",
-                JsonValue::Number(Some(u64::from(fault.kind.number()))),
-            ),
-            ("at", JsonValue::Number(Some(fault.at as u64))),
-        ],
-    };
-    write_members(pen, &[first, second, ("bytes", JsonValue::Hex(item))]);
+    match checked {
+        Ok(()) => {
+            write_diagnostic(pen, "item", item);
+            write_item(pen, "value", item, names);
+        }
+        Err(fault) => {
+            write_number(pen, "fault", Some(u64::from(fault.kind.number())));
+            write_number(pen, "at", Some(fault.at as u64));
+        }
+    }
+    write_hex(pen, "bytes", item);
 }
 
 /// Writes the object of a transaction that ended, or is open at the log's end.
 pub fn write_transaction(pen: &mut Pen, number: u64, ended: &Ended) {
     let exchange = &ended.exchange;
     begin_object(pen, number, "transaction");
-    write_members(
-        pen,
-        &[
-            (
-                "transaction",
-                JsonValue::Number(Some(exchange.transaction.line)),
-            ),
-            ("channel", JsonValue::Channel(exchange.transaction.channel)),
-            ("name", JsonValue::Word(Some(exchange.transaction.name()))),
-            ("rpId", JsonValue::Text(exchange.rp_id.text())),
-        ],
-    );
+    write_number(pen, "transaction", Some(exchange.transaction.line));
+    write_hex(pen, "channel", &exchange.transaction.channel.to_be_bytes());
+    write_word(pen, "name", Some(exchange.transaction.name()));
+    write_string(pen, "rpId", exchange.rp_id.text());
     write_end(pen, &ended.end);
-    write_rest(pen, exchange);
+    if !exchange.extent.is_whole() {
+        write_extent(pen, "came", "length", &exchange.extent);
+    }
+    write_number(pen, "cancelled", exchange.cancelled);
+    write_number(pen, "userTook", exchange.took);
+    write_number(pen, "keepalives", Some(exchange.keepalives));
     pen.text("}\n");
 }
 
-/// Writes what came of a transaction: how much of its message, where it isn't whole, and what else.
-fn write_rest(pen: &mut Pen, exchange: &Followed) {
-    let (mut came, mut length) = (None, None);
-    if !exchange.extent.is_whole() {
-        came = Some(exchange.extent.came() as u64);
-        length = Some(u64::from(exchange.extent.length));
-    }
-    write_members(
-        pen,
-        &[
-            ("came", JsonValue::Number(came)),
-            ("length", JsonValue::Number(length)),
-            ("cancelled", JsonValue::Number(exchange.cancelled)),
-            ("userTook", JsonValue::Number(exchange.took)),
-            ("keepalives", JsonValue::Number(Some(exchange.keepalives))),
-        ],
-    );
+/// Writes how much of a message came, and how long it is.
+fn write_extent(pen: &mut Pen, came_is: &str, length_is: &str, extent: &Extent) {
+    write_number(pen, came_is, Some(extent.came() as u64));
+    write_number(pen, length_is, Some(u64::from(extent.length)));
 }
 
 /// Writes how a transaction ended.
@@ -249,21 +204,12 @@ fn write_end(pen: &mut Pen, end: &End) {
         End::Forgotten => ("forgotten", None),
         End::Open => ("open", None),
     };
-    write_members(
-        pen,
-        &[
-            ("end", JsonValue::Word(Some(word))),
-            ("by", JsonValue::Number(line)),
-        ],
-    );
+    write_word(pen, "end", Some(word));
+    write_number(pen, "by", line);
     match end {
-        End::Status(status) => write_code(pen, ("status", "statusName"), *status, STATUSES),
-        End::Refused(code) => write_code(pen, ("code", "codeName"), *code, ERRORS),
-        End::Cut(extent) => {
-            let came = JsonValue::Number(Some(extent.came() as u64));
-            let length = JsonValue::Number(Some(u64::from(extent.length)));
-            write_members(pen, &[("answerCame", came), ("answerLength", length)]);
-        }
+        End::Status(status) => write_code(pen, "status", "statusName", *status, STATUSES),
+        End::Refused(code) => write_code(pen, "code", "codeName", *code, ERRORS),
+        End::Cut(extent) => write_extent(pen, "answerCame", "answerLength", extent),
         _ => {}
     }
 }

@@ -39,11 +39,14 @@ mod wording;
 mod words;
 
 pub use difference::{Comparison, Difference};
-pub use escape::is_hidden;
+pub use escape::{is_hidden, write_escaped};
 pub use exchange::{Transaction, put_transaction};
 pub use item::show_item;
+pub use json::{write_hex, write_number, write_string, write_word};
 pub use log_writer::{LogForm, LogWriter, put_json_fault, write_log};
 pub use owners::show_owners;
+pub use pen::Pen;
+pub use putting::{Written, put_written};
 pub use reason::Awaited;
 pub use showing::{explain, show};
 pub use signed::SignedOtherwise;

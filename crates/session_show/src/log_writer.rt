@@ -10,7 +10,7 @@ use crate::channels::OPEN;
 use crate::counts::Counts;
 use crate::entry::Entry;
 use crate::exchange::Ended;
-use crate::json::{JsonValue, write_members};
+use crate::json::{write_number, write_word};
 use crate::json_line::{write_line, write_transaction};
 use crate::pen::Pen;
 use crate::putting::{Written, put_written};
@@ -227,18 +227,10 @@ impl Written for FaultObject<'_> {
             LogFault::Memory(line) => ("no memory", Some(line), None),
         };
         pen.text("{\"kind\":\"fault\"");
-        write_members(
-            pen,
-            &[
-                (
-                    "number",
-                    JsonValue::Number(Some(u64::from(self.0.number()))),
-                ),
-                ("reason", JsonValue::Word(Some(reason))),
-                ("line", JsonValue::Number(line)),
-                ("packet", JsonValue::Number(packet)),
-            ],
-        );
+        write_number(pen, "number", Some(u64::from(self.0.number())));
+        write_word(pen, "reason", Some(reason));
+        write_number(pen, "line", line);
+        write_number(pen, "packet", packet);
         pen.text("}\n");
     }
 }

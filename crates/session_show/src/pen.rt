@@ -4,6 +4,7 @@ ghost use Rattle.std.specs.Prelude.{◌<◌, ◌≤◌, length};
 use crate::wording::Wording;
 use arrayvec::ArrayVec;
 use itoa::Buffer;
+use std::fmt;
 
 /// The most bytes of a part.
 pub const PART: usize = 8192;
@@ -19,16 +20,16 @@ const SPACES: &[u8] = b"                                ";
 #[derive(Drop)]
 pub struct Pen {
     /// Whether it writes names, members and comments for people.
-    pub explains: bool,
+    pub(crate) explains: bool,
     /// How many bytes were to pass over when the part began.
     first: usize,
     /// How many bytes are still to pass over.
-    pub before: usize,
+    pub(crate) before: usize,
     part: ArrayVec<u8, PART>,
     /// Whether what is written is in a JSON text, where a backslash is written before `"` and `\`.
-    pub is_quoted: bool,
+    pub(crate) is_quoted: bool,
     /// How long a piece is that is written at most once in the text, where that is known from an earlier part.
-    pub known: Option<usize>,
+    pub(crate) known: Option<usize>,
 }
 
 impl Pen {
@@ -167,5 +168,13 @@ impl Pen {
         let mut piece = *b"\\u0000";
         let _ = hex::encode_to_slice([high, low].as_slice(), &mut piece[2..]);
         self.bytes(&piece);
+    }
+}
+
+impl fmt::Write for Pen {
+    /// Writes a text. This never fails.
+    fn write_str(&mut self, text: &str) -> fmt::Result {
+        self.text(text);
+        Ok(())
     }
 }

@@ -1,7 +1,7 @@
 //! A line of the table of transactions.
 
 use crate::entry::write_extent;
-use crate::escape::write_line;
+use crate::escape::write_escaped;
 use crate::exchange::{End, Ended};
 use crate::pen::Pen;
 use crate::words::{ERRORS, Names, STATUSES, name_in};
@@ -33,7 +33,7 @@ pub fn write_row(pen: &mut Pen, ended: &Ended) {
     pen.column(exchange.keepalives, 12);
     if !exchange.rp_id.bytes().is_empty() {
         pen.text("  ");
-        write_line(pen, exchange.rp_id.bytes());
+        write_escaped(pen, exchange.rp_id.bytes());
     }
     pen.text("\n");
 }
