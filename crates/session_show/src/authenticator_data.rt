@@ -1,9 +1,9 @@
 //! Authenticator data in lines (WebAuthn, section 6.1).
 
 use crate::escape::write_escaped;
-use crate::field::{write_bytes, write_front, write_item, write_member};
+use crate::field::{split, write_bytes, write_front, write_item, write_member};
 use crate::member_names::Map;
-use crate::pairs::{Pairs, value_at};
+use crate::pairs::{Pairs, item_at};
 use crate::pen::Pen;
 use crate::words::{Flags, write_flags};
 use ctap_cbor::{Cursor, Item};
@@ -27,24 +27,22 @@ const RSA: i128 = 3;
 
 /// Writes lines for what authenticator data hold, as far as the bytes reach.
 pub fn write_authenticator_data(pen: &mut Pen, number: u64, bytes: &[u8], rp_id: &[u8]) {
-    if let Some(hash) = bytes.get(..32) {
-        write_hash(pen, number, hash, rp_id);
-    }
-    let Some(flags) = bytes.get(32) else {
+    let Some((hash, rest)) = bytes.split_first_chunk::<32>() else {
+        return;
+    };
+    write_hash(pen, number, hash, rp_id);
+    let [flags, rest @ ..] = rest else {
         return;
     };
     write_front(pen, number, "flags ");
     write_flags(pen, *flags, FLAGS);
     pen.text("\n");
-    let Some([first, second, third, fourth]) = bytes.get(33..37) else {
+    let [first, second, third, fourth, rest @ ..] = rest else {
         return;
     };
     write_front(pen, number, "signCount ");
     pen.decimal(u64::from(u32::from_be_bytes([*first, *second, *third, *fourth])));
     pen.text("\n");
-    let Some(rest) = bytes.get(37..) else {
-        return;
-    };
     if flags & CREDENTIAL == 0 {
         write_item(pen, number, "extensions ", rest);
     } else {
@@ -53,11 +51,11 @@ pub fn write_authenticator_data(pen: &mut Pen, number: u64, bytes: &[u8], rp_id:
 }
 
 /// Writes the line of an RP id's hash, with the RP id that the request named.
-fn write_hash(pen: &mut Pen, number: u64, hash: &[u8], rp_id: &[u8]) {
+fn write_hash(pen: &mut Pen, number: u64, hash: &[u8; 32], rp_id: &[u8]) {
     write_front(pen, number, "rpIdHash ");
-    pen.hex(hash);
+    pen.hex(hash.as_slice());
     if !rp_id.is_empty() {
-        let is_its = Sha256::digest(rp_id).as_slice() == hash;
+        let is_its = *hash == Sha256::digest(rp_id);
         pen.text(if is_its { "  " } else { "  not that of " });
         write_escaped(pen, rp_id);
     }
@@ -66,35 +64,34 @@ fn write_hash(pen: &mut Pen, number: u64, hash: &[u8], rp_id: &[u8]) {
 
 /// Writes lines for a credential, and for the extensions after it.
 fn write_credential(pen: &mut Pen, number: u64, bytes: &[u8]) {
-    if let Some(aaguid) = bytes.get(..16) {
-        write_bytes(pen, number, "aaguid ", aaguid);
-    }
-    let Some([high, low]) = bytes.get(16..18) else {
+    let Some((aaguid, rest)) = split(bytes, 16) else {
         return;
     };
-    let end = 18 + usize::from(u16::from_be_bytes([*high, *low]));
-    if let Some(id) = bytes.get(18..end) {
-        write_bytes(pen, number, "credentialId ", id);
-    }
-    let Some(rest) = bytes.get(end..) else {
+    write_bytes(pen, number, "aaguid ", aaguid);
+    let [high, low, rest @ ..] = rest else {
         return;
     };
+    let length = usize::from(u16::from_be_bytes([*high, *low]));
+    let Some((id, rest)) = split(rest, length) else {
+        return;
+    };
+    write_bytes(pen, number, "credentialId ", id);
     let mut cursor = Cursor::new(rest);
     if cursor.skip(1).is_err() {
         write_item(pen, number, "publicKey ", rest);
         return;
     }
-    let place = cursor.place();
-    write_key(pen, number, rest.get(..place).unwrap_or(b""));
-    write_item(pen, number, "extensions ", rest.get(place..).unwrap_or(b""));
+    if let Some((key, extensions)) = split(rest, cursor.place()) {
+        write_key(pen, number, key);
+        write_item(pen, number, "extensions ", extensions);
+    }
 }
 
 /// Writes a line for a COSE key, and one for each of its members, where it is a map.
 fn write_key(pen: &mut Pen, number: u64, key: &[u8]) {
     write_item(pen, number, "publicKey ", key);
-    let kind = value_at(key, Item::Int(1)).unwrap_or(b"");
-    let map = match Cursor::new(kind).item(1) {
-        Ok(Item::Int(RSA)) => Map::RsaKey,
+    let map = match item_at(key, Item::Int(1)) {
+        Some(Item::Int(RSA)) => Map::RsaKey,
         _ => Map::Key,
     };
     let Some(mut pairs) = Pairs::of(key) else {

@@ -18,22 +18,26 @@ pub struct Greeting {
     /// Its moment.
     pub at: u64,
     pub length: u16,
-    pub nonce: [u8; 8],
+    pub nonce: u64,
 }
 
 impl Greeting {
     /// Returns that of a packet on a line, at a moment, of a message of so many bytes.
     pub fn of(line: u64, at: u64, length: u16, part: &[u8]) -> Self {
-        let mut nonce = [0; 8];
-        if let Some(front) = part.get(..8) {
-            nonce.copy_from_slice(front);
-        }
         Greeting {
             line,
             at,
             length,
-            nonce,
+            nonce: nonce_in(part),
         }
+    }
+}
+
+/// Returns the nonce of an INIT or of its answer, with what its first packet carries.
+pub fn nonce_in(part: &[u8]) -> u64 {
+    match part {
+        [a, b, c, d, e, f, g, h, ..] => u64::from_be_bytes([*a, *b, *c, *d, *e, *f, *g, *h]),
+        _ => 0,
     }
 }
 
@@ -47,6 +51,16 @@ pub struct Told {
     pub status: Option<u8>,
     /// What it answers, where that is known.
     pub exchange: Option<Followed>,
+}
+
+impl Told {
+    /// Returns the transaction that it answers.
+    pub fn of(&self) -> Option<Transaction> {
+        match &self.exchange {
+            Some(exchange) => Some(exchange.transaction),
+            None => None,
+        }
+    }
 }
 
 /// A continuation packet of a host beside a message that isn't whole.
@@ -98,8 +112,26 @@ impl Channel {
 
     /// Returns whether nothing on it is open.
     pub fn is_idle(&self) -> bool {
-        let is_answering = matches!(&self.told, Some(told) if !told.extent.is_whole());
-        self.held.is_none() && self.asked.is_none() && self.greetings.is_empty() && !is_answering
+        self.held.is_none()
+            && self.asked.is_none()
+            && self.greetings.is_empty()
+            && !self.is_answering()
+    }
+
+    /// Returns whether the device's last message has further packets.
+    pub fn is_answering(&self) -> bool {
+        matches!(&self.told, Some(told) if !told.extent.is_whole())
+    }
+
+    /// Returns the transaction that holds it, or else the one that was answered last.
+    pub fn last(&self) -> Option<Transaction> {
+        if let Some(held) = &self.held {
+            return Some(held.transaction);
+        }
+        match &self.told {
+            Some(told) => told.of(),
+            None => None,
+        }
     }
 
     /// Returns the transaction of a greeting.
@@ -184,17 +216,19 @@ impl Channel {
     /// (section 11.2.9.1.5).
     pub fn cancel(&mut self, line: u64) -> Option<Transaction> {
         self.is_stray = true;
-        let is_second = match (&self.held, &self.asked) {
-            (Some(held), Some(asked)) if held.is_served() => {
-                asked.is_served() && held.cancelled.is_some() && asked.cancelled.is_none()
-            }
-            (_, Some(asked)) => asked.is_served(),
-            (_, None) => false,
+        let is_second = match &self.asked {
+            Some(asked) if asked.is_served() => match &self.held {
+                Some(held) if held.is_served() => {
+                    held.cancelled.is_some() && asked.cancelled.is_none()
+                }
+                _ => true,
+            },
+            _ => false,
         };
         if is_second {
-            self.asked.as_mut()?.cancel(line)
+            cancel_served(&mut self.asked, line)
         } else {
-            self.held.as_mut()?.cancel(line)
+            cancel_served(&mut self.held, line)
         }
     }
 
@@ -235,7 +269,9 @@ impl Channel {
 
     /// Takes a reply of the user at a moment, and returns the request that waited for it.
     pub fn reply(&mut self, presence: Option<u64>) -> Option<Transaction> {
-        let held = self.held.as_mut()?;
+        let Some(held) = &mut self.held else {
+            return None;
+        };
         if let Some(at) = presence
             && held.took.is_none()
         {
@@ -272,7 +308,13 @@ impl Channel {
         held
     }
 
-    /// Takes the greeting at a place.
+    /// Takes the last greeting.
+    pub fn take_last_greeting(&mut self) -> Option<Followed> {
+        let count = self.greetings.len();
+        self.take_greeting(count.saturating_sub(1))
+    }
+
+    /// Takes the greeting at a place, where there is one.
     pub fn take_greeting(&mut self, place: usize) -> Option<Followed> {
         if place >= self.greetings.len() {
             return None;
@@ -287,7 +329,9 @@ impl Channel {
     /// Ends the transaction of the device's last message, if packets of that are missing. Returns the line that the
     /// message began at.
     pub fn cut(&mut self, ends: &mut EndedTransactions) -> Option<u64> {
-        let told = self.told.take()?;
+        let Some(told) = self.told.take() else {
+            return None;
+        };
         if !told.extent.is_whole()
             && let Some(exchange) = told.exchange
         {
@@ -297,16 +341,18 @@ impl Channel {
     }
 }
 
-impl Followed {
-    /// Notes a CANCEL on this line, if it is served.
-    fn cancel(&mut self, line: u64) -> Option<Transaction> {
-        if !self.is_served() {
-            return None;
+/// Notes a CANCEL on this line for a message, if there is one that is served.
+fn cancel_served(message: &mut Option<Followed>, line: u64) -> Option<Transaction> {
+    match message {
+        Some(served) if served.is_served() => {
+            served.cancelled = Some(line);
+            Some(served.transaction)
         }
-        self.cancelled = Some(line);
-        Some(self.transaction)
+        _ => None,
     }
+}
 
+impl Followed {
     /// Goes on with its message by the packet with this number, unless it is whole.
     fn go_on(&mut self, number: u8, now: u64) -> Option<Continued> {
         if self.extent.is_whole() {

@@ -5,7 +5,7 @@ use crate::channel::Channel;
 use crate::exchange::{Ended, EndedTransactions, Followed};
 
 /// How many channels are followed at once.
-pub const CHANNELS: usize = 6;
+const CHANNELS: usize = 6;
 
 /// The most transactions that are open at once: on each channel four INITs, two other messages, and an answer.
 pub const OPEN: usize = 7 * CHANNELS;
@@ -28,6 +28,13 @@ impl Channels {
                 Channel::default(),
                 Channel::default(),
             ],
+        }
+    }
+
+    /// Becomes the same as others.
+    pub fn copy_from(&mut self, others: &Channels) {
+        for place in 0..CHANNELS {
+            self.list[place].copy_from(&others.list[place]);
         }
     }
 
@@ -83,6 +90,17 @@ impl Channels {
     pub fn on(&self, number: u32) -> Option<&Channel> {
         let place = self.find(number)?;
         Some(&self.list[place])
+    }
+
+    /// Returns what the last message of the device on the channel at a place answers.
+    pub fn answered(&self, place: usize) -> Option<&Followed> {
+        if let Some(channel) = self.list.get(place)
+            && let Some(told) = &channel.told
+        {
+            told.exchange.as_ref()
+        } else {
+            None
+        }
     }
 
     /// Returns where the one request is that waits for its answer, if exactly one does.

@@ -2,7 +2,8 @@
 ghost use Rattle.std.specs.Prelude.{◌<◌};
 
 use crate::authenticator_data::CREDENTIAL;
-use crate::pairs::{next_value, value_at};
+use crate::field::split;
+use crate::pairs::{item_at, next_value, value_at};
 use crate::pen::Pen;
 use crate::putting::Written;
 use crate::rp_id::RpId;
@@ -64,7 +65,7 @@ impl Credentials {
 
     /// Keeps the credential that an answer made, which ends at a line: its item follows the status.
     pub fn add(&mut self, line: u64, item: &[u8]) {
-        if let Some(data) = bytes_at(item, Item::Int(2))
+        if let Some(Item::Bytes(data)) = item_at(item, Item::Int(2))
             && let Some((relying_party, id)) = credential_in(data)
         {
             let name = name_of(relying_party, id);
@@ -75,19 +76,23 @@ impl Credentials {
 
     /// Returns which entry of a request's excludeList was made last, where the log made one of them.
     pub fn excluded_in(&self, rp_id: &RpId, item: &[u8]) -> Option<Excluded> {
-        let list = value_at(item, Item::Int(5))?;
-        let relying_party = Sha256::digest(rp_id.bytes());
+        let Some(list) = value_at(item, Item::Int(5)) else {
+            return None;
+        };
         let mut cursor = Cursor::new(list);
         let Ok(Item::Array(count)) = cursor.item(1) else {
             return None;
         };
+        let relying_party = Sha256::digest(rp_id.bytes());
         let mut last = Excluded { place: 0, line: 0 };
         for place in 0..count {
-            let entry = next_value(&mut cursor, list)?;
-            let Some(id) = bytes_at(entry, Item::Text("id")) else {
-                continue;
+            let Some(entry) = next_value(&mut cursor, list) else {
+                return None;
             };
-            let line = self.line_of(&name_of(relying_party.as_slice(), id));
+            let line = match item_at(entry, Item::Text("id")) {
+                Some(Item::Bytes(id)) => self.line_of(&name_of(relying_party.as_slice(), id)),
+                _ => 0,
+            };
             if line > last.line {
                 last = Excluded { place, line };
             }
@@ -107,25 +112,20 @@ impl Credentials {
     }
 }
 
-/// Returns the bytes at this key of a map.
-fn bytes_at<'a>(item: &'a [u8], key: Item<'_>) -> Option<&'a [u8]> {
-    match Cursor::new(value_at(item, key)?).item(1) {
-        Ok(Item::Bytes(bytes)) => Some(bytes),
-        _ => None,
-    }
-}
-
 /// Returns the hash of the relying party and the id in authenticator data (WebAuthn, section 6.1).
 fn credential_in(data: &[u8]) -> Option<(&[u8], &[u8])> {
-    let [high, low] = data.get(53..55)? else {
+    let Some((relying_party, [flags, rest @ ..])) = split(data, 32) else {
         return None;
     };
-    let end = 55 + usize::from(u16::from_be_bytes([*high, *low]));
-    let id = data.get(55..end)?;
-    if data.get(32)? & CREDENTIAL == 0 {
+    // The counter and the AAGUID have 20 bytes.
+    let Some((_, [high, low, rest @ ..])) = split(rest, 20) else {
         return None;
+    };
+    let length = usize::from(u16::from_be_bytes([*high, *low]));
+    match split(rest, length) {
+        Some((id, _)) if flags & CREDENTIAL != 0 => Some((relying_party, id)),
+        _ => None,
     }
-    Some((data.get(..32)?, id))
 }
 
 /// Returns a hash of a relying party's hash and an id.

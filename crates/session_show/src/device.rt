@@ -1,6 +1,6 @@
 //! What a device sends on a channel: which transaction it is for, and what it ends.
 
-use crate::channel::{Channel, Told};
+use crate::channel::{Channel, Told, nonce_in};
 use crate::exchange::{End, EndedTransactions, Extent, Followed, Transaction};
 use crate::walk::Doubtful;
 use hid_packet::BROADCAST;
@@ -56,7 +56,9 @@ impl Channel {
         if is_asked && !is_held {
             self.settle(ends);
         }
-        let held = self.held.as_mut()?;
+        let Some(held) = &mut self.held else {
+            return None;
+        };
         if !held.is_served() {
             return None;
         }
@@ -149,35 +151,38 @@ impl Channel {
         if self.is_stray && is_of_stray {
             return None;
         }
-        let ended = match self.free(ends) {
-            Some(held) => held,
-            None => {
-                let last = self.greetings.len().checked_sub(1)?;
-                self.take_greeting(last)?
+        let mut ended = self.free(ends);
+        if ended.is_none() {
+            ended = self.take_last_greeting();
+        }
+        match ended {
+            Some(ended) => {
+                ends.add(ended, End::Refused(code));
+                Some(ended.transaction)
             }
-        };
-        ends.add(ended, End::Refused(code));
-        Some(ended.transaction)
+            None => None,
+        }
     }
 
     /// Takes the message that began last and isn't known to have the channel, if an ERROR can be for it: an INIT of a
     /// wrong length first.
     fn refused_start(&mut self, code: u8) -> Option<Followed> {
         if code == INVALID_LENGTH {
-            for place in 0..self.greetings.len() {
-                if matches!(self.greetings.get(place), Some(greeting) if greeting.length != 8) {
+            let mut place = 0_usize;
+            for greeting in self.greetings.as_slice() {
+                if greeting.length != 8 {
                     return self.take_greeting(place);
                 }
+                place = place.saturating_add(1);
             }
         }
         if self.is_greeted {
-            let last = self.greetings.len().checked_sub(1)?;
             let is_busy = code == CHANNEL_BUSY && self.number != BROADCAST;
             // INIT is taken at any time on its own channel.
             if matches!(code, INVALID_SEQUENCE | TIMED_OUT) || is_busy {
                 return None;
             }
-            return self.take_greeting(last);
+            return self.take_last_greeting();
         }
         self.asked.take()
     }
@@ -194,18 +199,19 @@ impl Channel {
             self.answer_message(answer, ends)
         };
         if let Some(exchange) = &exchange
-            && exchange.transaction.command == Some(ASSERT)
+            && let Some(ASSERT) = exchange.transaction.command
         {
             self.asserted = exchange.rp_id;
         }
-        self.told = Some(Told {
+        let told = Told {
             line: answer.line,
             extent: answer.extent,
             status: status_in(answer),
             exchange,
-        });
+        };
+        self.told = Some(told);
         self.end_told(ends);
-        Some(exchange?.transaction)
+        told.of()
     }
 
     /// Takes the INIT with the nonce of an answer. On a channel of its own it drops what began before it (section
@@ -215,18 +221,17 @@ impl Channel {
         answer: &AnswerStart<'_>,
         ends: &mut EndedTransactions,
     ) -> Option<Followed> {
-        let nonce = answer.part.get(..8)?;
-        let mut found = self.greetings.len();
-        for place in 0..self.greetings.len() {
-            if let Some(greeting) = self.greetings.get(place)
-                && greeting.length == 8
-                && greeting.nonce.as_slice() == nonce
-            {
-                found = place;
+        let nonce = nonce_in(answer.part);
+        let mut place = 0_usize;
+        for greeting in self.greetings.as_slice() {
+            if greeting.length == 8 && greeting.nonce == nonce {
                 break;
             }
+            place = place.saturating_add(1);
         }
-        let exchange = self.take_greeting(found)?;
+        let Some(exchange) = self.take_greeting(place) else {
+            return None;
+        };
         let line = exchange.transaction.line;
         let is_before = matches!(&self.held, Some(held) if held.transaction.line < line);
         if self.number != BROADCAST
@@ -245,7 +250,7 @@ impl Channel {
         ends: &mut EndedTransactions,
     ) -> Option<Followed> {
         let is_of_asked = is_answered(&self.asked, answer);
-        let is_of_cancelled = status_in(answer) == Some(CANCELLED)
+        let is_of_cancelled = matches!(status_in(answer), Some(CANCELLED))
             && matches!(&self.held, Some(held) if held.waits() && held.cancelled.is_some());
         if is_of_asked && !is_of_cancelled {
             self.settle(ends);
@@ -259,18 +264,16 @@ impl Channel {
 
     /// Takes a continuation packet of the device's last message, if it is the next one.
     pub fn answer_on(&mut self, number: u8, ends: &mut EndedTransactions) -> Option<Answered> {
-        let told = self.told.as_mut()?;
+        let Some(told) = &mut self.told else {
+            return None;
+        };
         if told.extent.is_whole() || told.extent.continuations != number {
             return None;
         }
         told.extent.continuations = number.saturating_add(1);
-        let of = match &told.exchange {
-            Some(exchange) => Some(exchange.transaction),
-            None => None,
-        };
         let answered = Answered {
             line: told.line,
-            of,
+            of: told.of(),
             is_whole: told.extent.is_whole(),
         };
         self.end_told(ends);

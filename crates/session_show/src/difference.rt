@@ -1,11 +1,11 @@
 //! The packets in which a log isn't what a session sends.
 ghost use Rattle.std.specs.Prelude.{◌<◌, ◌-◌, ◌^◌};
 
-use crate::entry::{MessageLines, PacketLine};
+use crate::entry::write_message;
 use crate::exchange::Transaction;
-use crate::packet_line::channel_of;
+use crate::packet_line::{channel_of, write_packet};
 use crate::pen::Pen;
-use crate::putting::put_written;
+use crate::putting::{Written, put_written};
 use crate::reason::{Awaited, Reason};
 use crate::signed::{Signed, SignedOtherwise};
 use crate::walk::LogWalk;
@@ -50,7 +50,9 @@ impl Difference {
 
     /// Returns the offset of the first byte in which two packets differ, and what it is in the log's and the session's.
     pub fn byte(&self) -> Option<(usize, u8, u8)> {
-        let (logged, sent) = (self.logged?, self.sent?);
+        let (Some(logged), Some(sent)) = (&self.logged, &self.sent) else {
+            return None;
+        };
         for at in 0..64 {
             if logged.0[at] != sent.0[at] {
                 return Some((at, logged.0[at], sent.0[at]));
@@ -58,16 +60,15 @@ impl Difference {
         }
         None
     }
-}
 
-/// Why a comparison ends at a line.
-enum Stop {
-    /// Its packet differs.
-    Differs(Difference),
-    /// A packet is missing before it. The line wasn't taken.
-    Missing(Difference),
-    /// It isn't a log line.
-    BadLine,
+    /// Returns the packet that the session sends, or else the log's.
+    fn packet(&self) -> Option<Packet> {
+        if self.sent.is_some() {
+            self.sent
+        } else {
+            self.logged
+        }
+    }
 }
 
 /// What the lines so far led to.
@@ -110,39 +111,45 @@ impl PlayedLog {
         }
     }
 
-    /// Takes the next line, with its number.
+    /// Takes the next line, with its number, and returns the difference that it shows. Where that is a packet that is
+    /// missing, the line isn't taken; where it is the line's packet, the walk has yet to take it.
     fn take<const C: usize>(
         &mut self,
         number: u64,
         line: &[u8],
+        said: &Line,
         session: &mut Session<C>,
-    ) -> Result<(), Stop> {
-        let Some(said) = read_line(line) else {
-            return Err(Stop::BadLine);
+    ) -> Option<Difference> {
+        let difference = match said {
+            Line::Sent(packet) => self.compare(number, packet),
+            Line::Input(timed) => self.play(number, timed, session),
+            Line::Comment => {
+                self.signed.take(number, line, &session.need());
+                None
+            }
+            Line::Count => None,
         };
-        match &said {
-            Line::Sent(packet) => self.compare(number, *packet)?,
-            Line::Input(timed) => self.play(number, timed, session)?,
-            Line::Comment => self.signed.take(number, line, &session.need()),
-            Line::Count => {}
+        if difference.is_none() {
+            self.walk.take(number, said);
         }
-        self.walk.take(number, &said);
-        Ok(())
+        difference
     }
 
     /// Compares a packet of the log with the one that the session sent.
-    fn compare(&mut self, number: u64, packet: Packet) -> Result<(), Stop> {
+    fn compare(&mut self, number: u64, packet: &Packet) -> Option<Difference> {
         self.has_sent = true;
         if self.has_differed {
-            return Ok(());
+            return None;
         }
         let sent = self.outbox.pop();
-        if sent == Some(packet) {
+        if let Some(sent) = &sent
+            && *sent == *packet
+        {
             self.compared = self.compared.saturating_add(1);
-            return Ok(());
+            return None;
         }
-        self.last = Some((number, packet));
-        Err(Stop::Differs(self.differ(number, Some(packet), sent)))
+        self.last = Some((number, *packet));
+        Some(self.differ(number, Some(*packet), sent))
     }
 
     /// Steps the session, unless the log lacks a packet of the input before.
@@ -151,13 +158,13 @@ impl PlayedLog {
         number: u64,
         timed: &Timed,
         session: &mut Session<C>,
-    ) -> Result<(), Stop> {
+    ) -> Option<Difference> {
         if self.has_differed {
             self.has_differed = false;
             self.outbox = Outbox::new();
         }
         if let Some(sent) = self.outbox.pop() {
-            return Err(Stop::Missing(self.differ(number, None, Some(sent))));
+            return Some(self.differ(number, None, Some(sent)));
         }
         session.step(timed.at, timed.input, &mut self.outbox);
         self.awaited = Awaited::of(&session.need());
@@ -165,7 +172,14 @@ impl PlayedLog {
         self.signed.len = 0;
         self.input = number;
         self.compared = 0;
-        Ok(())
+        None
+    }
+
+    /// Lets the walk take the packet that differed.
+    fn pass_last(&mut self) {
+        if let Some((number, packet)) = self.last.take() {
+            self.walk.take(number, &Line::Sent(packet));
+        }
     }
 
     /// Returns the packet that is missing at the log's end, after this line.
@@ -173,8 +187,10 @@ impl PlayedLog {
         if self.has_differed {
             return None;
         }
-        let sent = self.outbox.pop()?;
-        Some(self.differ(line, None, Some(sent)))
+        match self.outbox.pop() {
+            Some(sent) => Some(self.differ(line, None, Some(sent))),
+            None => None,
+        }
     }
 
     /// Returns a difference at this line.
@@ -188,6 +204,26 @@ impl PlayedLog {
             sent,
             awaited: self.awaited,
             reply: self.reply,
+        }
+    }
+}
+
+/// A packet that the log or the session has, and the message that it and those after it complete.
+#[derive(Clone, Copy)]
+struct Side<'a> {
+    /// The walk that took them.
+    walk: &'a LogWalk,
+    packet: &'a Packet,
+    line: u64,
+}
+
+impl Written for Side<'_> {
+    fn write(&self, pen: &mut Pen) {
+        pen.text("< ");
+        write_packet(pen, self.packet);
+        pen.text("\n");
+        if let Some(message) = &self.walk.message() {
+            write_message(pen, self.line, message);
         }
     }
 }
@@ -228,24 +264,25 @@ impl Comparison {
         reader: &mut S,
         session: &mut Session<C>,
     ) -> Result<Option<Difference>, LogFault> {
-        if let Some((number, packet)) = self.played.last.take() {
-            self.played.walk.take(number, &Line::Sent(packet));
-        }
+        self.played.pass_last();
         for _ in 0..LINES {
             let number = self.lines.saturating_add(1);
-            let Some(end) = self.next_end(reader)? else {
-                return Ok(self.played.finish(self.lines));
+            let end = match self.next_end(reader) {
+                Ok(Some(end)) => end,
+                Ok(None) => return Ok(self.played.finish(self.lines)),
+                Err(fault) => return Err(fault),
             };
             let line = front(self.window.as_slice(), end);
-            match self.played.take(number, line, session) {
-                Ok(()) => self.drop_line(end),
-                // The input's line is taken by the next call.
-                Err(Stop::Missing(difference)) => return Ok(Some(difference)),
-                Err(Stop::Differs(difference)) => {
-                    self.drop_line(end);
-                    return Ok(Some(difference));
-                }
-                Err(Stop::BadLine) => return Err(LogFault::BadLine(number)),
+            let Some(said) = read_line(line) else {
+                return Err(LogFault::BadLine(number));
+            };
+            let difference = self.played.take(number, line, &said, session);
+            // The line of an input before which a packet is missing is taken by the next call.
+            if !matches!(&difference, Some(missing) if missing.logged.is_none()) {
+                self.drop_line(end);
+            }
+            if difference.is_some() {
+                return Ok(difference);
             }
         }
         Ok(None)
@@ -257,10 +294,9 @@ impl Comparison {
         if reader.failures() == u64::MAX {
             return Err(LogFault::Read(number));
         }
-        match next_line(&mut self.window, reader, number)? {
-            Some(end) => Ok(Some(end)),
-            None if self.window.is_empty() => Ok(None),
-            None => Ok(Some(self.window.len())),
+        match next_line(&mut self.window, reader, number) {
+            Ok(None) if !self.window.is_empty() => Ok(Some(self.window.len())),
+            next => next,
         }
     }
 
@@ -274,18 +310,18 @@ impl Comparison {
     /// Returns the transaction that the packet belongs to; of one that belongs to none, the one that holds its channel or
     /// was answered last there.
     pub fn transaction(&mut self, difference: &Difference) -> Option<Transaction> {
-        let packet = difference.sent.or(difference.logged)?;
+        let Some(packet) = difference.packet() else {
+            return None;
+        };
         self.aside.copy_from(&self.played.walk);
         self.aside.take(difference.line, &Line::Sent(packet));
         if self.aside.of.is_some() {
             return self.aside.of;
         }
-        let channel = self.played.walk.channels.on(channel_of(&packet))?;
-        if let Some(held) = &channel.held {
-            return Some(held.transaction);
+        match self.played.walk.channels.on(channel_of(&packet)) {
+            Some(channel) => channel.last(),
+            None => None,
         }
-        let answered = channel.told.as_ref()?.exchange.as_ref()?;
-        Some(answered.transaction)
     }
 
     /// Returns the first line so far that says that other bytes were signed than the session asks to be signed.
@@ -300,14 +336,11 @@ impl Comparison {
         difference: &Difference,
         writer: &mut T,
     ) -> Result<(), Failed> {
-        if writer.failures() == u64::MAX {
-            return Err(Failed);
-        }
         let reason = Reason {
             walk: &self.played.walk,
             difference,
         };
-        put_written(writer, &mut self.pen, &reason)
+        put_counted(writer, &mut self.pen, &reason)
     }
 
     /// Returns whether the log has a packet of the key. It is read on up to the first one, and not compared.
@@ -319,7 +352,7 @@ impl Comparison {
             let Ok(Some(end)) = self.next_end(reader) else {
                 return false;
             };
-            self.played.has_sent = self.window.as_slice().first() == Some(&b'<');
+            self.played.has_sent = matches!(self.window.as_slice(), [b'<', ..]);
             self.drop_line(end);
         }
         false
@@ -334,8 +367,10 @@ impl Comparison {
         logged: &mut T,
         sent: &mut T,
     ) -> Result<(), Failed> {
-        self.put_sent(difference, sent)?;
-        self.put_logged(difference, reader, logged)
+        match self.put_sent(difference, sent) {
+            Ok(()) => self.put_logged(difference, reader, logged),
+            Err(failed) => Err(failed),
+        }
     }
 
     /// Writes the packet that the session sends, and its message.
@@ -344,23 +379,26 @@ impl Comparison {
         difference: &Difference,
         writer: &mut T,
     ) -> Result<(), Failed> {
-        let Some(packet) = difference.sent else {
+        let Some(packet) = &difference.sent else {
             return Ok(());
         };
         self.aside.copy_from(&self.played.walk);
-        put_packet(&mut self.pen, &packet, writer)?;
-        let mut next = Some(packet);
+        let mut next = Some(*packet);
         for _ in 0..=PACKETS {
-            let Some(packet) = next else {
+            let Some(part) = next else {
                 break;
             };
-            let (walk, pen) = (&mut self.aside, &mut self.pen);
-            if !put_message(walk, pen, difference.line, &packet, writer)? {
+            if !goes_on_after(&mut self.aside, difference.line, &part) {
                 break;
             }
             next = self.played.outbox.pop();
         }
-        Ok(())
+        let side = Side {
+            walk: &self.aside,
+            packet,
+            line: difference.line,
+        };
+        put_counted(writer, &mut self.pen, &side)
     }
 
     /// Writes the packet that the log has, and its message.
@@ -370,29 +408,34 @@ impl Comparison {
         reader: &mut S,
         writer: &mut T,
     ) -> Result<(), Failed> {
-        let Some(packet) = difference.logged else {
+        let Some(packet) = &difference.logged else {
             return Ok(());
         };
         self.played.last = None;
-        put_packet(&mut self.pen, &packet, writer)?;
-        let mut next = Some(packet);
+        let mut next = Some(*packet);
         for _ in 0..=PACKETS {
-            let Some(packet) = next else {
+            let Some(part) = next else {
                 break;
             };
-            let (walk, pen) = (&mut self.played.walk, &mut self.pen);
-            if !put_message(walk, pen, difference.line, &packet, writer)? {
+            if !goes_on_after(&mut self.played.walk, difference.line, &part) {
                 break;
             }
             next = self.next_logged(reader);
         }
-        Ok(())
+        let side = Side {
+            walk: &self.played.walk,
+            packet,
+            line: difference.line,
+        };
+        put_counted(writer, &mut self.pen, &side)
     }
 
     /// Returns the packet that the log has next, before any further input.
     fn next_logged<S: Source>(&mut self, reader: &mut S) -> Option<Packet> {
         for _ in 0..LINES {
-            let end = self.next_end(reader).ok()??;
+            let Ok(Some(end)) = self.next_end(reader) else {
+                return None;
+            };
             match read_line(front(self.window.as_slice(), end)) {
                 Some(Line::Sent(packet)) => {
                     self.drop_line(end);
@@ -406,32 +449,23 @@ impl Comparison {
     }
 }
 
-/// Writes a packet alone.
-fn put_packet<T: Target>(pen: &mut Pen, packet: &Packet, writer: &mut T) -> Result<(), Failed> {
+/// Hands over a text, unless the target failed too often for a further failure to be counted.
+fn put_counted<T: Target, W: Written>(
+    writer: &mut T,
+    pen: &mut Pen,
+    written: &W,
+) -> Result<(), Failed> {
     if writer.failures() == u64::MAX {
         return Err(Failed);
     }
-    put_written(writer, pen, &PacketLine(packet))
+    put_written(writer, pen, written)
 }
 
-/// Takes a packet of the key, and writes the message that it completes. Returns whether the message has further packets.
-fn put_message<T: Target>(
-    walk: &mut LogWalk,
-    pen: &mut Pen,
-    line: u64,
-    packet: &Packet,
-    writer: &mut T,
-) -> Result<bool, Failed> {
-    if writer.failures() == u64::MAX {
-        return Err(Failed);
-    }
-    let said = Line::Sent(*packet);
-    walk.take(line, &said);
-    if let Some(message) = walk.entry(line, b"", &said).own.message {
-        put_written(writer, pen, &MessageLines(line, message))?;
-    }
-    Ok(match walk.channels.on(channel_of(packet)) {
-        Some(channel) => matches!(&channel.told, Some(told) if !told.extent.is_whole()),
+/// Takes a packet of the key. Returns whether its message has further packets.
+fn goes_on_after(walk: &mut LogWalk, line: u64, packet: &Packet) -> bool {
+    walk.take(line, &Line::Sent(*packet));
+    match walk.channels.on(channel_of(packet)) {
+        Some(channel) => channel.is_answering(),
         None => false,
-    })
+    }
 }

@@ -11,7 +11,6 @@ use crate::putting::Written;
 use crate::walk::{LogWalk, Role};
 use crate::words::{COMMANDS, STATUSES, fault_name, name_in, presence_word, write_name};
 use ctap_cbor::{Fault, check};
-use hid_packet::Packet;
 use session_log::Line;
 use token_session::{Input, Timed};
 
@@ -88,54 +87,33 @@ impl Follows for LogWalk {
     }
 }
 
-/// A packet alone.
-#[derive(Clone, Copy)]
-pub struct PacketLine<'a>(pub &'a Packet);
-
-impl Written for PacketLine<'_> {
-    /// Writes a line.
-    fn write(&self, pen: &mut Pen) {
-        pen.text("< ");
-        write_packet(pen, self.0);
-        pen.text("\n");
+/// Writes the lines of a message, with the number of the line that it ends at: its command or status and the item after
+/// it; explained, also the name of the first, what the item's fault means, and a line for each member.
+pub fn write_message(pen: &mut Pen, number: u64, message: &CborMessage<'_>) {
+    pen.decimal(number);
+    let Some([first, item @ ..]) = message.bytes else {
+        pen.text("   message not shown: too many are under way\n");
+        return;
+    };
+    let (kind, names) = match message.kind {
+        MessageKind::Request => ("   request ", COMMANDS),
+        MessageKind::Answer => ("   answer ", STATUSES),
+    };
+    pen.text(kind);
+    pen.hex(&[*first]);
+    let checked = if item.is_empty() {
+        Ok(())
+    } else {
+        check(item).result
+    };
+    write_item(pen, item, &checked);
+    write_name(pen, name_in(names, i128::from(*first)));
+    if let Err(fault) = &checked {
+        write_name(pen, Some(fault_name(fault.kind)));
     }
-}
-
-/// The lines of a message alone, with the number of the line that it ends at.
-#[derive(Clone, Copy)]
-pub struct MessageLines<'a>(pub u64, pub CborMessage<'a>);
-
-impl Written for MessageLines<'_> {
-    /// Writes the lines of a message: its command or status and the item after it; explained, also the name of the first,
-    /// what the item's fault means, and a line for each member.
-    fn write(&self, pen: &mut Pen) {
-        let MessageLines(number, message) = *self;
-        pen.decimal(number);
-        let Some(bytes) = message.bytes else {
-            pen.text("   message not shown: too many are under way\n");
-            return;
-        };
-        let (kind, names) = match message.kind {
-            MessageKind::Request => ("   request ", COMMANDS),
-            MessageKind::Answer => ("   answer ", STATUSES),
-        };
-        let (first, item) = bytes.split_first().unwrap_or((&0, b""));
-        let checked = if item.is_empty() {
-            Ok(())
-        } else {
-            check(item).result
-        };
-        pen.text(kind);
-        pen.hex(&[*first]);
-        write_item(pen, item, &checked);
-        write_name(pen, name_in(names, i128::from(*first)));
-        if let Err(fault) = checked {
-            write_name(pen, Some(fault_name(fault.kind)));
-        }
-        pen.text("\n");
-        if pen.explains && checked.is_ok() {
-            write_more(pen, number, &message, *first, item);
-        }
+    pen.text("\n");
+    if pen.explains && checked.is_ok() {
+        write_more(pen, number, message, *first, item);
     }
 }
 
@@ -189,12 +167,12 @@ impl Written for Entry<'_> {
         }
         pen.text("\n");
         if let Some(late) = &self.late
-            && let Some(message) = late.message
+            && let Some(message) = &late.message
         {
-            MessageLines(late.number, message).write(pen);
+            write_message(pen, late.number, message);
         }
-        if let Some(message) = self.own.message {
-            MessageLines(self.own.number, message).write(pen);
+        if let Some(message) = &self.own.message {
+            write_message(pen, self.own.number, message);
         }
         for ended in self.ended {
             write_ended(pen, self.own.number, ended);
@@ -204,24 +182,40 @@ impl Written for Entry<'_> {
 
 /// Writes an input: its letter, its moment and what it is.
 fn write_input(pen: &mut Pen, timed: &Timed) {
-    let (letter, what) = match &timed.input {
-        Input::Packet(_) => ("> ", ""),
-        Input::Tick => ("t ", ""),
-        Input::Presence(presence) => ("p ", presence_word(*presence)),
-        Input::Key(Some(_)) => ("k ", "yes"),
-        Input::Key(None) => ("k ", "no"),
-        Input::Signature(Some(_)) => ("s ", "yes"),
-        Input::Signature(None) => ("s ", "no"),
-    };
+    match &timed.input {
+        Input::Packet(packet) => {
+            write_moment(pen, "> ", timed.at, " ");
+            write_packet(pen, packet);
+        }
+        Input::Tick => write_moment(pen, "t ", timed.at, ""),
+        Input::Presence(presence) => {
+            write_moment(pen, "p ", timed.at, " ");
+            pen.text(presence_word(*presence));
+        }
+        Input::Key(key) => {
+            write_moment(
+                pen,
+                "k ",
+                timed.at,
+                if key.is_some() { " yes" } else { " no" },
+            );
+        }
+        Input::Signature(signature) => {
+            write_moment(
+                pen,
+                "s ",
+                timed.at,
+                if signature.is_some() { " yes" } else { " no" },
+            );
+        }
+    }
+}
+
+/// Writes a letter, a moment and what comes after it.
+fn write_moment(pen: &mut Pen, letter: &str, moment: u64, after: &str) {
     pen.text(letter);
-    pen.decimal(timed.at);
-    if !matches!(&timed.input, Input::Tick) {
-        pen.text(" ");
-    }
-    pen.text(what);
-    if let Input::Packet(packet) = &timed.input {
-        write_packet(pen, packet);
-    }
+    pen.decimal(moment);
+    pen.text(after);
 }
 
 /// Writes a line for a transaction that ended, where that isn't by an answer or an ERROR to a whole message: those say it
@@ -229,16 +223,13 @@ fn write_input(pen: &mut Pen, timed: &Timed) {
 fn write_ended(pen: &mut Pen, number: u64, ended: &Ended) {
     let exchange = &ended.exchange;
     let is_whole = exchange.extent.is_whole();
-    let (how, line) = match ended.end {
+    let how = match &ended.end {
         End::Status(_) | End::Answered | End::Open => return,
         End::Refused(_) if is_whole => return,
-        End::Refused(_) | End::Cut(_) => ("", None),
-        End::Dropped(line) => (" dropped by line ", Some(line)),
-        End::Replaced(line) => (" replaced by line ", Some(line)),
-        End::Forgotten => (
-            " not followed any longer, since too many channels are in use",
-            None,
-        ),
+        End::Refused(_) | End::Cut(_) => "",
+        End::Dropped(_) => " dropped by line ",
+        End::Replaced(_) => " replaced by line ",
+        End::Forgotten => " not followed any longer, since too many channels are in use",
     };
     pen.decimal(number);
     pen.text("   line ");
@@ -254,8 +245,8 @@ fn write_ended(pen: &mut Pen, number: u64, ended: &Ended) {
         pen.text(",");
     }
     pen.text(how);
-    if let Some(line) = line {
-        pen.decimal(line);
+    if let End::Dropped(line) | End::Replaced(line) = &ended.end {
+        pen.decimal(*line);
     }
     pen.text("\n");
 }

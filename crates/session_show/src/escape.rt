@@ -23,7 +23,12 @@ pub fn is_hidden(c: char) -> bool {
 /// Returns whether bytes are written as they are: printable characters of ASCII, of which none is escaped in JSON either.
 /// Most texts are such.
 pub fn is_plain(bytes: &[u8]) -> bool {
-    bytes.iter().all(|byte| matches!(byte, b' ' | b'!' | b'#'..=b'[' | b']'..=b'~'))
+    for byte in bytes {
+        if !matches!(byte, b' ' | b'!' | b'#'..=b'[' | b']'..=b'~') {
+            return false;
+        }
+    }
+    true
 }
 
 /// Writes a character: one that is hidden as `\u` and four digits, or in braces where it has more; in JSON as two of
@@ -55,8 +60,8 @@ pub fn write_char(pen: &mut Pen, c: char, is_json: bool) {
     }
 }
 
-/// Writes bytes of other people as text, with what can't be seen in it escaped. Where they aren't UTF-8, `\x` and two digits
-/// are for each byte that is no character of ASCII.
+/// Writes bytes of other people as text, with what can't be seen in it escaped. Where they aren't UTF-8, `\x` and two
+/// digits are for each byte that is no character of ASCII.
 pub fn write_escaped(pen: &mut Pen, line: &[u8]) {
     if is_plain(line) {
         pen.bytes(line);

@@ -2,6 +2,7 @@
 
 use crate::item::{DIAGNOSTIC, Diagnostic, write_scalar, write_value};
 use crate::member_names::Map;
+use crate::pairs::first_item;
 use crate::pen::Pen;
 use crate::putting::Written;
 use crate::words::{name_in, write_name};
@@ -18,7 +19,9 @@ pub fn write_member(pen: &mut Pen, map: Map, key: Item<'_>, value: &[u8]) {
     }
     pen.text(": ");
     write_value(pen, &mut Cursor::new(value), 1, DIAGNOSTIC, &[]);
-    if let (Item::Int(number), Ok(Item::Int(value))) = (key, Cursor::new(value).item(1)) {
+    if let Item::Int(number) = key
+        && let Some(Item::Int(value)) = first_item(value)
+    {
         write_name(pen, map.name_of(number, value));
     }
     pen.text("\n");
@@ -47,17 +50,24 @@ pub fn write_item(pen: &mut Pen, number: u64, name: &str, item: &[u8]) {
     }
 }
 
+/// Splits bytes after the first so many, where there are as many.
+pub fn split(bytes: &[u8], len: usize) -> Option<(&[u8], &[u8])> {
+    if len <= bytes.len() {
+        Some(bytes.split_at(len))
+    } else {
+        None
+    }
+}
+
 /// Returns the bytes of the number in front of a signature in DER (RFC 3279, section 2.2.3), and what comes after it. The
 /// number isn't below zero, and in as few bytes as it can be.
 fn first_number(bytes: &[u8]) -> Option<(&[u8], &[u8])> {
     let [2, len, rest @ ..] = bytes else {
         return None;
     };
-    let len = usize::from(*len);
-    if rest.len() < len {
+    let Some((number, rest)) = split(rest, usize::from(*len)) else {
         return None;
-    }
-    let (number, rest) = rest.split_at(len);
+    };
     let is_shortest = match number {
         [] => false,
         [0, second, ..] => *second >= 128,
@@ -78,9 +88,13 @@ fn numbers_of(signature: &[u8]) -> Option<(&[u8], &[u8])> {
     if usize::from(*len) != rest.len() {
         return None;
     }
-    let (r, rest) = first_number(rest)?;
-    let (s, rest) = first_number(rest)?;
-    if rest.is_empty() { Some((r, s)) } else { None }
+    let Some((r, rest)) = first_number(rest) else {
+        return None;
+    };
+    match first_number(rest) {
+        Some((s, [])) => Some((r, s)),
+        _ => None,
+    }
 }
 
 /// Writes a line for each of a signature's two numbers, where it is well formed.

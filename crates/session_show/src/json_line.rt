@@ -47,22 +47,29 @@ fn write_began(pen: &mut Pen, own: &Own<'_>) {
 
 /// Writes the object of a tick or a reply.
 fn write_reply(pen: &mut Pen, own: &Own<'_>, timed: &Timed) {
-    let kind = match &timed.input {
-        Input::Presence(_) => "presence",
-        Input::Key(_) => "key",
-        Input::Signature(_) => "signature",
-        Input::Packet(_) | Input::Tick => "tick",
-    };
-    begin_object(pen, own.number, kind);
-    write_number(pen, "moment", Some(timed.at));
-    write_began(pen, own);
     match &timed.input {
-        Input::Presence(presence) => write_word(pen, "reply", Some(presence_word(*presence))),
-        Input::Key(key) => write_flag(pen, "had", key.is_some()),
-        Input::Signature(signature) => write_flag(pen, "had", signature.is_some()),
-        Input::Packet(_) | Input::Tick => {}
+        Input::Presence(presence) => {
+            begin_reply(pen, own, "presence", timed.at);
+            write_word(pen, "reply", Some(presence_word(*presence)));
+        }
+        Input::Key(key) => {
+            begin_reply(pen, own, "key", timed.at);
+            write_flag(pen, "had", key.is_some());
+        }
+        Input::Signature(signature) => {
+            begin_reply(pen, own, "signature", timed.at);
+            write_flag(pen, "had", signature.is_some());
+        }
+        Input::Packet(_) | Input::Tick => begin_reply(pen, own, "tick", timed.at),
     }
     pen.text("}\n");
+}
+
+/// Begins the object of a tick or a reply.
+fn begin_reply(pen: &mut Pen, own: &Own<'_>, kind: &str, moment: u64) {
+    begin_object(pen, own.number, kind);
+    write_number(pen, "moment", Some(moment));
+    write_began(pen, own);
 }
 
 /// Writes the object of a packet, which came from there at a moment, and that of the message that it ends.
@@ -194,22 +201,22 @@ fn write_extent(pen: &mut Pen, came_is: &str, length_is: &str, extent: &Extent) 
 
 /// Writes how a transaction ended.
 fn write_end(pen: &mut Pen, end: &End) {
-    let (word, line) = match end {
-        End::Status(_) => ("status", None),
-        End::Refused(_) => ("error", None),
-        End::Cut(_) => ("cut", None),
-        End::Dropped(line) => ("dropped", Some(*line)),
-        End::Replaced(line) => ("replaced", Some(*line)),
-        End::Answered => ("answer", None),
-        End::Forgotten => ("forgotten", None),
-        End::Open => ("open", None),
+    let word = match end {
+        End::Status(_) => "status",
+        End::Refused(_) => "error",
+        End::Cut(_) => "cut",
+        End::Dropped(_) => "dropped",
+        End::Replaced(_) => "replaced",
+        End::Answered => "answer",
+        End::Forgotten => "forgotten",
+        End::Open => "open",
     };
     write_word(pen, "end", Some(word));
-    write_number(pen, "by", line);
     match end {
         End::Status(status) => write_code(pen, "status", "statusName", *status, STATUSES),
         End::Refused(code) => write_code(pen, "code", "codeName", *code, ERRORS),
         End::Cut(extent) => write_extent(pen, "answerCame", "answerLength", extent),
-        _ => {}
+        End::Dropped(line) | End::Replaced(line) => write_number(pen, "by", Some(*line)),
+        End::Answered | End::Forgotten | End::Open => {}
     }
 }

@@ -3,10 +3,10 @@
 use crate::authenticator_data::write_authenticator_data;
 use crate::field::{write_front, write_member, write_signature};
 use crate::member_names::{ALGORITHMS, Map};
-use crate::pairs::Pairs;
+use crate::pairs::{Pairs, first_item, item_at};
 use crate::pen::Pen;
 use crate::words::{name_in, write_name};
-use ctap_cbor::{Cursor, Item};
+use ctap_cbor::Item;
 
 /// Writes a line for each member of a map whose members have names, where the item is one. Of an answer the RP id is that
 /// which its request names.
@@ -27,44 +27,35 @@ pub fn write_members(pen: &mut Pen, number: u64, map: Map, item: &[u8], rp_id: &
         pen.decimal(number);
         pen.text("     ");
         write_member(pen, map, key, value);
-        write_inside(pen, number, (map, key), value, rp_id);
+        if let (Map::Answer(command), Item::Int(key)) = (map, key) {
+            write_inside(pen, number, command, key, value, rp_id);
+        }
     }
 }
 
-/// Writes what a member holds: authenticator data, a signature, or a statement with one.
-fn write_inside(pen: &mut Pen, number: u64, member: (Map, Item<'_>), value: &[u8], rp_id: &[u8]) {
-    let bytes = match Cursor::new(value).item(1) {
-        Ok(Item::Bytes(bytes)) => bytes,
+/// Writes what a member of an answer to a command holds: authenticator data, a signature, or a statement with one.
+fn write_inside(pen: &mut Pen, number: u64, command: u8, key: i128, value: &[u8], rp_id: &[u8]) {
+    let bytes = match first_item(value) {
+        Some(Item::Bytes(bytes)) => bytes,
         _ => b"",
     };
-    match member {
-        (Map::Answer(0x01 | 0x02 | 0x08), Item::Int(2)) => {
-            write_authenticator_data(pen, number, bytes, rp_id);
-        }
-        (Map::Answer(0x02 | 0x08), Item::Int(3)) => write_signature(pen, number, bytes),
-        (Map::Answer(0x01), Item::Int(3)) => write_statement(pen, number, value),
+    match (command, key) {
+        (0x01 | 0x02 | 0x08, 2) => write_authenticator_data(pen, number, bytes, rp_id),
+        (0x02 | 0x08, 3) => write_signature(pen, number, bytes),
+        (0x01, 3) => write_statement(pen, number, value),
         _ => {}
     }
 }
 
 /// Writes the algorithm and the numbers of the signature in an attestation statement.
 fn write_statement(pen: &mut Pen, number: u64, statement: &[u8]) {
-    let Some(mut pairs) = Pairs::of(statement) else {
-        return;
-    };
-    for _ in 0..pairs.count {
-        let Some((key, value)) = pairs.next_pair() else {
-            return;
-        };
-        match (key, Cursor::new(value).item(1)) {
-            (Item::Text("alg"), Ok(Item::Int(algorithm))) => {
-                write_front(pen, number, "alg ");
-                pen.integer(algorithm);
-                write_name(pen, name_in(ALGORITHMS, algorithm));
-                pen.text("\n");
-            }
-            (Item::Text("sig"), Ok(Item::Bytes(bytes))) => write_signature(pen, number, bytes),
-            _ => {}
-        }
+    if let Some(Item::Int(algorithm)) = item_at(statement, Item::Text("alg")) {
+        write_front(pen, number, "alg ");
+        pen.integer(algorithm);
+        write_name(pen, name_in(ALGORITHMS, algorithm));
+        pen.text("\n");
+    }
+    if let Some(Item::Bytes(signature)) = item_at(statement, Item::Text("sig")) {
+        write_signature(pen, number, signature);
     }
 }

@@ -1,5 +1,6 @@
 //! A packet as one line shows it.
 
+use crate::field::split;
 use crate::pen::Pen;
 use crate::words::{
     CAPABILITIES, ERRORS, KEEPALIVES, MESSAGES, Names, name_in, write_flags, write_name,
@@ -61,29 +62,30 @@ fn write_start(pen: &mut Pen, command: u8, len: u16, part: &[u8]) {
 /// Writes the data of an INIT: a host sends a nonce of 8 bytes, and gets it back in an answer of 17 bytes, which says
 /// the channel, the versions of the protocol and of the device, and the capabilities.
 fn write_init(pen: &mut Pen, len: u16, part: &[u8]) {
-    if let 8 | 17 = len
-        && let Some(nonce) = part.get(..8)
-    {
-        pen.text("  nonce ");
-        pen.hex(nonce);
-    }
-    if len != 17 {
+    let Some((nonce, rest)) = split(part, 8) else {
+        return;
+    };
+    if !matches!(len, 8 | 17) {
         return;
     }
-    if let Some(channel) = part.get(8..12) {
-        pen.text(" channel ");
-        pen.hex(channel);
+    pen.text("  nonce ");
+    pen.hex(nonce);
+    if len == 8 {
+        return;
     }
-    if let Some([version, major, minor, build, capabilities]) = part.get(12..17) {
-        pen.text(" version ");
-        pen.decimal(u64::from(*version));
-        pen.text(" device ");
-        pen.decimal(u64::from(*major));
-        pen.text(".");
-        pen.decimal(u64::from(*minor));
-        pen.text(".");
-        pen.decimal(u64::from(*build));
-        pen.text(" capabilities ");
-        write_flags(pen, *capabilities, CAPABILITIES);
-    }
+    let Some((channel, [version, major, minor, build, capabilities, ..])) = split(rest, 4) else {
+        return;
+    };
+    pen.text(" channel ");
+    pen.hex(channel);
+    pen.text(" version ");
+    pen.decimal(u64::from(*version));
+    pen.text(" device ");
+    pen.decimal(u64::from(*major));
+    pen.text(".");
+    pen.decimal(u64::from(*minor));
+    pen.text(".");
+    pen.decimal(u64::from(*build));
+    pen.text(" capabilities ");
+    write_flags(pen, *capabilities, CAPABILITIES);
 }

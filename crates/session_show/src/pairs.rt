@@ -27,27 +27,53 @@ impl<'a> Pairs<'a> {
 
     /// Returns the next key, and the bytes of its value.
     pub fn next_pair(&mut self) -> Option<(Item<'a>, &'a [u8])> {
-        let key = self.cursor.item(2).ok()?;
-        let value = next_value(&mut self.cursor, self.item)?;
-        Some((key, value))
+        let Ok(key) = self.cursor.item(2) else {
+            return None;
+        };
+        match next_value(&mut self.cursor, self.item) {
+            Some(value) => Some((key, value)),
+            None => None,
+        }
     }
 }
 
 /// Passes the item that comes next in a map or an array, and returns its bytes.
 pub fn next_value<'a>(cursor: &mut Cursor<'a>, item: &'a [u8]) -> Option<&'a [u8]> {
     let start = cursor.place();
-    cursor.skip(2).ok()?;
+    if cursor.skip(2).is_err() {
+        return None;
+    }
     item.get(start..cursor.place())
 }
 
 /// Returns the bytes of the value at this key of a map, where the bytes are one.
 pub fn value_at<'a>(item: &'a [u8], wanted: Item<'_>) -> Option<&'a [u8]> {
-    let mut pairs = Pairs::of(item)?;
+    let Some(mut pairs) = Pairs::of(item) else {
+        return None;
+    };
     for _ in 0..pairs.count {
-        let (key, value) = pairs.next_pair()?;
+        let Some((key, value)) = pairs.next_pair() else {
+            return None;
+        };
         if key == wanted {
             return Some(value);
         }
     }
     None
+}
+
+/// Returns the item that bytes begin with.
+pub fn first_item(bytes: &[u8]) -> Option<Item<'_>> {
+    match Cursor::new(bytes).item(1) {
+        Ok(item) => Some(item),
+        Err(_) => None,
+    }
+}
+
+/// Returns the item at this key of a map, where the bytes are one.
+pub fn item_at<'a>(item: &'a [u8], wanted: Item<'_>) -> Option<Item<'a>> {
+    match value_at(item, wanted) {
+        Some(value) => first_item(value),
+        None => None,
+    }
 }

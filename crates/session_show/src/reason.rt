@@ -75,28 +75,30 @@ impl Written for Reason<'_> {
 impl Reason<'_> {
     /// Writes what the key waits for before it answers on a channel.
     fn write_waiting(&self, pen: &mut Pen, channel: u32) {
-        if let Some(found) = self.walk.channels.on(channel)
+        let found = self.walk.channels.on(channel);
+        if let Some(found) = found
             && let Some(open) = &found.held
             && !open.extent.is_whole()
         {
             write_missing(pen, open);
-            return;
+        } else if let Some(awaited) = self.difference.awaited {
+            self.write_awaited(pen, awaited);
+        } else if let Some(found) = found
+            && let Some(told) = &found.told
+            && told.extent.is_whole()
+        {
+            pen.text("  nothing waits: its last answer on this channel is that of line ");
+            pen.decimal(told.line);
+            pen.text("\n");
         }
-        let Some(awaited) = self.difference.awaited else {
-            if let Some(found) = self.walk.channels.on(channel)
-                && let Some(told) = &found.told
-                && told.extent.is_whole()
-            {
-                pen.text("  nothing waits: its last answer on this channel is that of line ");
-                pen.decimal(told.line);
-                pen.text("\n");
-            }
-            return;
-        };
+    }
+
+    /// Writes what the key waits for, and what it got, where that is something else.
+    fn write_awaited(&self, pen: &mut Pen, awaited: Awaited) {
         pen.text("  it needs ");
         pen.text(awaited.name());
         if let Some(reply) = self.difference.reply
-            && reply != awaited
+            && reply as u8 != awaited as u8
         {
             pen.text("; line ");
             pen.decimal(self.difference.input);
@@ -108,34 +110,31 @@ impl Reason<'_> {
 
     /// Writes what a packet refers to that refuses: the message that is served, or the credential that is excluded.
     fn write_refusal(&self, pen: &mut Pen, sent: &Packet) {
-        match sent.view() {
-            View::Start {
-                cid,
-                cmd: ERROR,
-                part: [CHANNEL_BUSY, ..],
-                ..
-            } => {
-                if let Some(other) = self.walk.channels.held_beside(cid) {
-                    pen.text("  it serves ");
-                    other.transaction.write(pen);
-                    pen.text("\n");
-                }
-            }
-            View::Start {
-                cid,
-                cmd: CBOR,
-                part: [EXCLUDED, ..],
-                ..
-            } => {
-                if let Some(found) = self.walk.channels.on(cid)
-                    && let Some(held) = &found.held
-                    && let Some(excluded) = held.excluded
-                {
-                    pen.text("  ");
-                    excluded.write(pen);
-                }
-            }
-            _ => {}
+        let View::Start {
+            cid,
+            cmd,
+            part: [code, ..],
+            ..
+        } = sent.view()
+        else {
+            return;
+        };
+        if cmd == ERROR
+            && *code == CHANNEL_BUSY
+            && let Some(other) = self.walk.channels.held_beside(cid)
+        {
+            pen.text("  it serves ");
+            other.transaction.write(pen);
+            pen.text("\n");
+        }
+        if cmd == CBOR
+            && *code == EXCLUDED
+            && let Some(found) = self.walk.channels.on(cid)
+            && let Some(held) = &found.held
+            && let Some(excluded) = &held.excluded
+        {
+            pen.text("  ");
+            excluded.write(pen);
         }
     }
 }

@@ -1,7 +1,7 @@
 //! The RP id that a request names.
 
-use crate::pairs::value_at;
-use ctap_cbor::{Cursor, Item};
+use crate::pairs::{item_at, value_at};
+use ctap_cbor::Item;
 
 /// The most bytes of an RP id that is kept: those of the longest domain name.
 const LONGEST: usize = 253;
@@ -27,7 +27,7 @@ impl RpId {
     /// Returns that of a request to this command, which follows the command byte.
     pub fn of_request(command: u8, item: &[u8]) -> Self {
         let mut rp_id = RpId::default();
-        let text = rp_in(command, item).unwrap_or("");
+        let text = rp_in(command, item);
         if text.len() <= LONGEST {
             rp_id.bytes[..text.len()].copy_from_slice(text.as_bytes());
             rp_id.len = text.len();
@@ -51,14 +51,17 @@ impl RpId {
 
 /// Returns the RP id in a request: the `id` in the member `rp` of authenticatorMakeCredential, and the member `rpId` of
 /// authenticatorGetAssertion.
-fn rp_in(command: u8, item: &[u8]) -> Option<&str> {
-    let value = match command {
-        0x01 => value_at(value_at(item, Item::Int(2))?, Item::Text("id"))?,
-        0x02 => value_at(item, Item::Int(1))?,
-        _ => return None,
+fn rp_in(command: u8, item: &[u8]) -> &str {
+    let (map, key) = match command {
+        0x01 => (value_at(item, Item::Int(2)), Item::Text("id")),
+        0x02 => (Some(item), Item::Int(1)),
+        _ => (None, Item::Null),
     };
-    match Cursor::new(value).item(1) {
-        Ok(Item::Text(text)) => Some(text),
-        _ => None,
+    if let Some(map) = map
+        && let Some(Item::Text(text)) = item_at(map, key)
+    {
+        text
+    } else {
+        ""
     }
 }

@@ -31,10 +31,10 @@ pub struct Signed {
 impl Signed {
     /// Takes a comment, where a session needs this.
     pub fn take(&mut self, number: u64, line: &[u8], need: &Need<'_>) {
-        let mut piece = [0; PIECE];
         let Some(digits) = line.strip_prefix(FRONT) else {
             return;
         };
+        let mut piece = [0; PIECE];
         let Some(bytes) = piece.get_mut(..digits.len() / 2) else {
             return;
         };
@@ -47,7 +47,8 @@ impl Signed {
             b""
         };
         for byte in bytes.iter() {
-            if self.otherwise.is_none() && asked.get(self.len) != Some(byte) {
+            let is_same = matches!(asked.get(self.len), Some(own) if own == byte);
+            if self.otherwise.is_none() && !is_same {
                 let what = part_of(asked.len(), self.len);
                 self.otherwise = Some(SignedOtherwise { line: number, what });
             }

@@ -2,7 +2,7 @@
 ghost use Rattle.std.specs.Prelude.{◌<◌};
 
 use crate::channel::Greeting;
-use crate::channels::{CHANNELS, Channels};
+use crate::channels::Channels;
 use crate::credentials::Credentials;
 use crate::device::{AnswerStart, NO_TIME_OUT, TIMED_OUT};
 use crate::entry::{CborMessage, Entry, MessageKind, Own};
@@ -115,9 +115,7 @@ impl LogWalk {
     /// Becomes one that took the same lines as another one.
     pub fn copy_from(&mut self, other: &LogWalk) {
         self.clear();
-        for place in 0..CHANNELS {
-            self.channels.list[place].copy_from(&other.channels.list[place]);
-        }
+        self.channels.copy_from(&other.channels);
         self.pool.copy_from(&other.pool);
         self.credentials = other.credentials;
         self.now = other.now;
@@ -137,9 +135,7 @@ impl LogWalk {
     /// Takes the log's end: what is doubtful belongs to its message.
     pub fn finish(&mut self) {
         self.clear();
-        if let Some(doubtful) = self.doubtful.take() {
-            self.decide(&doubtful, false);
-        }
+        self.believe();
     }
 
     /// Forgets what was of the line before alone.
@@ -176,7 +172,7 @@ impl LogWalk {
                 line,
                 said,
                 of: self.of,
-                message: self.message(self.shown),
+                message: self.message(),
             },
             is_doubtful: matches!(&self.doubtful, Some(doubtful) if doubtful.line == number),
             part: self.part,
@@ -186,37 +182,44 @@ impl LogWalk {
 
     /// Returns the packet that was doubtful before it, as it is shown.
     pub fn late(&self) -> Option<Own<'_>> {
-        let decided = self.decided.as_ref()?;
-        Some(Own {
-            number: decided.line,
-            line: b"",
-            said: &decided.said,
-            of: decided.of,
-            message: self.message(decided.shown),
-        })
+        match &self.decided {
+            Some(decided) => Some(Own {
+                number: decided.line,
+                line: b"",
+                said: &decided.said,
+                of: decided.of,
+                message: self.shown(&decided.shown),
+            }),
+            None => None,
+        }
     }
 
-    fn message(&self, shown: Option<Shown>) -> Option<CborMessage<'_>> {
-        let (line, kind, exchange) = match shown? {
-            Shown::Request(line) => (line, MessageKind::Request, None),
-            Shown::Answer(line, place) => {
-                let told = self.channels.list.get(place)?.told.as_ref()?;
-                (line, MessageKind::Answer, told.exchange.as_ref())
-            }
-        };
-        Some(CborMessage {
-            kind,
-            bytes: self.pool.bytes(line),
-            exchange,
-        })
+    /// Returns the message that ends at it.
+    pub fn message(&self) -> Option<CborMessage<'_>> {
+        self.shown(&self.shown)
+    }
+
+    /// Returns a message as it is shown.
+    fn shown(&self, shown: &Option<Shown>) -> Option<CborMessage<'_>> {
+        match shown {
+            Some(Shown::Request(line)) => Some(CborMessage {
+                kind: MessageKind::Request,
+                bytes: self.pool.bytes(*line),
+                exchange: None,
+            }),
+            Some(Shown::Answer(line, place)) => Some(CborMessage {
+                kind: MessageKind::Answer,
+                bytes: self.pool.bytes(*line),
+                exchange: self.channels.answered(*place),
+            }),
+            None => None,
+        }
     }
 
     // ---- inputs
 
     fn take_input(&mut self, number: u64, timed: &Timed) {
-        if let Some(doubtful) = self.doubtful.take() {
-            self.decide(&doubtful, false);
-        }
+        self.believe();
         self.now = self.now.max(timed.at);
         match &timed.input {
             Input::Packet(packet) => self.take_packet(number, timed, packet),
@@ -238,39 +241,43 @@ impl LogWalk {
 
     /// Takes a packet of a host.
     fn take_packet(&mut self, number: u64, timed: &Timed, packet: &Packet) {
-        let place = self
-            .channels
-            .place(channel_of(packet), number, &mut self.ends);
+        let channel = channel_of(packet);
+        let place = self.channels.place(channel, number, &mut self.ends);
         match packet.view() {
-            View::Start { cmd: CANCEL, .. } => {
-                self.of = self.channels.list[place].cancel(number);
-                if self.of.is_none() {
-                    self.part = Role::Cancel;
-                }
-            }
-            View::Start {
-                cmd: INIT,
-                len,
-                part,
-                ..
-            } => {
-                self.message_line = number;
-                let greeting = Greeting::of(number, self.now, len, part);
-                self.of = Some(self.channels.list[place].greet(greeting, &mut self.ends));
-            }
             View::Start {
                 cid,
                 cmd,
                 len,
                 part,
-            } => self.begin(
-                place,
-                Transaction::of(number, cid, cmd, (len, part)),
-                len,
-                part,
-            ),
+            } => match cmd {
+                CANCEL => self.cancel(place, number),
+                INIT => self.greet(place, number, len, part),
+                _ => {
+                    let transaction = Transaction::of(number, cid, cmd, (len, part));
+                    self.begin(place, transaction, len, part);
+                }
+            },
             View::More { seq, part, .. } => self.go_on(place, number, timed, seq, part),
         }
+    }
+
+    /// Takes a CANCEL.
+    fn cancel(&mut self, place: usize, number: u64)
+        requires { place < 6 }
+    {
+        self.of = self.channels.list[place].cancel(number);
+        if self.of.is_none() {
+            self.part = Role::Cancel;
+        }
+    }
+
+    /// Takes an INIT.
+    fn greet(&mut self, place: usize, number: u64, length: u16, part: &[u8])
+        requires { place < 6 }
+    {
+        self.message_line = number;
+        let greeting = Greeting::of(number, self.now, length, part);
+        self.of = Some(self.channels.list[place].greet(greeting, &mut self.ends));
     }
 
     /// Takes the first packet of a host's message.
@@ -328,12 +335,13 @@ impl LogWalk {
         requires { place < 6 }
     {
         let rp_id = self.rp_id_of(place, of);
-        let excluded = match (of.command, self.pool.bytes(of.line)) {
-            (Some(MAKE), Some([_, item @ ..])) if !rp_id.bytes().is_empty() => {
-                self.credentials.excluded_in(&rp_id, item)
-            }
-            _ => None,
-        };
+        let mut excluded = None;
+        if let Some(MAKE) = of.command
+            && let Some([_, item @ ..]) = self.pool.bytes(of.line)
+            && !rp_id.bytes().is_empty()
+        {
+            excluded = self.credentials.excluded_in(&rp_id, item);
+        }
         self.channels.list[place].name(of.line, &rp_id, excluded);
         Some(Shown::Request(of.line))
     }
@@ -343,12 +351,22 @@ impl LogWalk {
     fn rp_id_of(&self, place: usize, of: &Transaction) -> RpId
         requires { place < 6 }
     {
-        match (of.command, self.pool.bytes(of.line)) {
-            (Some(NEXT), _) => self.channels.list[place].asserted,
-            (Some(command), Some([_, item @ ..])) if check(item).result.is_ok() => {
-                RpId::of_request(command, item)
-            }
-            _ => RpId::default(),
+        if let Some(NEXT) = of.command {
+            return self.channels.list[place].asserted;
+        }
+        if let Some(command) = of.command
+            && let Some([_, item @ ..]) = self.pool.bytes(of.line)
+            && check(item).result.is_ok()
+        {
+            return RpId::of_request(command, item);
+        }
+        RpId::default()
+    }
+
+    /// Decides that a doubtful packet, where there is one, came in time.
+    fn believe(&mut self) {
+        if let Some(doubtful) = self.doubtful.take() {
+            self.decide(&doubtful, false);
         }
     }
 
@@ -375,52 +393,56 @@ impl LogWalk {
     fn take_sent(&mut self, number: u64, packet: &Packet) {
         let channel = channel_of(packet);
         let place = self.channels.place(channel, number, &mut self.ends);
-        let doubtful = self.doubtful.take();
-        let is_time_out = matches!(
-            packet.view(),
-            View::Start {
-                cmd: ERROR,
-                part: [TIMED_OUT, ..],
-                ..
-            }
-        );
-        if let Some(doubtful) = &doubtful
-            && !is_time_out
-        {
-            self.decide(doubtful, false);
-        }
-        let (command, length, part) = match packet.view() {
-            View::Start { cmd, len, part, .. } => (cmd, len, part),
-            View::More { seq, part, .. } => return self.answer_on(place, number, seq, part),
-        };
-        self.message_line = number;
-        // Of the device's last message no further packet comes.
-        if let Some(line) = self.channels.list[place].cut(&mut self.ends) {
-            self.pool.release(line);
-        }
-        match (command, part) {
-            (ERROR, [code, ..]) => self.take_error(place, *code, doubtful),
-            (KEEPALIVE, _) => self.of = self.channels.list[place].keep_alive(&mut self.ends),
-            _ => {
+        match packet.view() {
+            View::Start { cmd, len, part, .. } => {
                 let answer = AnswerStart {
                     line: number,
-                    command,
-                    extent: Extent::begun(length),
+                    command: cmd,
+                    extent: Extent::begun(len),
                     part,
                 };
-                self.take_answer(place, &answer);
+                self.take_start(place, &answer);
+            }
+            View::More { seq, part, .. } => {
+                self.believe();
+                self.answer_on(place, number, seq, part);
             }
         }
     }
 
-    fn take_error(&mut self, place: usize, code: u8, doubtful: Option<Doubtful>)
+    /// Takes the first packet of a message of the device.
+    fn take_start(&mut self, place: usize, answer: &AnswerStart<'_>)
         requires { place < 6 }
     {
+        let code = match answer.part {
+            [code, ..] if answer.command == ERROR => Some(*code),
+            _ => None,
+        };
+        if !matches!(code, Some(TIMED_OUT)) {
+            self.believe();
+        }
+        self.message_line = answer.line;
+        // Of the device's last message no further packet comes.
+        if let Some(line) = self.channels.list[place].cut(&mut self.ends) {
+            self.pool.release(line);
+        }
+        if let Some(code) = code {
+            self.take_error(place, code);
+        } else if answer.command == KEEPALIVE {
+            self.of = self.channels.list[place].keep_alive(&mut self.ends);
+        } else {
+            self.take_answer(place, answer);
+        }
+    }
+
+    /// Takes an ERROR. Only at a time-out it isn't known yet whether the packet before it came too late.
+    fn take_error(&mut self, place: usize, code: u8)
+        requires { place < 6 }
+    {
+        let doubtful = self.doubtful.take();
         let channel = &mut self.channels.list[place];
         let (of, is_late) = channel.refuse(code, doubtful.as_ref(), &mut self.ends);
-        if let Some(doubtful) = &doubtful
-            && code == TIMED_OUT
-        {
+        if let Some(doubtful) = &doubtful {
             self.decide(doubtful, is_late);
         }
         self.of = of;
@@ -448,11 +470,12 @@ impl LogWalk {
         let Some(of) = self.of else {
             return;
         };
-        match (of.command, self.pool.bytes(line)) {
-            (Some(MAKE), Some([0, item @ ..])) if check(item).result.is_ok() => {
-                self.credentials.add(number, item);
-            }
-            (Some(RESET), Some([0, ..])) => self.credentials = Credentials::new(),
+        let Some([0, item @ ..]) = self.pool.bytes(line) else {
+            return;
+        };
+        match of.command {
+            Some(MAKE) if check(item).result.is_ok() => self.credentials.add(number, item),
+            Some(RESET) => self.credentials = Credentials::new(),
             _ => {}
         }
     }
