@@ -11,9 +11,9 @@ use Rattle.clap.specs.Simple.{new_app, on_top, App, HasMatchesOf, Shape, is_simp
 use Rattle.clap.specs.Matches.{first_value, matched_of, raw_values, subcommand_name_of}
 use Rattle.clap.specs.declared.builder.command.Command.{Command, TheViews.out-Command as fields_of}
 use Rattle.clap.specs.declared.parser.matches.{ArgMatches.ArgMatches, Found.Found}
-use Rattle.hidlog.specs.declared.command_line.{Form.TheVariants.Lines, Manner.Manner, Manner.TheVariants.ByTerminal}
+use Rattle.hidlog.specs.declared.command_line.{CommandOptions.CommandOptions, Form.TheVariants.Lines, Manner.Manner, Manner.TheVariants.ByTerminal}
 use Rattle.hidlog.specs.declared.grammar.{CommandName.CommandName, CommandParameter.CommandParameter}
-use Rattle.hidlog.specs.CommandLine.{Ask, command, command_for, rule_for, ask_of, asked_by, grammar, answers_to, logs_of, manner_of, play, check, show, task_by}
+use Rattle.hidlog.specs.CommandLine.{AreFound, Ask, command, command_for, rule_for, ask_of, asked_by, grammar, answers_to, logs_of, manner_of, play, check, show, task_by, task_for}
 use Rattle.clap.specs.declared.error.kind.ErrorKind.TheVariants as kind
 use Rattle.session_log.specs.declared.command.LogCommand.TheVariants as playing
 
@@ -267,3 +267,32 @@ plain_quiet name = refl
 pub plain_show : (name : Text) → asked_by (name ∷ codes "show" ∷ []) ≡ Some (show Lines false None, ByTerminal)
 unfolding asked_by answers_to clap_on_literals
 plain_show name = refl
+
+-- the options of a command alone
+abbrev pub plain_options : CommandOptions
+plain_options = record { load = None; save = None; log = None; all = false; json = false; wide = false; form = Lines; manner = ByTerminal }
+
+-- What a word after the program's name asks for, is what the two words ask for.
+pub plain_asks : (program name : Text) (ask : Ask) → task_for name plain_options [] ≡ Some ask → asked_by (program ∷ name ∷ []) ≡ Some (ask, ByTerminal)
+plain_asks program name ask is =
+    go (bytes_eq name (codes "replay")) (bytes_eq name (codes "live")) (bytes_eq name (codes "check")) (bytes_eq name (codes "quiet")) (bytes_eq name (codes "show")) refl refl refl refl refl is
+  where
+    named : (word : Text) (task : Ask) → bytes_eq name word ≡ true → asked_by (program ∷ word ∷ []) ≡ Some (task, ByTerminal) → Some task ≡ Some ask
+        → asked_by (program ∷ name ∷ []) ≡ Some (ask, ByTerminal)
+    named word task same asked so =
+        subst (λ n. asked_by (program ∷ n ∷ []) ≡ Some (ask, ByTerminal)) (sym ((bytes_eq-Decides name word).0 same)) (asked ∙ ap (option_map (λ a. (a, ByTerminal))) so)
+    go : (a b c d e : Bool) → bytes_eq name (codes "replay") ≡ a → bytes_eq name (codes "live") ≡ b → bytes_eq name (codes "check") ≡ c
+        → bytes_eq name (codes "quiet") ≡ d → bytes_eq name (codes "show") ≡ e
+        → (if a then Some (play playing.Replay None None None) else if b then Some (play playing.Live None None None) else if c then Some (check None false false [])
+        else if d then Some (play playing.Quiet None None None) else if e then Some (show Lines false None) else None) ≡ Some ask
+        → asked_by (program ∷ name ∷ []) ≡ Some (ask, ByTerminal)
+    go true b c d e is_a is_b is_c is_d is_e so = named (codes "replay") _ is_a (plain_replay program) so
+    go false true c d e is_a is_b is_c is_d is_e so = named (codes "live") _ is_b (plain_live program) so
+    go false false true d e is_a is_b is_c is_d is_e so = named (codes "check") _ is_c (plain_check program) so
+    go false false false true e is_a is_b is_c is_d is_e so = named (codes "quiet") _ is_d (plain_quiet program) so
+    go false false false false true is_a is_b is_c is_d is_e so = named (codes "show") _ is_e (plain_show program) so
+    go false false false false false is_a is_b is_c is_d is_e so = cc
+
+-- Options that were found ask for what the rows ask for.
+pub found_asks : (name : Text) (options : CommandOptions) (found : List Row) → AreFound options found → task_for name options (logs_of found) ≡ task_by name found
+found_asks name options found are = rw (are.0, are.1, are.2, are.3, are.4, are.5, are.6) refl

@@ -1,10 +1,10 @@
 -- Which words ask for what, by the rules of `clap`.
-use Rattle.std.specs.Prelude.{ℕ, Bool, true, false, List, [], ◌∷◌, Option, Some, None, codes, option_map, option_and_then, unwrap_or, map, if◌then◌else◌}
+use Rattle.std.specs.Prelude.{◌≡◌, ℕ, Bool, true, false, List, [], ◌∷◌, Option, Some, None, codes, option_map, option_and_then, unwrap_or, map, if◌then◌else◌}
 use Rattle.std.specs.{Borrow.Bor, Option.option_map_or, Str.bytes_eq}
 use Rattle.clap.specs.Simple.{App, Shape, new_rule, new_shape, subcommand_of}
 use Rattle.clap.specs.{Kinds.Kinds, Faults.fault_of, Walk.Row, Walk.Rule, Walk.all_of, Walk.first_of}
 use Rattle.clap.specs.declared.builder.action.ArgAction.TheVariants.{Append, SetTrue}
-use Rattle.hidlog.specs.declared.command_line.{Form.Form, Manner.Manner, Invocation.Invocation, ProgramTask.ProgramTask}
+use Rattle.hidlog.specs.declared.command_line.{Form.Form, Manner.Manner, CommandOptions.CommandOptions, Invocation.Invocation, ProgramTask.ProgramTask}
 use Rattle.hidlog.specs.declared.command_line.Form.TheVariants.{Json, JsonSummary, Lines, Summary}
 use Rattle.hidlog.specs.declared.grammar.{CommandParameter.CommandParameter, CommandName.CommandName}
 use Rattle.hidlog.specs.declared.grammar.CommandParameter.TheVariants.{Load, Save, All, Summary as SummaryFlag, Json as JsonFlag, Wide, Explain, Plain, Log, Logs}
@@ -102,10 +102,11 @@ path_of = option_map (λ path. path.now)
 abbrev pub texts_of : List (Bor (List ℕ)) → List (List ℕ)
 texts_of words = map (λ word. word.now) words
 
-abbrev pub asks : ProgramTask → Ask
-asks (Play p) = play p.command (path_of p.load) (path_of p.save) (path_of p.log)
-asks (Check load all json logs) = check (path_of load) all json (texts_of logs.items)
-asks (Show form wide log) = show form wide (path_of log)
+-- what a task asks for, with the paths of all logs
+abbrev pub asks : ProgramTask → (logs : List (List ℕ)) → Ask
+asks (Play p) logs = play p.command (path_of p.load) (path_of p.save) (path_of p.log)
+asks (Check load all json) logs = check (path_of load) all json logs
+asks (Show form wide log) logs = show form wide (path_of log)
 
 -- whether an option without a value was found
 abbrev pub is_set : List ℕ → List Row → Bool
@@ -134,7 +135,31 @@ logs_of found = unwrap_or (all_of (codes "log") found) []
 
 -- what the code found to be asked
 abbrev pub asked_as : Invocation → Ask × Manner
-asked_as asked = (asks asked.task, asked.manner)
+asked_as asked = (asks asked.task (texts_of asked.logs.items), asked.manner)
+
+-- these options are those that were found
+abbrev pub AreFound : CommandOptions → List Row → Type 0
+AreFound options found = (path_of options.load ≡ first_of (codes "load") found)
+    × (path_of options.save ≡ first_of (codes "save") found)
+    × (path_of options.log ≡ first_of (codes "log") found)
+    × (options.all ≡ is_set (codes "all") found)
+    × (options.json ≡ is_set (codes "json") found)
+    × (options.wide ≡ is_set (codes "wide") found)
+    × (options.form ≡ form_of found)
+    × (options.manner ≡ manner_of found)
+
+-- what a command asks for, by its name, its options and the paths of all logs
+abbrev pub task_for : List ℕ → CommandOptions → (logs : List (List ℕ)) → Option Ask
+task_for name options logs =
+    if bytes_eq name (codes "replay") then
+    Some (play playing.Replay (path_of options.load) (path_of options.save) (path_of options.log))
+    else if bytes_eq name (codes "live") then
+    Some (play playing.Live (path_of options.load) (path_of options.save) (path_of options.log))
+    else if bytes_eq name (codes "check") then Some (check (path_of options.load) options.all options.json logs)
+    else if bytes_eq name (codes "quiet") then
+    Some (play playing.Quiet (path_of options.load) None (path_of options.log))
+    else if bytes_eq name (codes "show") then Some (show options.form options.wide (path_of options.log))
+    else None
 
 -- what a command asks for, by its name and what was found for its options
 abbrev pub task_by : List ℕ → List Row → Option Ask

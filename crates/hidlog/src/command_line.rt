@@ -1,10 +1,10 @@
 //! What the program is asked to do, by its command line.
-ghost use Rattle.std.specs.Prelude.{◌≡◌, [], ◌∷◌, false, Some, None, codes, IfOk, IfErr, IfSome, option_map, option_and_then};
-ghost use Rattle.hidlog.specs.declared.command_line.Manner.TheVariants.{ByTerminal as by_terminal};
+ghost use Rattle.std.specs.Prelude.{◌≡◌, ◌∷◌, [], List, ℕ, Some, IfOk, IfErr, IfSome, option_map, option_and_then};
+ghost use Rattle.hidlog.specs.declared.command_line.ProgramTask.TheVariants.{Play as play_task};
 ghost use Rattle.clap.specs.Words.{HasKind, app_of, subcommand_rows_of};
-ghost use Rattle.hidlog.specs.CommandLine.{answers_to, ask_of, asked_as, asked_by, asks, explains, form_of, grammar, is_set as is_found, logs_of, manner_of, path_of, play, task_by as task_asked, texts_of};
+ghost use Rattle.hidlog.specs.CommandLine.{AreFound, answers_to, ask_of, asked_as, asked_by, asks, explains, form_of, grammar, is_set as is_found, logs_of, manner_of, task_for, texts_of};
 ghost use Rattle.clap.specs.Matches.{found_of};
-ghost use Rattle.clap.specs.Walk.{first_of, rows_of};
+ghost use Rattle.clap.specs.Walk.{rows_of};
 
 use crate::commands::Play;
 use crate::grammar::program;
@@ -26,8 +26,8 @@ pub enum Form {
     JsonSummary,
 }
 
-/// What the program is asked to do, with the paths of snapshots and logs as they are.
-#[derive(Drop)]
+/// What the program is asked to do, with the paths of snapshots and of a log as they are.
+#[derive(Clone, Copy)]
 pub enum ProgramTask<'a> {
     /// `hidlog replay [--load F] [--save F] [FILE]`, the same with `live`, and `hidlog quiet [--load F] [FILE]`
     Play(Play<'a>),
@@ -36,7 +36,6 @@ pub enum ProgramTask<'a> {
         load: Option<&'a str>,
         all: bool,
         json: bool,
-        logs: Vec<&'a str>,
     },
     /// `hidlog show [--summary] [--json] [--wide] [FILE]`
     Show {
@@ -74,7 +73,58 @@ impl Manner {
 #[derive(Drop)]
 pub struct Invocation<'a> {
     pub task: ProgramTask<'a>,
+    /// The paths of all logs, which `check` compares.
+    pub logs: Vec<&'a str>,
     pub manner: Manner,
+}
+
+/// What is behind a command's name, each as if the command took it.
+#[derive(Clone, Copy)]
+struct CommandOptions<'a> {
+    load: Option<&'a str>,
+    save: Option<&'a str>,
+    log: Option<&'a str>,
+    all: bool,
+    json: bool,
+    wide: bool,
+    form: Form,
+    manner: Manner,
+}
+
+impl<'a> CommandOptions<'a> {
+    /// Returns what a command that plays a log asks for.
+    fn play(&self, command: LogCommand, save: Option<&'a str>) -> ProgramTask<'a>
+        ensures { result ≡ play_task (record { command = command; load = self.now.load; save = save.entry; log = self.now.log }) }
+    {
+        ProgramTask::Play(Play {
+            command,
+            load: self.load,
+            save,
+            log: self.log,
+        })
+    }
+
+    /// Returns what the command of this name asks for.
+    fn task(&self, name: &str) -> Option<ProgramTask<'a>>
+        ensures { (logs : List (List ℕ)) → option_map (λ task. asks task logs) result ≡ task_for name.now self.now logs }
+    {
+        match name {
+            "replay" => Some(self.play(LogCommand::Replay, self.save)),
+            "live" => Some(self.play(LogCommand::Live, self.save)),
+            "check" => Some(ProgramTask::Check {
+                load: self.load,
+                all: self.all,
+                json: self.json,
+            }),
+            "quiet" => Some(self.play(LogCommand::Quiet, None)),
+            "show" => Some(ProgramTask::Show {
+                form: self.form,
+                wide: self.wide,
+                log: self.log,
+            }),
+            _ => None,
+        }
+    }
 }
 
 /// Returns whether an option without a value was found.
@@ -125,53 +175,19 @@ fn logs_in<'a>(alloc: Global, options: &ArgMatches<'a>) -> Result<Vec<&'a str>, 
     }
 }
 
-/// Returns what a command that plays a log asks for.
-fn play_in<'a>(
-    command: LogCommand,
-    options: &ArgMatches<'a>,
-    save: Option<&'a str>,
-) -> ProgramTask<'a>
-    ensures { asks result ≡ play command (first_of (codes "load") (rows_of (found_of options.now))) (path_of save.entry)
-        (first_of (codes "log") (rows_of (found_of options.now))) }
+/// Returns what was found behind a command's name.
+fn options_in<'a>(options: &ArgMatches<'a>) -> CommandOptions<'a>
+    ensures { AreFound result (rows_of (found_of options.now)) }
 {
-    ProgramTask::Play(Play {
-        command,
+    CommandOptions {
         load: options.get_str("load"),
-        save,
+        save: options.get_str("save"),
         log: options.get_str("log"),
-    })
-}
-
-/// Returns what a command asks for, by its name and what was found for its options.
-fn task_named<'a>(
-    alloc: Global,
-    name: &str,
-    options: &ArgMatches<'a>,
-) -> Result<Option<ProgramTask<'a>>, AllocError>
-    ensures { IfOk result (λ task. option_map asks task ≡ task_asked name.now (rows_of (found_of options.now))) }
-{
-    match name {
-        "replay" => {
-            let save = options.get_str("save");
-            Ok(Some(play_in(LogCommand::Replay, options, save)))
-        }
-        "live" => {
-            let save = options.get_str("save");
-            Ok(Some(play_in(LogCommand::Live, options, save)))
-        }
-        "check" => Ok(Some(ProgramTask::Check {
-            load: options.get_str("load"),
-            all: is_set(options, "all"),
-            json: is_set(options, "json"),
-            logs: logs_in(alloc, options)?,
-        })),
-        "quiet" => Ok(Some(play_in(LogCommand::Quiet, options, None))),
-        "show" => Ok(Some(ProgramTask::Show {
-            form: form_in(options),
-            wide: is_set(options, "wide"),
-            log: options.get_str("log"),
-        })),
-        _ => Ok(None),
+        all: is_set(options, "all"),
+        json: is_set(options, "json"),
+        wide: is_set(options, "wide"),
+        form: form_in(options),
+        manner: manner_in(options),
     }
 }
 
@@ -182,50 +198,41 @@ fn task_in<'a>(
 ) -> Result<Option<Invocation<'a>>, AllocError>
     ensures { IfOk result (λ asked. option_map asked_as asked ≡ option_and_then ask_of (subcommand_rows_of matches.now)) }
 {
-    let Some((name, options)) = matches.subcommand() else {
+    let Some((name, found)) = matches.subcommand() else {
         return Ok(None);
     };
-    match task_named(alloc, name, options)? {
+    let options = options_in(found);
+    match options.task(name) {
         Some(task) => Ok(Some(Invocation {
             task,
-            manner: manner_in(options),
+            logs: logs_in(alloc, found)?,
+            manner: options.manner,
         })),
         None => Ok(None),
     }
 }
 
-/// Returns what a command that plays a log asks for where no word is behind it.
-fn plain_play<'a>(command: LogCommand) -> ProgramTask<'a>
-    ensures { asks result ≡ play command None None None }
+/// Returns what a word after the program's name asks for, where it is a command.
+fn plain_invocation<'a>(alloc: Global, program: &str, name: &str) -> Option<Invocation<'a>>
+    ensures { IfSome result (λ asked. asked_by (program.now ∷ name.now ∷ []) ≡ Some (asked_as asked)) }
 {
-    ProgramTask::Play(Play {
-        command,
+    let options = CommandOptions {
         load: None,
         save: None,
         log: None,
-    })
-}
-
-/// Returns what a word after the program's name asks for, where it is a command.
-fn plain_task<'a>(alloc: Global, program: &str, name: &str) -> Option<ProgramTask<'a>>
-    ensures { IfSome result (λ task. asked_by (program.now ∷ name.now ∷ []) ≡ Some (asks task, by_terminal)) }
-{
-    match name {
-        "replay" => Some(plain_play(LogCommand::Replay)),
-        "live" => Some(plain_play(LogCommand::Live)),
-        "check" => Some(ProgramTask::Check {
-            load: None,
-            all: false,
-            json: false,
+        all: false,
+        json: false,
+        wide: false,
+        form: Form::Lines,
+        manner: Manner::ByTerminal,
+    };
+    match options.task(name) {
+        Some(task) => Some(Invocation {
+            task,
             logs: Vec::new(alloc),
+            manner: options.manner,
         }),
-        "quiet" => Some(plain_play(LogCommand::Quiet)),
-        "show" => Some(ProgramTask::Show {
-            form: Form::Lines,
-            wide: false,
-            log: None,
-        }),
-        _ => None,
+        None => None,
     }
 }
 
@@ -234,14 +241,10 @@ fn plain_task<'a>(alloc: Global, program: &str, name: &str) -> Option<ProgramTas
 fn alone<'a>(alloc: Global, words: &[&str]) -> Option<Invocation<'a>>
     ensures { IfSome result (λ asked. asked_by (texts_of words.now) ≡ Some (asked_as asked)) }
 {
-    let [program, name] = words else {
-        return None;
-    };
-    let task = plain_task(alloc, program, name)?;
-    Some(Invocation {
-        task,
-        manner: Manner::ByTerminal,
-    })
+    match words {
+        [program, name] => plain_invocation(alloc, program, name),
+        _ => None,
+    }
 }
 
 /// Returns what the words ask for by the command line's grammar; or clap's answer.

@@ -295,17 +295,12 @@ impl<D: Files, L: Logs, O: Output, E: Target> Host<D, L, O, E> {
         let explains = asked.manner.explains(self.terminals.faults);
         match asked.task {
             ProgramTask::Play(play) => self.run_command(&play, explains),
-            ProgramTask::Check {
-                load,
-                all,
-                json,
-                logs,
-            } => {
+            ProgramTask::Check { load, all, json } => {
                 let wish = Wish::of(Reporting { alloc, explains }, load, all, self.width);
                 if json {
-                    self.check_as_json(&wish, &logs)
+                    self.check_as_json(&wish, &asked.logs)
                 } else {
-                    self.check_logs(wish, &logs)
+                    self.check_logs(wish, &asked.logs)
                 }
             }
             // Whether lines are whole is a matter of the output.

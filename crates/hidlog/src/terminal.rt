@@ -56,6 +56,7 @@ pub fn style_of(rt: &HostRuntime, words: &[&str], terminals: Terminals) -> Optio
                     ..
                 },
                 manner: Manner::Explained | Manner::ByTerminal,
+                ..
             },
         ) => Some(Style {
             width: if wide { None } else { Some(columns(rt)) },
