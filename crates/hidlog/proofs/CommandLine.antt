@@ -281,6 +281,7 @@ plain_asks program name ask is =
         → asked_by (program ∷ name ∷ []) ≡ Some (ask, ByTerminal)
     named word task same asked so =
         subst (λ n. asked_by (program ∷ n ∷ []) ≡ Some (ask, ByTerminal)) (sym ((bytes_eq-Decides name word).0 same)) (asked ∙ ap (option_map (λ a. (a, ByTerminal))) so)
+
     go : (a b c d e : Bool) → bytes_eq name (codes "replay") ≡ a → bytes_eq name (codes "live") ≡ b → bytes_eq name (codes "check") ≡ c
         → bytes_eq name (codes "quiet") ≡ d → bytes_eq name (codes "show") ≡ e
         → (if a then Some (play playing.Replay None None None) else if b then Some (play playing.Live None None None) else if c then Some (check None false false [])

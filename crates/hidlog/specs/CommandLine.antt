@@ -39,6 +39,19 @@ worded logs = flag (codes "explain") ∷ flag (codes "plain") ∷ logs ∷ []
 abbrev pub command : List ℕ → List Rule → Shape
 command name options = record (new_shape name) { rules = options }
 
+-- the word of what may come after a command's name, by which its value is found
+abbrev pub parameter_word : CommandParameter → List ℕ
+parameter_word Load = codes "load"
+parameter_word Save = codes "save"
+parameter_word All = codes "all"
+parameter_word SummaryFlag = codes "summary"
+parameter_word JsonFlag = codes "json"
+parameter_word Wide = codes "wide"
+parameter_word Explain = codes "explain"
+parameter_word Plain = codes "plain"
+parameter_word Log = codes "log"
+parameter_word Logs = codes "log"
+
 -- what may come after a command's name, as clap has it
 abbrev pub rule_for : CommandParameter → Rule
 rule_for Load = path_option (codes "load")

@@ -2,7 +2,7 @@
 ghost use Rattle.std.specs.Prelude.{◌≡◌, false, IfOk};
 ghost use Rattle.clap.specs.Words.{app_of, rule_of, shape_of};
 ghost use Rattle.clap.specs.declared.builder.command.Command.TheViews.{out-Command as fields_of};
-ghost use Rattle.hidlog.specs.CommandLine.{command_for, flag, grammar, log_path, parameters_for, path_option, rule_for, word_for};
+ghost use Rattle.hidlog.specs.CommandLine.{command_for, grammar, parameter_word, parameters_for, rule_for, word_for};
 
 use clap::{Arg, ArgAction, Command};
 use std::alloc::{AllocError, Global};
@@ -41,6 +41,23 @@ enum CommandParameter {
 }
 
 impl CommandParameter {
+    /// Returns its word, by which its value is found.
+    fn word<'a>(self) -> &'a str
+        ensures { result.now ≡ parameter_word self }
+    {
+        match self {
+            CommandParameter::Load => "load",
+            CommandParameter::Save => "save",
+            CommandParameter::All => "all",
+            CommandParameter::Summary => "summary",
+            CommandParameter::Json => "json",
+            CommandParameter::Wide => "wide",
+            CommandParameter::Explain => "explain",
+            CommandParameter::Plain => "plain",
+            CommandParameter::Log | CommandParameter::Logs => "log",
+        }
+    }
+
     /// Returns what help says of it.
     fn help<'a>(self) -> &'a str {
         match self {
@@ -69,50 +86,23 @@ impl CommandParameter {
     }
 }
 
-/// Returns an option with the path of a snapshot.
-fn path_option<'a>(alloc: Global, name: &'a str, help: &'a str) -> Arg<'a>
-    ensures rule { rule_of result ≡ path_option name.entry.now }
-    ensures local { result.global ≡ false }
-{
-    Arg::new(alloc, name).long(name).value_name("F").help(help)
-}
-
-/// Returns an option without a value.
-fn flag<'a>(alloc: Global, name: &'a str, help: &'a str) -> Arg<'a>
-    ensures rule { rule_of result ≡ flag name.entry.now }
-    ensures local { result.global ≡ false }
-{
-    Arg::new(alloc, name)
-        .long(name)
-        .action(ArgAction::SetTrue)
-        .help(help)
-}
-
-/// Returns the path of a log.
-fn log<'a>(alloc: Global, help: &'a str) -> Arg<'a>
-    ensures rule { rule_of result ≡ log_path }
-    ensures local { result.global ≡ false }
-{
-    Arg::new(alloc, "log").value_name("FILE").help(help)
-}
-
 /// Returns a parameter as clap has it.
 fn argument<'a>(alloc: Global, parameter: CommandParameter) -> Arg<'a>
     ensures rule { rule_of result ≡ rule_for parameter }
     ensures local { result.global ≡ false }
 {
-    let help = parameter.help();
+    let word = parameter.word();
+    let arg = Arg::new(alloc, word).help(parameter.help());
     match parameter {
-        CommandParameter::Load => path_option(alloc, "load", help),
-        CommandParameter::Save => path_option(alloc, "save", help),
-        CommandParameter::All => flag(alloc, "all", help),
-        CommandParameter::Summary => flag(alloc, "summary", help),
-        CommandParameter::Json => flag(alloc, "json", help),
-        CommandParameter::Wide => flag(alloc, "wide", help),
-        CommandParameter::Explain => flag(alloc, "explain", help),
-        CommandParameter::Plain => flag(alloc, "plain", help),
-        CommandParameter::Log => log(alloc, help),
-        CommandParameter::Logs => log(alloc, help).action(ArgAction::Append),
+        CommandParameter::Load | CommandParameter::Save => arg.long(word).value_name("F"),
+        CommandParameter::Log => arg.value_name("FILE"),
+        CommandParameter::Logs => arg.value_name("FILE").action(ArgAction::Append),
+        CommandParameter::All
+        | CommandParameter::Summary
+        | CommandParameter::Json
+        | CommandParameter::Wide
+        | CommandParameter::Explain
+        | CommandParameter::Plain => arg.long(word).action(ArgAction::SetTrue),
     }
 }
 

@@ -11,7 +11,6 @@ mod faults;
 #[cfg(test)]
 mod page;
 #[cfg(test)]
-#[cfg(test)]
 mod showing;
 #[cfg(test)]
 mod streams;
