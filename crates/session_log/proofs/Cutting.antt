@@ -1,5 +1,5 @@
 -- Bytes cut at line feeds, from the front.
-use Rattle.std.proofs.Common.{◌≡◌, ℕ, suc, zero, ◌+◌, ◌<◌, ◌==◌, Bool, true, false, cond, List, [], ◌∷◌, ◌++◌, length, get_or, take, drop, position, Some, None, refl, sym, ap, ◌∙◌, arith, add-one, take-append-drop}
+use Rattle.std.proofs.Common.{◌≡◌, ℕ, suc, zero, ◌+◌, ◌<◌, ◌==◌, Bool, true, false, cond, List, [], ◌∷◌, ◌++◌, length, get_or, take, drop, position, Some, None, refl, sym, ap, ◌∙◌, arith, add-one, length-append, length-take-le, ◌≤◌, take-append-drop}
 use Rattle.std.proofs.{Math.Seq.take-suc, lemmas.Bool.eqb-true, lemmas.Bool.ltb-false, lemmas.Bool.Decides.nat_tests}
 use Rattle.std.proofs.lemmas.List.{take-take, Quantifiers.position-Some, Sums.fails_before_first}
 use Rattle.std.proofs.lemmas.List.Splits.{slice_split_none, slice_split-cons_yes, slice_split-cons_no}
@@ -27,15 +27,36 @@ ends_in_feed w end e =
     let at = position-Some is_feed w end 0 e in
     rw add-one (take-suc w end 0 at.0 ∙ ap (λ (b : ℕ). take end w ++ b ∷ []) (eqb-true (get_or w end 0) 10 at.1))
 
+-- what was ended is a line and its line feed
+own_text : (w : List ℕ) → (take (length w) (ended w) ≡ w) × (take (suc (length w)) (ended w) ≡ ended w)
+own_text [] = (refl, refl)
+own_text (x ∷ xs) = (ap (λ (l : List ℕ). x ∷ l) (own_text xs).0, ap (λ (l : List ℕ). x ∷ l) (own_text xs).1)
+
+pub last_text : (w w' : List ℕ) (end : ℕ) → w' ≡ ended w → end ≡ length w → length w < 256 → (take end w' ≡ w)
+    × (take (end + 1) w' ≡ ended (take end w')) × (end < length w') × (length w' ≤ 256)
+last_text w w' end is at short =
+    let own = own_text w in
+    let line : take end w' ≡ w = (λ i. take (at i) (is i)) ∙ own.0 in
+    let long = ap length is ∙ length-append w (10 ∷ []) in
+    let whole : take (end + 1) w' ≡ ended w = rw add-one ((λ i. take (suc (at i)) (is i)) ∙ own.1) in
+    (line, whole ∙ ap ended (sym line), omega (arith, long), omega (arith, long))
+
+pub short_front : (w line : List ℕ) (end : ℕ) → line ≡ take end w → end < length w → length w ≤ 256
+    → length line < 256
+short_front w line end is within short = search (arith, length-take-le)
+
+-- a line and its line feed fit in what holds them
+pub fits_in : (w held : List ℕ) (end : ℕ) → held ≡ w → end < length w → end + 1 ≤ length held
+fits_in w held end is within = omega (arith, ap length is)
+
+pub fits_in_text : (held text : List ℕ) (end : ℕ) → text ≡ take (end + 1) held → end + 1 ≤ length held
+    → end ≤ length text
+fits_in_text held text end is fits = search (arith, length-take-le)
+
 -- what stands in a window was cut after a line feed, and before it
 pub cut_twice : (w held text line : List ℕ) (end : ℕ) → held ≡ w → text ≡ take (end + 1) held → line ≡ take end text
     → (text ≡ take (end + 1) w) × (line ≡ take end w)
 cut_twice w held text line end is whole front = search (arith, take-take)
-
--- that is the line with its line feed
-pub text_of_line : (w text line : List ℕ) (end : ℕ) → position is_feed w ≡ Some end
-    → (text ≡ take (end + 1) w) × (line ≡ take end w) → text ≡ ended line
-text_of_line w text line end e cut = cut.0 ∙ ends_in_feed w end e ∙ ap ended (sym cut.1)
 
 -- what has no line feed is one piece
 pub one_piece : (w : List ℕ) → position is_feed w ≡ None → pieces w ≡ w ∷ []

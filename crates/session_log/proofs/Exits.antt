@@ -1,29 +1,17 @@
 -- Each way in which the playing of lines ends.
-use Rattle.std.proofs.Common.{◌≡◌, ℕ, ◌+◌, ◌<◌, ◌^◌, cond, is_none, List, [], ◌∷◌, ◌++◌, length, Option, Some, None, Result, Ok, Err, ap, ◌∙◌, take, drop, arith, append_assoc, take-append-drop, length-take-le}
+use Rattle.std.proofs.Common.{◌≡◌, ℕ, ◌+◌, ◌<◌, ◌^◌, cond, is_none, List, [], ◌∷◌, ◌++◌, length, Option, Some, None, Result, Ok, Err, refl, ap, ◌∙◌, take, drop, arith, append_assoc, take-append-drop}
 use Rattle.std.specs.Io.KnownBytes.{Consumes, Appends, Keeps}
 use Rattle.std.proofs.KnownBytes.{Appends-trans, Appends-kept, Consumes-trans}
-use Rattle.session_log.specs.declared.{fault.LogFault.LogFault, line.Line.Line}
+use Rattle.session_log.specs.declared.{fault.LogFault.LogFault}
 use Rattle.session_log.specs.declared.fault.LogFault.TheVariants.{TooLong, Read, Write, TooManyLines}
-use Rattle.session_log.specs.Ending.{Ending, ended_by, ending_of}
+use Rattle.session_log.specs.Ending.{ended_by, ending_of}
 use Rattle.session_log.specs.{Said.said, World.World, Lines.lines, Sent.AllSend, Sent.SendsPackets}
 use Rattle.session_log.specs.Log.{text_of, last_text, after, fault_by}
-use Rattle.session_log.specs.Streams.{Moves, IsTaken, IsBroken, PutsLine}
+use Rattle.session_log.specs.Streams.{Moves, IsTaken, IsBroken}
 use Rattle.session_log.specs.Window.{HasLine, IsUnfinished, Stops}
 use Rattle.session_log.specs.Replay.{IsRefused, IsUnwritten, IsPlayed, IsDone, Plays, PlaysLine}
-use Rattle.session_log.proofs.{Cutting.last_line, Cutting.line_in_front, Cutting.some_line, Gathering.in_count}
+use Rattle.session_log.proofs.{Cutting.last_line, Cutting.line_in_front, Cutting.short_front, Cutting.some_line, Gathering.in_count}
 use Rattle.session_log.proofs.Through.{Through, first_is_last, through_line, refused, unread, unwritten, unwritten_end, played_last, said_fault, too_long, too_many}
-
--- a fault that was passed on
-pub as_err : {A : Type 0} (r : Result A LogFault) (e : LogFault) (P : Ending → Type 0) → r ≡ Err e → P (ended_by e)
-    → P (ending_of r)
-as_err {A} r e P is h = rw is h
-
--- the text for a line that says this was handed over
-pub writes_for : {S F A : Type 0} (world : World S) (taken : F → Option (List ℕ)) (failed : F
-    → ℕ) (n : ℕ) (s t : S) (line : List ℕ) (l : Line) (target : F × F) (r : Result A LogFault) (text : List ℕ)
-    → said line ≡ Some l → world.stops s l ≡ None → t ≡ world.moves s l → world.sound s l → text ≡ world.writes s line l
-    → PutsLine taken failed target text r → PlaysLine world taken failed n s t line target (ending_of r)
-writes_for world taken failed n s t line l target r text is sound stood packets same put = search arith
 
 -- more was read into the window
 pub read_on : (a b c : Option (List ℕ)) (read w w' : List ℕ) → Consumes a b (read ++ w)
@@ -32,7 +20,7 @@ read_on a b c read w w' p m = search (arith, append_assoc, Consumes-trans)
 
 -- the line in front is short
 pub short_in_front : (w : List ℕ) (n end : ℕ) → HasLine n w end → length (take end w) < 256
-short_in_front w n end has = search (arith, length-take-le)
+short_in_front w n end has = short_front w (take end w) end refl has.within has.short
 
 -- What was read is played up to the window w, and this text for it is written.
 module _ {S : Type 0} {world : World S} {s0 s : S} {read text : List ℕ} {n : ℕ}

@@ -7,6 +7,8 @@ pub mod Cutting
 pub mod Through
 pub mod Exits
 pub mod Failures
+pub mod Puts
+pub mod Compares
 pub mod Lasts
 pub mod Worlds
 pub mod Whole

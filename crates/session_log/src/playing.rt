@@ -4,7 +4,6 @@ ghost use Rattle.session_log.specs.Command.{PlaysThrough};
 ghost use Rattle.session_log.specs.Ending.{ending_of};
 ghost use Rattle.session_log.specs.Replay.{IsOfLine, MakesSoundly, Plays, PlaysLine};
 ghost use Rattle.session_log.specs.Text.{ended};
-ghost use Rattle.session_log.specs.Window.{HasLine};
 
 use crate::fault::LogFault;
 use crate::line::{Line, read_line};
@@ -93,7 +92,7 @@ fn play_line<P: Player<C>, T: Target, const C: usize>(
     }
 }
 
-/// Plays the line in front in a window, and drops it.
+/// Plays the line in front in a window, which ends with its line feed, and drops it.
 fn play_first<P: Player<C>, T: Target, const C: usize>(
     player: &mut P,
     window: &mut Window,
@@ -103,41 +102,21 @@ fn play_first<P: Player<C>, T: Target, const C: usize>(
     session: &mut Session<C>,
 ) -> Result<(), LogFault>
     requires write { T.failed writer.old < 2 ^ 64 - 1 }
-    requires whole { HasLine number window.old end }
+    requires whole { take (end + 1) window.old ≡ ended (take end window.old) }
+    requires within { end < length window.old }
+    requires short { length window.old ≤ 256 }
+    requires few { number < 2 ^ 32 }
     requires ready { P.IsReady player.old number }
     ensures played { PlaysLine P.world T.taken T.failed number (P.state player.old session.old)
         (P.state player.new session.new) (take end window.old) (writer.old, writer.new) (ending_of result) }
     ensures own { IfErr result (IsOfLine number) }
     ensures next { OnOk result (P.IsReady player.new (number + 1)) }
-    ensures rest { OnOk result (window.new ≡ drop (end + 1) window.old) }
+    ensures rest { window.new ≡ drop (end + 1) window.old }
 {
     let text = window.as_slice().split_at(end + 1).0;
-    play_line(player, text.split_at(end).0, text, number, writer, session)?;
+    let played = play_line(player, text.split_at(end).0, text, number, writer, session);
     window.drop_front(end + 1);
-    Ok(())
-}
-
-/// Plays the last line, which is in a window without a line feed.
-fn play_last<P: Player<C>, T: Target, const C: usize>(
-    player: &mut P,
-    window: &mut Window,
-    number: u64,
-    writer: &mut T,
-    session: &mut Session<C>,
-) -> Result<(), LogFault>
-    requires write { T.failed writer.old < 2 ^ 64 - 1 }
-    requires short { length window.old < 256 }
-    requires few { number < 2 ^ 32 }
-    requires ready { P.IsReady player.old number }
-    ensures played { PlaysLine P.world T.taken T.failed number (P.state player.old session.old)
-        (P.state player.new session.new) window.old (writer.old, writer.new) (ending_of result) }
-    ensures own { IfErr result (IsOfLine number) }
-    ensures next { OnOk result (P.IsReady player.new (number + 1)) }
-{
-    let end = window.len();
-    window.end_line();
-    let text = window.as_slice();
-    play_line(player, text.split_at(end).0, text, number, writer, session)
+    played
 }
 
 /// Plays all lines that a reader holds. They are read as they are needed: before a line is played, no more
@@ -166,7 +145,10 @@ pub fn play_lines<P: Player<C>, S: Source, T: Target, const C: usize>(
     if window.is_empty() {
         return Ok(());
     }
-    play_last(player, &mut window, number, writer, session)
+    // The last line has no line feed.
+    let end = window.len();
+    window.end_line();
+    play_first(player, &mut window, end, number, writer, session)
 }
 
 /// Plays all lines that a reader holds, and writes what comes after them.

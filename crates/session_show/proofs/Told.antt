@@ -2,7 +2,7 @@
 use Rattle.std.proofs.Common.{◌≡◌, ℕ, ◌+◌, ◌≤◌, ◌<◌, ◌^◌, List, [], ◌∷◌, ◌++◌, length, take, drop, flat_map, Option, Some, None, Result, Ok, Err, refl, sym, ap, ◌∙◌, subst, arith, append-nil, append_assoc, length-append, take-append-drop}
 use Rattle.std.specs.Io.KnownBytes.{Consumes, Appends, Keeps}
 use Rattle.std.proofs.{KnownBytes.Appends-trans, KnownBytes.Appends-kept, lemmas.Grind.flat_map-append}
-use Rattle.session_log.specs.Ending.{Refused, ended_by, ending_of}
+use Rattle.session_log.specs.Ending.{Ending, Refused, ended_by, ending_of}
 use Rattle.session_log.specs.{Lines.lines, Said.said, Sent.SendsPackets, Text.ended, Replay.IsRefused, Replay.IsUnread}
 use Rattle.session_log.specs.Log.{fault_at, fault_by, text_by, text_of}
 use Rattle.session_log.specs.Window.{HasLine, IsUnfinished, Stops}
@@ -12,6 +12,11 @@ use Rattle.session_log.proofs.Cutting.{last_line, some_line}
 use Rattle.session_log.proofs.{Exits.short_in_front, Exits.stops_at_line, Gathering.in_count}
 use Rattle.session_log.proofs.Through.{Through, played_last, refused, said_fault, through_line, too_long, too_many, unread}
 use Rattle.session_show.specs.Shown.{AreTold, IsShownText, Shows, ShowsLine, TellsLine, Told, failures_of, reading, unknown}
+
+-- a fault that was passed on
+pub as_err : {A : Type 0} (r : Result A LogFault) (e : LogFault) (P : Ending → Type 0) → r ≡ Err e → P (ended_by e)
+    → P (ending_of r)
+as_err {A} r e P is h = rw is h
 
 -- no line was shown
 pub told_none : (shows : ℕ → List ℕ → List ℕ → Type 0) → (t : IsShownText shows [] []) × (1 ≡ length t.told + 1)

@@ -1,7 +1,7 @@
 use Rattle.std.proofs.Common.{refl, subst}
-use Rattle.session_log.specs.Check.{check_machine, compared, due_packets}
+use Rattle.session_log.specs.Check.{check_machine}
 use Rattle.session_log.specs.{Command.PlaysThrough, Ending.ending_of, Replay.Makes}
-use Rattle.session_log.proofs.{Histories.checks_history, Whole.makes}
+use Rattle.session_log.proofs.{Compares.standing, Histories.checks_history, Whole.makes}
 use Rattle.session_log.proofs.checking.check.Goals as goal
 
 pub returns : goal.returns
@@ -9,10 +9,8 @@ returns g c =
     let s = c.args.session.now in
     let new = c.play_log.new in
     let r = c.play_log.result in
-    let p0 = c.new-player.result in
-    let p = new.player in
-    let from = compared s p0.lines p0.input p0.found (due_packets p0.awaited p0.outbox) p0.inputs p0.packets in
-    let to = compared new.session p.lines p.input p.found (due_packets p.awaited p.outbox) p.inputs p.packets in
+    let from = standing c.new-player.result s in
+    let to = standing new.player new.session in
     let through = subst
     (λ b. PlaysThrough check_machine b (λ bytes text. Makes check_machine b to bytes text (ending_of r)) g.S.Source.left
     g.S.Source.failed

@@ -1,8 +1,8 @@
-use Rattle.std.proofs.Common.{◌≡◌, ◌<◌, ◌+◌, ◌^◌, [], ◌++◌, length, take, Err, refl, ap, ◌∙◌, arith}
+use Rattle.std.proofs.Common.{◌≡◌, ◌<◌, ◌+◌, ◌-◌, ◌^◌, ℕ, List, sym, subst, [], ◌++◌, length, take, Err, refl, ap, ◌∙◌, arith}
 use Rattle.std.proofs.KnownBytes.{Consumes-nil, Appends-nil}
 use Rattle.std.proofs.lemmas.{List.nil_from_length, Result.err_from_is_err_and}
-use Rattle.session_log.specs.Ending.{ended_by, ending_of}
-use Rattle.session_log.proofs.{Through.through_none, Through.played_none, Whole.stops, Gathering.in_count}
+use Rattle.session_log.specs.{Ending.ended_by, Ending.ending_of, Replay.PlaysLine, Streams.IsAllRead}
+use Rattle.session_log.proofs.{Cutting.ends_in_feed, Cutting.last_text, Through.through_none, Through.played_none, Whole.stops, Gathering.in_count}
 use Rattle.session_log.proofs.Exits.{read_on, goes_on, stops_reading, stops_in_front, ends, some_left}
 use Rattle.session_log.proofs.Failures.{on_any, on_err, on_ok, counts_none, counts_on, plays_counts, plays_unread, stops_unwritten}
 use Rattle.session_log.proofs.Lasts.{faulty_in_front, faulty_last, none_bad}
@@ -16,14 +16,18 @@ lines-preserved g c =
     let before = c.lines.invariant.done in
     let has = rw c.in-Some.is at c.in_ok-end.ensures.found in
     let played = c.in_ok-play_first.ensures.played in
+    let new = c.play_first.new in
+    let w = c.next_line.new.window in
+    let i = g.S.Source.left c.args.reader.now in
+    let k = g.S.Source.left c.next_line.new.reader in
+    let read = read_on i (g.S.Source.left c.lines.reader) k before.0 c.lines.window w before.2 c.in_ok-end.ensures.bytes in
     record {
       reads = ◌∙◌ {b = g.S.Source.failed c.lines.reader} c.in_ok-end.ensures.reads c.lines.invariant.reads;
       writes = played.3.1 ∙ c.lines.invariant.writes;
       ready = c.in_ok-play_first.ensures.next;
       counted = omega (arith, has.counted);
-      done = goes_on before.4 _ _ _ c.next_line.new.window
-          (read_on _ _ _ before.0 c.lines.window _ before.2 c.in_ok-end.ensures.bytes) g.T.Target.taken
-          g.T.Target.failed (c.lines.writer, c.play_first.new.writer) _ before.3 c.in-Some.end has _
+      done = goes_on before.4 i k (g.T.Target.taken c.args.writer.now) w read g.T.Target.taken g.T.Target.failed
+          (c.lines.writer, new.writer) (g.P.Player.state new.player new.session) before.3 c.in-Some.end has new.window
           c.in_ok-play_first.ensures.rest played.0 played.1 played.2 played.3;
     }
 
@@ -35,16 +39,23 @@ returns-in_err-end g c =
     let stopped = c.in_err-end.ensures.stopped in
     let from = err_from_is_err_and r c.from_residual.ensures.1 in
     let is : r ≡ Err e = from.1 ∙ ap Err from.2 in
-    let read = read_on _ _ _ before.0 c.lines.window _ before.2 c.in_err-end.ensures.bytes in
+    let world = g.P.Player.world in
+    let state = g.P.Player.state in
+    let w = c.next_line.new.window in
+    let i = g.S.Source.left c.args.reader.now in
+    let k = g.S.Source.left c.next_line.new.reader in
+    let first = g.T.Target.taken c.args.writer.now in
+    let read = read_on i (g.S.Source.left c.lines.reader) k before.0 c.lines.window w before.2 c.in_err-end.ensures.bytes in
+    let all = IsAllRead g.S.Source.left g.S.Source.ended c.next_line.new.reader in
     record {
       played =
-          stops _ _ _ g.S.Source.left g.S.Source.failed g.S.Source.ended g.T.Target.taken g.T.Target.failed
+          stops world (state c.args.player.now c.args.session.now) (state c.lines.player c.lines.session)
+          g.S.Source.left g.S.Source.failed g.S.Source.ended g.T.Target.taken g.T.Target.failed
           c.args.reader.now c.next_line.new.reader c.args.writer.now c.lines.writer r e is
-          (stops_reading before.4 _ _ _ c.next_line.new.window read _ e before.3 stopped)
-          (none_bad before.4 _ _ c.next_line.new.window read _ e c.lines.invariant.counted stopped)
+          (stops_reading before.4 i k first w read (g.T.Target.taken c.lines.writer) e before.3 stopped)
+          (none_bad before.4 i k w read all e c.lines.invariant.counted stopped)
           (counts_on _ _ _ _ c.lines.invariant.reads c.in_err-end.ensures.reads)
-          (counts_none _ _ _ (stops_unwritten c.lines.number c.next_line.new.window e stopped)
-          c.lines.invariant.writes);
+          (counts_none _ _ _ (stops_unwritten c.lines.number w e stopped) c.lines.invariant.writes);
       ready = on_err _ r e is;
     }
 
@@ -57,28 +68,33 @@ returns-in_err-play_first g c =
     let played = c.in_err-play_first.ensures.played in
     let from = err_from_is_err_and r c.from_residual-in_err-play_first.ensures.1 in
     let is : r ≡ Err e = from.1 ∙ ap Err from.2 in
-    let read = read_on _ _ _ before.0 c.lines.window _ before.2 c.in_ok-end.ensures.bytes in
     let world = g.P.Player.world in
-    let s = g.P.Player.state c.lines.player c.lines.session in
-    let t = g.P.Player.state c.play_first.new.player c.play_first.new.session in
-    let line = take c.in-Some.end c.next_line.new.window in
+    let state = g.P.Player.state in
+    let new = c.play_first.new in
+    let s = state c.lines.player c.lines.session in
+    let t = state new.player new.session in
+    let w = c.next_line.new.window in
+    let line = take c.in-Some.end w in
     let taken = g.T.Target.taken in
     let failed = g.T.Target.failed in
+    let i = g.S.Source.left c.args.reader.now in
+    let k = g.S.Source.left c.next_line.new.reader in
+    let first = taken c.args.writer.now in
+    let read = read_on i (g.S.Source.left c.lines.reader) k before.0 c.lines.window w before.2 c.in_ok-end.ensures.bytes in
+    let all = IsAllRead g.S.Source.left g.S.Source.ended c.next_line.new.reader in
+    let unread = plays_unread world taken failed c.lines.number s t line (c.lines.writer, new.writer) (ended_by e) played in
+    let counts = plays_counts world taken failed c.lines.number s t line (c.lines.writer, new.writer) (ended_by e) played in
+    let reads = ◌∙◌ {b = g.S.Source.failed c.lines.reader} c.in_ok-end.ensures.reads c.lines.invariant.reads in
     record {
       played =
-          stops _ _ _ g.S.Source.left g.S.Source.failed g.S.Source.ended taken failed c.args.reader.now
-          c.next_line.new.reader c.args.writer.now c.play_first.new.writer r e is
-          (stops_in_front before.4 _ _ _ c.next_line.new.window read taken failed
-          (c.lines.writer, c.play_first.new.writer) _ before.3 c.in-Some.end has e played)
-          (faulty_in_front before.4 _ _ c.next_line.new.window read _ taken failed
-          (c.lines.writer, c.play_first.new.writer) _ c.in-Some.end e c.in_err-play_first.ensures.own has played)
-          (counts_none _ _ _
-          (plays_unread world taken failed c.lines.number s t line (c.lines.writer, c.play_first.new.writer)
-          (ended_by e) played)
-          (◌∙◌ {b = g.S.Source.failed c.lines.reader} c.in_ok-end.ensures.reads c.lines.invariant.reads))
-          (counts_on _ _ _ _ c.lines.invariant.writes
-          (plays_counts world taken failed c.lines.number s t line (c.lines.writer, c.play_first.new.writer)
-          (ended_by e) played));
+          stops world (state c.args.player.now c.args.session.now) t g.S.Source.left g.S.Source.failed g.S.Source.ended
+          taken failed c.args.reader.now c.next_line.new.reader c.args.writer.now new.writer r e is
+          (stops_in_front before.4 i k first w read taken failed (c.lines.writer, new.writer) t before.3 c.in-Some.end
+          has e played)
+          (faulty_in_front before.4 i k w read all taken failed (c.lines.writer, new.writer) t c.in-Some.end e
+          c.in_err-play_first.ensures.own has played)
+          (counts_none _ _ _ unread reads)
+          (counts_on _ _ _ _ c.lines.invariant.writes counts);
       ready = on_err _ r e is;
     }
 
@@ -102,45 +118,61 @@ returns-then-is_empty g c =
 pub returns : goal.returns
 returns g c =
     let before = c.lines.invariant.done in
-    let r = c.play_last.result in
+    let r = c.play_first-2.result in
+    let new = c.play_first-2.new in
     let world = g.P.Player.world in
     let s = g.P.Player.state c.lines.player c.lines.session in
-    let t = g.P.Player.state c.play_last.new.player c.play_last.new.session in
+    let t = g.P.Player.state new.player new.session in
     let w = c.next_line.new.window in
     let taken = g.T.Target.taken in
     let failed = g.T.Target.failed in
     let at = rw c.in_default.is at c.in_ok-end.ensures.found in
     let some = some_left (length w) (λ e. cc (c.if-is_empty.ensures.1 (nil_from_length w e))) in
     let few : c.lines.number < 2 ^ 32 = in_count c.lines.number w at.0.counted some in
-    let small : length w < 256 = at.0.short in
-    let read = read_on _ _ _ before.0 c.lines.window _ before.2 c.in_ok-end.ensures.bytes in
-    let played = c.play_last.ensures.played in
+    let last = last_text w c.end_line.new.self c.len-end.result c.end_line.ensures c.len-end.ensures.value at.0.short in
+    let i = g.S.Source.left c.args.reader.now in
+    let k = g.S.Source.left c.next_line.new.reader in
+    let from = taken c.args.writer.now in
+    let read = read_on i (g.S.Source.left c.lines.reader) k before.0 c.lines.window w before.2 c.in_ok-end.ensures.bytes in
+    let played = subst (λ (l : List ℕ). PlaysLine world taken failed c.lines.number s t l (c.lines.writer, new.writer) (ending_of r)) last.0
+    c.play_first-2.ensures.played in
+    let unread = plays_unread world taken failed c.lines.number s t w (c.lines.writer, new.writer) (ending_of r) played in
+    let counts = plays_counts world taken failed c.lines.number s t w (c.lines.writer, new.writer) (ending_of r) played in
+    let reads = ◌∙◌ {b = g.S.Source.failed c.lines.reader} c.in_ok-end.ensures.reads c.lines.invariant.reads in
     record {
       played = (
-        ends before.4 _ _ _ w read taken failed (c.lines.writer, c.play_last.new.writer) _ before.3 r at.0 some played,
-        faulty_last before.4 _ _ w read _ r c.play_last.ensures.own (omega (arith, small)) at.1,
+        ends before.4 i k from w read taken failed (c.lines.writer, new.writer) t before.3 r at.0 some played,
+        faulty_last before.4 i k w read
+            (IsAllRead g.S.Source.left g.S.Source.ended c.next_line.new.reader) r c.play_first-2.ensures.own (omega (arith, at.0.short)) at.1,
         (
-          counts_none _ _ _
-              (plays_unread world taken failed c.lines.number s t w (c.lines.writer, c.play_last.new.writer)
-              (ending_of r) played)
-              (◌∙◌ {b = g.S.Source.failed c.lines.reader} c.in_ok-end.ensures.reads c.lines.invariant.reads),
-          counts_on _ _ _ _ c.lines.invariant.writes
-              (plays_counts world taken failed c.lines.number s t w (c.lines.writer, c.play_last.new.writer)
-              (ending_of r) played),
+          counts_none _ _ _ unread reads,
+          counts_on _ _ _ _ c.lines.invariant.writes counts,
           on_any r at.1,
         ),
       );
-      ready = on_ok r (λ h. (c.lines.number + 1, omega (arith, few), h)) c.play_last.ensures.next;
+      ready = on_ok r (λ h. (c.lines.number + 1, omega (arith, few), h)) c.play_first-2.ensures.next;
     }
 
-pub overflow_add-number : goal.overflow_add-number
-overflow_add-number g c = search arith
-
-pub lines-smaller : goal.lines-smaller
-lines-smaller g c = search arith
-
 pub play_first-requires : goal.play_first-requires
-play_first-requires g c = search arith
+play_first-requires g c =
+    let has = rw c.in-Some.is at c.in_ok-end.ensures.found in
+    let w = c.next_line.new.window in
+    let write = subst (λ (k : ℕ). k < 2 ^ 64 - 1) (sym c.lines.invariant.writes) c.requires.write in
+    let whole = ends_in_feed w c.in-Some.end has.feed in
+    (assumption c.well_formed, (write, (whole, (has.within, (has.short, (has.counted, c.lines.invariant.ready))))))
 
-pub play_last-requires : goal.play_last-requires
-play_last-requires g c = search (arith, some_left, nil_from_length, in_count)
+pub play_first-requires-2 : goal.play_first-requires-2
+play_first-requires-2 g c =
+    let at = rw c.in_default.is at c.in_ok-end.ensures.found in
+    let w = c.next_line.new.window in
+    let some = some_left (length w) (λ e. cc (c.if-is_empty.ensures.1 (nil_from_length w e))) in
+    let few = in_count c.lines.number w at.0.counted some in
+    let last = last_text w c.end_line.new.self c.len-end.result c.end_line.ensures c.len-end.ensures.value at.0.short in
+    let write = subst (λ (k : ℕ). k < 2 ^ 64 - 1) (sym c.lines.invariant.writes) c.requires.write in
+    (assumption c.well_formed, (write, (last.1, (last.2, (last.3, (few, c.lines.invariant.ready))))))
+
+pub next_line-requires : goal.next_line-requires
+next_line-requires g c = subst (λ (k : ℕ). k < 2 ^ 64 - 1) (sym c.lines.invariant.reads) c.requires.read
+
+pub end_line-requires : goal.end_line-requires
+end_line-requires g c = (rw c.in_default.is at c.in_ok-end.ensures.found).0.short

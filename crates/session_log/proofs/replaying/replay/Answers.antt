@@ -34,7 +34,7 @@ returns g c =
     let through =
     logs_whole machine s new.session g.S.Source.left g.S.Source.failed g.S.Source.ended g.T.Target.taken
     g.T.Target.failed c.args.reader.now new.reader c.args.writer.now new.writer _ c.meters.ensures.value h in
-    let fits : FitsMeters c.meters.result = search rules in
+    let fits : FitsMeters c.meters.result = search (rules, c.meters.type_inv) in
     let held = subst FitsMeters c.meters.ensures.value fits in
     record {
       replayed = through;
@@ -43,3 +43,6 @@ returns g c =
           (c.args.reader.now, new.reader) (c.args.writer.now, new.writer) machine history follows s new.session
           (Ok c.meters.result) through;
     }
+
+pub meters-requires : goal.meters-requires
+meters-requires g c = assumption c.well_formed

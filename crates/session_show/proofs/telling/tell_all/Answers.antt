@@ -6,11 +6,11 @@ use Rattle.session_log.specs.Ending.{Ending, ended_by, ending_of, read_fails, wr
 use Rattle.session_log.specs.{Replay.ReadsTo, Lines.lines, Log.text_of, Window.IsUnfinished}
 use Rattle.session_log.specs.{Streams.Counts, Streams.IsAllRead, declared.fault.LogFault.LogFault}
 use Rattle.session_log.proofs.{Through.through_none, Through.played_none, Cutting.line_in_front}
-use Rattle.session_log.proofs.Exits.{as_err, read_on, short_in_front, some_left}
+use Rattle.session_log.proofs.Exits.{read_on, short_in_front, some_left}
 use Rattle.session_log.proofs.Failures.{on_any, on_err, counts_none, counts_on, plays_counts, plays_unread, stops_unwritten}
 use Rattle.session_log.proofs.Lasts.{faulty_in_front, faulty_last, none_bad}
 use Rattle.session_show.specs.Shown.{Shows, ShowsLine, reading, unknown, failures_of}
-use Rattle.session_show.proofs.Told.{shown_on, told_line, told_none, told_to_end, told_to_line, told_to_read}
+use Rattle.session_show.proofs.Told.{as_err, shown_on, told_line, told_none, told_to_end, told_to_line, told_to_read}
 use Rattle.session_show.proofs.telling.tell_all.Goals as goal
 
 pub lines-init : goal.lines-init

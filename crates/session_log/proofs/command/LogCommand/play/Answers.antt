@@ -35,3 +35,15 @@ returns-in-Check g c = search arith
 
 pub returns-in-Quiet : goal.returns-in-Quiet
 returns-in-Quiet g c = search arith
+
+pub replay-requires : goal.replay-requires
+replay-requires g c = (assumption c.well_formed, (c.requires.reads, c.requires.writes))
+
+pub live-requires : goal.live-requires
+live-requires g c = (assumption c.well_formed, (c.requires.reads, c.requires.writes))
+
+pub check-requires : goal.check-requires
+check-requires g c = (assumption c.well_formed, (c.requires.reads, c.requires.writes))
+
+pub quiet-requires : goal.quiet-requires
+quiet-requires g c = (assumption c.well_formed, (c.requires.reads, c.requires.writes))
