@@ -13,6 +13,7 @@ ghost use Rattle.session_log.specs.Streams.{Counts, IsAllRead, Moves};
 use crate::fault::LogFault;
 use crate::line::Line;
 use crate::playing::{Player, play_lines, play_log};
+use crate::replaying::meters_of;
 use crate::source::Source;
 use crate::target::Target;
 use crate::text::{Text, put_meters, put_served, put_text};
@@ -153,5 +154,5 @@ pub fn live<S: Source, T: Target, const C: usize>(
 {
     let mut player = Living::new();
     play_log(&mut player, reader, writer, session)?;
-    Ok(session.meters())
+    Ok(meters_of(session))
 }

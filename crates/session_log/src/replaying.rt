@@ -2,6 +2,7 @@
 ghost use Rattle.std.specs.Prelude.{◌≡◌, ◌<◌, ◌-◌, ◌^◌, List, [], OnOk};
 ghost use Rattle.session_log.specs.Command.{PlaysThrough};
 ghost use Rattle.session_log.specs.Replay.{Logs};
+ghost use Rattle.session_log.specs.Sent.{FitsMeters};
 ghost use Rattle.session_log.specs.Session.{history, machine, Repeats};
 ghost use Rattle.token_session.specs.declared.input.Timed.{Timed as OneInput};
 ghost use Rattle.authn_core.specs.Turn.{Start};
@@ -15,6 +16,14 @@ use crate::target::Target;
 use crate::text::{Text, put_input, put_meters, put_text};
 use hid_packet::Outbox;
 use token_session::{Meters, Session};
+
+/// Returns what a session counted, in numbers of at most 64 bits.
+pub fn meters_of<const C: usize>(session: &Session<C>) -> Meters
+    ensures value { result ≡ session.now.meters }
+    ensures fits { FitsMeters result }
+{
+    session.meters()
+}
 
 /// Each input line and each comment is written again, after an input line the packets that are sent for it.
 #[derive(Drop)]
@@ -101,5 +110,5 @@ pub fn replay<S: Source, T: Target, const C: usize>(
 {
     let mut player = Replaying::new();
     play_log(&mut player, reader, writer, session)?;
-    Ok(session.meters())
+    Ok(meters_of(session))
 }

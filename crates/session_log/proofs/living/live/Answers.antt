@@ -1,4 +1,4 @@
-use Rattle.std.proofs.Common.{rules, ◌≡◌, Ok, Err, ap, ◌∙◌, subst}
+use Rattle.std.proofs.Common.{◌≡◌, Ok, Err, ap, ◌∙◌, subst}
 use Rattle.std.proofs.lemmas.Result.{err_from_is_err_and}
 use Rattle.session_log.specs.Sent.{FitsMeters}
 use Rattle.session_log.specs.Session.{live_history, live_machine, session_needs, sessions}
@@ -37,17 +37,16 @@ returns g c =
     let again = live_again sessions session_needs in
     let through =
     logs_whole live_machine s new.session g.S.Source.left g.S.Source.failed g.S.Source.ended g.T.Target.taken
-    g.T.Target.failed c.args.reader.now new.reader c.args.writer.now new.writer _ c.meters.ensures.value h in
-    let fits : FitsMeters c.meters.result = search (rules, c.meters.type_inv) in
-    let held = subst FitsMeters c.meters.ensures.value fits in
+    g.T.Target.failed c.args.reader.now new.reader c.args.writer.now new.writer _ c.meters_of.ensures.value h in
+    let held = subst FitsMeters c.meters_of.ensures.value c.meters_of.ensures.fits in
     record {
       lived = through;
       again = repeats_in logs logs again _ _ s _ _ _ h.0.3 h.0.4.0 h.0.4.0.faultless h.0.4.1 held;
       replays = repeats_in logs (replay_logs sessions) copies _ _ s _ _ _ h.0.3 h.0.4.0 h.0.4.0.faultless h.0.4.1 held;
       history = logs_history g.S.Source.left g.S.Source.failed g.S.Source.ended g.T.Target.taken g.T.Target.failed
           (c.args.reader.now, new.reader) (c.args.writer.now, new.writer) live_machine live_history live_follows s
-          new.session (Ok c.meters.result) through;
+          new.session (Ok c.meters_of.result) through;
     }
 
-pub meters-requires : goal.meters-requires
-meters-requires g c = assumption c.well_formed
+pub meters_of-requires : goal.meters_of-requires
+meters_of-requires g c = assumption c.well_formed

@@ -1,4 +1,4 @@
-use Rattle.std.proofs.Common.{rules, ◌≡◌, Ok, Err, ap, ◌∙◌, subst}
+use Rattle.std.proofs.Common.{◌≡◌, Ok, Err, ap, ◌∙◌, subst}
 use Rattle.std.proofs.lemmas.Result.{err_from_is_err_and}
 use Rattle.session_log.specs.{Sent.FitsMeters, Session.history, Session.machine, Session.sessions}
 use Rattle.session_log.proofs.{Failures.on_err, Whole.logs_fault, Whole.logs_whole}
@@ -33,16 +33,15 @@ returns g c =
     let logs = replay_logs sessions in
     let through =
     logs_whole machine s new.session g.S.Source.left g.S.Source.failed g.S.Source.ended g.T.Target.taken
-    g.T.Target.failed c.args.reader.now new.reader c.args.writer.now new.writer _ c.meters.ensures.value h in
-    let fits : FitsMeters c.meters.result = search (rules, c.meters.type_inv) in
-    let held = subst FitsMeters c.meters.ensures.value fits in
+    g.T.Target.failed c.args.reader.now new.reader c.args.writer.now new.writer _ c.meters_of.ensures.value h in
+    let held = subst FitsMeters c.meters_of.ensures.value c.meters_of.ensures.fits in
     record {
       replayed = through;
       again = repeats_in logs logs (replay_again sessions) _ _ s _ _ _ h.0.3 h.0.4.0 h.0.4.0.faultless h.0.4.1 held;
       history = logs_history g.S.Source.left g.S.Source.failed g.S.Source.ended g.T.Target.taken g.T.Target.failed
           (c.args.reader.now, new.reader) (c.args.writer.now, new.writer) machine history follows s new.session
-          (Ok c.meters.result) through;
+          (Ok c.meters_of.result) through;
     }
 
-pub meters-requires : goal.meters-requires
-meters-requires g c = assumption c.well_formed
+pub meters_of-requires : goal.meters_of-requires
+meters_of-requires g c = assumption c.well_formed

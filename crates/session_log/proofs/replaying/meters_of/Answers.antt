@@ -1,0 +1,4 @@
+use Rattle.session_log.proofs.replaying.meters_of.Goals as goal
+
+pub meters-requires : goal.meters-requires
+meters-requires g c = assumption c.well_formed
