@@ -140,20 +140,23 @@ impl HostDisk<'_> {
         }
     }
 
-    /// Refuses a folder, and the files that the log is read from and the result is written to.
-    fn refuse(&self, found: &Metadata, log: Option<&str>) -> io::Result<()> {
+    /// Returns what is found, unless it is a folder, the log, or the file that standard output goes to.
+    fn sort(&self, found: &Metadata, log: Option<&str>) -> io::Result<Found> {
         if found.is_dir() {
             return Err(Error::from_raw_os_error(EISDIR));
         }
-        if found.is_file() && self.is_stream(found, log.unwrap_or("/dev/stdin")) {
-            let message = "it is the log, which would be lost";
-            return Err(Error::new(ErrorKind::InvalidInput, message));
+        if !found.is_file() {
+            let is_pipe = found.file_type().is_fifo();
+            return Ok(if is_pipe { Found::Pipe } else { Found::Other });
         }
-        if found.is_file() && self.is_stream(found, "/dev/stdout") {
-            let message = "it is the file that standard output goes to";
-            return Err(Error::new(ErrorKind::InvalidInput, message));
-        }
-        Ok(())
+        let message = if self.is_stream(found, log.unwrap_or("/dev/stdin")) {
+            "it is the log, which would be lost"
+        } else if self.is_stream(found, "/dev/stdout") {
+            "it is the file that standard output goes to"
+        } else {
+            return Ok(Found::File);
+        };
+        Err(Error::new(ErrorKind::InvalidInput, message))
     }
 
     /// Writes to a pipe. It never waits for a reader: where there is none, it fails.
@@ -189,17 +192,8 @@ impl Disk for HostDisk<'_> {
 
     fn look(&self, path: &str, log: Option<&str>) -> io::Result<Found> {
         match fs::metadata(self.0, path) {
-            Ok(found) => {
-                self.refuse(&found, log)?;
-                if found.is_file() {
-                    Ok(Found::File)
-                } else if found.file_type().is_fifo() {
-                    Ok(Found::Pipe)
-                } else {
-                    Ok(Found::Other)
-                }
-            }
-            Err(error) if error.kind() != ErrorKind::NotFound => Err(error),
+            Ok(found) => self.sort(&found, log),
+            Err(error) if !matches!(error.kind(), ErrorKind::NotFound) => Err(error),
             Err(_) if fs::symlink_metadata(self.0, path).is_ok() => Ok(Found::Other),
             Err(_) => Ok(Found::Nothing),
         }
@@ -223,7 +217,7 @@ impl Disk for HostDisk<'_> {
 
     fn create(&self, path: &str) -> io::Result<File> {
         match File::create_new(self.0, path) {
-            Err(error) if error.kind() == ErrorKind::AlreadyExists => {
+            Err(error) if matches!(error.kind(), ErrorKind::AlreadyExists) => {
                 fs::remove_file(self.0, path)?;
                 File::create_new(self.0, path)
             }

@@ -1,11 +1,11 @@
 //! What can go wrong, as a value until it is printed.
 ghost use Rattle.std.specs.Prelude.{◌≡◌, ◌⊎◌};
 
-use crate::escaped::Escaped;
-use crate::files::{COPY, Files, Unwritten};
+use crate::files::{COPY, Unwritten};
+use crate::texts::{write_about, write_error};
 use cred_table::SnapshotFault;
 use session_log::{CAPACITY, LogFault};
-use std::fmt::{self, Display, Formatter};
+use session_show::{Pen, Written, write_escaped};
 use std::io;
 
 /// What ended the work on a log, with the path that it is about.
@@ -64,86 +64,87 @@ impl ProgramFault<'_> {
     }
 }
 
-/// Why there is a fault, for people.
+/// Why there is a fault, for people: a line.
 #[derive(Clone, Copy)]
-pub struct FaultReason<'a, D> {
+pub struct FaultReason<'a> {
     pub fault: &'a ProgramFault<'a>,
-    /// The files, where a copy may be beside a snapshot.
-    pub files: &'a D,
+    /// The path that it is about.
+    pub path: &'a str,
+    /// Whether the copy of a write that was cut off is beside the snapshot.
+    pub has_copy: bool,
 }
 
-impl<D: Files> FaultReason<'_, D> {
-    /// Writes where the copy is of a --save that was cut off, if it is beside the path.
-    fn put_copy<T: fmt::Write>(&self, f: &mut Formatter<T>, path: &str) -> fmt::Result {
-        if !self.files.has_copy(path) {
-            return Ok(());
-        }
-        let path = Escaped(path);
-        write!(
-            f,
-            "; what a --save that was cut off had to write is in {path}{COPY}"
-        )
-    }
+/// Writes the path of the copy beside a file.
+fn write_path_of_copy(pen: &mut Pen, path: &str) {
+    write_escaped(pen, path.as_bytes());
+    pen.text(COPY);
 }
 
 /// Writes why a snapshot of these bytes is refused.
-fn put_refusal<T: fmt::Write>(
-    f: &mut Formatter<T>,
-    fault: SnapshotFault,
-    bytes: &[u8],
-) -> fmt::Result {
+fn write_refusal(pen: &mut Pen, fault: SnapshotFault, bytes: &[u8]) {
     match (fault, bytes) {
-        (SnapshotFault::TooMany, _) => write!(f, "it has more than {CAPACITY} credentials"),
-        (SnapshotFault::RowBroken(place), _) => {
-            let number = place.saturating_add(1);
-            write!(f, "credential {number} is broken, or is there twice")
+        (SnapshotFault::TooMany, _) => {
+            pen.text("it has more than ");
+            pen.decimal(CAPACITY as u64);
+            pen.text(" credentials");
         }
-        (_, []) => f.write_str("it is empty"),
+        (SnapshotFault::RowBroken(place), _) => {
+            pen.text("credential ");
+            pen.decimal(place.saturating_add(1) as u64);
+            pen.text(" is broken, or is there twice");
+        }
+        (_, []) => pen.text("it is empty"),
         (_, [0xA2, 0x01, 0x01 | 0x02, ..]) => {
-            f.write_str("it begins as a snapshot, and is cut off or changed")
+            pen.text("it begins as a snapshot, and is cut off or changed");
         }
         (_, [0xA2, 0x01, version @ 0x03..=0x17, ..]) => {
-            write!(f, "it is of version {version}, and 1 and 2 are read")
+            pen.text("it is of version ");
+            pen.decimal(u64::from(*version));
+            pen.text(", and 1 and 2 are read");
         }
-        _ => f.write_str("it is no snapshot"),
+        _ => pen.text("it is no snapshot"),
     }
 }
 
 /// Writes why a snapshot wasn't saved at a path, and what is left there.
-fn put_unwritten<T: fmt::Write>(
-    f: &mut Formatter<T>,
-    path: &str,
-    unwritten: &Unwritten,
-) -> fmt::Result {
-    let path = Escaped(path);
+fn write_unwritten(pen: &mut Pen, path: &str, unwritten: &Unwritten) {
     match unwritten {
-        Unwritten::Kept(error) => write!(f, "{error}"),
-        Unwritten::Copied(error) => write!(
-            f,
-            "{error}; it may be broken now, and the new snapshot is whole in {path}{COPY}"
-        ),
-        Unwritten::Broken(error) => write!(f, "{error}; it may be broken now"),
-        Unwritten::Left(error) => write!(
-            f,
-            "it is saved, but its copy {path}{COPY} couldn't be removed: {error}"
-        ),
+        Unwritten::Kept(error) => write_error(pen, error),
+        Unwritten::Copied(error) => {
+            write_error(pen, error);
+            pen.text("; it may be broken now, and the new snapshot is whole in ");
+            write_path_of_copy(pen, path);
+        }
+        Unwritten::Broken(error) => {
+            write_error(pen, error);
+            pen.text("; it may be broken now");
+        }
+        Unwritten::Left(error) => {
+            pen.text("it is saved, but its copy ");
+            write_path_of_copy(pen, path);
+            pen.text(" couldn't be removed: ");
+            write_error(pen, error);
+        }
     }
 }
 
-impl<D: Files> Display for FaultReason<'_, D> {
-    fn fmt<T: fmt::Write>(&self, f: &mut Formatter<T>) -> fmt::Result {
+impl Written for FaultReason<'_> {
+    fn write(&self, pen: &mut Pen) {
+        write_about(pen, self.path);
         match self.fault {
-            ProgramFault::Memory | ProgramFault::Log(_) => Ok(()),
-            ProgramFault::UnreadLog(_, error) => error.fmt(f),
-            ProgramFault::UnreadSnapshot(path, error) => {
-                error.fmt(f)?;
-                self.put_copy(f, path)
+            ProgramFault::Memory | ProgramFault::Log(_) => {}
+            ProgramFault::UnreadLog(_, error) | ProgramFault::UnreadSnapshot(_, error) => {
+                write_error(pen, error);
             }
-            ProgramFault::RefusedSnapshot(path, fault, bytes) => {
-                put_refusal(f, *fault, bytes)?;
-                self.put_copy(f, path)
+            ProgramFault::RefusedSnapshot(_, fault, bytes) => write_refusal(pen, *fault, bytes),
+            ProgramFault::UnsavedSnapshot(_, unwritten) => {
+                write_unwritten(pen, self.path, unwritten);
             }
-            ProgramFault::UnsavedSnapshot(path, unwritten) => put_unwritten(f, path, unwritten),
         }
+        if self.has_copy {
+            pen.text("; what a --save that was cut off had to write is in ");
+            write_path_of_copy(pen, self.path);
+        }
+        pen.text("\n");
     }
 }

@@ -81,8 +81,10 @@ fn look_beside<D: Disk>(disk: &D, path: &str) -> io::Result<()> {
         return Err(Error::from_raw_os_error(ENOENT));
     }
     let part = beside(disk, path, PART)?;
-    disk.create(part.as_str())?;
-    disk.remove(part.as_str())
+    match disk.create(part.as_str()) {
+        Ok(_) => disk.remove(part.as_str()),
+        Err(error) => Err(error),
+    }
 }
 
 /// Writes over a file that is open, and cuts it to what was written. What the file is too short for is written first, so
@@ -139,9 +141,15 @@ fn write_beside<D: Disk>(disk: &D, path: &str, to: &str, bytes: &[u8]) -> io::Re
 fn replace<D: Disk>(disk: &D, path: &str, bytes: &[u8]) -> Result<D::File, Unwritten>
     ensures { IfOk result (λ file. IsWritten D.File.is_at D.File.is_known D.File.bytes path.now bytes.now file) }
 {
-    let mut file = disk.open(path).map_err(Unwritten::Kept)?;
+    let mut file = match disk.open(path) {
+        Ok(file) => file,
+        Err(error) => return Err(Unwritten::Kept(error)),
+    };
     let old = disk.read(path, u64::MAX);
-    let copy = beside(disk, path, COPY).map_err(Unwritten::Kept)?;
+    let copy = match beside(disk, path, COPY) {
+        Ok(copy) => copy,
+        Err(error) => return Err(Unwritten::Kept(error)),
+    };
     let is_copied = write_beside(disk, path, copy.as_str(), bytes).is_ok();
     if let Err(error) = write_through(&mut file, bytes) {
         let is_back = match &old {
@@ -155,8 +163,8 @@ fn replace<D: Disk>(disk: &D, path: &str, bytes: &[u8]) -> Result<D::File, Unwri
             (false, false) => Unwritten::Broken(error),
         });
     }
-    if is_copied {
-        disk.remove(copy.as_str()).map_err(Unwritten::Left)?;
+    if is_copied && let Err(error) = disk.remove(copy.as_str()) {
+        return Err(Unwritten::Left(error));
     }
     Ok(file)
 }
@@ -185,28 +193,36 @@ impl<D: Disk> Files for HostFiles<D> {
     }
 
     fn look(&self, path: &str, log: Option<&str>) -> io::Result<()> {
-        match self.0.look(path, log)? {
-            Found::Nothing => look_beside(&self.0, path),
-            Found::File => {
-                self.0.open(path)?;
-                Ok(())
-            }
-            Found::Pipe | Found::Other => Ok(()),
+        match self.0.look(path, log) {
+            Ok(Found::Nothing) => look_beside(&self.0, path),
+            Ok(Found::File) => match self.0.open(path) {
+                Ok(_) => Ok(()),
+                Err(error) => Err(error),
+            },
+            Ok(Found::Pipe | Found::Other) => Ok(()),
+            Err(error) => Err(error),
         }
     }
 
     fn write(&mut self, path: &str, bytes: &[u8], log: Option<&str>) -> Result<(), Unwritten> {
-        let found = self.0.look(path, log).map_err(Unwritten::Kept)?;
-        match found {
-            Found::Nothing => {
-                write_beside(&self.0, path, path, bytes).map_err(Unwritten::Kept)?;
-                Ok(())
-            }
-            Found::File => {
-                replace(&self.0, path, bytes)?;
-                Ok(())
-            }
-            Found::Pipe | Found::Other => self.0.hand(path, bytes, found).map_err(Unwritten::Kept),
+        let found = match self.0.look(path, log) {
+            Ok(found) => found,
+            Err(error) => return Err(Unwritten::Kept(error)),
+        };
+        let written = match found {
+            Found::Nothing => match write_beside(&self.0, path, path, bytes) {
+                Ok(_) => Ok(()),
+                Err(error) => Err(error),
+            },
+            Found::File => match replace(&self.0, path, bytes) {
+                Ok(_) => Ok(()),
+                Err(unwritten) => return Err(unwritten),
+            },
+            Found::Pipe | Found::Other => self.0.hand(path, bytes, found),
+        };
+        match written {
+            Ok(()) => Ok(()),
+            Err(error) => Err(Unwritten::Kept(error)),
         }
     }
 }

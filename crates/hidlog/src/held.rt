@@ -12,7 +12,7 @@ use std::io::Write;
 const HELD: usize = 8192;
 
 /// A line that was read whole and isn't played yet, of which a text may be written: the last one.
-#[derive(Clone, Copy, Debug, PartialEq, Eq)]
+#[derive(Clone, Copy)]
 pub enum Ahead {
     /// None is known.
     Nothing,
@@ -23,7 +23,7 @@ pub enum Ahead {
 }
 
 /// The lines of which a command writes a text.
-#[derive(Clone, Copy, Debug, PartialEq, Eq)]
+#[derive(Clone, Copy)]
 pub enum WrittenLines {
     /// Each text is out as soon as it is written.
     AtOnce,
@@ -50,8 +50,9 @@ impl LastLines {
             comment: 0,
         };
         let (mut first, mut is_whole) = (b'<', false);
-        for (len, byte) in bytes.iter().rev().enumerate() {
-            if *byte == b'\n' {
+        for len in 0..bytes.len() {
+            let byte = bytes[bytes.len() - 1 - len];
+            if byte == b'\n' {
                 if is_whole {
                     last.note(first, len);
                 }
@@ -60,7 +61,7 @@ impl LastLines {
             if last.input > 0 {
                 break;
             }
-            first = *byte;
+            first = byte;
         }
         last
     }
@@ -136,7 +137,7 @@ impl<W: Write> Output for ToWrite<W> {
 pub fn settled<O: Output>(output: &mut O, answer: Result<(), LogFault>) -> Result<(), LogFault>
     ensures { Settles O.taken O.failed O.waits answer (output.old, output.new) result }
 {
-    if answer == Err(LogFault::Write) {
+    if let Err(LogFault::Write) = answer {
         return answer;
     }
     if output.failures() == u64::MAX {
@@ -181,8 +182,8 @@ impl<T: Target> HeldOutput<'_, T> {
     fn holds(&self, more: usize) -> bool {
         let lies_ahead = match self.ahead.get() {
             Ahead::Nothing => false,
-            Ahead::Comment => self.texts.get() == WrittenLines::OfComments,
-            Ahead::Input => self.texts.get() != WrittenLines::AtOnce,
+            Ahead::Comment => matches!(self.texts.get(), WrittenLines::OfComments),
+            Ahead::Input => !matches!(self.texts.get(), WrittenLines::AtOnce),
         };
         lies_ahead && self.bytes.len().saturating_add(more) <= HELD
     }

@@ -6,7 +6,7 @@ use crate::fault::{FaultReason, ProgramFault};
 use crate::files::Files;
 use crate::held::Output;
 use crate::logs::Logs;
-use crate::process::{Reporting, tell, tell_why};
+use crate::process::{tell, tell_why};
 use session_log::{Target, tell_fault};
 use std::alloc::Global;
 
@@ -93,16 +93,18 @@ impl<D: Files, L: Logs, O: Output, E: Target> Host<D, L, O, E> {
             | ProgramFault::UnreadSnapshot(path, _)
             | ProgramFault::RefusedSnapshot(path, _, _)
             | ProgramFault::UnsavedSnapshot(path, _) => {
-                let alloc = self.alloc;
-                let files = &self.files;
-                let why = FaultReason { fault, files };
-                tell_why(
-                    &mut self.faults,
-                    Reporting { alloc, explains },
-                    fault.text(),
+                let has_copy = explains
+                    && matches!(
+                        fault,
+                        ProgramFault::UnreadSnapshot(..) | ProgramFault::RefusedSnapshot(..)
+                    )
+                    && self.files.has_copy(path);
+                let why = FaultReason {
+                    fault,
                     path,
-                    &why,
-                );
+                    has_copy,
+                };
+                tell_why(&mut self.faults, explains, fault.text(), &why);
             }
         }
     }

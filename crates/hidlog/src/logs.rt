@@ -9,6 +9,7 @@ use crate::recent::Recent;
 use crate::seen::Seen;
 use crate::streams::Noting;
 use session_log::{Failed, FromRead, Source};
+use std::alloc::{AllocError, Global};
 use std::cell::Cell;
 use std::fs::{self, File};
 use std::io::{self, BufReader, Chain, Cursor, Error, IsTerminal, Read, Stdin, Write};
@@ -115,7 +116,7 @@ impl Opens for Stream<Stdin, File> {
 }
 
 /// What was kept of a log, and after it what was left to read.
-pub type FromFront<S> = Chain<Cursor<Vec<u8>>, Noting<S>>;
+pub type FromFront<S> = FromRead<BufReader<Chain<Cursor<Vec<u8>>, Noting<S>>>>;
 
 /// The log of the process.
 pub type ProcessLog<'a> = HostLog<'a, Stream<Stdin, File>>;
@@ -142,13 +143,14 @@ pub struct Audience {
 #[derive(Drop)]
 pub struct HostLog<'a, S> {
     rt: &'a HostRuntime,
-    name: String,
+    /// The path of the file that was opened.
+    path: Option<String>,
     stream: Noting<S>,
     is_new: bool,
     /// Whether what is awaited is said, to a person.
     is_told: bool,
-    /// The path by which it can be read again, where it is a file.
-    path: Option<String>,
+    /// Whether it can be read again by its path.
+    is_file: bool,
     /// Whether it may have to be read again.
     is_kept: bool,
     seen: Seen,
@@ -176,16 +178,16 @@ impl<'a, S: Opens> HostLog<'a, S> {
         is_kept: bool,
         audience: Audience,
         ahead: &'a Cell<Ahead>,
-    ) -> io::Result<Self>
+    ) -> Result<Self, AllocError>
         ensures { IfOk result (λ log. ⟦<HostLog<'a, S> as Source>⟧.failed log ≡ 0) }
     {
         Ok(HostLog {
             rt,
-            name: String::from_str(rt.alloc(), "standard input")?,
+            path: None,
             stream: Noting::new(S::standard(rt)),
             is_new: true,
             is_told: audience.is_told,
-            path: None,
+            is_file: false,
             is_kept,
             seen: Seen::new(Progress::new(audience.sees_progress, None)),
             recent: Recent::new(rt.alloc())?,
@@ -209,25 +211,22 @@ impl<'a, S: Opens> HostLog<'a, S> {
         self.ended = false;
     }
 
-    /// Begins to look at a log, which has so many bytes and this path where it can be read again.
-    fn look(&mut self, size: Option<u64>, path: &str)
+    /// Begins to look at a log, which has so many bytes where it can be read again.
+    fn look(&mut self, size: Option<u64>)
         ensures counted { self.new.failures ≡ self.old.failures }
         ensures ends { self.new.ended ≡ self.old.ended }
         ensures stream { self.new.stream ≡ self.old.stream }
         ensures recent { self.new.recent ≡ self.old.recent }
     {
         self.seen = Seen::new(Progress::new(self.seen.progress.is_said, size));
-        self.path = match size {
-            Some(_) => String::from_str(self.rt.alloc(), path).ok(),
-            None => None,
-        };
-        if self.is_kept && self.path.is_none() {
+        self.is_file = size.is_some();
+        if self.is_kept && !self.is_file {
             self.seen.kept = Some(Vec::new(self.rt.alloc()));
         }
     }
 
     /// Reads more, where all that was read before was handed on.
-    fn fill(&mut self) -> io::Result<()>
+    fn fill(&mut self) -> Result<(), Failed>
         ensures counted { self.new.failures ≡ self.old.failures }
         ensures ends { self.new.ended ≡ self.old.ended }
         ensures bytes { Keeps
@@ -244,7 +243,7 @@ impl<'a, S: Opens> HostLog<'a, S> {
             if self.is_told && self.rt.stdin().is_terminal() {
                 let _ = self.rt.stderr().write_all(AWAITED);
             }
-            self.look(size_of_input(self.rt), STANDARD_INPUT);
+            self.look(size_of_input(self.rt));
         }
         let n = self.recent.fill(&mut self.stream)?;
         self.seen.take(self.recent.unread());
@@ -296,8 +295,16 @@ impl<S: Opens> Source for HostLog<'_, S> {
     }
 }
 
+/// Returns what was kept of a log, and after it what was left to read.
+fn from_front<S: Opens>(alloc: Global, kept: Vec<u8>, rest: Noting<S>) -> Option<FromFront<S>> {
+    match BufReader::new(alloc, Cursor::new(kept).chain(rest)) {
+        Ok(reader) => Some(FromRead::new(reader)),
+        Err(_) => None,
+    }
+}
+
 impl<S: Opens> Logs for HostLog<'_, S> {
-    type Again = FromRead<BufReader<FromFront<S>>>;
+    type Again = FromFront<S>;
 
     ghost opened = { λ _ path s. S.is_at path s.stream.inner
         × (unread s.recent.held.items s.recent.at s.recent.end ≡ []) };
@@ -306,18 +313,22 @@ impl<S: Opens> Logs for HostLog<'_, S> {
 
     fn open(&mut self, path: &str) -> io::Result<()> {
         let (stream, size) = S::open(self.rt, path)?;
-        self.name = String::from_str(self.rt.alloc(), path)?;
+        self.path = Some(String::from_str(self.rt.alloc(), path)?);
         self.begin(stream, false);
-        self.look(size, path);
+        self.look(size);
         Ok(())
     }
 
     fn restart(&mut self) {
+        self.path = None;
         self.begin(S::standard(self.rt), true);
     }
 
     fn name(&self) -> &str {
-        self.name.as_str()
+        match &self.path {
+            Some(path) => path.as_str(),
+            None => "standard input",
+        }
     }
 
     fn lines(&self) -> &[u8] {
@@ -328,23 +339,31 @@ impl<S: Opens> Logs for HostLog<'_, S> {
         self.stream.failure()
     }
 
-    fn again(&mut self) -> Option<FromRead<BufReader<FromFront<S>>>> {
-        if self.path.is_some() {
+    fn again(&mut self) -> Option<FromFront<S>> {
+        if self.is_file {
             return self.reread();
         }
-        let kept = self.seen.kept.take()?;
+        let Some(kept) = self.seen.kept.take() else {
+            return None;
+        };
         let spent = Noting::new(S::standard(self.rt));
         let rest = mem::replace(&mut self.stream, spent);
-        let reader = BufReader::new(self.rt.alloc(), Cursor::new(kept).chain(rest)).ok()?;
-        Some(FromRead::new(reader))
+        from_front(self.rt.alloc(), kept, rest)
     }
 
-    fn reread(&self) -> Option<FromRead<BufReader<FromFront<S>>>> {
-        let path = self.path.as_ref()?;
-        let stream = Noting::new(S::open(self.rt, path.as_str()).ok()?.0);
-        let none = Cursor::new(Vec::new(self.rt.alloc()));
-        let reader = BufReader::new(self.rt.alloc(), none.chain(stream)).ok()?;
-        Some(FromRead::new(reader))
+    fn reread(&self) -> Option<FromFront<S>> {
+        if !self.is_file {
+            return None;
+        }
+        let path = match &self.path {
+            Some(path) => path.as_str(),
+            None => STANDARD_INPUT,
+        };
+        let alloc = self.rt.alloc();
+        match S::open(self.rt, path) {
+            Ok((stream, _)) => from_front(alloc, Vec::new(alloc), Noting::new(stream)),
+            Err(_) => None,
+        }
     }
 
     fn seen(&self) -> &Seen {

@@ -10,9 +10,9 @@ mod command_line;
 mod commands;
 mod differing;
 mod disk;
-mod escaped;
 mod fault;
 mod files;
+mod finding;
 mod grammar;
 mod held;
 mod host;
@@ -32,26 +32,27 @@ mod sides;
 mod snapshots;
 mod streams;
 mod terminal;
+mod texts;
+mod wish;
 
 use differing::tell_differences;
 use disk::HostDisk;
-use escaped::Escaped;
 use files::{Files, HostFiles};
 use held::{Ahead, HeldOutput, Output};
 use host::{Host, Modeled};
 use logs::{HostLog, Logs, ProcessLog};
-use misfit::first_reason;
-use process::{no_memory, tell, words_of};
+use process::{no_memory, tell, tell_written, words_of};
 use program::RunOutcome;
 use screen::Screen;
 use session_log::{LogFault, Target, ToWrite};
-use several::note_one;
-use std::alloc::Global;
+use several::{note_one, say_cause};
+use std::alloc::AllocError;
 use std::cell::Cell;
 use std::io::{self, Write};
 use std::process::ExitCode;
 use streams::Noting;
 use terminal::{audience_of, style_of, terminals_of, width_of_faults};
+use texts::StreamFailure;
 
 impl<D: Files, L: Logs, O: Output, E: Target> Host<D, L, O, E> {
     /// Returns what more is said of a log that isn't one of several: what differs, where that is explained or all
@@ -62,27 +63,29 @@ impl<D: Files, L: Logs, O: Output, E: Target> Host<D, L, O, E> {
     {
         let mut more = Vec::new(self.alloc);
         let mut target = ToWrite::new(&mut more);
-        match (&outcome.wish, &outcome.ending, outcome.fault) {
-            (Some(wish), Some(ending), _) => {
-                note_one(&self.files, wish, &self.input, ending, &mut target);
-            }
-            (Some(wish), None, Some(LogFault::Differs { .. })) => {
-                let again = self.input.again();
-                tell_differences(&self.files, wish, again, outcome.fault, &mut target);
-            }
-            (_, None, Some(LogFault::BadLine(_))) if outcome.explains => {
-                if let Some(reason) = first_reason(self.alloc, self.input.lines()) {
-                    tell(&mut target, reason.as_bytes());
-                }
-            }
-            (_, None, Some(LogFault::Read(_))) if outcome.explains => {
-                if let Some(error) = self.input.failure() {
-                    say_failure(self.alloc, self.input.name(), error, &mut target);
-                }
-            }
-            _ => {}
+        if let Some(fault) = &outcome.fault {
+            self.say_fault(outcome, fault, &mut target);
+        } else if let Some(ending) = &outcome.ending
+            && let Some(wish) = &outcome.wish
+        {
+            note_one(&self.files, wish, &self.input, ending, &mut target);
         }
         more
+    }
+
+    /// Says what more is known of a log's fault.
+    fn say_fault<T: Target>(&mut self, outcome: &RunOutcome<'_>, fault: &LogFault, target: &mut T)
+        ensures { self.new ≡ record self.old { input = self.new.input } }
+    {
+        if let LogFault::Differs { .. } = fault {
+            if let Some(wish) = &outcome.wish {
+                let again = self.input.again();
+                tell_differences(&self.files, wish, again, outcome.fault, target);
+            }
+        } else if outcome.explains {
+            let name = self.input.name();
+            say_cause(&self.input, Some(name), fault, target);
+        }
     }
 
     /// Runs the program on these words, and says more of what came of it.
@@ -102,31 +105,21 @@ impl<D: Files, L: Logs, O: Output, E: Target> Host<D, L, O, E> {
     }
 }
 
-/// Says why a stream failed.
-fn say_failure<T: Target>(alloc: Global, name: &str, error: &io::Error, target: &mut T)
-    requires { T.failed target.old < 2 ^ 64 - 1 }
-{
-    if let Ok(text) = format!(in alloc; "  {}: {error}\n", Escaped(name)) {
-        tell(target, text.as_bytes());
-    }
-}
-
-/// Runs the program on the streams and files of its process. Returns the faults, too.
-fn play_to<'a, W: Write, E: Target + Drop>(
+/// Runs the program on the streams and files of its process.
+fn play_to<'a, W: Write, E: Write>(
     rt: &HostRuntime,
     words: &'a [&'a str],
     writer: &mut Noting<W>,
-    mut faults: E,
-) -> (RunOutcome<'a>, E)
-    requires { E.failed faults < 2 ^ 64 - 1 }
-{
+    errors: &mut Noting<E>,
+) -> RunOutcome<'a> {
     let (alloc, terminals) = (rt.alloc(), terminals_of(rt));
     let is_check = matches!(words.get(1), Some(word) if *word == "check");
     let audience = audience_of(rt, words, terminals, is_check);
     let ahead = Cell::new(Ahead::Nothing);
-    let made: io::Result<ProcessLog<'_>> = HostLog::new(rt, is_check, audience, &ahead);
+    let mut faults = ToWrite::new(errors);
+    let made: Result<ProcessLog<'_>, AllocError> = HostLog::new(rt, is_check, audience, &ahead);
     let Ok(input) = made else {
-        return (RunOutcome::of(Err(no_memory(&mut faults)), false), faults);
+        return RunOutcome::of(Err(no_memory(&mut faults)), false);
     };
     let style = style_of(rt, words, terminals);
     let screen = Screen::new(alloc, ToWrite::new(writer), style);
@@ -139,25 +132,28 @@ fn play_to<'a, W: Write, E: Target + Drop>(
         terminals,
         width: width_of_faults(rt, terminals),
     };
-    let outcome = host.play(words);
-    (outcome, host.faults)
+    host.play(words)
 }
 
 /// Runs the program on what its process hands to it. An error holds the exit status.
 fn start(rt: &HostRuntime) -> Result<(), u8> {
-    let mut faults = ToWrite::new(Noting::new(rt.stderr()));
-    let texts = words_of(rt, &mut faults)?;
+    let mut errors = Noting::new(rt.stderr());
+    let texts = words_of(rt, &mut ToWrite::new(&mut errors))?;
     let words: Result<Vec<&str>, _> = texts.iter().map(|text| text.as_str()).collect(rt.alloc());
     let Ok(words) = words else {
-        return Err(no_memory(&mut faults));
+        return Err(no_memory(&mut ToWrite::new(&mut errors)));
     };
     let mut writer = Noting::new(io::writer(rt));
-    let (outcome, mut faults) = play_to(rt, words.as_slice(), &mut writer, faults);
+    let outcome = play_to(rt, words.as_slice(), &mut writer, &mut errors);
     if let Some(error) = writer.failure()
         && outcome.explains
-        && faults.failures() == 0
+        && errors.failure().is_none()
     {
-        say_failure(rt.alloc(), "standard output", error, &mut faults);
+        let name = Some("standard output");
+        tell_written(
+            &mut ToWrite::new(&mut errors),
+            &StreamFailure { name, error },
+        );
     }
     outcome.status
 }

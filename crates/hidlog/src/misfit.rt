@@ -1,7 +1,11 @@
 //! Why a line isn't a log line.
 use crate::pieces::{after, count_in_front, is_line_feed};
 use session_log::read_line;
-use std::alloc::{AllocError, Global};
+use session_show::{Pen, Written};
+
+/// What is said of a carriage return.
+const CARRIAGE_RETURN: &str =
+    " is a carriage return: lines end with a line feed alone (tr -d '\\r' drops the others)\n";
 
 /// Returns how many bytes in front are hexadecimal digits, at most `most`.
 fn hex_len(field: &[u8], most: usize) -> usize {
@@ -11,8 +15,9 @@ fn hex_len(field: &[u8], most: usize) -> usize {
 /// Returns how many bytes in front two texts share.
 fn shared_len(field: &[u8], word: &[u8]) -> usize {
     for (place, byte) in word.iter().enumerate() {
-        if field.get(place) != Some(byte) {
-            return place;
+        match field.get(place) {
+            Some(own) if *own == *byte => {}
+            _ => return place,
         }
     }
     word.len()
@@ -59,6 +64,7 @@ fn digits_len(fields: &[u8], most: &[usize]) -> usize {
     }
     len
 }
+
 /// Returns how many bytes in front fit what comes after the moment of a line with this letter: a word, or fields of so
 /// many hexadecimal digits.
 fn fields_len(letter: u8, fields: &[u8]) -> usize {
@@ -96,33 +102,52 @@ fn fitting_len(line: &[u8]) -> usize {
     }
 }
 
-/// Returns why a line isn't a log line, as a line of text.
-fn reason(alloc: Global, line: &[u8]) -> Result<String, AllocError> {
-    let place = fitting_len(line);
-    let number = place.saturating_add(1);
-    match line.get(place) {
-        None => format!(in alloc; "  it ends after byte {place}, too early\n"),
-        Some(b'\r') => format!(in alloc;
-            "  byte {number} is a carriage return: lines end with a line feed alone (tr -d '\\r' drops the others)\n"
-        ),
-        Some(_) if place == 0 && line.starts_with(b"\xEF\xBB\xBF") => format!(in alloc;
-            "  byte 1 begins a byte order mark: a log has none\n"
-        ),
-        Some(byte) if matches!(*byte, b' '..=b'~') => {
-            let sign = char::from(*byte);
-            format!(in alloc; "  byte {number} is '{sign}', which fits no log line here\n")
+/// The first byte of a line that fits no log line; or that the line ends too early.
+#[derive(Clone, Copy)]
+pub struct Misfit<'a> {
+    line: &'a [u8],
+    place: usize,
+}
+
+impl Written for Misfit<'_> {
+    fn write(&self, pen: &mut Pen) {
+        let Some(byte) = self.line.get(self.place) else {
+            pen.text("  it ends after byte ");
+            pen.decimal(self.place as u64);
+            pen.text(", too early\n");
+            return;
+        };
+        pen.text("  byte ");
+        pen.decimal(self.place.saturating_add(1) as u64);
+        if self.place == 0 && self.line.starts_with(b"\xEF\xBB\xBF") {
+            pen.text(" begins a byte order mark: a log has none\n");
+            return;
         }
-        Some(byte) => format!(in alloc;
-            "  byte {number} is 0x{byte:02x}, which fits no log line here\n"
-        ),
+        match *byte {
+            b'\r' => {
+                pen.text(CARRIAGE_RETURN);
+                return;
+            }
+            b' '..=b'~' => {
+                pen.text(" is '");
+                pen.bytes(&[*byte]);
+                pen.text("'");
+            }
+            _ => {
+                pen.text(" is 0x");
+                pen.hex(&[*byte]);
+            }
+        }
+        pen.text(", which fits no log line here\n");
     }
 }
 
 /// Returns why the first line that is none of a log isn't one, if there is such a line.
-pub fn first_reason(alloc: Global, lines: &[u8]) -> Option<String> {
+pub fn first_misfit(lines: &[u8]) -> Option<Misfit<'_>> {
     for line in lines.split(is_line_feed) {
         if line.len() < 256 && read_line(line).is_none() {
-            return reason(alloc, line).ok();
+            let place = fitting_len(line);
+            return Some(Misfit { line, place });
         }
     }
     None

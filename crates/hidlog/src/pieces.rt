@@ -5,6 +5,11 @@ pub fn is_line_feed(byte: &u8) -> bool {
     *byte == b'\n'
 }
 
+/// Returns whether a byte is a space.
+pub fn is_space(byte: &u8) -> bool {
+    *byte == b' '
+}
+
 /// Returns how many of these bytes a text begins with.
 pub fn count_in_front(text: &[u8], bytes: &[u8]) -> usize {
     let mut count = 0_usize;

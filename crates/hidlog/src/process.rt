@@ -1,26 +1,17 @@
 //! What the program's process hands to it.
-ghost use Rattle.std.specs.Prelude.{◌≡◌, ◌<◌, ◌-◌, ◌^◌, ◌⊎◌, IfErr, OnOk, OnErr};
+ghost use Rattle.std.specs.Prelude.{◌≡◌, ◌<◌, ◌-◌, ◌^◌, ◌⊎◌, ℕ, List, IfErr, OnOk, OnErr};
 ghost use Rattle.hidlog.specs.Program.{IsGiven, IsTold, no_memory as no_memory_text, not_text};
 
-use crate::escaped::Escaped;
+use crate::fault::FaultReason;
 use session_log::{Target, put_all};
-use std::alloc::{AllocGlobal, Global};
+use session_show::{Pen, Wording, Written, put_written};
+use std::alloc::AllocGlobal;
 use std::env;
-use std::fmt::Display;
 use std::io::{self, ErrorKind};
 use std::rt::Env;
 
 /// The text of a write that failed.
 pub const WRITING_FAILED: &[u8] = b"hidlog: writing failed\n";
-
-/// How faults are reported.
-#[derive(Clone, Copy)]
-pub struct Reporting {
-    /// What reasons are allocated in.
-    pub alloc: Global,
-    /// Whether the reason follows a fault's text, for people.
-    pub explains: bool,
-}
 
 /// Writes a text to the faults. One that can't be written is dropped.
 pub fn tell<E: Target>(faults: &mut E, text: &[u8])
@@ -30,27 +21,32 @@ pub fn tell<E: Target>(faults: &mut E, text: &[u8])
     let _ = put_all(faults, text);
 }
 
-/// Writes a text to the faults and, where it is explained, on the next line what it is about and why. Where memory is
-/// refused, that line is left out.
-pub fn tell_why<E: Target, W: Display>(
-    faults: &mut E,
-    reporting: Reporting,
-    text: &[u8],
-    about: &str,
-    why: &W,
-)
+/// Writes what has a text to the faults. What can't be written is dropped.
+pub fn tell_written<E: Target, W: Written>(faults: &mut E, what: &W)
     requires { E.failed faults.old < 2 ^ 64 - 1 }
-    ensures { IsTold reporting.explains E.taken E.failed (faults.old, faults.new) text.now }
+    ensures { (text : List ℕ) × IsGiven E.taken E.failed (faults.old, faults.new) text }
 {
-    if !reporting.explains {
+    let _ = put_written(faults, &mut Pen::new(Wording::Explained), what);
+}
+
+/// Writes what has a text, unless too many writes failed.
+pub fn say<E: Target, W: Written>(faults: &mut E, what: &W) {
+    if faults.failures() < u64::MAX {
+        tell_written(faults, what);
+    }
+}
+
+/// Writes a text to the faults and, where it is explained, the line that says why.
+pub fn tell_why<E: Target>(faults: &mut E, explains: bool, text: &[u8], why: &FaultReason<'_>)
+    requires { E.failed faults.old < 2 ^ 64 - 1 }
+    ensures { IsTold explains E.taken E.failed (faults.old, faults.new) text.now }
+{
+    if !explains {
         tell(faults, text);
         return;
     }
-    if put_all(faults, text).is_err() {
-        return;
-    }
-    if let Ok(more) = format!(in reporting.alloc; "  {}: {why}\n", Escaped(about)) {
-        tell(faults, more.as_bytes());
+    if put_all(faults, text).is_ok() {
+        tell_written(faults, why);
     }
 }
 

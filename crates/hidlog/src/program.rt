@@ -12,20 +12,19 @@ ghost use Rattle.hidlog.specs.Commands.{Answers, Does, DoesCommand, Explains, Re
 
 use crate::command_line::{Form, ProgramTask, task_of};
 use crate::commands::{Play, open_log};
-use crate::differing::Wish;
-use crate::escaped::escaped_lines;
 use crate::fault::ProgramFault;
 use crate::files::Files;
 use crate::held::{Output, WrittenLines, settled};
 use crate::host::{Host, Modeled};
 use crate::logs::Logs;
-use crate::process::{Reporting, WRITING_FAILED, no_memory, tell};
+use crate::process::{WRITING_FAILED, no_memory, tell, tell_written};
 use crate::remarks::ComparisonEnd;
+use crate::texts::EscapedLines;
+use crate::wish::Wish;
 use clap::Error;
 use clap::error::ErrorKind;
 use session_log::{LogCommand, LogFault, Target, put_all};
 use session_show::{LogForm, LogWriter, Wording, explain, put_json_fault, show, write_log};
-use std::alloc::Global;
 
 /// What came of the words, with what more may be said of a log that isn't one of several.
 #[derive(Drop)]
@@ -69,15 +68,12 @@ fn put_text<O: Target>(output: &mut O, text: &[u8]) -> Result<(), LogFault>
 }
 
 /// Writes what is wrong with the words, line by line, with what they have that can't be seen escaped. The exit status, 2.
-fn refuse_words<E: Target>(alloc: Global, text: &str, faults: &mut E) -> u8
+fn refuse_words<E: Target>(text: &str, faults: &mut E) -> u8
     requires { E.failed faults.old < 2 ^ 64 - 1 }
     ensures status { result ≡ 2 }
     ensures told { (said : List ℕ) × IsGiven E.taken E.failed (faults.old, faults.new) said }
 {
-    match escaped_lines(alloc, text) {
-        Ok(said) => tell(faults, said.as_bytes()),
-        Err(_) => tell(faults, b"hidlog: no memory\n"),
-    }
+    tell_written(faults, &EscapedLines(text));
     2
 }
 
@@ -102,14 +98,14 @@ fn show_form<L: Logs, O: Target>(
             }
         }
         Err(fault) => {
-            let is_lost = fault == LogFault::Write || output.failures() == u64::MAX;
+            let is_lost = matches!(fault, LogFault::Write) || output.failures() == u64::MAX;
             if is_lost {
                 return Err(fault);
             }
             if log_writer.put(output).is_err() || output.failures() == u64::MAX {
                 return Err(LogFault::Write);
             }
-            if form != LogForm::Table {
+            if !matches!(form, LogForm::Table) {
                 let _ = put_json_fault(output, &fault);
             }
             Err(fault)
@@ -162,8 +158,7 @@ impl<D: Files, L: Logs, O: Output, E: Target> Host<D, L, O, E> {
             _ => return Err(no_memory(&mut self.faults)),
         };
         if error.use_stderr() {
-            let alloc = self.alloc;
-            return Err(refuse_words(alloc, text.as_str(), &mut self.faults));
+            return Err(refuse_words(text.as_str(), &mut self.faults));
         }
         let answer = put_text(&mut self.output, text.as_bytes());
         if settled(&mut self.output, answer).is_err() {
@@ -234,7 +229,7 @@ impl<D: Files, L: Logs, O: Output, E: Target> Host<D, L, O, E> {
         requires { CanFail ⟦<Self as Modeled>⟧.model self.old }
         ensures status { IfErr result.status (λ code. (code ≡ 1) ⊎ (code ≡ 2)) }
         ensures does { DoesCommand ⟦<Self as Modeled>⟧.model comparing (path_of wish.entry.load) None (path_of log.entry)
-            wish.entry.reporting.explains result.status self.old self.new }
+            wish.entry.explains result.status self.old self.new }
     {
         let play = Play {
             command: LogCommand::Check,
@@ -242,7 +237,7 @@ impl<D: Files, L: Logs, O: Output, E: Target> Host<D, L, O, E> {
             save: None,
             log,
         };
-        let mut outcome = self.run_command(&play, wish.reporting.explains);
+        let mut outcome = self.run_command(&play, wish.explains);
         outcome.wish = Some(wish);
         outcome
     }
@@ -252,12 +247,12 @@ impl<D: Files, L: Logs, O: Output, E: Target> Host<D, L, O, E> {
         requires { CanFail ⟦<Self as Modeled>⟧.model self.old }
         ensures status { IfErr result.status (λ code. (code ≡ 1) ⊎ (code ≡ 2)) }
         ensures does { Does ⟦<Self as Modeled>⟧.model (check (path_of wish.entry.load) wish.entry.is_all false (texts_of logs.now))
-            fixed wish.entry.reporting.explains result.status self.old self.new }
+            fixed wish.entry.explains result.status self.old self.new }
     {
         match logs {
             [] => self.check_log(wish, None),
             [log] => self.check_log(wish, Some(*log)),
-            _ => RunOutcome::of(self.check_each(&wish, logs), wish.reporting.explains),
+            _ => RunOutcome::of(self.check_each(&wish, logs), wish.explains),
         }
     }
 
@@ -265,11 +260,13 @@ impl<D: Files, L: Logs, O: Output, E: Target> Host<D, L, O, E> {
     fn check_as_json<'a>(&mut self, wish: &Wish<'_>, logs: &[&str]) -> RunOutcome<'a>
         ensures status { IfErr result.status (λ code. (code ≡ 1) ⊎ (code ≡ 2)) }
         ensures does { Does ⟦<Self as Modeled>⟧.model (check (path_of wish.now.load) wish.now.is_all true (texts_of logs.now))
-            fixed wish.now.reporting.explains result.status self.old self.new }
+            fixed wish.now.explains result.status self.old self.new }
     {
-        let explains = wish.reporting.explains;
+        let explains = wish.explains;
         let wish = Wish {
             is_json: true,
+            // An object is never cut.
+            width: None,
             ..*wish
         };
         match logs {
@@ -296,7 +293,7 @@ impl<D: Files, L: Logs, O: Output, E: Target> Host<D, L, O, E> {
         match asked.task {
             ProgramTask::Play(play) => self.run_command(&play, explains),
             ProgramTask::Check { load, all, json } => {
-                let wish = Wish::of(Reporting { alloc, explains }, load, all, self.width);
+                let wish = Wish::of(alloc, explains, load, all, self.width);
                 if json {
                     self.check_as_json(&wish, &asked.logs)
                 } else {

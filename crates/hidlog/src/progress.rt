@@ -1,5 +1,5 @@
 //! How much of a long log was read, at a terminal.
-use std::alloc::Global;
+use session_show::{Pen, Wording};
 use std::io::Write;
 
 /// How many bytes take a command about a second. Of a shorter log nothing is said.
@@ -43,14 +43,15 @@ impl Progress {
         }
         self.next = len.saturating_add(STEP);
         self.is_written = true;
-        let read = len / MEGABYTE;
-        let line = match self.size {
-            Some(size) => format!(in rt.alloc(); "  {read} of {} MB\r", size / MEGABYTE),
-            None => format!(in rt.alloc(); "  {read} MB\r"),
-        };
-        if let Ok(line) = line {
-            let _ = rt.stderr().write_all(line.as_bytes());
+        let mut pen = Pen::new(Wording::Fixed);
+        pen.text("  ");
+        pen.decimal(len / MEGABYTE);
+        if let Some(size) = self.size {
+            pen.text(" of ");
+            pen.decimal(size / MEGABYTE);
         }
+        pen.text(" MB\r");
+        let _ = rt.stderr().write_all(pen.part());
     }
 
     /// Erases what was written.

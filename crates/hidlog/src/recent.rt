@@ -4,8 +4,9 @@ ghost use Rattle.std.specs.Io.KnownBytes.{Consumes, Keeps, IsAtEnd, prepend_know
 ghost use Rattle.hidlog.specs.Streams.{unread};
 
 use crate::pieces::is_line_feed;
+use session_log::Failed;
 use std::alloc::{AllocError, Global};
-use std::io::{self, Read};
+use std::io::Read;
 
 /// How many bytes are held, of those that were read last.
 const HELD: usize = 8192;
@@ -26,7 +27,7 @@ pub struct Recent {
 }
 
 /// Reads once, behind so many bytes.
-fn read_behind<R: Read>(stream: &mut R, held: &mut Vec<u8>, end: usize) -> io::Result<usize>
+fn read_behind<R: Read>(stream: &mut R, held: &mut Vec<u8>, end: usize) -> Result<usize, Failed>
     requires { end ≤ vec_len held.old }
     ensures len { vec_len held.new ≡ vec_len held.old }
     ensures bound { IfOk result (λ n. end + n ≤ vec_len held.new) }
@@ -34,7 +35,10 @@ fn read_behind<R: Read>(stream: &mut R, held: &mut Vec<u8>, end: usize) -> io::R
     ensures end { IfOk result (λ n. n ≡ 0 → end < vec_len held.old → IsAtEnd (R.remaining stream.new)) }
     ensures err { OnErr result (Keeps (R.remaining stream.old) (R.remaining stream.new)) }
 {
-    stream.read(held.as_mut_slice().split_at_mut(end).1)
+    match stream.read(held.as_mut_slice().split_at_mut(end).1) {
+        Ok(n) => Ok(n),
+        Err(_) => Err(Failed),
+    }
 }
 
 impl Recent {
@@ -79,7 +83,7 @@ impl Recent {
     }
 
     /// Reads once, where all were handed on, after what was read before. Returns how many bytes came.
-    pub fn fill<R: Read>(&mut self, stream: &mut R) -> io::Result<usize>
+    pub fn fill<R: Read>(&mut self, stream: &mut R) -> Result<usize, Failed>
         requires { unread self.old.held.items self.old.at self.old.end ≡ [] }
         ensures bytes { Keeps (R.remaining stream.old)
             (prepend_known (unread self.new.held.items self.new.at self.new.end) (R.remaining stream.new)) }

@@ -1,10 +1,9 @@
 //! What is said beside the result of `check`.
-use crate::differing::{Wish, say_note};
+use crate::process::say;
 use crate::seen::Seen;
+use crate::wish::Wish;
 use session_log::{CAPACITY, Target};
-use session_show::Awaited;
-use std::alloc::{AllocError, Global};
-use std::fmt::Write;
+use session_show::{Awaited, Pen, SignedOtherwise, Written};
 use token_session::Session;
 
 /// What a session holds and waits for at the end of a log.
@@ -39,39 +38,92 @@ impl ComparisonEnd {
     }
 }
 
-/// Returns what may be wrong with a log in which nothing differs: a line for each.
-fn notes(alloc: Global, seen: &Seen, ending: &ComparisonEnd) -> Result<String, AllocError> {
-    let mut text = String::new(alloc);
-    if seen.len == 0 {
-        writeln!(text, "the log is empty")?;
-    } else if !seen.has_input {
-        writeln!(text, "the log has no inputs")?;
-    }
-    if !seen.ends_line {
-        writeln!(
-            text,
-            "the last line has no line feed, so the log may be cut off"
-        )?;
-    }
-    if let Some(awaited) = ending.awaited {
-        let awaited = awaited.name();
-        writeln!(text, "the log ends while the key waits for {awaited}")?;
-    }
-    if ending.held > 0 {
-        let held = ending.held;
-        writeln!(
-            text,
-            "the log ends inside a message, after {held} bytes of it"
-        )?;
-    }
-    Ok(text)
+/// What is said of a log beside its result.
+#[derive(Clone, Copy)]
+pub enum Remark {
+    /// What more can be known of its differences.
+    Differences(&'static str),
+    /// What may be wrong with it, though nothing differs.
+    Doubt(&'static str),
+    /// It ends while the key waits for this.
+    Waits(Awaited),
+    /// It ends after so many bytes of a message.
+    EndsInside(u16),
+    /// It says that other bytes were signed.
+    Signed(SignedOtherwise),
 }
 
-/// Says what may be wrong with a log in which nothing differs. Where memory is refused, nothing is said.
-pub fn note<E: Target>(wish: &Wish<'_>, seen: &Seen, ending: &ComparisonEnd, faults: &mut E) {
-    if let Ok(notes) = notes(wish.reporting.alloc, seen, ending) {
-        for text in notes.as_str().lines() {
-            say_note(wish, text, faults);
+impl Remark {
+    /// Writes it without a front or a line feed. No sign of it is escaped in JSON.
+    fn write(self, pen: &mut Pen) {
+        match self {
+            Remark::Differences(text) | Remark::Doubt(text) => pen.text(text),
+            Remark::Waits(awaited) => {
+                pen.text("the log ends while the key waits for ");
+                pen.text(awaited.name());
+            }
+            Remark::EndsInside(held) => {
+                pen.text("the log ends inside a message, after ");
+                pen.decimal(u64::from(held));
+                pen.text(" bytes of it");
+            }
+            Remark::Signed(otherwise) => {
+                pen.text("line ");
+                pen.decimal(otherwise.line);
+                pen.text(": what was signed there isn't what this key asks to be signed: ");
+                pen.text(otherwise.what);
+            }
         }
+    }
+}
+
+/// A remark as a line or an object.
+#[derive(Clone, Copy)]
+struct Remarked<'a> {
+    wish: &'a Wish<'a>,
+    remark: Remark,
+}
+
+impl Written for Remarked<'_> {
+    fn write(&self, pen: &mut Pen) {
+        if self.wish.is_json {
+            self.wish.begin_object(pen, "note");
+            pen.text(",\"text\":\"");
+            self.remark.write(pen);
+            pen.text("\"}\n");
+            return;
+        }
+        if let Remark::Differences(_) = self.remark {
+            pen.text("  ");
+        } else {
+            self.wish.begin_line(pen);
+            pen.text("note: ");
+        }
+        self.remark.write(pen);
+        pen.text("\n");
+    }
+}
+
+/// Says a remark.
+pub fn say_remark<E: Target>(wish: &Wish<'_>, remark: Remark, faults: &mut E) {
+    say(faults, &Remarked { wish, remark });
+}
+
+/// Says what may be wrong with a log in which nothing differs.
+pub fn note<E: Target>(wish: &Wish<'_>, seen: &Seen, ending: &ComparisonEnd, faults: &mut E) {
+    if seen.len == 0 {
+        say_remark(wish, Remark::Doubt("the log is empty"), faults);
+    } else if !seen.has_input {
+        say_remark(wish, Remark::Doubt("the log has no inputs"), faults);
+    }
+    if !seen.ends_line {
+        let doubt = "the last line has no line feed, so the log may be cut off";
+        say_remark(wish, Remark::Doubt(doubt), faults);
+    }
+    if let Some(awaited) = ending.awaited {
+        say_remark(wish, Remark::Waits(awaited), faults);
+    }
+    if ending.held > 0 {
+        say_remark(wish, Remark::EndsInside(ending.held), faults);
     }
 }

@@ -1,10 +1,11 @@
 //! A log that is shown at a terminal: lines that are cut at its width, and in colours.
-ghost use Rattle.std.specs.Prelude.{◌≡◌, None, is_none, if◌then◌else◌};
+ghost use Rattle.std.specs.Prelude.{◌≡◌, ◌<◌, ◌-◌, ◌^◌, None, is_none, if◌then◌else◌};
+ghost use Rattle.session_show.specs.Written.{Writes};
 
 use crate::pieces::{after, digits_in, has_part, is_line_feed};
 use session_log::{Failed, Target, put_all};
-use std::alloc::{AllocError, Global};
-use std::io;
+use session_show::{Pen, Wording, Written, put_written};
+use std::alloc::Global;
 
 const PLAIN: &[u8] = b"\x1b[0m";
 
@@ -56,26 +57,32 @@ fn cut_at(line: &[u8], width: usize) -> Option<usize> {
 }
 
 /// Writes a line without its line feed, or what fits of it and two dots.
-fn put_line(out: &mut Vec<u8>, line: &[u8], width: Option<usize>) -> Result<(), AllocError> {
-    if let Some(width) = width
-        && let Some(end) = cut_at(line, width)
-    {
-        out.extend_from_slice(line.get(..end).unwrap_or(line))?;
-        return out.extend_from_slice(b"..");
+fn write_cut(pen: &mut Pen, line: &[u8], width: usize) {
+    match cut_at(line, width) {
+        Some(end) => {
+            pen.bytes(line.get(..end).unwrap_or(line));
+            pen.text("..");
+        }
+        None => pen.bytes(line),
     }
-    out.extend_from_slice(line)
 }
 
-/// Returns lines that end with line feeds, cut at a width.
-pub fn put_cut(alloc: Global, text: &[u8], width: Option<usize>) -> io::Result<Vec<u8>> {
-    let mut out = Vec::new(alloc);
-    for line in text.split(is_line_feed) {
-        if !line.is_empty() {
-            put_line(&mut out, line, width)?;
-            out.extend_from_slice(b"\n")?;
+/// Lines that end with line feeds, cut at a width.
+#[derive(Clone, Copy)]
+pub struct CutLines<'a> {
+    pub text: &'a [u8],
+    pub width: usize,
+}
+
+impl Written for CutLines<'_> {
+    fn write(&self, pen: &mut Pen) {
+        for line in self.text.split(is_line_feed) {
+            if !line.is_empty() {
+                write_cut(pen, line, self.width);
+                pen.text("\n");
+            }
         }
     }
-    Ok(out)
 }
 
 /// Returns the colour of a line that begins with so many digits.
@@ -96,47 +103,60 @@ fn colour_of(line: &[u8], digits: usize) -> &'static [u8] {
     }
 }
 
-/// Writes a line as the style has it. Its number ends in a column of its own.
-fn put_styled(out: &mut Vec<u8>, line: &[u8], style: &Style) -> Result<(), AllocError> {
-    let digits = digits_in(line);
-    let colour = if style.has_colours {
-        colour_of(line, digits)
-    } else {
-        b""
-    };
-    let pad = if digits == 0 {
-        0
-    } else {
-        NUMBERS.saturating_sub(digits)
-    };
-    out.extend_from_slice(colour)?;
-    for _ in 0..pad {
-        out.extend_from_slice(b" ")?;
+impl Style {
+    /// Writes a line. Its number ends in a column of its own.
+    fn write_line(&self, pen: &mut Pen, line: &[u8]) {
+        let digits = digits_in(line);
+        let colour = if self.has_colours {
+            colour_of(line, digits)
+        } else {
+            b""
+        };
+        let pad = if digits == 0 {
+            0
+        } else {
+            NUMBERS.saturating_sub(digits)
+        };
+        pen.bytes(colour);
+        for _ in 0..pad {
+            pen.text(" ");
+        }
+        match self.width {
+            Some(width) => write_cut(pen, line, width.saturating_sub(pad)),
+            None => pen.bytes(line),
+        }
+        if !colour.is_empty() {
+            pen.bytes(PLAIN);
+        }
+        pen.text("\n");
     }
-    let width = match style.width {
-        Some(width) => Some(width.saturating_sub(pad)),
-        None => None,
-    };
-    put_line(out, line, width)?;
-    if !colour.is_empty() {
-        out.extend_from_slice(PLAIN)?;
-    }
-    out.extend_from_slice(b"\n")
 }
 
-/// Takes a piece after what is of its first line, and returns the lines that it ends, as they are written.
-fn styled(line: &mut Vec<u8>, style: &Style, piece: &[u8]) -> Result<Vec<u8>, AllocError> {
-    let mut out = Vec::new(*line.allocator());
-    let mut is_first = true;
-    for part in piece.split(is_line_feed) {
-        if !is_first {
-            put_styled(&mut out, line, style)?;
-            line.clear();
+/// Lines that end with line feeds, as the style has them.
+#[derive(Clone, Copy)]
+struct StyledLines<'a> {
+    text: &'a [u8],
+    style: &'a Style,
+}
+
+impl Written for StyledLines<'_> {
+    fn write(&self, pen: &mut Pen) {
+        let lines = self.text.strip_suffix(b"\n").unwrap_or(self.text);
+        for line in lines.split(is_line_feed) {
+            self.style.write_line(pen, line);
         }
-        line.extend_from_slice(part)?;
-        is_first = false;
     }
-    Ok(out)
+}
+
+/// Returns how many bytes in front are whole lines.
+fn whole_len(text: &[u8]) -> usize {
+    let mut len = 0;
+    for (place, byte) in text.iter().enumerate() {
+        if *byte == b'\n' {
+            len = place.saturating_add(1);
+        }
+    }
+    len
 }
 
 /// A target over another one, which is a terminal where there is a style.
@@ -162,6 +182,15 @@ impl<T: Target> Screen<T> {
     }
 }
 
+/// Writes lines in a style. It has a frame of its own, since one with a pen is zeroed at each call.
+#[inline(never)]
+fn put_styled<T: Target>(target: &mut T, lines: &StyledLines<'_>) -> Result<(), Failed>
+    requires { T.failed target.old < 2 ^ 64 - 1 }
+    ensures { Writes T.taken T.failed (target.old, target.new) result }
+{
+    put_written(target, &mut Pen::new(Wording::Fixed), lines)
+}
+
 impl<T: Target> Target for Screen<T> {
     // Without a style it hands on what it takes. What is written of a line with one, no clause says.
     ghost taken = { λ s. if is_none s.style then T.taken s.inner else None };
@@ -169,14 +198,22 @@ impl<T: Target> Target for Screen<T> {
     ghost failed = { λ s. T.failed s.inner };
 
     fn put(&mut self, piece: &[u8]) -> Result<usize, Failed> {
-        let Some(style) = self.style else {
+        let Some(style) = &self.style else {
             return self.inner.put(piece);
         };
-        match styled(&mut self.line, &style, piece) {
-            Ok(lines) => put_all(&mut self.inner, lines.as_slice())?,
+        let len = whole_len(piece);
+        let whole = piece.get(..len).unwrap_or(piece);
+        if self.line.extend_from_slice(whole).is_err() {
             // Without memory it is written as it is.
-            Err(_) => put_all(&mut self.inner, piece)?,
+            put_all(&mut self.inner, piece)?;
+            return Ok(piece.len());
         }
+        if len > 0 {
+            let text = self.line.as_slice();
+            put_styled(&mut self.inner, &StyledLines { text, style })?;
+            self.line.clear();
+        }
+        let _ = self.line.extend_from_slice(after(piece, len));
         Ok(piece.len())
     }
 

@@ -8,31 +8,83 @@ ghost use Rattle.hidlog.specs.Model.{CanFail};
 ghost use Rattle.hidlog.specs.Several.{IsSameAt};
 
 use crate::commands::{fresh, open_log};
-use crate::differing::{Wish, tell_differences};
-use crate::escaped::Escaped;
+use crate::differing::tell_differences;
 use crate::fault::ProgramFault;
 use crate::files::Files;
 use crate::held::Output;
 use crate::host::{Host, Modeled};
 use crate::logs::Logs;
-use crate::misfit::first_reason;
-use crate::objects::{put_fault, put_same};
-use crate::process::{WRITING_FAILED, tell};
+use crate::misfit::first_misfit;
+use crate::objects::ProgramFaultObject;
+use crate::pieces::is_space;
+use crate::process::{WRITING_FAILED, say, tell};
 use crate::remarks::{ComparisonEnd, note};
 use crate::snapshots::load;
-use arrayvec::ArrayVec;
-use session_log::{CAPACITY, Failed, LogCommand, LogFault, Target, ToWrite, put_all};
-use std::io::Write;
+use crate::texts::StreamFailure;
+use crate::wish::Wish;
+use session_log::{CAPACITY, LogCommand, LogFault, Target, ToWrite};
+use session_show::{Pen, Wording, Written, put_json_fault, put_written};
 use token_session::Session;
 
-/// Writes what is said of a log, its name in front.
-fn put_about<T: Target>(target: &mut T, name: &str, text: &[u8]) -> Result<(), Failed>
-    requires { T.failed target.old < 2 ^ 64 - 1 }
-    ensures { OnOk result (T.failed target.new ≡ T.failed target.old) }
-{
-    put_all(target, name.as_bytes())?;
-    put_all(target, b": ")?;
-    put_all(target, text)
+/// That nothing differs in a log, by the text that says it: `same 14 inputs 22 packets`.
+#[derive(Clone, Copy)]
+struct SameLog<'a> {
+    wish: &'a Wish<'a>,
+    text: &'a [u8],
+}
+
+impl Written for SameLog<'_> {
+    fn write(&self, pen: &mut Pen) {
+        if !self.wish.is_json {
+            self.wish.begin_line(pen);
+            pen.bytes(self.text);
+            return;
+        }
+        self.wish.begin_object(pen, "same");
+        let mut words = self.text.split(is_space);
+        let _ = words.next();
+        pen.text(",\"inputs\":");
+        pen.bytes(words.next().unwrap_or(b"0"));
+        let _ = words.next();
+        pen.text(",\"packets\":");
+        pen.bytes(words.next().unwrap_or(b"0"));
+        pen.text("}\n");
+    }
+}
+
+/// The line of a log's fault.
+#[derive(Clone, Copy)]
+struct FaultLine<'a> {
+    wish: &'a Wish<'a>,
+    fault: LogFault,
+}
+
+impl Written for FaultLine<'_> {
+    fn write(&self, pen: &mut Pen) {
+        self.wish.write_fault(pen, &self.fault);
+    }
+}
+
+/// Says why a line of a log is none, or why reading it failed, with this name of the log in front.
+pub fn say_cause<L: Logs, E: Target>(
+    input: &L,
+    name: Option<&str>,
+    fault: &LogFault,
+    faults: &mut E,
+) {
+    match fault {
+        LogFault::BadLine(_) => {
+            if let Some(misfit) = first_misfit(input.lines()) {
+                say(faults, &misfit);
+            }
+        }
+        LogFault::Read(_) => {
+            if let Some(error) = input.failure() {
+                say(faults, &StreamFailure { name, error });
+            }
+        }
+        _ => {}
+    }
 }
 
 /// Begins with standard input, where the path names that. A file is opened later.
@@ -53,7 +105,7 @@ pub fn note_one<D: Files, L: Logs, E: Target>(
     ending: &ComparisonEnd,
     faults: &mut E,
 ) {
-    if !wish.reporting.explains && !wish.is_json {
+    if !wish.explains && !wish.is_json {
         return;
     }
     note(wish, input.seen(), ending, faults);
@@ -110,20 +162,14 @@ impl<D: Files, L: Logs, O: Output, E: Target> Host<D, L, O, E> {
     }
 
     /// Writes that nothing differs in a log, by the text that says it. An error holds the exit status.
-    fn say_same(&mut self, wish: &Wish<'_>, same: &[u8]) -> Result<(), u8>
+    fn say_same(&mut self, wish: &Wish<'_>, text: &[u8]) -> Result<(), u8>
         requires { O.failed self.old.output < 2 ^ 64 - 1 }
         ensures status { IfErr result (λ code. code ≡ 1) }
         ensures files { self.new.files ≡ self.old.files }
         ensures input { self.new.input ≡ self.old.input }
     {
-        let mut object = Vec::new(self.alloc);
-        let said = if !wish.is_json {
-            put_about(&mut self.output, wish.name, same)
-        } else if put_same(&mut object, wish, same).is_ok() {
-            put_all(&mut self.output, &object)
-        } else {
-            Err(Failed)
-        };
+        let mut pen = Pen::new(Wording::Explained);
+        let said = put_written(&mut self.output, &mut pen, &SameLog { wish, text });
         if said.is_ok() {
             return Ok(());
         }
@@ -157,34 +203,20 @@ impl<D: Files, L: Logs, O: Output, E: Target> Host<D, L, O, E> {
         requires { E.failed self.old.faults < 2 ^ 64 - 1 }
         ensures { self.new ≡ record self.old { faults = self.new.faults } }
     {
-        let (explains, alloc) = (wish.reporting.explains, self.alloc);
         let fault = match fault {
             // The others name no line.
             ProgramFault::Log(fault)
                 if !matches!(fault, LogFault::Write | LogFault::TooManyLines) => { *fault }
             _ => {
-                self.tell(fault, explains);
+                self.tell(fault, wish.explains);
                 return;
             }
         };
-        let mut text = ArrayVec::<u8, 96>::new();
-        let _ = writeln!(text, "{fault}");
-        let is_put = put_about(&mut self.faults, wish.name, text.as_slice()).is_ok();
-        if !is_put || !explains {
-            return;
-        }
-        let more = match fault {
-            LogFault::BadLine(_) => first_reason(alloc, self.input.lines()),
-            LogFault::Read(_) => {
-                match self.input.failure() {
-                    Some(error) => format!(in alloc; "  {error}\n").ok(),
-                    None => None,
-                }
-            }
-            _ => None,
-        };
-        if let Some(more) = more {
-            tell(&mut self.faults, more.as_bytes());
+        let line = FaultLine { wish, fault };
+        let mut pen = Pen::new(Wording::Explained);
+        let is_put = put_written(&mut self.faults, &mut pen, &line).is_ok();
+        if is_put && wish.explains {
+            say_cause(&self.input, None, &fault, &mut self.faults);
         }
     }
 
@@ -212,10 +244,16 @@ impl<D: Files, L: Logs, O: Output, E: Target> Host<D, L, O, E> {
             let again = self.input.again();
             tell_differences(&self.files, wish, again, difference, &mut self.output);
         }
-        let mut object = Vec::new(self.alloc);
-        if put_fault(&mut object, wish, fault).is_ok() && self.output.failures() < u64::MAX {
-            tell(&mut self.output, &object);
+        let mut log = Vec::new(self.alloc);
+        if let ProgramFault::Log(fault) = fault {
+            let _ = put_json_fault(&mut ToWrite::new(&mut log), fault);
         }
+        let object = ProgramFaultObject {
+            wish,
+            fault,
+            log: &log,
+        };
+        say(&mut self.output, &object);
         if self.output.failures() > 0 {
             self.say_unwritten();
         }
@@ -256,20 +294,13 @@ impl<D: Files, L: Logs, O: Output, E: Target> Host<D, L, O, E> {
             if is_spent || self.output.failures() > 0 {
                 return Err(1);
             }
-            let shown = format!(in self.alloc; "{}", Escaped(path)).ok();
-            let name = match &shown {
-                Some(text) => text.as_str(),
-                None => "a log",
-            };
-            let is_one = paths.len() == 1;
             let wish = Wish {
-                name: if is_one { wished.name } else { name },
-                path: if is_one { None } else { Some(*path) },
+                path: if paths.len() == 1 { None } else { Some(*path) },
                 ..*wished
             };
             let one = self.check_one(&wish, path);
             has_failed = has_failed || one.is_err();
-            if one == Err(2) {
+            if matches!(one, Err(2)) {
                 return Err(2);
             }
         }

@@ -2,8 +2,7 @@
 use crate::pieces::{after, count_in_front, digits_in, is_line_feed};
 use hid_packet::command::CBOR;
 use hid_packet::{Packet, View};
-use session_show::Difference;
-use std::io::{self, Write};
+use session_show::{Difference, Pen};
 
 /// How many bytes of a packet are written where one of them differs.
 const ROW: usize = 16;
@@ -23,69 +22,69 @@ fn without_number(line: &[u8]) -> &[u8] {
 }
 
 /// Writes the lines of one side which the other one hasn't at their place, and always that of the packet.
-fn put_side(out: &mut Vec<u8>, own: &[u8], other: &[u8]) -> io::Result<()> {
+fn write_side(pen: &mut Pen, own: &[u8], other: &[u8]) {
     let mut others = other.split(is_line_feed);
     let mut is_packet = true;
     for line in own.split(is_line_feed) {
-        let is_shared = others.next() == Some(line);
+        let is_shared = match others.next() {
+            Some(other) => line == other,
+            None => false,
+        };
         if is_packet || !is_shared && !line.is_empty() {
-            let front = if is_packet { "    " } else { "   " };
-            out.extend_from_slice(front.as_bytes())?;
-            out.extend_from_slice(without_number(line))?;
-            out.extend_from_slice(b"\n")?;
+            pen.text(if is_packet { "    " } else { "   " });
+            pen.bytes(without_number(line));
+            pen.text("\n");
         }
         is_packet = false;
     }
-    Ok(())
 }
 
 /// Writes what the log has and what the key sends: the packets, and of their messages what isn't the same.
-pub fn put_sides(
-    out: &mut Vec<u8>,
-    difference: &Difference,
-    logged: &[u8],
-    sent: &[u8],
-) -> io::Result<()> {
-    let line = difference.line;
+pub fn write_sides(pen: &mut Pen, difference: &Difference, logged: &[u8], sent: &[u8]) {
     if difference.logged.is_some() {
-        writeln!(out, "  the log has in line {line}:")?;
-        put_side(out, logged, sent)?;
+        pen.text("  the log has in line ");
+        pen.decimal(difference.line);
+        pen.text(":\n");
+        write_side(pen, logged, sent);
     } else {
-        writeln!(out, "  the log has no packet here, up to line {line}")?;
+        pen.text("  the log has no packet here, up to line ");
+        pen.decimal(difference.line);
+        pen.text("\n");
     }
     if difference.sent.is_some() {
-        out.extend_from_slice(b"  the key sends:\n")?;
-        put_side(out, sent, logged)
+        pen.text("  the key sends:\n");
+        write_side(pen, sent, logged);
     } else {
-        out.extend_from_slice(b"  the key sends no packet here\n")?;
-        Ok(())
+        pen.text("  the key sends no packet here\n");
     }
 }
 
 /// Writes the first byte that differs, with those around it, and the members in which the messages differ first.
-pub fn put_first(
-    out: &mut Vec<u8>,
-    difference: &Difference,
-    logged: &[u8],
-    sent: &[u8],
-) -> io::Result<()> {
-    let (Some(own), Some(other)) = (difference.logged, difference.sent) else {
-        return Ok(());
+pub fn write_first(pen: &mut Pen, difference: &Difference, logged: &[u8], sent: &[u8]) {
+    let (Some(own), Some(other)) = (&difference.logged, &difference.sent) else {
+        return;
     };
     let Some((at, old, new)) = difference.byte() else {
-        return Ok(());
+        return;
     };
-    let place = place_of(&own, at);
-    writeln!(
-        out,
-        "  byte {at} of the packet{place} is {old:02x} in the log and {new:02x} from the key:"
-    )?;
-    let from = at - at % ROW;
-    put_row(out, "log", &own, from)?;
-    put_row(out, "key", &other, from)?;
-    let column = 3 * (at % ROW) + 8;
-    writeln!(out, "{:column$}^^", "")?;
-    put_path(out, members_of(logged, sent).as_slice())
+    pen.text("  byte ");
+    pen.decimal(at as u64);
+    pen.text(" of the packet");
+    pen.text(place_of(own, at));
+    pen.text(" is ");
+    pen.hex(&[old]);
+    pen.text(" in the log and ");
+    pen.hex(&[new]);
+    pen.text(" from the key:\n");
+    let column = at % ROW;
+    write_row(pen, "    log", own, at - column);
+    write_row(pen, "    key", other, at - column);
+    pen.text("        ");
+    for _ in 0..column {
+        pen.text("   ");
+    }
+    pen.text("^^\n");
+    write_path(pen, &members_of(logged, sent));
 }
 
 /// Returns what a byte of a packet is, where it isn't data.
@@ -101,12 +100,13 @@ fn place_of(packet: &Packet, at: usize) -> &'static str {
 }
 
 /// Writes some bytes of a packet.
-fn put_row(out: &mut Vec<u8>, name: &str, packet: &Packet, from: usize) -> io::Result<()> {
-    write!(out, "    {name}")?;
-    for byte in packet.0.iter().skip(from).take(ROW) {
-        write!(out, " {byte:02x}")?;
+fn write_row(pen: &mut Pen, name: &str, packet: &Packet, from: usize) {
+    pen.text(name);
+    for byte in after(&packet.0, from).iter().take(ROW) {
+        pen.text(" ");
+        pen.hex(&[*byte]);
     }
-    writeln!(out)
+    pen.text("\n");
 }
 
 /// Returns how deep a member of a message is, by its line.
@@ -123,16 +123,23 @@ fn level_of(line: &[u8]) -> Option<usize> {
     }
 }
 
+/// Returns how many bytes in front are the name of a member. One that is a number or a quoted text ends with a colon
+/// alone.
+fn name_len(text: &[u8]) -> usize {
+    let is_keyed = matches!(text, [b'0'..=b'9' | b'-' | b'"' | b'h', ..]);
+    for (place, byte) in text.iter().enumerate() {
+        if *byte == b':' || *byte == b' ' && !is_keyed {
+            return place;
+        }
+    }
+    text.len()
+}
+
 /// Returns the name of a member, by its line: `2 authData`, `signCount`.
 fn name_in(line: &[u8]) -> &[u8] {
     let text = without_number(line);
     let text = after(text, count_in_front(text, b" "));
-    let is_keyed = matches!(text, [b'0'..=b'9' | b'-' | b'"' | b'h', ..]);
-    let end = text
-        .iter()
-        .position(|byte| *byte == b':' || *byte == b' ' && !is_keyed);
-    let end = end.unwrap_or(text.len());
-    text.get(..end).unwrap_or(text)
+    text.get(..name_len(text)).unwrap_or(text)
 }
 
 /// Returns the names of the members in which two messages differ first, that of the outermost first.
@@ -160,30 +167,26 @@ pub fn members_of<'a>(logged: &'a [u8], sent: &[u8]) -> [&'a [u8]; LEVELS] {
 }
 
 /// Writes the names of members, that of the innermost first.
-fn put_path(out: &mut Vec<u8>, names: &[&[u8]]) -> io::Result<()> {
-    let mut is_first = true;
+fn write_path(pen: &mut Pen, names: &[&[u8]]) {
+    let mut front: &[u8] = b"  the messages differ first in ";
+    let mut end: &[u8] = b"";
     for name in names.iter().rev() {
-        if name.is_empty() {
-            continue;
+        if !name.is_empty() {
+            pen.bytes(front);
+            pen.bytes(name);
+            front = b" of ";
+            end = b"\n";
         }
-        let front = if is_first {
-            "  the messages differ first in "
-        } else {
-            " of "
-        };
-        out.extend_from_slice(front.as_bytes())?;
-        out.extend_from_slice(name)?;
-        is_first = false;
     }
-    if !is_first {
-        out.extend_from_slice(b"\n")?;
-    }
-    Ok(())
+    pen.bytes(end);
 }
 
 /// Returns the status of an answer, by its first packet.
-fn status_in(packet: Option<Packet>) -> Option<u8> {
-    match packet?.view() {
+fn status_in(packet: &Option<Packet>) -> Option<u8> {
+    let Some(packet) = packet else {
+        return None;
+    };
+    match packet.view() {
         View::Start {
             cmd: CBOR,
             len,
@@ -196,6 +199,9 @@ fn status_in(packet: Option<Packet>) -> Option<u8> {
 
 /// Returns whether a difference is one of a key without a credential that the log's key had.
 pub fn lacks_credential(difference: &Difference) -> bool {
-    let (logged, sent) = (status_in(difference.logged), status_in(difference.sent));
-    logged != sent && (logged == Some(EXCLUDED) || sent == Some(NO_CREDENTIALS))
+    match (status_in(&difference.logged), status_in(&difference.sent)) {
+        (Some(EXCLUDED), Some(EXCLUDED)) | (Some(NO_CREDENTIALS), Some(NO_CREDENTIALS)) => false,
+        (Some(EXCLUDED), _) | (_, Some(NO_CREDENTIALS)) => true,
+        _ => false,
+    }
 }

@@ -1,0 +1,50 @@
+//! Texts of other people and of the system, among words of ours.
+use crate::pieces::is_line_feed;
+use session_show::{Pen, Written, write_escaped};
+use std::fmt::Write;
+use std::io::Error;
+
+/// Lines, with what can't be seen in them escaped, and their line feeds as they are.
+#[derive(Clone, Copy)]
+pub struct EscapedLines<'a>(pub &'a str);
+
+impl Written for EscapedLines<'_> {
+    fn write(&self, pen: &mut Pen) {
+        let mut front: &[u8] = b"";
+        for line in self.0.as_bytes().split(is_line_feed) {
+            pen.bytes(front);
+            write_escaped(pen, line);
+            front = b"\n";
+        }
+    }
+}
+
+/// Writes the text of an error of the system.
+pub fn write_error(pen: &mut Pen, error: &Error) {
+    let _ = write!(pen, "{error}");
+}
+
+/// Begins the line that says why there is a fault, with what that is about.
+pub fn write_about(pen: &mut Pen, about: &str) {
+    pen.text("  ");
+    write_escaped(pen, about.as_bytes());
+    pen.text(": ");
+}
+
+/// Why a stream failed, with its name where that isn't said before.
+#[derive(Clone, Copy)]
+pub struct StreamFailure<'a> {
+    pub name: Option<&'a str>,
+    pub error: &'a Error,
+}
+
+impl Written for StreamFailure<'_> {
+    fn write(&self, pen: &mut Pen) {
+        match self.name {
+            Some(name) => write_about(pen, name),
+            None => pen.text("  "),
+        }
+        write_error(pen, self.error);
+        pen.text("\n");
+    }
+}

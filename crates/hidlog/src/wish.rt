@@ -1,0 +1,77 @@
+//! How what is found in a log is said.
+ghost use Rattle.std.specs.Prelude.{◌≡◌};
+
+use session_log::LogFault;
+use session_show::{Pen, write_escaped, write_string};
+use std::alloc::Global;
+use std::fmt::Write;
+
+/// How what is found in a log is said.
+#[derive(Clone, Copy)]
+pub struct Wish<'a> {
+    /// What texts are allocated in that are kept.
+    pub alloc: Global,
+    /// Whether the reason follows a fault's text, for people.
+    pub explains: bool,
+    /// The path of the snapshot that is loaded.
+    pub load: Option<&'a str>,
+    /// The path of the log, where several are compared.
+    pub path: Option<&'a str>,
+    /// Whether all differences are said, and not just the first one.
+    pub is_all: bool,
+    /// Whether they are said as objects of JSON.
+    pub is_json: bool,
+    /// Whether nothing differs.
+    pub is_same: bool,
+    /// The columns of the terminal where they are said, if it is one.
+    pub width: Option<usize>,
+}
+
+impl<'a> Wish<'a> {
+    /// Returns that of a comparison of one log.
+    pub fn of(
+        alloc: Global,
+        explains: bool,
+        load: Option<&'a str>,
+        is_all: bool,
+        width: Option<usize>,
+    ) -> Self
+        ensures explains { result.explains ≡ explains }
+        ensures load { result.load ≡ load.entry }
+        ensures all { result.is_all ≡ is_all }
+    {
+        Wish {
+            alloc,
+            explains,
+            load,
+            path: None,
+            is_all,
+            is_json: false,
+            is_same: false,
+            width,
+        }
+    }
+
+    /// Begins a line with the log's path where several are compared, and else with the program's name.
+    pub fn begin_line(&self, pen: &mut Pen) {
+        match self.path {
+            Some(path) => write_escaped(pen, path.as_bytes()),
+            None => pen.text("hidlog"),
+        }
+        pen.text(": ");
+    }
+
+    /// Writes the line of a log's fault.
+    pub fn write_fault(&self, pen: &mut Pen, fault: &LogFault) {
+        self.begin_line(pen);
+        let _ = writeln!(pen, "{fault}");
+    }
+
+    /// Begins an object of JSON (RFC 8259), with the log's path where several are compared.
+    pub fn begin_object(&self, pen: &mut Pen, kind: &str) {
+        pen.text("{\"kind\":\"");
+        pen.text(kind);
+        pen.text("\"");
+        write_string(pen, "log", self.path);
+    }
+}
