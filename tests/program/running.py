@@ -18,7 +18,7 @@ AGAIN = EXAMPLES / "sign_in_again.log"
 INIT = b"> 0 " + b"ffffffff8600080001020304050607".ljust(128, b"0") + b"\n"
 COUNTS = b"= held 0 rows 0 pending 0 requests 0 bytes 0 steps 0\n"
 # What docs/use/LIMITS.md says of the program, with the arguments and the environment that lie on it.
-STACK = 128 << 10
+STACK = 144 << 10
 
 Said = subprocess.CompletedProcess[bytes]
 
