@@ -1,17 +1,13 @@
 -- Each answer of a turn is the one that what happened before it names.
-use Rattle.std.proofs.Common.{rules, ◌≡◌, ℕ, List, [], ◌∷◌, map, take, flat_map, option_to_list, filter, not, ◌&&◌, ◌||◌, Bool, true, false, cond, is_some, refl, sym, ap, arith}
-use Rattle.std.proofs.lemmas.Slice.Eq.{bytes_eq-Decides}
-use Rattle.std.proofs.lemmas.Grind.{flat_map-append}
-use Rattle.std.specs.List.{find, list_any}
-use Rattle.std.specs.Str.{bytes_eq}
-use Rattle.cred_table.specs.declared.row.Row.{Row}
-use Rattle.cred_table.specs.Rows.{is_named, is_user}
-use Rattle.authn_core.specs.State.{Making}
+use Rattle.std.proofs.Common.{rules, ◌≡◌, ℕ, List, [], ◌∷◌, map, take, flat_map, option_to_list, filter, not, ◌&&◌}
+use Rattle.std.proofs.Common.{◌||◌, Bool, true, false, cond, is_some, refl, sym, ap, arith}
+use Rattle.std.proofs.lemmas.{Slice.Eq.bytes_eq-Decides, Grind.flat_map-append}
+use Rattle.std.specs.{List.find, List.list_any, Str.bytes_eq}
+use Rattle.cred_table.specs.{declared.row.Row.Row, Rows.is_named, Rows.is_user}
+use Rattle.authn_core.specs.{State.Making, Assertions.signers, Answers.is_excluded, Answers.is_full}
 use Rattle.authn_core.specs.MakeCredential.{fits, names_one}
 use Rattle.authn_core.specs.GetAssertion.{applicable, find_named}
 use Rattle.authn_core.specs.Marks.{Mark, takes_place, left, marked, rows_among, rows_of}
-use Rattle.authn_core.specs.Assertions.{signers}
-use Rattle.authn_core.specs.Answers.{is_excluded, is_full}
 use Rattle.authn_core.proofs.Histories.{all_left, none_later}
 
 -- ---- rows

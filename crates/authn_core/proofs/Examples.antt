@@ -1,13 +1,12 @@
 -- Turns by computation.
 use Rattle.std.proofs.Common.{◌≡◌, ℕ, List, [], ◌∷◌, Bool, true, false, Option, Some, None, replicate, refl}
-use Rattle.cred_table.specs.declared.row.Row.{Row}
-use Rattle.cred_table.specs.Rows.{ids}
-use Rattle.cred_table.specs.Waiting.{Waiting}
+use Rattle.cred_table.specs.{declared.row.Row.Row, Rows.ids, Waiting.Waiting}
 use Rattle.ctap_message.specs.Requests.{read_of}
 use Rattle.authn_core.specs.declared.replies.Presence.TheVariants.{Granted, Denied, TimedOut}
-use Rattle.authn_core.specs.State.{Setup, Making, Asserting, Task, Resets, Selects, AsksMake, WantsKey, AsksAssert, SignsAssert, State, Request, PresenceIs, KeyIs, SignatureIs, Cancel, Answer, Answered, Waits, Ignored}
+use Rattle.authn_core.specs.State.{Setup, Making, Asserting, Task, Resets, Selects, AsksMake, WantsKey, AsksAssert}
+use Rattle.authn_core.specs.State.{SignsAssert, State, Request, PresenceIs, KeyIs, SignatureIs, Cancel, Answer}
+use Rattle.authn_core.specs.{State.Answered, State.Waits, State.Ignored, Turn.turn}
 use Rattle.authn_core.specs.GetAssertion.{applicable, begins, told}
-use Rattle.authn_core.specs.Turn.{turn}
 
 abbrev pub setup : Setup
 setup = record { aaguid = replicate 16 0; began = 0; capacity = 2 }
@@ -85,7 +84,8 @@ next_spent = unfold turn read_of in refl
 
 -- a full table: a new user finds no room, a known one does
 abbrev making_of : (user : ℕ) → Making
-making_of user = record { hash = replicate 32 17; rp = replicate 32 7; user = user ∷ []; name = []; discoverable = true }
+making_of user = record
+    { hash = replicate 32 17; rp = replicate 32 7; user = user ∷ []; name = []; discoverable = true }
 
 full : (turn setup (at (AsksMake (making_of 3) false)) 50 (PresenceIs Granted)).answer ≡ Answered (0x28 ∷ [])
 full = unfold turn in refl
@@ -97,7 +97,8 @@ excluded_first : (turn setup (at (AsksMake (making_of 3) true)) 50 (PresenceIs T
 excluded_first = unfold turn in refl
 
 -- a key whose id is there already, also that of the row that would be replaced
-known_id : (turn setup (at (WantsKey (making_of 0xaa))) 60 (KeyIs (Some (record { id = replicate 32 0xaa; x = []; y = [] })))).answer
+known_id : (turn setup (at (WantsKey (making_of 0xaa))) 60 (KeyIs
+    (Some (record { id = replicate 32 0xaa; x = []; y = [] })))).answer
     ≡ Answered (0x7f ∷ [])
 known_id = unfold turn in refl
 
@@ -116,7 +117,8 @@ make_late : (turn setup (at (AsksMake (making_of 3) false)) 50 (PresenceIs Timed
 make_late = unfold turn in refl
 
 abbrev asserting : Asserting
-asserting = record { hash = replicate 32 34; rp = replicate 32 7; id = replicate 32 0xaa; presence = true; number = None }
+asserting =
+    record { hash = replicate 32 34; rp = replicate 32 7; id = replicate 32 0xaa; presence = true; number = None }
 
 assert_denied : (turn setup (at (AsksAssert asserting)) 50 (PresenceIs Denied)).answer ≡ Answered (0x27 ∷ [])
 assert_denied = unfold turn in refl
@@ -133,7 +135,8 @@ no_signature = unfold turn in refl
 
 -- an RP without a credential, and an allow list that names none of the RP's
 abbrev asks_for : (rp : ℕ) → Bool → List (List ℕ) → Answer
-asks_for rp given allow = (begins idle.rows 1000 1 (replicate 32 34) (replicate 32 rp) true given (ids (applicable idle.rows (replicate 32 rp) given allow))).answer
+asks_for rp given allow = (begins idle.rows 1000 1 (replicate 32 34) (replicate 32 rp) true given
+    (ids (applicable idle.rows (replicate 32 rp) given allow))).answer
 
 none_found : asks_for 8 false [] ≡ Answered (0x2e ∷ [])
 none_found = refl

@@ -1,14 +1,11 @@
 -- All that the transport needs to know of the authenticator.
 use Rattle.std.proofs.Common.{◌≡◌, ℕ, ◌≤◌, List, take, false, Option, Some, None, Ok, refl, arith}
 use Rattle.std.proofs.Math.Seq.{take-append_seam}
-use Rattle.ctap_message.specs.Asked.{GetInfo}
-use Rattle.ctap_message.specs.Requests.{read_of}
-use Rattle.authn_core.specs.declared.replies.Presence.{Presence}
-use Rattle.authn_core.specs.declared.replies.NewKey.{NewKey}
-use Rattle.authn_core.specs.State.{Setup, State, Event, Request, PresenceIs, KeyIs, SignatureIs, Drop, Answered, Nothing, ignores}
-use Rattle.ctap_message.specs.Answers.{info_answer}
+use Rattle.ctap_message.specs.{Asked.GetInfo, Requests.read_of, Answers.info_answer}
+use Rattle.authn_core.specs.declared.replies.{Presence.Presence, NewKey.NewKey}
+use Rattle.authn_core.specs.State.{Setup, State, Event, Request, PresenceIs, KeyIs, SignatureIs, Drop, Answered}
+use Rattle.authn_core.specs.{State.Nothing, State.ignores, Ready.Joins}
 use Rattle.authn_core.specs.Turn.{CoreState, working, core_after, core_answer, turn}
-use Rattle.authn_core.specs.Ready.{Joins}
 use Rattle.authn_core.specs.Views.{wants_presence, wants_key, wants_signature}
 
 -- A reply that the waiting work doesn't need leaves the state, and is answered by nothing.

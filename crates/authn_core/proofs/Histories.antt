@@ -2,19 +2,19 @@
 -- leave what the filters name. A text to sign that a turn adds is what is to be signed, and holds a greater counter
 -- than
 -- all before it by the same row.
-use Rattle.std.proofs.Common.{rules, ◌≡◌, ℕ, ◌+◌, ◌≤◌, List, [], ◌∷◌, ◌++◌, length, flat_map, filter, true, false, cond, Option, Some, None, option_to_list, is_some, Result, refl, ap, subst, arith}
-use Rattle.std.proofs.lemmas.Grind.{flat_map-append}
-use Rattle.std.proofs.lemmas.Slice.Eq.{bytes_eq-Decides}
+use Rattle.std.proofs.Common.{rules, ◌≡◌, ℕ, ◌+◌, ◌≤◌, List, [], ◌∷◌, ◌++◌, length, flat_map, filter, true, false, cond}
+use Rattle.std.proofs.Common.{Option, Some, None, option_to_list, is_some, Result, refl, ap, subst, arith}
+use Rattle.std.proofs.lemmas.{Grind.flat_map-append, Slice.Eq.bytes_eq-Decides}
 use Rattle.std.specs.List.{AllByRecursion, find, list_any}
-use Rattle.cred_table.specs.declared.row.Row.{Row}
+use Rattle.cred_table.{specs.declared.row.Row.Row, proofs.Basics.same_bytes}
 use Rattle.cred_table.specs.Rows.{Lawful, has_id, same_id, no_two, raised, stored, counter_of}
-use Rattle.cred_table.proofs.Basics.{same_bytes}
 use Rattle.ctap_message.specs.Asked.{Asked}
 use Rattle.authn_core.specs.State.{Setup, SignsAssert, ChannelTask, State, Event}
 use Rattle.authn_core.specs.Turn.{CoreState, core_after, requested, turn}
-use Rattle.authn_core.specs.Ready.{Ready, PendingReady}
-use Rattle.authn_core.specs.Marks.{Mark, mark, marked, made_replaces, is_raised, stays, left, rows_among, Step, Comes, Orderly, Text, core_at, marks, makes_id, makings, raised_by, signs_by, text_of, texts, same_text, all_differ}
-use Rattle.authn_core.specs.Views.{needs, sign}
+use Rattle.authn_core.specs.{Ready.Ready, Ready.PendingReady, Views.needs, Views.sign}
+use Rattle.authn_core.specs.Marks.{Mark, mark, marked, made_replaces, is_raised, stays, left, rows_among, Step, Comes}
+use Rattle.authn_core.specs.Marks.{Orderly, Text, core_at, marks, makes_id, makings, raised_by, signs_by, text_of}
+use Rattle.authn_core.specs.Marks.{texts, same_text, all_differ}
 use Rattle.authn_core.specs.Rising.{above_all, all_rise, IsTextOf, IsNewest}
 use Rattle.authn_core.proofs.Readiness.{all_along, all_found, applicable_there, core_sound, find_raised, found}
 

@@ -1,23 +1,21 @@
 -- Each turn, over every history, answers what happened names.
-use Rattle.std.proofs.Common.{rules, ◌≡◌, ℕ, List, [], ◌∷◌, true, false, Option, None, option_map, Result, refl, sym, arith}
-use Rattle.std.specs.Option.{option_or}
-use Rattle.cred_table.specs.declared.row.Row.{Row}
-use Rattle.cred_table.specs.Rows.{Lawful, same_id, no_two}
-use Rattle.ctap_message.specs.Asked.{Asked}
-use Rattle.ctap_message.specs.Requests.{read_of}
-use Rattle.authn_core.specs.State.{ChannelTask, State, Event, Request, PresenceIs, KeyIs, SignatureIs, Cancel, Drop, Answer, Answered, Waits, Turned, status, waits}
+use Rattle.std.proofs.Common.{rules, ◌≡◌, ℕ, List, [], ◌∷◌, true, false, Option, None, option_map, Result, refl, sym}
+use Rattle.std.{proofs.Common.arith, specs.Option.option_or}
+use Rattle.cred_table.specs.{declared.row.Row.Row, Rows.Lawful, Rows.same_id, Rows.no_two}
+use Rattle.ctap_message.specs.{Asked.Asked, Requests.read_of}
+use Rattle.authn_core.specs.State.{ChannelTask, State, Event, Request, PresenceIs, KeyIs, SignatureIs, Cancel, Drop}
+use Rattle.authn_core.specs.State.{Answer, Answered, Waits, Turned, status, waits}
 use Rattle.authn_core.specs.Turn.{Start, first_state, requested, reply_turn, turn}
 use Rattle.authn_core.specs.Marks.{Mark, marked, rows_among, Step, Comes, Orderly, core_at}
-use Rattle.authn_core.specs.Ready.{WorkReady}
-use Rattle.authn_core.specs.Views.{as_work}
+use Rattle.authn_core.specs.{Ready.WorkReady, Views.as_work}
 use Rattle.authn_core.specs.Exchanges.{waiting_in, Exchange, Unanswered, asked_on, rows_after, unanswered, waits_after}
 use Rattle.authn_core.specs.Assertions.{Series, continues, series, begins_series}
-use Rattle.authn_core.specs.Answers.{to_request, asked_assertion, made_in, resets_in, to_any_reply, raised_for, answer_to, did, exchange, exchanges}
-use Rattle.authn_core.proofs.Answering.{rows_marked}
+use Rattle.authn_core.specs.Answers.{to_request, asked_assertion, made_in, resets_in, to_any_reply, raised_for}
+use Rattle.authn_core.specs.Answers.{answer_to, did, exchange, exchanges}
+use Rattle.authn_core.proofs.{Answering.rows_marked, Readiness.core_sound, Served.request_served}
 use Rattle.authn_core.proofs.Histories.{none_later, mark_keeps}
-use Rattle.authn_core.proofs.Readiness.{core_sound}
 use Rattle.authn_core.proofs.Told.{WorkTold, reply_answers, made_same, reply_rows, reply_waits, PendingTold, reply_goes}
-use Rattle.authn_core.proofs.Served.{assertion_of_read, asked_read, BeginsTold, series_begun, next_goes_on, since_too, request_served}
+use Rattle.authn_core.proofs.Served.{assertion_of_read, asked_read, BeginsTold, series_begun, next_goes_on, since_too}
 
 -- ---- replies, where there is work or none
 
@@ -50,13 +48,15 @@ pub any_reply_waits : (start : Start) (past : List Exchange) (s : State) (at : �
     WorkTold start t.state.rows t.state.work (waits_after e t.answer past o)
 any_reply_waits start past s at w o e i k r h = grind (arith, reply_waits)
 
-pub reply_since : (start : Start) (s : State) (at : ℕ) (w : Option ChannelTask) (o : Option Series) (e : Event) (m : Mark)
+pub reply_since : (start : Start) (s : State) (at : ℕ) (w : Option ChannelTask) (o : Option Series) (e : Event)
+    (m : Mark)
     → IsReply e → s.work ≡ w → PendingTold start s o
     → let t = reply_turn (first_state start).setup s at w e in
     PendingTold start t.state (since_too (record { at = at; event = e; answer = t.answer; did = m }) o)
 reply_since start s at w o e m i k p = grind (arith, reply_goes)
 
-pub any_reply_goes : (start : Start) (past : List Exchange) (s : State) (at : ℕ) (w : Option ChannelTask) (o : Option Series)
+pub any_reply_goes : (start : Start) (past : List Exchange) (s : State) (at : ℕ) (w : Option ChannelTask)
+    (o : Option Series)
     (e : Event) (m : Mark)
     → IsReply e → s.work ≡ w → PendingTold start s o
     → let t = reply_turn (first_state start).setup s at w e in
@@ -98,7 +98,8 @@ made_none o cid bytes = grind arith
 pub resets_none : (o : Option Unanswered) (cid : ℕ) (bytes : List ℕ) → resets_in o (Request cid bytes) ≡ false
 resets_none o cid bytes = grind arith
 
-pub begins_so : (start : Start) (past : List Exchange) (rows : List Row) (w : Option ChannelTask) (cid : ℕ) (bytes : List ℕ)
+pub begins_so : (start : Start) (past : List Exchange) (rows : List Row) (w : Option ChannelTask) (cid : ℕ)
+    (bytes : List ℕ)
     (o : Option Unanswered) (answer : Answer)
     → IsTaken answer → BeginsTold rows w cid (read_of bytes) (assertion_of_read start past (read_of bytes)) answer
     → WorkTold start rows w (waits_after (Request cid bytes) answer past o)

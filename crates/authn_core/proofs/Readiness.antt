@@ -1,27 +1,19 @@
 -- Turns keep a state ready and its rows lawful, and no more is pending than there is room for.
-use Rattle.std.proofs.Common.{rules, ◌≡◌, ℕ, ◌+◌, ◌≤◌, List, [], ◌∷◌, ◌++◌, append-nil, length, filter, reverse, Bool, true, false, cond, Option, Some, None, IfSome, option_map, is_some, Result, Ok, refl, arith}
-use Rattle.std.proofs.lemmas.Grind.{common_steps}
-use Rattle.std.proofs.lemmas.List.{length-map, length-reverse}
-use Rattle.std.proofs.lemmas.Slice.Eq.{bytes_eq-Decides}
+use Rattle.std.proofs.Common.{rules, ◌≡◌, ℕ, ◌+◌, ◌≤◌, List, [], ◌∷◌, ◌++◌, append-nil, length, filter, reverse, Bool}
+use Rattle.std.proofs.Common.{true, false, cond, Option, Some, None, IfSome, option_map, is_some, Result, Ok, refl}
+use Rattle.std.{proofs.Common.arith, specs.Str.bytes_eq}
+use Rattle.std.proofs.lemmas.{Grind.common_steps, Slice.Eq.bytes_eq-Decides, List.length-map, List.length-reverse}
 use Rattle.std.specs.List.{AllByRecursion, find, list_any}
-use Rattle.std.specs.Str.{bytes_eq}
-use Rattle.cred_table.specs.declared.row.Row.{Row}
+use Rattle.cred_table.specs.{declared.row.Row.Row, Waiting.Waiting, Waiting.pending_count}
 use Rattle.cred_table.specs.Rows.{Lawful, has_id, is_named, same_id, no_two, raised, stored, is_listed, ids}
-use Rattle.cred_table.specs.Waiting.{Waiting, pending_count}
-use Rattle.cred_table.proofs.Basics.{same_bytes}
+use Rattle.cred_table.proofs.{Basics.same_bytes, Raised.Lawful-raised}
 use Rattle.cred_table.proofs.Stored.{Lawful-stored, length-filter, one_replaced}
-use Rattle.cred_table.proofs.Raised.{Lawful-raised}
 use Rattle.ctap_message.specs.Asked.{Asked, GetAssertion}
-use Rattle.ctap_message.specs.Members.{has_entries}
-use Rattle.ctap_message.specs.Descriptors.{ids_of}
-use Rattle.ctap_message.specs.Requests.{read_of}
-use Rattle.authn_core.specs.declared.replies.NewKey.{NewKey}
+use Rattle.ctap_message.specs.{Members.has_entries, Descriptors.ids_of, Requests.read_of}
+use Rattle.authn_core.specs.{declared.replies.NewKey.NewKey, GetAssertion.applicable, Marks.Step, Marks.core_at}
 use Rattle.sha2.specs.Sha256.{sha256}
 use Rattle.authn_core.specs.State.{Setup, Making, State, Event, Request}
-use Rattle.authn_core.specs.MakeCredential.{fits, new_row}
-use Rattle.authn_core.specs.GetAssertion.{applicable}
-use Rattle.authn_core.specs.Turn.{CoreState, requested, turn}
-use Rattle.authn_core.specs.Marks.{Step, core_at}
+use Rattle.authn_core.specs.{MakeCredential.fits, MakeCredential.new_row, Turn.CoreState, Turn.requested, Turn.turn}
 use Rattle.authn_core.specs.Ready.{AllThere, Ready, PendingReady, WorkReady}
 
 -- ---- rows
@@ -51,7 +43,8 @@ pub applicable_all : (P : List ℕ → Type 0) (rows : List Row) (rp : List ℕ)
 applicable_all P rows rp false l h = rw append-nil at (listed_all P rp rows [] h tt)
 applicable_all P rows rp true [] h = tt
 applicable_all P rows rp true (id ∷ l) h =
-    grind (arith, applicable_all P rows rp true l h, found (λ r. bytes_eq r.rp rp ≡ true → P r.id) (is_named rp id) rows)
+    grind
+    (arith, applicable_all P rows rp true l h, found (λ r. bytes_eq r.rp rp ≡ true → P r.id) (is_named rp id) rows)
 
 all_there : (rows : List Row) → AllByRecursion (λ r. is_some (find (has_id r.id) rows) ≡ true) rows
 all_there [] = tt
@@ -105,7 +98,8 @@ turn_lawful u s t e r h =
 requested_keeps : (u : Setup) (rows : List Row) (p : Option Waiting) (t cid : ℕ) (read : Result Asked ℕ)
     → PendingReady rows p
     → let x = (requested u rows p t cid read).state in
-    Ready u.capacity x × (length rows ≤ u.capacity → pending_count p ≤ u.capacity → pending_count x.pending ≤ u.capacity)
+    Ready u.capacity x × (length rows ≤ u.capacity → pending_count p ≤ u.capacity →
+    pending_count x.pending ≤ u.capacity)
 requested_keeps u rows p t cid (Ok (GetAssertion hash rp_id allow up)) h =
     let all = applicable_there rows (sha256 rp_id) (has_entries allow) (ids_of allow) in
     let few : length rows ≤ u.capacity →

@@ -1,29 +1,24 @@
 -- Each answer to a request is the one that what happened names, and what waits and is pending is then as it says.
-use Rattle.std.proofs.Common.{rules, ◌≡◌, ◌==◌, nat_le, if◌then◌else◌, ℕ, zero, suc, ◌+◌, List, [], ◌∷◌, drop, slice_get, length, Bool, true, false, ◌&&◌, cond, Option, Some, None, option_map, Result, Ok, Err, refl, sym, ap, ◌∙◌, arith}
-use Rattle.std.proofs.lemmas.Slice.Eq.{bytes_eq-Decides}
-use Rattle.std.specs.List.{find}
-use Rattle.std.specs.Option.{option_or}
-use Rattle.cred_table.specs.declared.row.Row.{Row}
-use Rattle.cred_table.specs.Rows.{has_id, same_id, no_two}
-use Rattle.cred_table.specs.Waiting.{pending_of}
+use Rattle.std.proofs.Common.{rules, ◌≡◌, ◌==◌, nat_le, if◌then◌else◌, ℕ, zero, suc, ◌+◌, List, [], ◌∷◌, drop}
+use Rattle.std.proofs.Common.{slice_get, length, Bool, true, false, ◌&&◌, cond, Option, Some, None, option_map, Result}
+use Rattle.std.proofs.Common.{Ok, Err, refl, sym, ap, ◌∙◌, arith}
+use Rattle.std.{proofs.lemmas.Slice.Eq.bytes_eq-Decides, specs.List.find, specs.Option.option_or}
+use Rattle.cred_table.specs.{declared.row.Row.Row, Waiting.pending_of, Rows.has_id, Rows.same_id, Rows.no_two}
 use Rattle.cred_table.proofs.Basics.{same_bytes}
 use Rattle.ctap_message.specs.Asked.{Asked, MakeCredential, GetAssertion, GetInfo, Reset, GetNextAssertion, Selection}
-use Rattle.ctap_message.specs.Members.{has_entries}
-use Rattle.ctap_message.specs.Descriptors.{ids_of}
-use Rattle.authn_core.specs.State.{Asserting, AsksAssert, ChannelTask, State, Answer, Waits, Turned, status, waits, signs, refuses}
+use Rattle.ctap_message.specs.{Members.has_entries, Descriptors.ids_of}
+use Rattle.authn_core.specs.State.{Asserting, AsksAssert, ChannelTask, State, Answer, Waits, Turned, status, waits}
+use Rattle.authn_core.specs.{State.signs, State.refuses, Marks.marked, Ready.AllThere, Signed.AllOf, Signed.rp_of}
 use Rattle.authn_core.specs.GetAssertion.{begins, row_signs, next_begins}
 use Rattle.sha2.specs.Sha256.{sha256}
-use Rattle.authn_core.specs.Turn.{Start, first_state, requested}
-use Rattle.authn_core.specs.Marks.{marked}
-use Rattle.authn_core.specs.Ready.{AllThere}
-use Rattle.authn_core.specs.Signed.{AllOf, rp_of}
+use Rattle.authn_core.specs.{Turn.Start, Turn.first_state, Turn.requested, Answers.asked_assertion, Answers.raised_for}
 use Rattle.authn_core.specs.Exchanges.{Exchange, asked_on, rows_after}
-use Rattle.authn_core.specs.Assertions.{Series, series_of, asks_next, number_of, first_signs, next_signs_in, is_in_time, may_go_on, signers, continues, is_signed, signed_in, series, assertion_for}
-use Rattle.authn_core.specs.Answers.{status_alone, waits_for_user, is_processed, to_assertion, to_request, asked_assertion, raised_for}
-use Rattle.authn_core.proofs.Answering.{signers_apply}
-use Rattle.authn_core.proofs.Histories.{mark_keeps, mark_raises}
+use Rattle.authn_core.specs.Assertions.{Series, series_of, asks_next, number_of, first_signs, next_signs_in, is_in_time}
+use Rattle.authn_core.specs.Assertions.{may_go_on, signers, continues, is_signed, signed_in, series, assertion_for}
+use Rattle.authn_core.specs.Answers.{status_alone, waits_for_user, is_processed, to_assertion, to_request}
+use Rattle.authn_core.proofs.{Answering.signers_apply, Told.Going, Histories.mark_keeps, Histories.mark_raises}
 use Rattle.authn_core.proofs.Readiness.{all_along, all_found, applicable_all, applicable_there, find_raised}
-use Rattle.authn_core.proofs.Told.{JobTold, busy, IsLatest, is_assertion, Asserts, GoingOrNot, PendingTold, all_raised, Going}
+use Rattle.authn_core.proofs.Told.{JobTold, busy, IsLatest, is_assertion, Asserts, GoingOrNot, PendingTold, all_raised}
 
 -- ---- requests
 

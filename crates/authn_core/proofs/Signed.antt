@@ -1,25 +1,19 @@
 -- Every turn keeps what is to be signed that of the newest request, and a signature is answered with what was signed.
-use Rattle.std.proofs.lemmas.Bool.Decides.{nat_tests}
+use Rattle.std.{proofs.lemmas.Bool.Decides.nat_tests, proofs.lemmas.Slice.Eq.bytes_eq-Decides, specs.List.find}
 use Rattle.std.proofs.Common.{◌≡◌, ℕ, List, [], ◌∷◌, Bool, true, Option, Some, None, Result, Ok, refl, arith}
-use Rattle.std.proofs.lemmas.Slice.Eq.{bytes_eq-Decides}
-use Rattle.std.specs.List.{find}
-use Rattle.cred_table.proofs.Basics.{same_bytes}
-use Rattle.cred_table.specs.declared.row.Row.{Row}
+use Rattle.cred_table.{proofs.Basics.same_bytes, specs.declared.row.Row.Row, specs.Waiting.Waiting}
 use Rattle.cred_table.specs.Rows.{Lawful, has_id, same_id, no_two, raised}
-use Rattle.cred_table.specs.Waiting.{Waiting}
 use Rattle.fido_authdata.specs.AuthData.{assertion_bytes}
 use Rattle.ctap_message.specs.Asked.{Asked, MakeCredential, GetAssertion}
-use Rattle.ctap_message.specs.Members.{has_entries}
-use Rattle.ctap_message.specs.Descriptors.{ids_of}
-use Rattle.authn_core.specs.declared.replies.NewKey.{NewKey}
+use Rattle.ctap_message.specs.{Members.has_entries, Descriptors.ids_of}
+use Rattle.authn_core.specs.{declared.replies.NewKey.NewKey, MakeCredential.new_row, Views.needs, Views.sign}
 use Rattle.sha2.specs.Sha256.{sha256}
 use Rattle.authn_core.specs.State.{Setup, Task, SignsMake, SignsAssert, ChannelTask, State, Event, SignatureIs}
-use Rattle.authn_core.specs.MakeCredential.{new_row}
 use Rattle.authn_core.specs.GetAssertion.{begins, user_in}
 use Rattle.authn_core.specs.Turn.{Start, first_state, requested, replied, reply_turn, turn}
-use Rattle.authn_core.specs.Views.{needs, sign}
 use Rattle.authn_core.specs.Marks.{Step, Comes, Orderly, core_at}
-use Rattle.authn_core.specs.Signed.{Heard, newer, hears, heard, rp_of, IsSigned, assertion_asked, TaskSigns, WorkSigns, AllOf, PendingFor, IsGranted, Signs}
+use Rattle.authn_core.specs.Signed.{Heard, newer, hears, heard, rp_of, IsSigned, assertion_asked, TaskSigns, WorkSigns}
+use Rattle.authn_core.specs.Signed.{AllOf, PendingFor, IsGranted, Signs}
 use Rattle.authn_core.proofs.Readiness.{all_along, applicable_all, all_found, core_sound, find_raised}
 
 -- ---- turns

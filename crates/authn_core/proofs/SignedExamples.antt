@@ -1,24 +1,20 @@
 -- What came, what has to be signed and what is answered, by computation.
 use Rattle.std.proofs.Common.{◌≡◌, ℕ, List, [], ◌∷◌, ◌++◌, true, false, Some, None, replicate, refl}
-use Rattle.ctap_message.specs.Asked.{Selection}
-use Rattle.ctap_message.specs.Answers.{assertion_answer}
-use Rattle.ctap_message.specs.Requests.{read_of}
-use Rattle.authn_core.specs.Marks.{Step, Text}
-use Rattle.authn_core.specs.Rising.{all_rise}
-use Rattle.authn_core.specs.Signed.{heard}
+use Rattle.ctap_message.specs.{Asked.Selection, Answers.assertion_answer, Requests.read_of}
+use Rattle.authn_core.specs.{Marks.Step, Marks.Text, Rising.all_rise, Signed.heard, Turn.turn, Views.needs, Views.sign}
 use Rattle.authn_core.specs.State.{State, Event, Request, SignatureIs, Cancel, Answered}
-use Rattle.authn_core.specs.Turn.{turn}
-use Rattle.authn_core.specs.Views.{needs, sign}
 use Rattle.authn_core.proofs.Examples.{setup, row, waiting}
 
 -- The newest request is heard through a getNextAssertion, and what can't be read asks nothing.
 abbrev came : Event → Step
 came e = record { at = 0; event = e }
 
-goes_on : (heard (came (Request 1 (0x08 ∷ [])) ∷ came Cancel ∷ came (Request 1 (0x0b ∷ [])) ∷ [])).asked ≡ Some Selection
+goes_on : (heard (came (Request 1 (0x08 ∷ [])) ∷ came Cancel ∷ came (Request 1 (0x0b ∷ [])) ∷ [])).asked
+    ≡ Some Selection
 goes_on = unfold heard read_of in refl
 
-unread : (heard (came (Request 1 (0x08 ∷ [])) ∷ came (Request 1 (0x0b ∷ 0x00 ∷ [])) ∷ came (Request 1 (0x0b ∷ [])) ∷ [])).asked ≡ None
+unread : (heard (came (Request 1 (0x08 ∷ [])) ∷ came (Request 1 (0x0b ∷ 0x00 ∷ [])) ∷ came (Request 1 (0x0b ∷ []))
+    ∷ [])).asked ≡ None
 unread = unfold heard read_of in refl
 
 -- the next assertion of a request with presence, by a row with the counter 4
@@ -29,10 +25,12 @@ pending = record { rows = (record (row 0xaa 4) { user = record { items = 1 ∷ [
 abbrev data_signed : List ℕ
 data_signed = replicate 32 7 ++ 0x01 ∷ 0x00 ∷ 0x00 ∷ 0x00 ∷ 0x05 ∷ []
 
-signed_is : needs (turn setup pending 1200 (Request 1 (0x08 ∷ []))).state.work ≡ sign (replicate 32 0xaa) (data_signed ++ replicate 32 34)
+signed_is : needs (turn setup pending 1200 (Request 1 (0x08 ∷ []))).state.work
+    ≡ sign (replicate 32 0xaa) (data_signed ++ replicate 32 34)
 signed_is = unfold turn read_of in refl
 
-answered_is : (turn setup (turn setup pending 1200 (Request 1 (0x08 ∷ []))).state 1300 (SignatureIs (Some (0x30 ∷ [])))).answer
+answered_is : (turn setup (turn setup pending 1200 (Request 1 (0x08 ∷ []))).state 1300
+    (SignatureIs (Some (0x30 ∷ [])))).answer
     ≡ Answered (assertion_answer (replicate 32 0xaa) data_signed (0x30 ∷ []) (Some (1 ∷ [])) None)
 answered_is = unfold turn read_of in refl
 

@@ -1,20 +1,17 @@
 -- What a state holds is what happened before it, and a reply keeps it so: each answer to a reply is the one that what
 -- happened names.
-use Rattle.std.proofs.Common.{◌≡◌, ℕ, ◌+◌, List, [], ◌∷◌, drop, length, Bool, true, false, ◌&&◌, cond, Option, Some, None, refl, arith}
-use Rattle.std.specs.List.{list_all}
-use Rattle.cred_table.specs.declared.row.Row.{Row}
-use Rattle.cred_table.specs.Rows.{counter_of, raised}
-use Rattle.cred_table.specs.Waiting.{pending_of}
+use Rattle.std.proofs.Common.{◌≡◌, ℕ, ◌+◌, List, [], ◌∷◌, drop, length, Bool, true, false, ◌&&◌, cond, Option, Some}
+use Rattle.std.{proofs.Common.None, proofs.Common.refl, proofs.Common.arith, specs.List.list_all}
+use Rattle.cred_table.specs.{declared.row.Row.Row, Waiting.pending_of, Rows.counter_of, Rows.raised}
 use Rattle.cred_table.proofs.Basics.{same_bytes}
 use Rattle.ctap_message.specs.Asked.{Asked, MakeCredential, GetAssertion, Reset, GetNextAssertion, Selection}
 use Rattle.ctap_message.specs.Descriptors.{ids_of}
-use Rattle.authn_core.specs.declared.replies.Presence.TheVariants.{Granted}
-use Rattle.authn_core.specs.State.{Asserting, Task, Resets, Selects, AsksMake, WantsKey, SignsMake, AsksAssert, SignsAssert, ChannelTask, State, Event, PresenceIs, KeyIs, SignatureIs, Answer, Waits, Ignored, status, waits}
+use Rattle.authn_core.specs.{declared.replies.Presence.TheVariants.Granted, Ready.TaskReady, Signed.AllOf}
+use Rattle.authn_core.specs.State.{Asserting, Task, Resets, Selects, AsksMake, WantsKey, SignsMake, AsksAssert}
+use Rattle.authn_core.specs.State.{SignsAssert, ChannelTask, State, Event, PresenceIs, KeyIs, SignatureIs, Answer}
+use Rattle.authn_core.specs.State.{Waits, Ignored, status, waits}
 use Rattle.authn_core.specs.MakeCredential.{making, names_one}
-use Rattle.authn_core.specs.Turn.{Start, first_state, replied}
-use Rattle.authn_core.specs.Marks.{Mark, marked}
-use Rattle.authn_core.specs.Ready.{TaskReady}
-use Rattle.authn_core.specs.Signed.{AllOf}
+use Rattle.authn_core.specs.{Turn.Start, Turn.first_state, Turn.replied, Marks.Mark, Marks.marked}
 use Rattle.authn_core.specs.Exchanges.{Exchange, Unanswered, rows_after}
 use Rattle.authn_core.specs.Assertions.{Series, signers, continues, is_signed, signed_in, assertion_for}
 use Rattle.authn_core.specs.Answers.{made_for, made_in, to_reply, raised_for, resets_for}
@@ -43,7 +40,8 @@ TaskTold rows (SignsAssert x counter signed) (GetAssertion hash rp_id allow up) 
 TaskTold rows (SignsAssert x counter signed) GetNextAssertion [] a = (a ≡ Some x) × (counter ≡ counter_of x.id rows)
 TaskTold rows task asked took a = ⊥
 
-abbrev pub JobTold : List Row → Option ChannelTask → (cid waits : ℕ) → Asked → (took : List Event) → Option Asserting → Type 0
+abbrev pub JobTold : List Row → Option ChannelTask → (cid waits : ℕ) → Asked → (took : List Event) → Option Asserting →
+    Type 0
 JobTold rows None cid waits asked took a = ⊥
 JobTold rows (Some work) cid waits asked took a =
     (work.cid ≡ cid) × (status work.task ≡ waits) × TaskTold rows work.task asked took a
@@ -78,7 +76,8 @@ pub reply_rows : (start : Start) (s : State) (at cid : ℕ) (task : Task) (asked
 reply_rows start s at cid task asked took a e h = grind (arith, mark_keeps, mark_resets, mark_raises, mark_makes)
 
 -- what waits after a reply with this answer
-abbrev pub StillTold : List Row → Option ChannelTask → (cid waits : ℕ) → Asked → (took : List Event) → Option Asserting →
+abbrev pub StillTold : List Row → Option ChannelTask → (cid waits : ℕ) → Asked → (took : List Event) →
+    Option Asserting →
     Event → Answer → Type 0
 StillTold rows work cid waits asked took a e (Waits now) = JobTold rows work cid now asked (e ∷ took) a
 StillTold rows work cid waits asked took a e Ignored = JobTold rows work cid waits asked took a

@@ -1,22 +1,20 @@
--- Each answer of an authenticator, from what happened before it (CTAP 2.1, sections 6 and 8.2). A refusal has its status,
+-- Each answer of an authenticator, from what happened before it (CTAP 2.1, sections 6 and 8.2). A refusal has its
+-- status,
 -- and beside it the status's name in section 8.2.
-use Rattle.std.specs.Prelude.{ℕ, ◌+◌, ◌==◌, nat_le, List, [], ◌∷◌, length, Bool, true, false, ◌&&◌, not, Option, Some, None, Result, Ok, Err, if◌then◌else◌}
-use Rattle.std.specs.List.{find, list_any}
-use Rattle.std.specs.Str.{bytes_eq}
-use Rattle.cred_table.specs.declared.row.Row.{Row}
-use Rattle.cred_table.specs.Names.{cut}
+use Rattle.std.specs.Prelude.{ℕ, ◌+◌, ◌==◌, nat_le, List, [], ◌∷◌, length, Bool, true, false, ◌&&◌, not, Option, Some}
+use Rattle.std.specs.Prelude.{None, Result, Ok, Err, if◌then◌else◌}
+use Rattle.std.specs.{List.find, List.list_any, Str.bytes_eq}
+use Rattle.cred_table.specs.{declared.row.Row.Row, Names.cut}
 use Rattle.fido_authdata.specs.AuthData.{assertion_bytes, created_bytes}
 use Rattle.ctap_message.specs.Asked.{Asked, MakeCredential, GetAssertion, GetInfo, Reset, GetNextAssertion, Selection}
 use Rattle.ctap_message.specs.Answers.{created_answer, assertion_answer, info_answer}
-use Rattle.ctap_message.specs.Descriptors.{ids_of}
-use Rattle.ctap_message.specs.Requests.{read_of}
+use Rattle.ctap_message.specs.{Descriptors.ids_of, Requests.read_of}
 use Rattle.sha2.specs.Sha256.{sha256}
-use Rattle.authn_core.specs.declared.replies.Presence.{Presence}
+use Rattle.authn_core.specs.declared.replies.{Presence.Presence, NewKey.NewKey}
 use Rattle.authn_core.specs.declared.replies.Presence.TheVariants.{Granted, Denied, TimedOut}
-use Rattle.authn_core.specs.declared.replies.NewKey.{NewKey}
-use Rattle.authn_core.specs.Marks.{Mark, Step, takes_place}
-use Rattle.authn_core.specs.State.{Asserting, Event, Request, PresenceIs, KeyIs, SignatureIs, Cancel, Drop, Answer, Answered, Waits, Ignored, Nothing}
-use Rattle.authn_core.specs.Turn.{Start}
+use Rattle.authn_core.specs.{Marks.Mark, Marks.Step, Marks.takes_place, Turn.Start}
+use Rattle.authn_core.specs.State.{Asserting, Event, Request, PresenceIs, KeyIs, SignatureIs, Cancel, Drop, Answer}
+use Rattle.authn_core.specs.State.{Answered, Waits, Ignored, Nothing}
 use Rattle.authn_core.specs.Exchanges.{Exchange, Unanswered, asked_on, rows_after, unanswered}
 use Rattle.authn_core.specs.Assertions.{assertion_for, may_go_on, series}
 
@@ -117,10 +115,12 @@ to_request start past now cid (Ok Reset) =
 to_request start past now cid (Ok (MakeCredential hash rp_id user_id user_name discoverable exclude)) = waits_for_user
 to_request start past now cid (Ok (GetAssertion hash rp_id allow presence)) =
     to_assertion (rows_after start past) (status_alone 0x2e)  -- NO_CREDENTIALS
-    (if presence then waits_for_user else is_processed) (assertion_for start past (GetAssertion hash rp_id allow presence))
+    (if presence then waits_for_user else is_processed) (assertion_for start past
+    (GetAssertion hash rp_id allow presence))
 to_request start past now cid (Ok GetNextAssertion) =
     if may_go_on now cid (series past)
-    then to_assertion (rows_after start past) (status_alone 0x30) is_processed (assertion_for start past GetNextAssertion)
+    then to_assertion (rows_after start past) (status_alone 0x30) is_processed
+    (assertion_for start past GetNextAssertion)
     else status_alone 0x30  -- NOT_ALLOWED
 
 -- To a reply, after the replies that the request took; `a` is the assertion that it asks for. What isn't asked for is
@@ -131,9 +131,11 @@ to_reply start rows a Selection [] (PresenceIs reply) = to_consent reply
 to_reply start rows a (MakeCredential hash rp_id user_id user_name discoverable exclude) [] (PresenceIs reply) =
     let rp = sha256 rp_id in
     to_presence (is_excluded rows rp (ids_of exclude)) (is_full start.capacity rows rp user_id discoverable) reply
-to_reply start rows a (MakeCredential hash rp_id user_id user_name discoverable exclude) (PresenceIs reply ∷ []) (KeyIs key) =
+to_reply start rows a (MakeCredential hash rp_id user_id user_name discoverable exclude) (PresenceIs reply ∷ [])
+    (KeyIs key) =
     to_key rows key
-to_reply start rows a (MakeCredential hash rp_id user_id user_name discoverable exclude) (KeyIs (Some key) ∷ took) (SignatureIs sig) =
+to_reply start rows a (MakeCredential hash rp_id user_id user_name discoverable exclude) (KeyIs (Some key) ∷ took)
+    (SignatureIs sig) =
     to_new_signature start.aaguid (sha256 rp_id) key sig
 to_reply start rows a (GetAssertion hash rp_id allow true) [] (PresenceIs reply) =
     if is_granted reply then is_processed else status_alone 0x27  -- OPERATION_DENIED

@@ -1,11 +1,9 @@
 -- Presence alone: authenticatorReset and authenticatorSelection (CTAP 2.1, sections 6.6, 6.9 and 8.2). A refusal has
 -- its status, and beside it the status's name in section 8.2.
 use Rattle.std.specs.Prelude.{ℕ, ◌+◌, nat_lt, List, Option, None, if◌then◌else◌}
-use Rattle.cred_table.specs.declared.row.Row.{Row}
-use Rattle.cred_table.specs.Waiting.{Waiting}
-use Rattle.authn_core.specs.declared.replies.Presence.{Presence}
+use Rattle.cred_table.specs.{declared.row.Row.Row, Waiting.Waiting}
+use Rattle.authn_core.specs.{declared.replies.Presence.Presence, State.Resets, State.Turned, State.refuses, State.waits}
 use Rattle.authn_core.specs.declared.replies.Presence.TheVariants.{Granted, Denied, TimedOut}
-use Rattle.authn_core.specs.State.{Resets, Turned, refuses, waits}
 
 -- milliseconds from the start in which a reset may be asked for
 abbrev pub RESET_LIMIT : ℕ

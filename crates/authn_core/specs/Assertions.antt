@@ -1,17 +1,13 @@
 -- Which credential signs an assertion (CTAP 2.1, sections 6.2.2 and 6.3), read of what happened.
-use Rattle.std.specs.Prelude.{ℕ, ◌+◌, ◌==◌, nat_le, List, [], ◌∷◌, map, length, reverse, take, slice_get, Bool, true, false, ◌&&◌, Option, Some, None, option_map, Result, Ok, if◌then◌else◌}
-use Rattle.std.specs.List.{filter, list_all, list_any}
-use Rattle.std.specs.Option.{option_or}
-use Rattle.std.specs.Str.{bytes_eq}
+use Rattle.std.specs.Prelude.{ℕ, ◌+◌, ◌==◌, nat_le, List, [], ◌∷◌, map, length, reverse, take, slice_get, Bool, true}
+use Rattle.std.specs.Prelude.{false, ◌&&◌, Option, Some, None, option_map, Result, Ok, if◌then◌else◌}
+use Rattle.std.specs.{List.filter, List.list_all, List.list_any, Option.option_or, Str.bytes_eq}
 use Rattle.cred_table.specs.declared.row.Row.{Row}
 use Rattle.ctap_message.specs.Asked.{Asked, GetAssertion, GetNextAssertion}
-use Rattle.ctap_message.specs.Members.{has_entries}
-use Rattle.ctap_message.specs.Descriptors.{ids_of}
-use Rattle.ctap_message.specs.Requests.{read_of}
+use Rattle.ctap_message.specs.{Members.has_entries, Descriptors.ids_of, Requests.read_of}
 use Rattle.sha2.specs.Sha256.{sha256}
-use Rattle.authn_core.specs.Exchanges.{Exchange, rows_after}
+use Rattle.authn_core.specs.{Exchanges.Exchange, Exchanges.rows_after, Turn.Start}
 use Rattle.authn_core.specs.State.{Asserting, Event, Request, SignatureIs, Answer, Answered, Waits, Ignored}
-use Rattle.authn_core.specs.Turn.{Start}
 
 -- The ids of the RP's credentials that may sign, the first one first. With an allow list it is the first that names one
 -- of them; without, they are the discoverable ones, newest first (CTAP 2.1, section 6.2.2).
@@ -58,7 +54,8 @@ begins_series event answer past = None
 unfoldable pub series : List Exchange → Option Series
 series [] = None
 series (x ∷ past) =
-    option_or (begins_series x.event x.answer past) (option_map (λ (s : Series). record s { since = x ∷ s.since }) (series past))
+    option_or (begins_series x.event x.answer past) (option_map (λ (s : Series). record s { since = x ∷ s.since })
+    (series past))
 
 abbrev pub asks_next : Result Asked ℕ → Bool
 asks_next (Ok GetNextAssertion) = true

@@ -2,11 +2,9 @@
 -- is found in it by search, by filters and by counts: the credentials, and the request that isn't answered yet.
 use Rattle.std.specs.Prelude.{ℕ, List, [], ◌∷◌, map, Option, Some, None, option_map, Result, Ok, Err}
 use Rattle.cred_table.specs.declared.row.Row.{Row}
-use Rattle.ctap_message.specs.Asked.{Asked}
-use Rattle.ctap_message.specs.Requests.{read_of}
-use Rattle.authn_core.specs.Marks.{Mark, rows_of}
+use Rattle.ctap_message.specs.{Asked.Asked, Requests.read_of}
+use Rattle.authn_core.specs.{Marks.Mark, Marks.rows_of, Turn.Start, Turn.Work}
 use Rattle.authn_core.specs.State.{Event, Request, Answer, Waits, Ignored}
-use Rattle.authn_core.specs.Turn.{Start, Work}
 
 -- An event at a moment, what was answered, and what it did to the credentials.
 pub record Exchange : Type 0 where
@@ -33,7 +31,8 @@ asked_on cid status past (Ok asked) =
     Some (record { cid = cid; asked = asked; took = []; status = status; before = past })
 asked_on cid status past (Err code) = None
 
--- A request that isn't answered at once waits, and takes replies while it does; an ignored one changes nothing; an answer
+-- A request that isn't answered at once waits, and takes replies while it does; an ignored one changes nothing; an
+-- answer
 -- or a drop ends it.
 abbrev pub waits_after : Event → Answer → List Exchange → Option Unanswered → Option Unanswered
 waits_after (Request cid bytes) (Waits status) past older = asked_on cid status past (read_of bytes)

@@ -1,15 +1,12 @@
 -- The turns of authenticatorGetAssertion and authenticatorGetNextAssertion (CTAP 2.1, sections 6.2.2, 6.3 and
 -- 8.2). A refusal has its status, and beside it the status's name in section 8.2.
-use Rattle.std.specs.Prelude.{ℕ, ◌+◌, ◌==◌, nat_lt, nat_le, List, [], ◌∷◌, length, Bool, ◌&&◌, Option, Some, None, option_to_list, if◌then◌else◌}
-use Rattle.std.specs.List.{find}
-use Rattle.std.specs.Option.{option_or}
-use Rattle.cred_table.specs.declared.row.Row.{Row}
-use Rattle.cred_table.specs.Rows.{has_id, is_named, listed, counter_of}
+use Rattle.std.specs.Prelude.{ℕ, ◌+◌, ◌==◌, nat_lt, nat_le, List, [], ◌∷◌, length, Bool, ◌&&◌, Option, Some, None}
+use Rattle.std.specs.{Prelude.option_to_list, Prelude.if◌then◌else◌, List.find, Option.option_or}
+use Rattle.cred_table.specs.{declared.row.Row.Row, Rows.has_id, Rows.is_named, Rows.listed, Rows.counter_of}
 use Rattle.cred_table.specs.Waiting.{Waiting, pending_of, stamped}
 use Rattle.fido_authdata.specs.AuthData.{assertion_bytes}
 use Rattle.ctap_message.specs.Answers.{assertion_answer}
-use Rattle.authn_core.specs.declared.replies.Presence.{Presence}
-use Rattle.authn_core.specs.declared.replies.Presence.TheVariants.{Granted}
+use Rattle.authn_core.specs.declared.replies.Presence.{Presence, TheVariants.Granted}
 use Rattle.authn_core.specs.State.{Asserting, AsksAssert, Turned, answers, refuses, waits, signs}
 
 -- the RP's row of the first id that names one

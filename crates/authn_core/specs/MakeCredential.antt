@@ -1,17 +1,13 @@
 -- The turns of authenticatorMakeCredential (CTAP 2.1, sections 6.1.2 and 8.2). A refusal has its status, and beside it
 -- the status's name in section 8.2.
-use Rattle.std.specs.Prelude.{ℕ, nat_lt, List, ◌++◌, length, Bool, true, false, ◌&&◌, ◌||◌, Option, Some, None, is_some, if◌then◌else◌}
-use Rattle.std.specs.List.{find, list_any}
+use Rattle.std.specs.Prelude.{ℕ, nat_lt, List, ◌++◌, length, Bool, true, false, ◌&&◌, ◌||◌, Option, Some, None, is_some}
+use Rattle.std.specs.{Prelude.if◌then◌else◌, List.find, List.list_any}
 use Rattle.arrayvec.specs.ArrayVec.{ArrayVec}
-use Rattle.cred_table.specs.declared.row.Row.{Row}
+use Rattle.cred_table.specs.{declared.row.Row.Row, Names.cut, Waiting.Waiting}
 use Rattle.cred_table.specs.Rows.{has_id, is_named, is_user, stored}
-use Rattle.cred_table.specs.Names.{cut}
-use Rattle.cred_table.specs.Waiting.{Waiting}
 use Rattle.fido_authdata.specs.AuthData.{created_bytes}
 use Rattle.ctap_message.specs.Answers.{created_answer}
-use Rattle.authn_core.specs.declared.replies.Presence.{Presence}
-use Rattle.authn_core.specs.declared.replies.Presence.TheVariants.{Granted}
-use Rattle.authn_core.specs.declared.replies.NewKey.{NewKey}
+use Rattle.authn_core.specs.declared.replies.{Presence.Presence, Presence.TheVariants.Granted, NewKey.NewKey}
 use Rattle.sha2.specs.Sha256.{sha256}
 use Rattle.authn_core.specs.State.{Making, AsksMake, WantsKey, SignsMake, Turned, answers, refuses, waits}
 

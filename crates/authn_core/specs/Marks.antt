@@ -1,13 +1,11 @@
 -- The credentials after a history of events, by filters and counts: what each event made, raised or reset (WebAuthn
 -- Level 2, sections 6.1.1 and 6.3), and the texts to sign of its assertions.
-use Rattle.std.specs.Prelude.{ℕ, ◌+◌, List, [], ◌∷◌, ◌++◌, length, flat_map, Bool, true, false, ◌&&◌, not, if◌then◌else◌, Option, Some, None, option_to_list, ◌≡◌, ◌==◌}
-use Rattle.std.specs.List.{filter, list_any}
-use Rattle.std.specs.Str.{bytes_eq}
-use Rattle.cred_table.specs.declared.row.Row.{Row}
-use Rattle.cred_table.specs.Rows.{has_id}
-use Rattle.authn_core.specs.declared.replies.Presence.TheVariants.{Granted}
-use Rattle.authn_core.specs.MakeCredential.{new_row}
-use Rattle.authn_core.specs.State.{Task, Resets, SignsMake, SignsAssert, ChannelTask, Event, Request, PresenceIs, SignatureIs}
+use Rattle.std.specs.Prelude.{ℕ, ◌+◌, List, [], ◌∷◌, ◌++◌, length, flat_map, Bool, true, false, ◌&&◌, not}
+use Rattle.std.specs.Prelude.{if◌then◌else◌, Option, Some, None, option_to_list, ◌≡◌, ◌==◌}
+use Rattle.std.specs.{List.filter, List.list_any, Str.bytes_eq}
+use Rattle.cred_table.specs.{declared.row.Row.Row, Rows.has_id}
+use Rattle.authn_core.specs.{declared.replies.Presence.TheVariants.Granted, MakeCredential.new_row, State.SignatureIs}
+use Rattle.authn_core.specs.State.{Task, Resets, SignsMake, SignsAssert, ChannelTask, Event, Request, PresenceIs}
 use Rattle.authn_core.specs.Turn.{CoreState, core_after}
 
 -- what an input does to the rows: it makes one, it raises one's counter, or it is a granted reset

@@ -1,17 +1,17 @@
 -- What work can count on between turns.
 use Rattle.std.specs.Prelude.{ℕ, ◌≡◌, ◌<◌, ◌-◌, ◌^◌, List, ◌++◌, length, Bool, true, false, Option, Some, None, is_some}
 use Rattle.std.specs.List.{AllByRecursion, find}
-use Rattle.cred_table.specs.declared.row.Row.{Row}
-use Rattle.cred_table.specs.Rows.{has_id, counter_of}
-use Rattle.cred_table.specs.Waiting.{Waiting, pending_of}
+use Rattle.cred_table.specs.{declared.row.Row.Row, Rows.has_id, Rows.counter_of, Waiting.Waiting, Waiting.pending_of}
 use Rattle.fido_authdata.specs.AuthData.{assertion_bytes, created_bytes}
 use Rattle.authn_core.specs.State.{Task, WantsKey, SignsMake, AsksAssert, SignsAssert, ChannelTask, State}
 use Rattle.authn_core.specs.MakeCredential.{fits}
 
 abbrev pub TaskReady : (capacity : ℕ) → List Row → Task → Type 0
 TaskReady capacity rows (WantsKey m) = fits capacity m rows ≡ true
-TaskReady capacity rows (SignsMake m k signed) = (fits capacity m rows ≡ true) × (is_some (find (has_id k.id) rows) ≡ false)
-TaskReady capacity rows (AsksAssert a) = (is_some (find (has_id a.id) rows) ≡ true) × (counter_of a.id rows < 2 ^ 32 - 1)
+TaskReady capacity rows (SignsMake m k signed) = (fits capacity m rows ≡ true)
+    × (is_some (find (has_id k.id) rows) ≡ false)
+TaskReady capacity rows (AsksAssert a) = (is_some (find (has_id a.id) rows) ≡ true)
+    × (counter_of a.id rows < 2 ^ 32 - 1)
 TaskReady capacity rows (SignsAssert a counter signed) = is_some (find (has_id a.id) rows) ≡ true
 TaskReady capacity rows task = Unit {0}
 
@@ -42,7 +42,8 @@ PendingReady rows None = Unit {0}
 PendingReady rows (Some w) = AllThere rows w.ids
 
 -- These ids are pending, so many and no others, all that a request named.
-pub record IsPendingAlone (p : Option Waiting) (cid : ℕ) (hash : List ℕ) (presence : Bool) (now : ℕ) (ids : List (List ℕ)) (count : ℕ) : Type 0 where
+pub record IsPendingAlone (p : Option Waiting) (cid : ℕ) (hash : List ℕ) (presence : Bool) (now : ℕ)
+    (ids : List (List ℕ)) (count : ℕ) : Type 0 where
   pub are : p ≡ pending_of cid hash presence now ids
   pub counted : length ids ≡ count
   pub few : count < 2 ^ 16

@@ -3,9 +3,7 @@
 use Rattle.std.specs.Prelude.{ℕ, ◌≡◌, List, [], ◌∷◌, nat_lt, Bool, true, ◌&&◌, ◌||◌, not, ◌==◌}
 use Rattle.std.specs.Str.{bytes_eq}
 use Rattle.cred_table.specs.Rows.{counter_of}
-use Rattle.authn_core.specs.Marks.{Text}
-use Rattle.authn_core.specs.State.{State}
-use Rattle.authn_core.specs.Views.{needs, sign}
+use Rattle.authn_core.specs.{Marks.Text, State.State, Views.needs, Views.sign}
 
 -- by one row: of one id and one making of it
 abbrev pub by_one_row : Text → Text → Bool

@@ -1,20 +1,16 @@
 -- What is signed: the authenticator data and the hash of the client data, of an assertion (WebAuthn Level 2, section
 -- 6.3.3) and of a new credential (sections 6.3.2 and 8.2). It is read of the requests and keys that came.
-use Rattle.std.specs.Prelude.{ℕ, ◌≡◌, ◌⊎◌, List, [], ◌∷◌, ◌++◌, Bool, true, false, Option, Some, None, option_map, Result, Ok, Err}
-use Rattle.std.specs.List.{AllByRecursion, find}
-use Rattle.cred_table.specs.declared.row.Row.{Row}
-use Rattle.cred_table.specs.Rows.{has_id, counter_of}
-use Rattle.cred_table.specs.Waiting.{Waiting}
+use Rattle.std.specs.Prelude.{ℕ, ◌≡◌, ◌⊎◌, List, [], ◌∷◌, ◌++◌, Bool, true, false, Option, Some, None, option_map}
+use Rattle.std.specs.{Prelude.Result, Prelude.Ok, Prelude.Err, List.AllByRecursion, List.find}
+use Rattle.cred_table.specs.{declared.row.Row.Row, Waiting.Waiting, Rows.has_id, Rows.counter_of}
 use Rattle.fido_authdata.specs.AuthData.{assertion_bytes, created_bytes}
 use Rattle.ctap_message.specs.Asked.{Asked, MakeCredential, GetAssertion, GetNextAssertion}
-use Rattle.ctap_message.specs.Answers.{created_answer, assertion_answer}
-use Rattle.ctap_message.specs.Requests.{read_of}
-use Rattle.authn_core.specs.declared.replies.Presence.TheVariants.{Granted}
-use Rattle.authn_core.specs.declared.replies.NewKey.{NewKey}
+use Rattle.ctap_message.specs.{Answers.created_answer, Answers.assertion_answer, Requests.read_of}
+use Rattle.authn_core.specs.declared.replies.{Presence.TheVariants.Granted, NewKey.NewKey}
 use Rattle.sha2.specs.Sha256.{sha256}
-use Rattle.authn_core.specs.Marks.{Step, made_by}
-use Rattle.authn_core.specs.State.{Making, Asserting, Task, AsksMake, WantsKey, SignsMake, AsksAssert, SignsAssert, ChannelTask, State, Event, Request, PresenceIs, KeyIs, SignatureIs, Answer, Answered}
-use Rattle.authn_core.specs.Views.{Needed, sign}
+use Rattle.authn_core.specs.{Marks.Step, Marks.made_by, Views.Needed, Views.sign}
+use Rattle.authn_core.specs.State.{Making, Asserting, Task, AsksMake, WantsKey, SignsMake, AsksAssert, SignsAssert}
+use Rattle.authn_core.specs.State.{ChannelTask, State, Event, Request, PresenceIs, KeyIs, SignatureIs, Answer, Answered}
 
 -- ---- what came
 

@@ -1,11 +1,8 @@
 -- The authenticator's state between its turns, what can happen to it, and what it answers (CTAP 2.1, section 6).
 use Rattle.std.specs.Prelude.{ℕ, ◌+◌, List, [], ◌∷◌, ◌++◌, Bool, Option, Some, None}
-use Rattle.cred_table.specs.declared.row.Row.{Row}
-use Rattle.cred_table.specs.Rows.{raised, counter_of}
-use Rattle.cred_table.specs.Waiting.{Waiting}
+use Rattle.cred_table.specs.{declared.row.Row.Row, Waiting.Waiting, Rows.raised, Rows.counter_of}
 use Rattle.fido_authdata.specs.AuthData.{assertion_bytes}
-use Rattle.authn_core.specs.declared.replies.Presence.{Presence}
-use Rattle.authn_core.specs.declared.replies.NewKey.{NewKey}
+use Rattle.authn_core.specs.declared.replies.{Presence.Presence, NewKey.NewKey}
 
 -- What stays.
 pub record Setup : Type 0 where

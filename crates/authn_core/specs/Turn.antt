@@ -1,14 +1,12 @@
 -- The authenticator's turns: what each event makes of its state, and what it answers (CTAP 2.1, section 6).
 use Rattle.std.specs.Prelude.{ℕ, List, [], map, Option, Some, None, option_map, Result, Ok, Err}
-use Rattle.cred_table.specs.declared.row.Row.{Row}
-use Rattle.cred_table.specs.Waiting.{Waiting}
+use Rattle.cred_table.specs.{declared.row.Row.Row, Waiting.Waiting}
 use Rattle.ctap_message.specs.Asked.{Asked, MakeCredential, GetAssertion, GetInfo, Reset, GetNextAssertion, Selection}
-use Rattle.ctap_message.specs.Answers.{info_answer}
-use Rattle.ctap_message.specs.Members.{has_entries}
-use Rattle.ctap_message.specs.Descriptors.{ids_of}
-use Rattle.ctap_message.specs.Requests.{read_of}
+use Rattle.ctap_message.specs.{Answers.info_answer, Members.has_entries, Descriptors.ids_of, Requests.read_of}
 use Rattle.sha2.specs.Sha256.{sha256}
-use Rattle.authn_core.specs.State.{Setup, Task, Resets, Selects, AsksMake, WantsKey, SignsMake, AsksAssert, SignsAssert, ChannelTask, State, Event, Request, PresenceIs, KeyIs, SignatureIs, Cancel, Drop, Answer, Nothing, Turned, status, answers, refuses, waits, ignores}
+use Rattle.authn_core.specs.State.{Setup, Task, Resets, Selects, AsksMake, WantsKey, SignsMake, AsksAssert, SignsAssert}
+use Rattle.authn_core.specs.State.{ChannelTask, State, Event, Request, PresenceIs, KeyIs, SignatureIs, Cancel, Drop}
+use Rattle.authn_core.specs.State.{Answer, Nothing, Turned, status, answers, refuses, waits, ignores}
 use Rattle.authn_core.specs.Asking.{reset_begins, asked_alone}
 use Rattle.authn_core.specs.MakeCredential.{making, names_one, make_asked, key_wanted, make_signed}
 use Rattle.authn_core.specs.GetAssertion.{applicable, begins, assert_asked, assert_signed, next_begins}
@@ -31,7 +29,8 @@ requested u rows pending now cid (Ok GetNextAssertion) = next_begins rows pendin
 abbrev pub replied : Setup → State → (now cid : ℕ) → Task → Event → Turned
 replied u s now cid Resets (PresenceIs reply) = asked_alone (refuses [] None 0x00) s.rows s.pending reply
 replied u s now cid Selects (PresenceIs reply) = asked_alone (refuses s.rows s.pending 0x00) s.rows s.pending reply
-replied u s now cid (AsksMake m excluded) (PresenceIs reply) = make_asked u.capacity s.rows s.pending cid m excluded reply
+replied u s now cid (AsksMake m excluded) (PresenceIs reply) =
+    make_asked u.capacity s.rows s.pending cid m excluded reply
 replied u s now cid (WantsKey m) (KeyIs key) = key_wanted u.aaguid s.rows s.pending cid m key
 replied u s now cid (SignsMake m key signed) (SignatureIs sig) = make_signed u.aaguid s.rows s.pending m key sig
 replied u s now cid (AsksAssert a) (PresenceIs reply) = assert_asked s.rows s.pending cid a reply

@@ -16,7 +16,9 @@ use Rattle.authn_core.specs.declared.task.Asserting.{Asserting as AssertingKept}
 use Rattle.authn_core.specs.declared.task.Task.{Task as TaskKept}
 use Rattle.authn_core.specs.declared.task.Task.TheVariants as kept
 use Rattle.authn_core.specs.declared.task.ChannelTask.{ChannelTask as ChannelTaskKept}
-use Rattle.authn_core.specs.State.{Making, Asserting, Task, Resets, Selects, AsksMake, WantsKey, SignsMake, AsksAssert, SignsAssert, ChannelTask, Event, Request, PresenceIs, KeyIs, SignatureIs, Cancel, Drop, Answer, Answered, Waits, Ignored, Nothing, Turned, status}
+use Rattle.authn_core.specs.State.{Making, Asserting, Task, Resets, Selects, AsksMake, WantsKey, SignsMake, AsksAssert}
+use Rattle.authn_core.specs.State.{SignsAssert, ChannelTask, Event, Request, PresenceIs, KeyIs, SignatureIs, Cancel}
+use Rattle.authn_core.specs.State.{Drop, Answer, Answered, Waits, Ignored, Nothing, Turned, status}
 
 -- the status of waiting work, as the byte that a KEEPALIVE carries
 abbrev pub status_number : KeepaliveStatus → ℕ

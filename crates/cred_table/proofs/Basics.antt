@@ -1,9 +1,7 @@
 -- Tests that are true or false, and what a list has under one.
-use Rattle.std.proofs.Common.{arith, rules, ◌≡◌, ℕ, List, [], ◌∷◌, Bool, true, false, not, None, is_some, refl, ◌∙◌, ap, filter}
-use Rattle.std.specs.List.{find, list_any}
-use Rattle.std.specs.Str.{bytes_eq}
-use Rattle.std.proofs.lemmas.Slice.Eq.{bytes_eq-Decides}
-use Rattle.std.proofs.lemmas.Bool.{or_parts}
+use Rattle.std.proofs.Common.{arith, rules, ◌≡◌, ℕ, List, [], ◌∷◌, Bool, true, false, not, None, is_some, refl, ◌∙◌, ap}
+use Rattle.std.proofs.{Common.filter, lemmas.Slice.Eq.bytes_eq-Decides, lemmas.Bool.or_parts}
+use Rattle.std.specs.{List.find, List.list_any, Str.bytes_eq}
 
 pub same_bytes : (xs : List ℕ) → bytes_eq xs xs ≡ true
 same_bytes xs = (bytes_eq-Decides xs xs).1 refl

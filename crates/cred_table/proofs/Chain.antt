@@ -1,18 +1,18 @@
 -- Chains that links make, as lists of slots.
-use Rattle.std.proofs.lemmas.Grind.{common_steps}
-use Rattle.std.proofs.Common.{rules, ◌≡◌, ◌≢◌, ℕ, zero, suc, ◌<◌, ◌≤◌, List, [], ◌∷◌, ◌++◌, length, Bool, true, false, ◌||◌, not, Option, Some, None, refl, sym, ◌∙◌, ap, subst, arith, get_or, set, nat_lt, nat_eq, eqb, length-append, map, ◌+◌, reverse, ◌&&◌}
+use Rattle.std.proofs.lemmas.{Grind.common_steps, List.Folds.list_any-append, Map.Steps.length-le_from_distinct_below}
+use Rattle.std.proofs.Common.{rules, ◌≡◌, ◌≢◌, ℕ, zero, suc, ◌<◌, ◌≤◌, List, [], ◌∷◌, ◌++◌, length, Bool, true, false}
+use Rattle.std.proofs.Common.{◌||◌, not, Option, Some, None, refl, sym, ◌∙◌, ap, subst, arith, get_or, set, nat_lt}
+use Rattle.std.proofs.Common.{nat_eq, eqb, length-append, map, ◌+◌, reverse, ◌&&◌}
 use Rattle.std.specs.List.{IsDistinct, AllByRecursion}
-use Rattle.std.proofs.lemmas.List.{length-set, get_or-set_same, get_or-set_other, get_or-map, get_or_default, length-map, map-set, set-get_or, reverse-append, reverse-reverse}
-use Rattle.std.proofs.lemmas.List.Folds.{list_any-append}
-use Rattle.std.proofs.lemmas.Map.Steps.{length-le_from_distinct_below}
+use Rattle.std.proofs.lemmas.List.{length-set, get_or-set_same, get_or-set_other, get_or-map, get_or_default}
+use Rattle.std.proofs.lemmas.List.{length-map, map-set, set-get_or, reverse-append, reverse-reverse}
 use Rattle.std.proofs.lemmas.Bool.{and_parts, or_parts, not-true}
-use Rattle.cred_table.specs.Slots.{walk, ends, chain, is_chain, has, but, distinct, begun, links, link_of, with_link, led_slots, slot_at, blank, within, bucket, numbered}
+use Rattle.cred_table.specs.Slots.{walk, ends, chain, is_chain, has, but, distinct, begun, links, link_of, with_link}
+use Rattle.cred_table.specs.Slots.{led_slots, slot_at, blank, within, bucket, numbered}
 use Rattle.cred_table.proofs.Basics.{all_stay}
-use Rattle.cred_table.specs.declared.slot.Slot.{Slot}
-use Rattle.cred_table.specs.declared.slot.Along.{Along}
+use Rattle.cred_table.specs.declared.{slot.Slot.Slot, slot.Along.Along, chains.Chains.Chains}
 use Rattle.cred_table.specs.declared.slot.Along.TheVariants.{Next, Newer, Older}
 use Rattle.cred_table.specs.Linked.{row_at, Linked, age, free_slots, id_slots, head}
-use Rattle.cred_table.specs.declared.chains.Chains.{Chains}
 
 -- ---- numbers
 

@@ -1,22 +1,18 @@
 -- From what was read of a canonical text to the snapshot that it is.
-use Rattle.std.proofs.Common.{rules, ◌≡◌, ℕ, ◌+◌, ◌<◌, ◌≤◌, ◌^◌, Bool, List, [], ◌∷◌, ◌++◌, length, None, Result, Ok, Err, refl, arith, sym, ap, subst, ◌∙◌, append_assoc}
-use Rattle.std.specs.Prelude.{pos}
-use Rattle.std.proofs.lemmas.List.{append-nil}
-use Rattle.std.specs.List.{AllByRecursion}
-use Rattle.ctap_cbor.specs.Tree.{Int, Tree, Plain, Array, Map, Trees, no_trees, tree, Pairs, no_pairs, pair, count, count_pairs}
-use Rattle.ctap_cbor.specs.Head.{head}
-use Rattle.ctap_cbor.specs.Grammar.{text, texts, pair_texts, scalar_text, IsLawful, AreLawful, AreLawfulPairs, IsCanonical}
+use Rattle.std.proofs.Common.{rules, ◌≡◌, ℕ, ◌+◌, ◌<◌, ◌≤◌, ◌^◌, Bool, List, [], ◌∷◌, ◌++◌, length, None, Result, Ok}
+use Rattle.std.proofs.Common.{Err, refl, arith, sym, ap, subst, ◌∙◌, append_assoc}
+use Rattle.std.{specs.Prelude.pos, specs.List.AllByRecursion, proofs.lemmas.List.append-nil}
+use Rattle.ctap_cbor.specs.Tree.{Int, Tree, Plain, Array, Map, Trees, no_trees, tree, Pairs, no_pairs, pair, count}
+use Rattle.ctap_cbor.specs.{Tree.count_pairs, Head.head, Grammar.IsCanonical, Reading.Reading, Reading.rest_of}
+use Rattle.ctap_cbor.specs.Grammar.{text, texts, pair_texts, scalar_text, IsLawful, AreLawful, AreLawfulPairs}
 use Rattle.ctap_cbor.specs.Parts.{One, OpensArray, OpensMap}
-use Rattle.ctap_cbor.specs.Reading.{Reading, rest_of}
 use Rattle.ctap_cbor.specs.Laws.{NoneBeginsAnother, NoItemBeginsAnother}
-use Rattle.cred_table.specs.declared.row.Row.{Row}
-use Rattle.cred_table.specs.declared.fault.SnapshotFault.{SnapshotFault}
+use Rattle.cred_table.specs.{declared.row.Row.Row, declared.fault.SnapshotFault.SnapshotFault, Rows.Lawful}
 use Rattle.cred_table.specs.declared.fault.SnapshotFault.TheVariants.{NotSnapshot, TooMany, RowBroken, Memory}
-use Rattle.cred_table.specs.Rows.{Lawful}
-use Rattle.cred_table.specs.Snapshots.{number, version, IsRow, row_tree, rows_then, snapshot_of, IsSnapshot, Holds, Refuses, Loads}
+use Rattle.cred_table.specs.Snapshots.{number, version, IsRow, row_tree, rows_then, snapshot_of, IsSnapshot, Holds}
+use Rattle.cred_table.specs.Snapshots.{Refuses, Loads}
 use Rattle.cred_table.specs.Parsing.{Reads, heads_text, row_text, rows_text, TakesRows, BreaksOff, ReadsRows}
-use Rattle.cred_table.proofs.Entries.{IsHeads}
-use Rattle.cred_table.proofs.RowTrees.{row_lawful}
+use Rattle.cred_table.proofs.{Entries.IsHeads, RowTrees.row_lawful}
 
 -- No tree's encoding begins another's, and no item's head does.
 pub record Apart : Type 0 where
@@ -196,7 +192,8 @@ one_left no_trees lt = absurd (omega arith)
 one_left (tree t ts) lt = record { entry = t; after = ts; is = refl }
 
 all_load : (apart : Apart) → (named : Bool) (capacity n : ℕ) (b : List ℕ) (a c : Reading) (rows : List Row) →
-    Lawful capacity rows → HasEntries named n b (rest_of a) → TakesRows named n a c rows → IsSnapshot named capacity rows b
+    Lawful capacity rows → HasEntries named n b (rest_of a) → TakesRows named n a c rows →
+    IsSnapshot named capacity rows b
 all_load apart named capacity n b a c rows lawful h k =
     let d = after_rows apart named rows h.entries (rest_of c) k.typed h.lawful (omega (arith, h.number, k.number))
     (sym h.spelled ∙ k.spelled) in
@@ -208,7 +205,8 @@ all_load apart named capacity n b a c rows lawful h k =
     }
 
 broken_at : (apart : Apart) → (named : Bool) (capacity n place : ℕ) (b : List ℕ) (a : Reading) →
-    HasEntries named n b (rest_of a) → n ≤ capacity → BreaksOff named capacity n place a → Refuses capacity b (RowBroken place)
+    HasEntries named n b (rest_of a) → n ≤ capacity → BreaksOff named capacity n place a →
+    Refuses capacity b (RowBroken place)
 broken_at apart named capacity n place b a h few k =
     let d = after_rows apart named k.rows h.entries (rest_of k.between) k.takes.typed h.lawful
     (omega (arith, h.number, k.takes.number, k.fewer)) (sym h.spelled ∙ k.takes.spelled) in
@@ -232,7 +230,8 @@ broken_at apart named capacity n place b a h few k =
     )
 
 -- the entries were read, all or up to a broken one
-pub rows_load : (apart : Apart) → (named : Bool) (capacity n : ℕ) (t : Tree) (b : List ℕ) (a c : Reading) (rows : List Row)
+pub rows_load : (apart : Apart) → (named : Bool) (capacity n : ℕ) (t : Tree) (b : List ℕ) (a c : Reading)
+    (rows : List Row)
     (r : Result (Unit {0}) SnapshotFault) →
     n < 2 ^ 64 → n ≤ capacity → IsCanonical t b → b ≡ heads_text (named, n) ++ rest_of a → Lawful capacity rows →
     ReadsRows named capacity n a c rows r → Loads capacity b r rows
@@ -245,7 +244,8 @@ rows_load apart named capacity n t b a c rows (Err TooMany) fits few is e lawful
 rows_load apart named capacity n t b a c rows (Err Memory) fits few is e lawful k = absurd k
 
 -- there are too many
-pub too_many : (apart : Apart) → (named : Bool) (capacity n : ℕ) (t : Tree) (b rest : List ℕ) → n < 2 ^ 64 → capacity < n →
+pub too_many : (apart : Apart) → (named : Bool) (capacity n : ℕ) (t : Tree) (b rest : List ℕ) → n < 2 ^ 64 →
+    capacity < n →
     IsCanonical t b → b ≡ heads_text (named, n) ++ rest → Refuses capacity b TooMany
 too_many apart named capacity n t b rest fits many is e = let h = has_entries apart named n t b rest fits is e in
     (named, h.entries, h.holds, omega (arith, h.number))

@@ -1,17 +1,12 @@
 -- Lawful rows don't clash with one another.
-use Rattle.std.proofs.Common.{◌≡◌, ℕ, Bool, true, false, List, [], ◌∷◌, ◌++◌, not, refl, sym, ap, subst, ◌∙◌, cond, length, arith, append_assoc, length-append}
-use Rattle.std.proofs.lemmas.List.Folds.{list_any-append}
-use Rattle.std.specs.List.{list_any, find}
-use Rattle.std.proofs.lemmas.Bool.{or_parts, or_from}
-use Rattle.cred_table.specs.declared.row.Row.{Row}
+use Rattle.std.proofs.Common.{◌≡◌, ℕ, Bool, true, false, List, [], ◌∷◌, ◌++◌, not, refl, sym, ap, subst, ◌∙◌, cond}
+use Rattle.std.proofs.Common.{length, arith, append_assoc, length-append}
+use Rattle.std.proofs.lemmas.List.{Folds.list_any-append, append-nil, Elements.filter-append}
+use Rattle.std.specs.{List.list_any, List.find, Prelude.◌<◌, Prelude.None, Prelude.IsTrue}
+use Rattle.std.proofs.lemmas.{Bool.or_parts, Bool.or_from, List.Sums.length-filter, List.Sums.count_by-le-length}
+use Rattle.cred_table.specs.{declared.row.Row.Row, Snapshots.clashes}
 use Rattle.cred_table.specs.Rows.{has_id, replaces, no_two, Lawful, is_user, without}
-use Rattle.cred_table.specs.Snapshots.{clashes}
-use Rattle.cred_table.proofs.Stored.{replaces_sym, none_kept}
-use Rattle.std.specs.Prelude.{◌<◌, None, IsTrue}
-use Rattle.std.proofs.lemmas.List.{append-nil}
-use Rattle.std.proofs.lemmas.List.Elements.{filter-append}
-use Rattle.std.proofs.lemmas.List.Sums.{length-filter, count_by-le-length}
-use Rattle.cred_table.proofs.RowTrees.{no_clash}
+use Rattle.cred_table.proofs.{Stored.replaces_sym, Stored.none_kept, RowTrees.no_clash}
 
 none_before : (clash : Row → Row → Bool) (before : List Row) (row : Row) (after : List Row) →
     no_two clash (before ++ row ∷ after) ≡ true → list_any (λ r. clash r row) before ≡ false

@@ -1,10 +1,8 @@
 -- The heads of a snapshot and its rows, read part by part.
-use Rattle.std.proofs.Common.{arith, rules, ◌≡◌, ℕ, ◌<◌, ◌^◌, Bool, List, ◌++◌, Option, Some, None, refl, sym, ap, ◌∙◌, append_assoc}
-use Rattle.std.specs.Prelude.{pos, ⊤}
-use Rattle.ctap_cbor.specs.Tree.{Int, Bytes, Flag}
-use Rattle.ctap_cbor.specs.Head.{head}
+use Rattle.std.proofs.Common.{arith, rules, ◌≡◌, ℕ, ◌<◌, ◌^◌, Bool, List, ◌++◌, Option, Some, None, refl, sym, ap, ◌∙◌}
+use Rattle.std.{proofs.Common.append_assoc, specs.Prelude.pos, specs.Prelude.⊤}
+use Rattle.ctap_cbor.specs.{Tree.Int, Tree.Bytes, Tree.Flag, Head.head, Reading.Reading, Reading.rest_of}
 use Rattle.ctap_cbor.specs.Parts.{Part, One, OpensArray}
-use Rattle.ctap_cbor.specs.Reading.{Reading, rest_of}
 use Rattle.cred_table.specs.declared.row.Row.{Row}
 use Rattle.cred_table.specs.Snapshots.{IsHash, IsShort, IsName, IsRow, version}
 use Rattle.cred_table.specs.Parsing.{Reads, ReadsMember, member_text, name_text, members_of, row_text, heads_text}

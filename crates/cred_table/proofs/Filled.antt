@@ -1,19 +1,20 @@
 -- A table whose slots are all free.
-use Rattle.std.proofs.lemmas.Grind.{common_steps}
-use Rattle.std.proofs.Common.{rules, ◌≡◌, ℕ, zero, suc, ◌+◌, ◌<◌, ◌≤◌, List, [], length, replicate, Bool, true, false, ◌||◌, Option, Some, None, refl, sym, ◌∙◌, subst, arith, nat_lt, nat_eq, get_or, ◌∷◌, ◌&&◌, not, ap, ◌++◌, map, reverse, cond, set}
+use Rattle.std.proofs.{lemmas.Grind.common_steps, lemmas.List.FromFn.length-range_with_len, Math.Bool.or-true}
+use Rattle.std.proofs.Common.{rules, ◌≡◌, ℕ, zero, suc, ◌+◌, ◌<◌, ◌≤◌, List, [], length, replicate, Bool, true, false}
+use Rattle.std.proofs.Common.{◌||◌, Option, Some, None, refl, sym, ◌∙◌, subst, arith, nat_lt, nat_eq, get_or, ◌∷◌, ◌&&◌}
+use Rattle.std.proofs.Common.{not, ap, ◌++◌, map, reverse, cond, set}
 use Rattle.std.specs.List.{range_with_len}
-use Rattle.std.proofs.lemmas.List.FromFn.{length-range_with_len}
-use Rattle.cred_table.specs.declared.slot.Slot.{Slot}
+use Rattle.cred_table.specs.declared.{slot.Slot.Slot, slot.Along.Along, chains.Chains.Chains, row.Row.Row}
 use Rattle.cred_table.specs.declared.slot.Along.TheVariants.{Next, Newer, Older}
-use Rattle.cred_table.specs.declared.chains.Chains.{Chains}
-use Rattle.cred_table.specs.Slots.{links, slot_at, has, next_free, chain, is_chain, distinct, led_slots, begun, within, bucket, link_of, raised_slot}
+use Rattle.cred_table.specs.Slots.{links, slot_at, has, next_free, chain, is_chain, distinct, led_slots, begun, within}
+use Rattle.cred_table.specs.Slots.{bucket, link_of, raised_slot}
 use Rattle.cred_table.specs.Linked.{Linked, age, free_slots, id_slots, head, row_at, rows_in, raised_at}
-use Rattle.cred_table.proofs.Chain.{Leads, lt_is, link_at, length-links, closed, Leads-once, eq_is, chain_step, slot_read, Holds, opened, Leads-first, Leads-set, Leads-push, Leads-distinct, EndsWith, led, links-set, links-led_other, length-led, row-set_same, row-set_other, row-led, map_same, age_is, ends_newest, has-push, has-reverse}
+use Rattle.cred_table.proofs.Chain.{Leads, lt_is, link_at, length-links, closed, Leads-once, eq_is, chain_step}
+use Rattle.cred_table.proofs.Chain.{slot_read, Holds, opened, Leads-first, Leads-set, Leads-push, Leads-distinct}
+use Rattle.cred_table.proofs.Chain.{EndsWith, led, links-set, links-led_other, length-led, row-set_same, row-set_other}
+use Rattle.cred_table.proofs.Chain.{row-led, map_same, age_is, ends_newest, has-push, has-reverse}
 use Rattle.std.proofs.lemmas.Bool.{and_parts, and_from, not-true}
 use Rattle.std.proofs.lemmas.List.{length-set, length-append, reverse-append, map-append, set-get_or}
-use Rattle.std.proofs.Math.Bool.{or-true}
-use Rattle.cred_table.specs.declared.row.Row.{Row}
-use Rattle.cred_table.specs.declared.slot.Along.{Along}
 
 -- the free chain leads through all slots
 leads_on : (slots : List Slot) → ((k : ℕ) → k < length slots → (slot_at slots k).next ≡ next_free (length slots) k) →

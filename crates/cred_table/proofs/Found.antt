@@ -1,15 +1,13 @@
 -- Rows that are found along a chain.
-use Rattle.std.proofs.Common.{rules, ◌≡◌, ℕ, List, [], ◌∷◌, map, Bool, true, false, cond, not, Option, Some, None, option_map, Bor, refl, sym, ◌∙◌, ap, nat_eq, is_some, ◌<◌, zero, suc, length, arith, get_or, slice_get, ◌+◌}
+use Rattle.std.proofs.Common.{rules, ◌≡◌, ℕ, List, [], ◌∷◌, map, Bool, true, false, cond, not, Option, Some, None}
+use Rattle.std.proofs.Common.{option_map, Bor, refl, sym, ◌∙◌, ap, nat_eq, is_some, ◌<◌, zero, suc, length, arith}
+use Rattle.std.proofs.{Common.get_or, Common.slice_get, Common.◌+◌, lemmas.Bool.and_parts}
 use Rattle.std.specs.List.{find, list_any, filter}
-use Rattle.std.proofs.lemmas.Bool.{and_parts}
-use Rattle.cred_table.specs.declared.row.Row.{Row}
-use Rattle.cred_table.specs.declared.slot.Slot.{Slot}
-use Rattle.cred_table.specs.declared.chains.Chains.{Chains}
+use Rattle.cred_table.specs.declared.{row.Row.Row, slot.Slot.Slot, chains.Chains.Chains}
 use Rattle.cred_table.specs.Rows.{has_id, same_id, no_two, without, raised, raised_row, counter_in, counter_of}
 use Rattle.cred_table.specs.Slots.{slot_at, numbered, has, bucket, but}
 use Rattle.cred_table.specs.Linked.{Linked, age, id_slots, row_at, rows_in, raised_at}
-use Rattle.cred_table.proofs.Basics.{bytes_from}
-use Rattle.cred_table.proofs.Chain.{eq_is, map_same}
+use Rattle.cred_table.proofs.{Basics.bytes_from, Chain.eq_is, Chain.map_same}
 
 -- An item of a walk as clauses see it.
 abbrev pub seen : (ℕ × Bor Slot) → (ℕ × Slot)

@@ -1,17 +1,12 @@
 -- The discoverable rows of an RP, as the rows are gone through from the last: what was gathered, and what the rows that
 -- are left list, is what all rows list.
-use Rattle.std.proofs.lemmas.Grind.{common_steps}
-use Rattle.std.proofs.Common.{rules, ◌≡◌, ℕ, ◌<◌, ◌≤◌, List, [], ◌∷◌, ◌++◌, length, reverse, Bool, true, false, cond, ◌∙◌, ap, arith, filter, length-append, map, refl}
-use Rattle.std.proofs.lemmas.List.{length-map, length-reverse, reverse-append}
-use Rattle.std.proofs.lemmas.List.Elements.{filter-append}
-use Rattle.std.specs.List.{push}
-use Rattle.cred_table.specs.declared.row.Row.{Row}
-use Rattle.cred_table.specs.Rows.{is_listed, listed, ids}
-use Rattle.cred_table.proofs.Stored.{length-filter}
-use Rattle.cred_table.specs.declared.slot.Slot.{Slot}
-use Rattle.cred_table.specs.declared.chains.Chains.{Chains}
-use Rattle.cred_table.specs.Slots.{numbered}
-use Rattle.cred_table.specs.Linked.{row_at, age, rows_in}
+use Rattle.std.{proofs.lemmas.Grind.common_steps, specs.List.push}
+use Rattle.std.proofs.Common.{rules, ◌≡◌, ℕ, ◌<◌, ◌≤◌, List, [], ◌∷◌, ◌++◌, length, reverse, Bool, true, false, cond}
+use Rattle.std.proofs.Common.{◌∙◌, ap, arith, filter, length-append, map, refl}
+use Rattle.std.proofs.lemmas.List.{length-map, length-reverse, reverse-append, Elements.filter-append}
+use Rattle.cred_table.specs.declared.{row.Row.Row, slot.Slot.Slot, chains.Chains.Chains}
+use Rattle.cred_table.specs.{Rows.is_listed, Rows.listed, Rows.ids, Linked.row_at, Linked.age, Linked.rows_in}
+use Rattle.cred_table.{proofs.Stored.length-filter, specs.Slots.numbered}
 
 -- no more rows are listed than there are
 pub length-listed : (rp : List ℕ) (rows : List Row) → length (ids (listed rp rows)) ≤ length rows

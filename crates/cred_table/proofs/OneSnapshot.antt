@@ -1,10 +1,9 @@
 -- The laws of snapshots.
-use Rattle.std.proofs.Common.{rules, ◌≡◌, ℕ, ◌<◌, length, Bool, true, false, ◌&&◌, ◌||◌, List, [], ◌∷◌, ◌++◌, refl, arith, sym, ap, subst, ◌∙◌}
-use Rattle.std.specs.Prelude.{pos, nat_lt}
-use Rattle.std.specs.List.{AllByRecursion, list_any}
-use Rattle.std.specs.Str.{bytes_eq}
+use Rattle.std.proofs.Common.{rules, ◌≡◌, ℕ, ◌<◌, length, Bool, true, false, ◌&&◌, ◌||◌, List, [], ◌∷◌, ◌++◌, refl}
+use Rattle.std.proofs.Common.{arith, sym, ap, subst, ◌∙◌}
+use Rattle.std.specs.{Prelude.pos, Prelude.nat_lt, List.AllByRecursion, List.list_any, Str.bytes_eq}
 use Rattle.ctap_cbor.specs.Tree.{Int, Null, Tree, Plain, Array, Trees, no_trees, tree, count}
-use Rattle.cred_table.specs.declared.row.Row.{Row}
+use Rattle.cred_table.{specs.declared.row.Row.Row, proofs.Copied.free_before}
 use Rattle.cred_table.specs.declared.fault.SnapshotFault.TheVariants.{NotSnapshot, TooMany, RowBroken, Memory}
 use Rattle.cred_table.specs.Rows.{has_id, replaces, Lawful}
 use Rattle.cred_table.specs.Snapshots.{version, IsRow, row_tree, rows_then, snapshot_of, Holds, clashes, FirstBroken}
@@ -12,7 +11,6 @@ use Rattle.cred_table.specs.Laws.{SameRows, SnapshotsAreOne, RefusedIsNone, OneR
 use Rattle.cred_table.proofs.RowTrees.{pairs_in, first_of_pairs, beyond_first, bytes_in, flag_in}
 use Rattle.ctap_cbor.specs.Laws.{NoneBeginsAnother}
 use Rattle.cred_table.proofs.Contents.{trees_same, count_then}
-use Rattle.cred_table.proofs.Copied.{free_before}
 
 abbrev number_in : Tree → ℕ
 number_in (Plain (Int (pos n))) = n

@@ -1,13 +1,14 @@
 -- The row with an id and its place, in rows whose ids are distinct.
-use Rattle.std.proofs.lemmas.Grind.{common_steps}
-use Rattle.std.proofs.Common.{rules, ◌≡◌, ℕ, ◌+◌, ◌<◌, List, [], ◌∷◌, ◌++◌, length, Bool, true, false, cond, not, Some, is_some, refl, sym, ◌∙◌, ap, arith, get_or, set, inl, None, IsTrue, option_map, subst, filter}
+use Rattle.std.proofs.lemmas.{Grind.common_steps, List.length-append, Bool.and_parts, Bool.or_parts, Bool.not-true}
+use Rattle.std.proofs.Common.{rules, ◌≡◌, ℕ, ◌+◌, ◌<◌, List, [], ◌∷◌, ◌++◌, length, Bool, true, false, cond, not, Some}
+use Rattle.std.proofs.Common.{is_some, refl, sym, ◌∙◌, ap, arith, get_or, set, inl, None, IsTrue, option_map, subst}
+use Rattle.std.proofs.Common.{filter}
 use Rattle.std.specs.List.{find, list_any, position, position_or_len, refill, remove}
-use Rattle.std.proofs.lemmas.Bool.{and_parts, or_parts, not-true}
-use Rattle.cred_table.specs.declared.row.Row.{Row}
-use Rattle.cred_table.specs.Rows.{has_id, same_id, no_two, without, raised, counter_of, is_user, replaces, stored, Lawful}
+use Rattle.cred_table.specs.{declared.row.Row.Row, Rows.Lawful}
+use Rattle.cred_table.specs.Rows.{has_id, same_id, no_two, without, raised, counter_of, is_user, replaces, stored}
 use Rattle.cred_table.proofs.Basics.{bytes_from, all_stay, same_bytes, any_is_found, none_passes}
-use Rattle.std.proofs.lemmas.List.{length-append}
-use Rattle.cred_table.proofs.Stored.{no_two-filter, no_two-append, Lawful-stored, stored_last, one_replaced, one_less, fresh_stays, others_stay}
+use Rattle.cred_table.proofs.Stored.{no_two-filter, no_two-append, Lawful-stored, stored_last, one_replaced, one_less}
+use Rattle.cred_table.proofs.Stored.{fresh_stays, others_stay}
 
 -- no other row has the id of a row
 pub no_other : (id : List ℕ) (r : Row) (rows : List Row) → has_id id r ≡ true → list_any (same_id r) rows ≡ false →
@@ -136,7 +137,8 @@ Lawful-put capacity new rows lawful space fresh alone =
     subst P (stored_last new rows alone) (Lawful-stored capacity new rows lawful fresh (inl space))
 
 -- where it is taken out and the new one is discoverable, these are the rows after the new one's making
-pub replaced_is : (capacity : ℕ) (id : List ℕ) (new : Row) (rows : List Row) → Lawful capacity rows → IsTrue new.discoverable →
+pub replaced_is : (capacity : ℕ) (id : List ℕ) (new : Row) (rows : List Row) → Lawful capacity rows →
+    IsTrue new.discoverable →
     option_map (λ (r : Row). r.id) (find (is_user new.rp new.user.items) rows) ≡ Some id →
     without id rows ++ new ∷ [] ≡ stored new rows
 replaced_is capacity id new rows lawful discoverable there = grind (arith, one_replaced, without_is)

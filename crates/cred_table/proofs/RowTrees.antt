@@ -1,17 +1,13 @@
 -- Rows by their trees: each has a text, and a tree tells its row.
-use Rattle.std.proofs.Common.{rules, ◌≡◌, ℕ, Bool, true, false, not, cond, List, [], ◌∷◌, ◌++◌, Option, Some, None, is_some, IsTrue, option_map, refl, arith, sym, ap, ◌∙◌}
+use Rattle.std.proofs.Common.{rules, ◌≡◌, ℕ, Bool, true, false, not, cond, List, [], ◌∷◌, ◌++◌, Option, Some, None}
+use Rattle.std.proofs.Common.{is_some, IsTrue, option_map, refl, arith, sym, ap, ◌∙◌}
 use Rattle.std.specs.List.{find, list_any}
 use Rattle.ctap_cbor.specs.Tree.{Bytes, Flag, Null, Tree, Plain, Map, Pairs, no_pairs, pair, depth}
-use Rattle.ctap_cbor.specs.Head.{head}
-use Rattle.ctap_cbor.specs.Grammar.{IsLawful, IsEncoding}
-use Rattle.ctap_cbor.specs.Reading.{Reading}
-use Rattle.ctap_cbor.specs.Laws.{NoneBeginsAnother}
-use Rattle.cred_table.specs.declared.row.Row.{Row}
-use Rattle.cred_table.specs.Rows.{has_id, is_user}
+use Rattle.ctap_cbor.specs.{Head.head, Reading.Reading, Laws.NoneBeginsAnother, Grammar.IsLawful, Grammar.IsEncoding}
+use Rattle.cred_table.specs.{declared.row.Row.Row, Rows.has_id, Rows.is_user}
 use Rattle.cred_table.specs.Snapshots.{IsRow, row_tree, clashes}
 use Rattle.cred_table.specs.Parsing.{Reads, row_text, ReadsEntry}
-use Rattle.cred_table.proofs.Basics.{any_is_found, none_passes}
-use Rattle.cred_table.proofs.Stored.{none_replaced, one_replaced}
+use Rattle.cred_table.proofs.{Basics.any_is_found, Basics.none_passes, Stored.none_replaced, Stored.one_replaced}
 
 pub row_lawful : (named : Bool) (row : Row) → IsRow named row → IsLawful (row_tree named row)
 unfolding head

@@ -1,9 +1,7 @@
 -- The texts of snapshots at worked examples: no rows, and one row in both versions.
 use Rattle.std.proofs.Common.{◌≡◌, ℕ, List, [], ◌∷◌, ◌++◌, replicate, true, false, refl}
-use Rattle.ctap_cbor.specs.Head.{head}
-use Rattle.ctap_cbor.specs.Grammar.{text}
-use Rattle.cred_table.specs.declared.row.Row.{Row}
-use Rattle.cred_table.specs.Snapshots.{snapshot}
+use Rattle.ctap_cbor.specs.{Head.head, Grammar.text}
+use Rattle.cred_table.specs.{declared.row.Row.Row, Snapshots.snapshot}
 
 none_is : text (snapshot true []) ≡ 0xA2 ∷ 0x01 ∷ 0x02 ∷ 0x02 ∷ 0x80 ∷ []
 unfolding head
@@ -22,9 +20,11 @@ hash key byte = key ∷ 0x58 ∷ 0x20 ∷ replicate 32 byte
 
 members : List ℕ
 unfolding hash
-members = hash 1 0xA3 ++ hash 2 0xAA ++ hash 3 0xBB ++ hash 4 0xCC ++ 0x05 ∷ 0x41 ∷ 0x01 ∷ 0x06 ∷ 0xF5 ∷ 0x07 ∷ 0x1A ∷ 0xFF ∷ 0xFF ∷ 0xFF ∷ 0xFF ∷ []
+members = hash 1 0xA3 ++ hash 2 0xAA ++ hash 3 0xBB ++ hash 4 0xCC ++ 0x05 ∷ 0x41 ∷ 0x01 ∷ 0x06 ∷ 0xF5 ∷ 0x07 ∷ 0x1A
+    ∷ 0xFF ∷ 0xFF ∷ 0xFF ∷ 0xFF ∷ []
 
-row_is : text (snapshot true (row ∷ [])) ≡ 0xA2 ∷ 0x01 ∷ 0x02 ∷ 0x02 ∷ 0x81 ∷ 0xA8 ∷ members ++ 0x08 ∷ 0x62 ∷ 0x61 ∷ 0x62 ∷ []
+row_is : text (snapshot true (row ∷ [])) ≡ 0xA2 ∷ 0x01 ∷ 0x02 ∷ 0x02 ∷ 0x81 ∷ 0xA8 ∷ members ++ 0x08 ∷ 0x62 ∷ 0x61
+    ∷ 0x62 ∷ []
 unfolding head row hash members
 row_is = refl
 

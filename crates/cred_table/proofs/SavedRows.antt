@@ -1,23 +1,15 @@
 -- Rows that are read one after another.
-use Rattle.std.proofs.lemmas.Grind.{common_steps}
-use Rattle.std.proofs.Common.{rules, ◌≡◌, ℕ, ◌+◌, Bool, List, [], ◌∷◌, ◌++◌, arith, sym, ap, ◌∙◌, append_assoc, length-append, ◌≤◌, true, length, subst, Result, ◌*◌, take, drop, take-append-drop, length-take-le, Some}
-use Rattle.std.proofs.lemmas.List.{append-nil}
-use Rattle.std.specs.List.{AllByRecursion}
-use Rattle.ctap_cbor.specs.Reading.{Reading}
-use Rattle.cred_table.specs.declared.row.Row.{Row}
+use Rattle.std.proofs.{lemmas.Grind.common_steps, lemmas.List.append-nil, Common.length-take-le, Common.Some}
+use Rattle.std.proofs.Common.{rules, ◌≡◌, ℕ, ◌+◌, Bool, List, [], ◌∷◌, ◌++◌, arith, sym, ap, ◌∙◌, append_assoc}
+use Rattle.std.proofs.Common.{length-append, ◌≤◌, true, length, subst, Result, ◌*◌, take, drop, take-append-drop}
+use Rattle.std.specs.{List.AllByRecursion, Prelude.OnErr}
+use Rattle.ctap_cbor.specs.{Reading.Reading, declared.sink.Sink.Sink, Writing.Appends, Head.head, Head.head_len}
+use Rattle.cred_table.specs.{declared.row.Row.Row, Rows.Lawful, Saving.AppendsUpTo, Saving.SavesInto, Saving.longest}
 use Rattle.cred_table.specs.Snapshots.{IsRow, rows_then, snapshot, IsSnapshot, Saves, saved_len}
 use Rattle.cred_table.specs.Parsing.{row_text, rows_text, TakesRow, TakesRows, heads_text}
-use Rattle.std.specs.Prelude.{OnErr}
-use Rattle.ctap_cbor.specs.Tree.{no_trees, depth_all, count}
-use Rattle.ctap_cbor.specs.Head.{head, head_len}
-use Rattle.ctap_cbor.specs.Grammar.{text, AreLawful}
-use Rattle.cred_table.specs.Rows.{Lawful}
-use Rattle.cred_table.proofs.RowTrees.{row_lawful, row_flat}
-use Rattle.cred_table.proofs.Contents.{count_then}
-use Rattle.ctap_cbor.specs.declared.sink.Sink.{Sink}
+use Rattle.ctap_cbor.specs.{Tree.no_trees, Tree.depth_all, Tree.count, Grammar.text, Grammar.AreLawful}
+use Rattle.cred_table.proofs.{RowTrees.row_lawful, RowTrees.row_flat, Contents.count_then}
 use Rattle.ctap_cbor.specs.Composing.{done, then}
-use Rattle.ctap_cbor.specs.Writing.{Appends}
-use Rattle.cred_table.specs.Saving.{AppendsUpTo, SavesInto, longest}
 
 -- one more row after the others
 pub rows_text_more : (named : Bool) (rows : List Row) (row : Row) →
@@ -105,7 +97,8 @@ row_within rows left rest row old between first w =
     rows_joined [] more = omega arith
     rows_joined (r ∷ some) more = search (rules, arith, length-append, rows_joined some more)
 
-pub all_written : (capacity : ℕ) (rows left : List Row) (old new : List ℕ) → capacity ≤ 256 → Lawful capacity rows → left ≡ [] →
+pub all_written : (capacity : ℕ) (rows left : List Row) (old new : List ℕ) → capacity ≤ 256 → Lawful capacity rows →
+    left ≡ [] →
     Written rows left old new → Saves capacity rows old new
 all_written capacity rows left old new small lawful end w = grind (arith, append-nil, snapshot_is, whole_is)
 

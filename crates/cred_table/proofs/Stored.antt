@@ -1,10 +1,10 @@
 -- Rows no two of which clash.
-use Rattle.std.proofs.Common.{rules, ◌≡◌, List, [], ◌∷◌, ◌++◌, map, Bool, true, false, not, refl, ap, filter, ℕ, ◌+◌, ◌<◌, ◌≤◌, length, ◌&&◌, ◌⊎◌, None, is_some, IsTrue, arith}
-use Rattle.std.proofs.lemmas.List.Folds.{list_any-append}
+use Rattle.std.proofs.Common.{rules, ◌≡◌, List, [], ◌∷◌, ◌++◌, map, Bool, true, false, not, refl, ap, filter, ℕ, ◌+◌}
+use Rattle.std.proofs.Common.{◌<◌, ◌≤◌, length, ◌&&◌, ◌⊎◌, None, is_some, IsTrue, arith}
+use Rattle.std.proofs.lemmas.List.{Folds.list_any-append, length-append}
 use Rattle.std.specs.List.{list_any, find}
 use Rattle.cred_table.specs.declared.row.Row.{Row}
 use Rattle.cred_table.specs.Rows.{no_two, has_id, is_user, replaces, same_id, stored, Lawful}
-use Rattle.std.proofs.lemmas.List.{length-append}
 use Rattle.cred_table.proofs.Basics.{bytes_sym, none_passes, all_stay}
 
 pub none_kept : (p q : Row → Bool) (rows : List Row) → list_any q rows ≡ false → list_any q (filter p rows) ≡ false
@@ -86,7 +86,8 @@ others_stay new [] = refl
 others_stay new (r ∷ rows) = grind (arith, replaces_sym, others_stay new rows)
 
 -- Lawful rows stay lawful as a new one is stored: its id is new, and there is room or it replaces one.
-pub Lawful-stored : (capacity : ℕ) (new : Row) (rows : List Row) → Lawful capacity rows → find (has_id new.id) rows ≡ None →
+pub Lawful-stored : (capacity : ℕ) (new : Row) (rows : List Row) → Lawful capacity rows →
+    find (has_id new.id) rows ≡ None →
     (length rows < capacity) ⊎ (is_some (find (replaces new) rows) ≡ true) → Lawful capacity (stored new rows)
 Lawful-stored capacity new rows lawful fresh space = record {
   distinct = no_two-append same_id new kept (no_two-filter same_id (λ old. not (replaces new old)) rows lawful.distinct)

@@ -1,13 +1,12 @@
 -- Reading by heads, and members of maps by them.
-use Rattle.std.proofs.Common.{rules, ◌≡◌, ℕ, List, ◌++◌, Option, Some, None, refl, ap, ◌∙◌, append_assoc, ◌<◌, ◌^◌, Bool, true, cond, arith}
+use Rattle.std.proofs.Common.{rules, ◌≡◌, ℕ, List, ◌++◌, Option, Some, None, refl, ap, ◌∙◌, append_assoc, ◌<◌, ◌^◌}
+use Rattle.std.proofs.Common.{Bool, true, cond, arith}
 use Rattle.std.specs.Prelude.{pos, is_some, ⊤, nat_eq, nat_lt}
 use Rattle.ctap_cbor.specs.Tree.{Int, Bytes, Text, Flag}
-use Rattle.ctap_cbor.specs.Grammar.{scalar_text}
-use Rattle.ctap_cbor.specs.Faults.{AnItem}
+use Rattle.ctap_cbor.specs.{Grammar.scalar_text, Faults.AnItem, Head.head, Reading.Reading, Reading.rest_of}
 use Rattle.ctap_cbor.specs.Parts.{Part, item_text, Suits, One, OpensArray, OpensMap}
-use Rattle.ctap_cbor.specs.Reading.{Reading, rest_of}
-use Rattle.cred_table.specs.Parsing.{Given, and_then, Reads, ReadsPart, member_text, ReadsMember, map_in, key_in, hash_in, short_in, flag_in, counter_in, name_in, count_in, named_in}
-use Rattle.ctap_cbor.specs.Head.{head}
+use Rattle.cred_table.specs.Parsing.{Given, and_then, Reads, ReadsPart, member_text, ReadsMember, map_in, key_in}
+use Rattle.cred_table.specs.Parsing.{hash_in, short_in, flag_in, counter_in, name_in, count_in, named_in}
 use Rattle.cred_table.specs.Snapshots.{IsHash, IsShort, IsName, version}
 
 pub item_missed : (capacity : ℕ) (old new : Reading) → ((k : Part) (rest : List ℕ) → Suits capacity AnItem k →
@@ -73,11 +72,13 @@ eq_is n m e = grind arith
 lt_is : (n m : ℕ) → n < m → nat_lt n m ≡ true
 lt_is n m e = grind arith
 
-pub map_sound : (capacity n : ℕ) (i : Part) (w : Unit {0}) → Suits capacity AnItem i → map_in n i ≡ Some w → (i ≡ OpensMap n)
+pub map_sound : (capacity n : ℕ) (i : Part) (w : Unit {0}) → Suits capacity AnItem i → map_in n i ≡ Some w →
+    (i ≡ OpensMap n)
     × ⊤
 map_sound capacity n i w suits e = grind arith
 
-pub map_complete : (capacity n : ℕ) → 0 < capacity → n < 2 ^ 64 → (w : Unit {0}) → ⊤ → Suits capacity AnItem (OpensMap n)
+pub map_complete : (capacity n : ℕ) → 0 < capacity → n < 2 ^ 64 → (w : Unit {0}) → ⊤ →
+    Suits capacity AnItem (OpensMap n)
     × (map_in n (OpensMap n) ≡ Some w)
 map_complete capacity n deep fits w is = ((deep, fits), ap (λ b. cond b (Some w) None) (eq_is n n refl))
 
@@ -89,7 +90,8 @@ pub key_complete : (capacity n : ℕ) → n < 2 ^ 64 → (w : Unit {0}) → ⊤ 
     × (key_in n (One (Int (pos n))) ≡ Some w)
 key_complete capacity n fits w is = (fits, ap (λ b. cond b (Some w) None) (eq_is n n refl))
 
-pub hash_sound : (capacity : ℕ) (i : Part) (w : List ℕ) → Suits capacity AnItem i → hash_in i ≡ Some w → (i ≡ One (Bytes w))
+pub hash_sound : (capacity : ℕ) (i : Part) (w : List ℕ) → Suits capacity AnItem i → hash_in i ≡ Some w →
+    (i ≡ One (Bytes w))
     × IsHash w
 hash_sound capacity i w suits e = grind arith
 
@@ -97,7 +99,8 @@ pub hash_complete : (capacity : ℕ) (w : List ℕ) → IsHash w → Suits capac
     × (hash_in (One (Bytes w)) ≡ Some w)
 hash_complete capacity w is = grind arith
 
-pub short_sound : (capacity : ℕ) (i : Part) (w : List ℕ) → Suits capacity AnItem i → short_in i ≡ Some w → (i ≡ One (Bytes w))
+pub short_sound : (capacity : ℕ) (i : Part) (w : List ℕ) → Suits capacity AnItem i → short_in i ≡ Some w →
+    (i ≡ One (Bytes w))
     × IsShort w
 short_sound capacity i w suits e = grind arith
 
@@ -105,7 +108,8 @@ pub short_complete : (capacity : ℕ) (w : List ℕ) → IsShort w → Suits cap
     × (short_in (One (Bytes w)) ≡ Some w)
 short_complete capacity w is = grind arith
 
-pub name_sound : (capacity : ℕ) (i : Part) (w : List ℕ) → Suits capacity AnItem i → name_in i ≡ Some w → (i ≡ One (Text w))
+pub name_sound : (capacity : ℕ) (i : Part) (w : List ℕ) → Suits capacity AnItem i → name_in i ≡ Some w →
+    (i ≡ One (Text w))
     × IsName true w
 name_sound capacity i w suits e = grind arith
 
@@ -113,10 +117,12 @@ pub name_complete : (capacity : ℕ) (w : List ℕ) → IsName true w → Suits 
     × (name_in (One (Text w)) ≡ Some w)
 name_complete capacity w is = grind arith
 
-pub flag_sound : (capacity : ℕ) (i : Part) (w : Bool) → Suits capacity AnItem i → flag_in i ≡ Some w → (i ≡ One (Flag w)) × ⊤
+pub flag_sound : (capacity : ℕ) (i : Part) (w : Bool) → Suits capacity AnItem i → flag_in i ≡ Some w →
+    (i ≡ One (Flag w)) × ⊤
 flag_sound capacity i w suits e = grind arith
 
-pub flag_complete : (capacity : ℕ) (w : Bool) → ⊤ → Suits capacity AnItem (One (Flag w)) × (flag_in (One (Flag w)) ≡ Some w)
+pub flag_complete : (capacity : ℕ) (w : Bool) → ⊤ → Suits capacity AnItem (One (Flag w))
+    × (flag_in (One (Flag w)) ≡ Some w)
 flag_complete capacity w is = (tt, refl)
 
 pub counter_sound : (capacity : ℕ) (i : Part) (w : ℕ) → Suits capacity AnItem i → counter_in i ≡ Some w →
@@ -145,7 +151,8 @@ count_complete capacity w deep is = ((deep, is), refl)
 
 -- ---- what a reader of each kind gives, by what stands there
 
-pub map_read : (capacity n : ℕ) (old new : Reading) (m : Option Part) (r : Option (Unit {0})) → 0 < capacity → n < 2 ^ 64 →
+pub map_read : (capacity n : ℕ) (old new : Reading) (m : Option Part) (r : Option (Unit {0})) → 0 < capacity →
+    n < 2 ^ 64 →
     ReadsPart capacity item_text old new m → r ≡ and_then (map_in n) m →
     Reads {V = Unit {0}} (λ _. ⊤) (λ _. head 5 n) old new r
 map_read capacity n old new m r deep fits p e = rw e (value_reads {W = Unit {0}} (λ _. ⊤) (λ _. OpensMap n)

@@ -1,19 +1,20 @@
 -- The slot before one in a chain.
-use Rattle.std.proofs.lemmas.Grind.{common_steps}
-use Rattle.std.proofs.Common.{rules, ◌≡◌, ℕ, ◌<◌, List, [], ◌∷◌, ◌++◌, length, Bool, true, false, cond, ◌||◌, Option, Some, None, option_map, refl, sym, ◌∙◌, ap, subst, arith, nat_eq, get_or, reverse, ◌&&◌, not, ◌+◌, map, set}
-use Rattle.std.specs.List.{find}
+use Rattle.std.{proofs.lemmas.Grind.common_steps, proofs.lemmas.List.Folds.list_any-append, specs.List.find}
+use Rattle.std.proofs.Common.{rules, ◌≡◌, ℕ, ◌<◌, List, [], ◌∷◌, ◌++◌, length, Bool, true, false, cond, ◌||◌, Option}
+use Rattle.std.proofs.Common.{Some, None, option_map, refl, sym, ◌∙◌, ap, subst, arith, nat_eq, get_or, reverse, ◌&&◌}
+use Rattle.std.proofs.Common.{not, ◌+◌, map, set}
 use Rattle.std.proofs.Math.Bool.{or-true, and-false, and-true}
 use Rattle.std.proofs.lemmas.Bool.{or_parts, and_parts, and_from}
-use Rattle.cred_table.specs.declared.slot.Slot.{Slot}
+use Rattle.cred_table.specs.declared.{slot.Slot.Slot, slot.Along.Along, chains.Chains.Chains, row.Row.Row}
 use Rattle.cred_table.specs.declared.slot.Along.TheVariants.{Next, Newer, Older}
-use Rattle.cred_table.specs.declared.chains.Chains.{Chains}
-use Rattle.cred_table.specs.Slots.{links, has, slot_at, numbered, leads_to, before, but, within, distinct, led_slots, begun, bucket}
+use Rattle.cred_table.specs.Slots.{links, has, slot_at, numbered, leads_to, before, but, within, distinct, led_slots}
+use Rattle.cred_table.specs.Slots.{begun, bucket}
 use Rattle.cred_table.specs.Linked.{Linked, id_slots, head, age, free_slots, row_at, rows_in}
-use Rattle.cred_table.proofs.Chain.{Leads, walked, EndsWith, eq_is, link_at, length-links, Leads-set, led, eq_test, ne_test, lt_is, has-push, Leads-split, Leads-without, Leads-distinct, has-split, distinct-split, but_is, links-led, links-led_other, length-led, row-led, map_same, slot_read, Holds, opened, closed, age_is, ends_newest, has-reverse}
+use Rattle.cred_table.proofs.Chain.{Leads, walked, EndsWith, eq_is, link_at, length-links, Leads-set, led, eq_test}
+use Rattle.cred_table.proofs.Chain.{ne_test, lt_is, has-push, Leads-split, Leads-without, Leads-distinct, has-split}
+use Rattle.cred_table.proofs.Chain.{distinct-split, but_is, links-led, links-led_other, length-led, row-led, map_same}
+use Rattle.cred_table.proofs.Chain.{slot_read, Holds, opened, closed, age_is, ends_newest, has-reverse}
 use Rattle.std.proofs.lemmas.List.{reverse-append, length-append, length-map, get_or-set_same, get_or-set_other}
-use Rattle.std.proofs.lemmas.List.Folds.{list_any-append}
-use Rattle.cred_table.specs.declared.row.Row.{Row}
-use Rattle.cred_table.specs.declared.slot.Along.{Along}
 
 -- the slot that leads to one is the one before
 pub leader_is : (slots : List Slot) (at : Option ℕ) (ks : List ℕ) (k : ℕ) → Leads (links Next slots) at ks None →
@@ -284,7 +285,8 @@ holds {C = C} chains k prior held spare ids h is_held bound is_prior = (
 
     found : (c : ℕ) (p : Bool) → nat_eq c b ≡ p →
         Leads (led prior slot.next next) (head c after) (cond p (but k (ids c)) (ids c)) None
-    found c p e = search (rules, arith, Leads-led, eq_test, get_or-set_other, get_or-set_same, ne_test, own, not_found, h.found)
+    found c p e =
+        search (rules, arith, Leads-led, eq_test, get_or-set_other, get_or-set_same, ne_test, own, not_found, h.found)
 
     by_id : (c j : ℕ) (p : Bool) → nat_eq c b ≡ p →
         has j (cond p (but k (ids c)) (ids c)) ≡ (has j (but k held) && nat_eq (bucket (row_at slots j).id) c)

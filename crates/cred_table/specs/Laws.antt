@@ -1,8 +1,7 @@
 -- What holds of snapshots, over the definitions alone.
 use Rattle.std.specs.Prelude.{◌≡◌, ℕ, Bool, true, List}
 use Rattle.ctap_cbor.specs.Tree.{no_trees}
-use Rattle.cred_table.specs.declared.row.Row.{Row}
-use Rattle.cred_table.specs.declared.fault.SnapshotFault.{SnapshotFault}
+use Rattle.cred_table.specs.declared.{row.Row.Row, fault.SnapshotFault.SnapshotFault}
 use Rattle.cred_table.specs.Snapshots.{rows_then, IsSnapshot, Refuses}
 
 -- the rows are equal in all that a row has
@@ -21,4 +20,5 @@ RefusedIsNone = (capacity : ℕ) (text : List ℕ) (fault : SnapshotFault) → R
 
 -- a text is refused for one thing
 abbrev pub OneRefusal : Type 0
-OneRefusal = (capacity : ℕ) (text : List ℕ) (f g : SnapshotFault) → Refuses capacity text f → Refuses capacity text g → f ≡ g
+OneRefusal = (capacity : ℕ) (text : List ℕ) (f g : SnapshotFault) → Refuses capacity text f → Refuses capacity text g →
+    f ≡ g

@@ -1,9 +1,7 @@
 -- The rows that are left of a table, as they are gone through.
-use Rattle.std.specs.Prelude.{List, map}
-use Rattle.std.specs.Slice.Iter.{iter_rest}
+use Rattle.std.specs.{Prelude.List, Prelude.map, Slice.Iter.iter_rest}
 use Rattle.cred_table.specs.declared.row.Row.{Row}
-use Rattle.cred_table.specs.declared.rows.RowsLeft.{RowsLeft}
-use Rattle.cred_table.specs.declared.rows.RowsLeft.TheVariants.{Listed, Chained}
+use Rattle.cred_table.specs.declared.rows.RowsLeft.{RowsLeft, TheVariants.Listed, TheVariants.Chained}
 
 abbrev pub rows_left : RowsLeft → List Row
 rows_left (Listed rows) = iter_rest rows

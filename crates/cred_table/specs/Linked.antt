@@ -1,9 +1,8 @@
 -- How the chains of a table hold its rows.
-use Rattle.std.specs.Prelude.{ℕ, ◌+◌, ◌<◌, ◌≡◌, List, ◌++◌, length, map, reverse, true, ◌&&◌, not, Option, None, nat_lt, nat_eq, slice_index_or, if◌then◌else◌}
-use Rattle.cred_table.specs.declared.row.Row.{Row}
-use Rattle.cred_table.specs.declared.slot.Slot.{Slot}
+use Rattle.std.specs.Prelude.{ℕ, ◌+◌, ◌<◌, ◌≡◌, List, ◌++◌, length, map, reverse, true, ◌&&◌, not, Option, None, nat_lt}
+use Rattle.std.specs.Prelude.{nat_eq, slice_index_or, if◌then◌else◌}
+use Rattle.cred_table.specs.declared.{row.Row.Row, slot.Slot.Slot, chains.Chains.Chains}
 use Rattle.cred_table.specs.declared.slot.Along.TheVariants.{Next, Newer, Older}
-use Rattle.cred_table.specs.declared.chains.Chains.{Chains}
 use Rattle.cred_table.specs.Slots.{links, slot_at, chain, is_chain, has, distinct, bucket, raised_by_one}
 
 -- The slots that hold rows, oldest first.

@@ -1,6 +1,6 @@
 -- Names as rows keep them (WebAuthn Level 2, section 6.4.1, "String Truncation"). No answer has them.
-use Rattle.std.specs.Prelude.{◌≡◌, ℕ, zero, suc, ◌≤◌, nat_le, nat_lt, Bool, ◌&&◌, ◌||◌, if◌then◌else◌, List, length, take, slice_index}
-use Rattle.std.specs.Str.{IsCharBoundary}
+use Rattle.std.specs.Prelude.{◌≡◌, ℕ, zero, suc, ◌≤◌, nat_le, nat_lt, Bool, ◌&&◌, ◌||◌, if◌then◌else◌, List, length}
+use Rattle.std.specs.{Prelude.take, Prelude.slice_index, Str.IsCharBoundary}
 
 -- the longest beginning of a text that has at most 64 bytes and ends at a character
 pub record IsCut (whole cut : List ℕ) : Type 0 where

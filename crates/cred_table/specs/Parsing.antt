@@ -1,16 +1,13 @@
 -- What reading a part of a snapshot does, wherever the part is.
-use Rattle.std.specs.Prelude.{◌≡◌, ℕ, ◌^◌, ◌<◌, pos, Bool, true, false, if◌then◌else◌, nat_eq, nat_le, nat_lt, List, [], ◌∷◌, ◌++◌, length, Option, Some, None, IsSome, IsTrue, Result, Ok, Err}
+use Rattle.std.specs.Prelude.{◌≡◌, ℕ, ◌^◌, ◌<◌, pos, Bool, true, false, if◌then◌else◌, nat_eq, nat_le, nat_lt, List, []}
+use Rattle.std.specs.Prelude.{◌∷◌, ◌++◌, length, Option, Some, None, IsSome, IsTrue, Result, Ok, Err}
 use Rattle.std.specs.List.{AllByRecursion}
 use Rattle.ctap_cbor.specs.Tree.{Int, Bytes, Text, Flag, no_trees}
-use Rattle.ctap_cbor.specs.Head.{head}
+use Rattle.ctap_cbor.specs.{Head.head, Faults.AnItem, Reading.Reading, Reading.rest_of}
 use Rattle.ctap_cbor.specs.Grammar.{text, texts, scalar_text}
-use Rattle.ctap_cbor.specs.Faults.{AnItem}
 use Rattle.ctap_cbor.specs.Parts.{Part, One, OpensArray, OpensMap, item_text, Suits}
-use Rattle.ctap_cbor.specs.Reading.{Reading, rest_of}
-use Rattle.cred_table.specs.declared.row.Row.{Row}
-use Rattle.cred_table.specs.declared.fault.SnapshotFault.{SnapshotFault}
-use Rattle.cred_table.specs.declared.fault.SnapshotFault.TheVariants.{RowBroken}
-use Rattle.cred_table.specs.Rows.{Lawful}
+use Rattle.cred_table.specs.{declared.row.Row.Row, Rows.Lawful}
+use Rattle.cred_table.specs.declared.fault.SnapshotFault.{SnapshotFault, TheVariants.RowBroken}
 use Rattle.cred_table.specs.Snapshots.{version, row_tree, rows_then, IsRow, clashes}
 
 -- what holds of a value, if there is one

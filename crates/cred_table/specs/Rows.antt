@@ -1,7 +1,7 @@
 -- A credential table as the list of its rows, in order of making: the credentials map of WebAuthn Level 2, section 6.
-use Rattle.std.specs.Prelude.{ℕ, ◌+◌, ◌≤◌, ◌≡◌, List, [], ◌∷◌, ◌++◌, length, map, reverse, Bool, true, ◌&&◌, not, if◌then◌else◌, Option, Some, None}
-use Rattle.std.specs.List.{find, filter, list_any}
-use Rattle.std.specs.Str.{bytes_eq}
+use Rattle.std.specs.Prelude.{ℕ, ◌+◌, ◌≤◌, ◌≡◌, List, [], ◌∷◌, ◌++◌, length, map, reverse, Bool, true, ◌&&◌, not}
+use Rattle.std.specs.Prelude.{if◌then◌else◌, Option, Some, None}
+use Rattle.std.specs.{List.find, List.filter, List.list_any, Str.bytes_eq}
 use Rattle.cred_table.specs.declared.row.Row.{Row}
 
 -- a row with the id

@@ -1,9 +1,7 @@
 -- What writing a part of a snapshot does.
 use Rattle.std.specs.Prelude.{◌≡◌, ℕ, ◌+◌, ◌*◌, ◌<◌, ◌≤◌, true, List, ◌++◌, length, drop, Option, Some, None}
-use Rattle.ctap_cbor.specs.declared.sink.Sink.{Sink}
-use Rattle.ctap_cbor.specs.Writing.{Appends}
-use Rattle.cred_table.specs.declared.row.Row.{Row}
-use Rattle.cred_table.specs.Snapshots.{IsSnapshot}
+use Rattle.ctap_cbor.specs.{declared.sink.Sink.Sink, Writing.Appends}
+use Rattle.cred_table.specs.{declared.row.Row.Row, Snapshots.IsSnapshot}
 
 -- at most so many bytes were written at the end, these
 abbrev pub AppendsUpTo : Sink → Sink → List ℕ → (most : ℕ) → Type 0

@@ -1,10 +1,9 @@
 -- Slots, and the chains that their links make.
 use Prim.Native.Nat.{zero}
-use Rattle.std.specs.Prelude.{ℕ, ◌%◌, ◌+◌, suc, List, [], ◌∷◌, length, map, Bool, true, false, ◌&&◌, not, Option, Some, None, nat_lt, nat_eq, slice_index_or, slice_set, if◌then◌else◌}
+use Rattle.std.specs.Prelude.{ℕ, ◌%◌, ◌+◌, suc, List, [], ◌∷◌, length, map, Bool, true, false, ◌&&◌, not, Option, Some}
+use Rattle.std.specs.Prelude.{None, nat_lt, nat_eq, slice_index_or, slice_set, if◌then◌else◌}
 use Rattle.std.specs.List.{filter, list_any}
-use Rattle.cred_table.specs.declared.row.Row.{Row}
-use Rattle.cred_table.specs.declared.slot.Slot.{Slot}
-use Rattle.cred_table.specs.declared.slot.Along.{Along}
+use Rattle.cred_table.specs.declared.{row.Row.Row, slot.Slot.Slot, slot.Along.Along}
 use Rattle.cred_table.specs.declared.slot.Along.TheVariants.{Next, Newer, Older}
 
 -- The row of a slot that never held one.

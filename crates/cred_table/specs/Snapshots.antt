@@ -1,13 +1,11 @@
 -- Snapshots: the rows of a table as one data item in canonical CBOR, {1: version, 2: [row, ..]}, in order of making.
 -- Version 2 has the users' names, version 1 hasn't; `named` says which it is.
-use Rattle.std.specs.Prelude.{◌≡◌, ℕ, ◌^◌, ◌<◌, ◌≤◌, pos, Bool, true, false, ◌||◌, if◌then◌else◌, IsTrue, List, [], ◌∷◌, ◌++◌, length, Result, Ok, Err}
-use Rattle.std.specs.List.{AllByRecursion, list_any}
-use Rattle.std.specs.Str.{IsUtf8}
-use Rattle.ctap_cbor.specs.Head.{AreBytes}
-use Rattle.ctap_cbor.specs.Tree.{Int, Bytes, Text, Flag, Tree, Plain, Array, Map, Trees, no_trees, tree, Pairs, no_pairs, pair, count}
-use Rattle.ctap_cbor.specs.Grammar.{text, IsCanonical}
-use Rattle.cred_table.specs.declared.row.Row.{Row}
-use Rattle.cred_table.specs.declared.fault.SnapshotFault.{SnapshotFault}
+use Rattle.std.specs.Prelude.{◌≡◌, ℕ, ◌^◌, ◌<◌, ◌≤◌, pos, Bool, true, false, ◌||◌, if◌then◌else◌, IsTrue, List, [], ◌∷◌}
+use Rattle.std.specs.Prelude.{◌++◌, length, Result, Ok, Err}
+use Rattle.std.specs.{List.AllByRecursion, List.list_any, Str.IsUtf8}
+use Rattle.ctap_cbor.specs.{Head.AreBytes, Grammar.text, Grammar.IsCanonical, Tree.no_pairs, Tree.pair, Tree.count}
+use Rattle.ctap_cbor.specs.Tree.{Int, Bytes, Text, Flag, Tree, Plain, Array, Map, Trees, no_trees, tree, Pairs}
+use Rattle.cred_table.specs.declared.{row.Row.Row, fault.SnapshotFault.SnapshotFault}
 use Rattle.cred_table.specs.declared.fault.SnapshotFault.TheVariants.{NotSnapshot, TooMany, RowBroken, Memory}
 use Rattle.cred_table.specs.Rows.{has_id, replaces, Lawful}
 
@@ -116,7 +114,8 @@ pub record FirstBroken (named : Bool) (capacity : ℕ) (entries : Trees) (place 
 -- there is capacity for; it has a broken entry.
 abbrev pub Refuses : (capacity : ℕ) → List ℕ → SnapshotFault → Type 0
 Refuses capacity text NotSnapshot = (named : Bool) (entries : Trees) → Holds named entries text → ⊥
-Refuses capacity text TooMany = (named : Bool) × (entries : Trees) × Holds named entries text × (capacity < count entries)
+Refuses capacity text TooMany = (named : Bool) × (entries : Trees) × Holds named entries text
+    × (capacity < count entries)
 Refuses capacity text (RowBroken place) = (named : Bool) × (entries : Trees) × Holds named entries text
     × (count entries ≤ capacity) × FirstBroken named capacity entries place
 Refuses capacity text Memory = ⊥

@@ -1,13 +1,12 @@
 -- What has a canonical text isn't refused.
-use Rattle.std.proofs.Common.{rules, ◌≡◌, ℕ, ◌+◌, ◌-◌, ◌<◌, ◌≤◌, true, List, Option, Some, None, refl, arith, sym, ap, ◌∙◌}
+use Rattle.std.proofs.Common.{rules, ◌≡◌, ℕ, ◌+◌, ◌-◌, ◌<◌, ◌≤◌, true, List, Option, Some, None, refl, arith, sym, ap}
+use Rattle.std.proofs.{Common.◌∙◌, lemmas.Bool.ne_eqb}
 use Rattle.std.specs.Prelude.{if◌then◌else◌, nat_lt, nat_eq}
-use Rattle.std.proofs.lemmas.Bool.{ne_eqb}
-use Rattle.ctap_cbor.specs.declared.fault.Kind.{Kind}
-use Rattle.ctap_cbor.specs.declared.fault.Kind.TheVariants.{TooDeep}
-use Rattle.ctap_cbor.specs.Tree.{Scalar, Tree, Plain, Array, Map, Trees, no_trees, tree, Pairs, no_pairs, pair, depth, depth_all, depth_pairs}
+use Rattle.ctap_cbor.specs.declared.fault.Kind.{Kind, TheVariants.TooDeep}
+use Rattle.ctap_cbor.specs.Tree.{Scalar, Tree, Plain, Array, Map, Trees, no_trees, tree, Pairs, no_pairs, pair, depth}
+use Rattle.ctap_cbor.specs.{Tree.depth_all, Tree.depth_pairs, Laws.RefusedHasNoText, Refusals.refusal_pairs}
 use Rattle.ctap_cbor.specs.Grammar.{text, Fits, IsKey, IsAbove, Rises, IsLawful, AreLawful, AreLawfulPairs}
-use Rattle.ctap_cbor.specs.Laws.{RefusedHasNoText}
-use Rattle.ctap_cbor.specs.Refusals.{range_refusal, own_refusal, order_refusal, or_else, refusal, refusal_all, refusal_pairs}
+use Rattle.ctap_cbor.specs.Refusals.{range_refusal, own_refusal, order_refusal, or_else, refusal, refusal_all}
 
 pub below : (n m : ℕ) → n < m → nat_lt n m ≡ true
 below n m h = grind arith
@@ -34,7 +33,8 @@ mutual
 
   accepted_all : (levels : ℕ) (ts : Trees) → AreLawful ts → depth_all ts ≤ levels → refusal_all levels ts ≡ None
   accepted_all levels no_trees h d = refl
-  accepted_all levels (tree t ts) h d = ap (λ x. or_else x (refusal_all levels ts)) (accepted levels t h.0 (omega arith))
+  accepted_all levels (tree t ts) h d = ap (λ x. or_else x (refusal_all levels ts))
+      (accepted levels t h.0 (omega arith))
       ∙ accepted_all levels ts h.1 (omega arith)
 
   accepted_pairs : (levels : ℕ) (last : Option (List ℕ)) (ps : Pairs) → Rises last ps → AreLawfulPairs ps →

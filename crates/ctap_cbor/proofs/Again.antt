@@ -1,21 +1,24 @@
 -- What is written is read again, and a text that halts is read to where it halts.
-use Rattle.std.proofs.Common.{rules, ◌≡◌, ℕ, zero, suc, ◌+◌, ◌-◌, ◌^◌, ◌<◌, ◌≤◌, List, [], ◌∷◌, ◌++◌, Option, Some, None, Ok, refl, arith, ap, ◌∙◌, append_assoc}
-use Rattle.ctap_cbor.specs.declared.fault.Kind.{Kind}
-use Rattle.ctap_cbor.specs.Tree.{Scalar, Tree, Plain, Array, Map, Trees, no_trees, tree, Pairs, no_pairs, pair, depth, depth_all, depth_pairs, count, count_pairs}
-use Rattle.ctap_cbor.specs.Head.{head}
-use Rattle.ctap_cbor.specs.Grammar.{scalar_text, text, texts, pair_texts, Fits, IsKey, IsAbove, Rises, IsLawful, AreLawful, AreLawfulPairs}
+use Rattle.std.proofs.Common.{rules, ◌≡◌, ℕ, zero, suc, ◌+◌, ◌-◌, ◌^◌, ◌<◌, ◌≤◌, List, [], ◌∷◌, ◌++◌, Option, Some}
+use Rattle.std.proofs.Common.{None, Ok, refl, arith, ap, ◌∙◌, append_assoc}
+use Rattle.ctap_cbor.specs.{declared.fault.Kind.Kind, Head.head, Parse.parse, Grammar.AreLawful, Grammar.AreLawfulPairs}
+use Rattle.ctap_cbor.specs.Tree.{Scalar, Tree, Plain, Array, Map, Trees, no_trees, tree, Pairs, no_pairs, pair, depth}
+use Rattle.ctap_cbor.specs.Tree.{depth_all, depth_pairs, count, count_pairs}
+use Rattle.ctap_cbor.specs.Grammar.{scalar_text, text, texts, pair_texts, Fits, IsKey, IsAbove, Rises, IsLawful}
 use Rattle.ctap_cbor.specs.Faults.{AnItem, AKey, fault}
 use Rattle.ctap_cbor.specs.Outcome.{Enclosing, InArray, AtKey, AtValue, fronts, last_key, HaltsIn}
 use Rattle.ctap_cbor.specs.Parts.{One, OpensArray, OpensMap, read}
 use Rattle.ctap_cbor.proofs.Items.{read_again, read_fault}
-use Rattle.ctap_cbor.specs.Parse.{Parse, Done, Halt, Run, Ran, Broke, Walk, Walked, BadKey, BadValue, array_of, map_of, before, before_pair, then_items, items, then_pairs, then_value, pairs, then_inside, parse}
+use Rattle.ctap_cbor.specs.Parse.{Parse, Done, Halt, Run, Ran, Broke, Walk, Walked, BadKey, BadValue, array_of, map_of}
+use Rattle.ctap_cbor.specs.Parse.{before, before_pair, then_items, items, then_pairs, then_value, pairs, then_inside}
 
 pub parse_suc : (levels : ℕ) (bytes : List ℕ) → parse (suc levels) bytes ≡ then_inside (parse levels) levels bytes
     (read (suc levels) AnItem bytes)
 unfolding parse
 parse_suc levels bytes = refl
 
-pub parse_one : (levels : ℕ) (bytes : List ℕ) (s : Scalar) (rest : List ℕ) → read levels AnItem bytes ≡ Ok (One s, rest) →
+pub parse_one : (levels : ℕ) (bytes : List ℕ) (s : Scalar) (rest : List ℕ) →
+    read levels AnItem bytes ≡ Ok (One s, rest) →
     parse levels bytes ≡ Done (Plain s) rest
 unfolding parse
 parse_one levels bytes s rest e = search (rules, arith)
@@ -27,12 +30,14 @@ parse_fault levels bytes kind e = search (rules, arith, read_fault)
 
 pub parse_array : (levels n : ℕ) (rest : List ℕ) → n < 2 ^ 64 →
     parse (suc levels) (head 4 n ++ rest) ≡ array_of n (items (parse levels) n rest)
-parse_array levels n rest lt = parse_suc levels (head 4 n ++ rest) ∙ ap (then_inside (parse levels) levels (head 4 n ++ rest))
+parse_array levels n rest lt = parse_suc levels (head 4 n ++ rest)
+    ∙ ap (then_inside (parse levels) levels (head 4 n ++ rest))
     (read_again (suc levels) AnItem (OpensArray n) rest (omega arith, lt))
 
 pub parse_map : (levels n : ℕ) (rest : List ℕ) → n < 2 ^ 64 →
     parse (suc levels) (head 5 n ++ rest) ≡ map_of n (pairs (parse levels) levels n None rest)
-parse_map levels n rest lt = parse_suc levels (head 5 n ++ rest) ∙ ap (then_inside (parse levels) levels (head 5 n ++ rest))
+parse_map levels n rest lt = parse_suc levels (head 5 n ++ rest)
+    ∙ ap (then_inside (parse levels) levels (head 5 n ++ rest))
     (read_again (suc levels) AnItem (OpensMap n) rest (omega arith, lt))
 
 abbrev pub all_before : Trees → Run → Run
@@ -92,7 +97,8 @@ mutual
       ap (parse (suc levels)) (append_assoc (head 5 (count_pairs ps)) (pair_texts ps) rest)
       ∙ parse_map levels (count_pairs ps) (pair_texts ps ++ rest) h.0
       ∙ ap (map_of (count_pairs ps)) (
-      ap (λ n. pairs (parse levels) levels n None (pair_texts ps ++ rest)) (let e : count_pairs ps ≡ count_pairs ps + 0 =
+      ap (λ n. pairs (parse levels) levels n None (pair_texts ps ++ rest))
+      (let e : count_pairs ps ≡ count_pairs ps + 0 =
       omega arith in e)
       ∙ pairs_again ps levels 0 None rest h.1 h.2 (omega arith)
       ∙ all_walked ps rest)

@@ -1,14 +1,11 @@
 -- From a cursor at the first byte to what the text is.
-use Rattle.std.proofs.Common.{rules, ◌≡◌, ℕ, List, ◌++◌, length, drop, Some, None, Result, Ok, Err, refl, arith, sym, ap, subst, ◌∙◌, inl, inr}
+use Rattle.std.proofs.Common.{rules, ◌≡◌, ℕ, List, ◌++◌, length, drop, Some, None, Result, Ok, Err, refl, arith, sym}
+use Rattle.std.proofs.Common.{ap, subst, ◌∙◌, inl, inr}
 use Rattle.std.specs.Prelude.{MatchResult, ◌⊎◌, IsOk, ◌↔◌}
 use Rattle.std.proofs.lemmas.List.{append-nil, drop_at}
-use Rattle.ctap_cbor.specs.declared.fault.Kind.TheVariants.{Trailing}
-use Rattle.ctap_cbor.specs.declared.fault.Fault.{Fault}
-use Rattle.ctap_cbor.specs.Tree.{Tree}
-use Rattle.ctap_cbor.specs.Head.{AreBytes}
+use Rattle.ctap_cbor.specs.declared.fault.{Kind.TheVariants.Trailing, Fault.Fault}
+use Rattle.ctap_cbor.specs.{Tree.Tree, Head.AreBytes, Faults.fault_steps, Grammar.text, Grammar.IsCanonical}
 use Rattle.ctap_cbor.proofs.Uniqueness.{each_text_is_one}
-use Rattle.ctap_cbor.specs.Grammar.{text, IsCanonical}
-use Rattle.ctap_cbor.specs.Faults.{fault_steps}
 use Rattle.ctap_cbor.specs.Outcome.{fronts, Outcome, Whole, Longer, Stopped, IsOutcome, Answers, result_of}
 use Rattle.ctap_cbor.specs.Reading.{Reading, rest_of, PassesOne, Halts, Ends, GoesOn}
 

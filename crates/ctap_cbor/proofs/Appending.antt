@@ -1,11 +1,8 @@
 -- Bytes that are written after what a sink holds.
-use Rattle.std.proofs.lemmas.Grind.{common_steps}
+use Rattle.std.proofs.lemmas.{Grind.common_steps, Slice.drop-put_mid, List.drop-drop, List.length-take-le}
 use Rattle.std.proofs.Common.{◌≡◌, ℕ, ◌+◌, ◌-◌, ◌≤◌, ◌<◌, nat_lt, true, false, List, ◌++◌, length, take, drop, arith}
-use Rattle.std.proofs.lemmas.List.{drop-drop, length-take-le}
-use Rattle.std.proofs.lemmas.Slice.{drop-put_mid}
 use borrow.Rule.Slice.PartMut.{put_mid}
-use Rattle.ctap_cbor.specs.declared.sink.Sink.{Sink}
-use Rattle.ctap_cbor.specs.Writing.{space_of, Appends}
+use Rattle.ctap_cbor.specs.{declared.sink.Sink.Sink, Writing.space_of, Writing.Appends}
 
 pub appended : (old new : Sink) (bytes : List ℕ) → new.len ≡ old.len + length bytes →
     length new.buffer.now ≡ length old.buffer.now → old.len + length bytes ≤ length old.buffer.now →

@@ -1,13 +1,14 @@
 -- Reading n bytes takes at most 2 * n + 1 steps.
-use Rattle.std.proofs.Common.{rules, ◌≡◌, ℕ, zero, suc, ◌+◌, ◌*◌, ◌≤◌, Bool, false, List, [], ◌∷◌, ◌++◌, length, Some, arith, ap, length-append, length-drop}
-use Rattle.std.proofs.lemmas.Bool.{ltb-false}
-use Rattle.std.proofs.lemmas.List.{drop_at}
-use Rattle.ctap_cbor.specs.declared.fault.Kind.{Kind}
-use Rattle.ctap_cbor.specs.Tree.{Tree, Plain, Array, Map, Trees, no_trees, tree, Pairs, no_pairs, pair, count, count_pairs}
-use Rattle.ctap_cbor.specs.Head.{head}
+use Rattle.std.proofs.Common.{rules, ◌≡◌, ℕ, zero, suc, ◌+◌, ◌*◌, ◌≤◌, Bool, false, List, [], ◌∷◌, ◌++◌, length, Some}
+use Rattle.std.proofs.Common.{arith, ap, length-append, length-drop}
+use Rattle.std.proofs.lemmas.{Bool.ltb-false, List.drop_at}
+use Rattle.ctap_cbor.specs.{declared.fault.Kind.Kind, Tree.count_pairs, Head.head}
+use Rattle.ctap_cbor.specs.Tree.{Tree, Plain, Array, Map, Trees, no_trees, tree, Pairs, no_pairs, pair, count}
 use Rattle.ctap_cbor.specs.Grammar.{text, texts, pair_texts}
 use Rattle.ctap_cbor.specs.Faults.{Due, first_faults, body_faults, fault, item_len, passed, fault_steps}
-use Rattle.ctap_cbor.specs.Outcome.{Enclosing, InArray, AtKey, AtValue, front, fronts, HaltsIn, due_in, later_keys, later_in_all, later_in_map, later_in_pairs, later_key, later_in, later_in_open, Outcome, Whole, Longer, Stopped, IsOutcome, steps}
+use Rattle.ctap_cbor.specs.Outcome.{Enclosing, InArray, AtKey, AtValue, front, fronts, HaltsIn, due_in, later_keys}
+use Rattle.ctap_cbor.specs.Outcome.{later_in_all, later_in_map, later_in_pairs, later_key, later_in, later_in_open}
+use Rattle.ctap_cbor.specs.Outcome.{Outcome, Whole, Longer, Stopped, IsOutcome, steps}
 
 mutual
   later_le : (t : Tree) → later_keys t ≤ length (text t)

@@ -1,9 +1,8 @@
 -- What is collected: one pair or one entry more, and from these to the map or the array.
 use Rattle.std.proofs.Common.{arith, ◌≡◌, ℕ, ◌+◌, ◌-◌, ◌<◌, Bool, true, List, Option, Some, None, refl, sym, subst}
 use Rattle.std.specs.Prelude.{◌&&◌}
-use Rattle.ctap_cbor.specs.declared.fault.Kind.{Kind}
+use Rattle.ctap_cbor.specs.{declared.fault.Kind.Kind, Parts.Part, Parts.OpensArray, Parts.OpensMap}
 use Rattle.ctap_cbor.specs.Tree.{Plain, Array, Map, Trees, no_trees, Pairs, no_pairs, push, push_pair}
-use Rattle.ctap_cbor.specs.Parts.{Part, OpensArray, OpensMap}
 use Rattle.ctap_cbor.specs.Reading.{Reading, Takes, Halts, HaltsInPairs, GivesKey}
 use Rattle.ctap_cbor.proofs.Moves.{passes_none, passes_more, pairs_none}
 use Rattle.ctap_cbor.proofs.Skipping.{given_more, map_then, array_then}

@@ -1,11 +1,8 @@
 -- From the tests that the code makes in turn to reading an item.
-use Rattle.std.proofs.Common.{arith, rules, ◌≡◌, ℕ, ◌<◌, Bool, true, false, List, [], ◌∷◌, ◌++◌, Some, None, Result, Err, refl}
-use Rattle.std.proofs.lemmas.Bool.{leb-false}
-use Rattle.ctap_cbor.specs.declared.fault.Kind.{Kind}
-use Rattle.ctap_cbor.specs.declared.item.Item.{Item}
-use Rattle.ctap_cbor.specs.Head.{info}
+use Rattle.std.proofs.Common.{arith, rules, ◌≡◌, ℕ, ◌<◌, Bool, true, false, List, [], ◌∷◌, ◌++◌, Some, None, Result}
+use Rattle.std.proofs.{Common.Err, Common.refl, lemmas.Bool.leb-false}
+use Rattle.ctap_cbor.specs.{declared.fault.Kind.Kind, declared.item.Item.Item, Head.info, Parts.read}
 use Rattle.ctap_cbor.specs.Faults.{Due, first_of, first_faults, passed}
-use Rattle.ctap_cbor.specs.Parts.{read}
 use Rattle.ctap_cbor.specs.Views.{Finds, FindsRest, due_of}
 
 first_some : (ts us : List (Bool × Kind)) (kind : Kind) → first_of ts ≡ Some kind → first_of (ts ++ us) ≡ Some kind
@@ -27,7 +24,8 @@ head_false : (ts : List (Bool × Kind)) (t : Bool × Kind) (us : List (Bool × K
     t.0 ≡ false
 head_false ts t us is e = search (rules, arith)
 
-pub info_known : (levels : ℕ) (due : Due) (first : ℕ) → first_of (first_faults levels due first) ≡ None → info first < 28
+pub info_known : (levels : ℕ) (due : Due) (first : ℕ) → first_of (first_faults levels due first) ≡ None →
+    info first < 28
 unfolding first_faults
 info_known levels due first e = leb-false 28 (info first) (head_false (first_faults levels due first) (_, _) _ refl e)
 

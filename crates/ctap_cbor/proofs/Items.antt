@@ -1,19 +1,19 @@
 -- One item: its head, and the bytes of a string. Reading gives what was spelled, and what is spelled is read.
-use Rattle.std.proofs.lemmas.Grind.{common_steps}
-use Rattle.std.proofs.Common.{rules, ◌≡◌, ℕ, zero, suc, ◌+◌, ◌^◌, ◌<◌, ◌≤◌, Bool, true, false, cond, List, [], ◌∷◌, ◌++◌, length, take, drop, Some, None, Ok, Err, refl, arith, sym, ap, ◌∙◌}
+use Rattle.std.proofs.lemmas.{Grind.common_steps, Bool.ne_eqb, Str.is_utf8-from_IsUtf8, Str.IsUtf8-from_is_utf8}
+use Rattle.std.proofs.Common.{rules, ◌≡◌, ℕ, zero, suc, ◌+◌, ◌^◌, ◌<◌, ◌≤◌, Bool, true, false, cond, List, [], ◌∷◌}
+use Rattle.std.proofs.Common.{◌++◌, length, take, drop, Some, None, Ok, Err, refl, arith, sym, ap, ◌∙◌}
 use Rattle.std.specs.Prelude.{pos, negsuc, if◌then◌else◌, nat_eq, nat_le, not, ◌&&◌, ◌||◌}
-use Rattle.std.specs.List.{AllByRecursion}
-use Rattle.std.specs.Str.{is_utf8}
-use Rattle.std.proofs.lemmas.List.{take-append-drop, append_assoc, append-nil, drop-drop, drop_at, take_at, length-append, length-take-le}
-use Rattle.std.proofs.lemmas.Bool.{le-ltb, lt-leb, or_parts, or_from, and_left, and_right, not_from_true, not-false, ne_eqb}
-use Rattle.std.proofs.lemmas.Str.{is_utf8-from_IsUtf8, IsUtf8-from_is_utf8}
-use Rattle.ctap_cbor.specs.declared.fault.Kind.{Kind}
+use Rattle.std.specs.{List.AllByRecursion, Str.is_utf8}
+use Rattle.std.proofs.lemmas.List.{take-append-drop, append_assoc, append-nil, drop-drop, drop_at, take_at}
+use Rattle.std.proofs.lemmas.List.{length-append, length-take-le}
+use Rattle.std.proofs.lemmas.Bool.{le-ltb, lt-leb, or_parts, or_from, and_left, and_right, not_from_true, not-false}
+use Rattle.ctap_cbor.specs.{declared.fault.Kind.Kind, Faults.item_len, Faults.string_len}
 use Rattle.ctap_cbor.specs.Tree.{Scalar, Int, Bytes, Text, Flag, Null, Plain}
 use Rattle.ctap_cbor.specs.Head.{AreBytes, head, major, info, argument_len, argument, least_argument}
 use Rattle.ctap_cbor.proofs.Heads.{AreBytes-take, AreBytes-drop, Begins, head_again, head_read}
 use Rattle.ctap_cbor.specs.Grammar.{scalar_text, Fits, IsKey}
 use Rattle.ctap_cbor.specs.Parts.{Part, One, OpensArray, OpensMap, item_text, string_at, item_of, read, Nests, Suits}
-use Rattle.ctap_cbor.specs.Faults.{Due, AnItem, is_key, is_above, first_of, fault, faults, first_faults, body_faults, item_len, string_len}
+use Rattle.ctap_cbor.specs.Faults.{Due, AnItem, is_key, is_above, first_of, fault, faults, first_faults, body_faults}
 
 pub record Reads (levels : ℕ) (due : Due) (bytes : List ℕ) (i : Part) (rest : List ℕ) : Type 0 where
   pub parts : bytes ≡ item_text i ++ rest
@@ -118,11 +118,13 @@ plain_again levels due (Int (negsuc n)) rest h k above = item_again levels due 1
     (sym (append-nil (head 1 n))) h refl refl (and_right (is_key due) false refl) refl refl above
     (λ first after e f. ap (λ x. One (Int (negsuc x))) e)
 plain_again levels due (Bytes str) rest h k above =
-    item_again levels due 2 (length str) (One (Bytes str)) str rest refl h.0 refl refl (and_right (is_key due) false refl)
+    item_again levels due 2 (length str) (One (Bytes str)) str rest refl h.0 refl refl
+    (and_right (is_key due) false refl)
     refl refl above
     (λ first after e f. ap (λ x. One (Bytes x)) (rw (e, f) (take_at str rest (length str) refl)))
 plain_again levels due (Text str) rest h k above =
-    item_again levels due 3 (length str) (One (Text str)) str rest refl h.0 refl refl (and_right (is_key due) false refl)
+    item_again levels due 3 (length str) (One (Text str)) str rest refl h.0 refl refl
+    (and_right (is_key due) false refl)
     refl (rw (is_utf8-from_IsUtf8 str h.1) refl) above
     (λ first after e f. ap (λ x. One (Text x)) (rw (e, f) (take_at str rest (length str) refl)))
 plain_again levels due (Flag b) rest h k above = absurd k
@@ -135,7 +137,8 @@ array_again levels n rest some lt = item_again levels AnItem 4 n (OpensArray n) 
 
 map_again : (levels n : ℕ) (rest : List ℕ) → 0 < levels → n < 2 ^ 64 →
     read levels AnItem (head 5 n ++ rest) ≡ Ok (OpensMap n, rest)
-map_again levels n rest some lt = item_again levels AnItem 5 n (OpensMap n) [] rest (sym (append-nil (head 5 n))) lt refl
+map_again levels n rest some lt = item_again levels AnItem 5 n (OpensMap n) [] rest (sym (append-nil (head 5 n))) lt
+    refl
     refl refl (ne_eqb levels 0 (λ e. omega arith)) refl refl (λ first after e f. ap OpensMap e)
 
 simple_again : (levels : ℕ) (s : Scalar) (rest : List ℕ) → Fits s →
@@ -204,7 +207,8 @@ plain_reads m levels due first after str s z e str-is text fit key above =
 
 simple_reads : (levels : ℕ) (due : Due) (first i : ℕ) (after : List ℕ) → Sized first after → first ≡ 224 + i →
     i ≡ info first → (is_key due && true) ≡ false → (nat_le 20 i && nat_le i 22) ≡ true → string_len first after ≡ 0
-    → Reads levels due (first ∷ after) (One (if nat_eq i 20 then Flag false else if nat_eq i 21 then Flag true else Null))
+    → Reads levels due (first ∷ after) (One (if nat_eq i 20 then Flag false else if nat_eq i 21 then Flag true else
+    Null))
     (drop (item_len first after) (first ∷ after))
 unfolding item_len argument_len
 simple_reads levels due first i after z e h key range none = grind arith

@@ -1,14 +1,16 @@
 -- From one call of a cursor to the next, and from the items of an array or the pairs of a map to the whole.
 use Rattle.std.proofs.lemmas.Bool.Decides.{nat_tests}
-use Rattle.std.proofs.Common.{rules, ◌≡◌, ℕ, suc, ◌+◌, max, List, [], ◌∷◌, ◌++◌, length, Option, Some, None, refl, arith, sym, ap, subst, ◌∙◌, append_assoc, length-append}
-use Rattle.ctap_cbor.specs.declared.fault.Kind.{Kind}
-use Rattle.ctap_cbor.specs.Tree.{push, push_pair, Tree, Plain, Trees, no_trees, tree, Pairs, no_pairs, pair, Scalar, depth, depth_all, depth_pairs, count, count_pairs}
-use Rattle.ctap_cbor.specs.Head.{head}
-use Rattle.ctap_cbor.specs.Grammar.{text, texts, pair_texts, scalar_text, IsKey, IsAbove, Rises, IsLawful, AreLawful, AreLawfulPairs}
+use Rattle.std.proofs.Common.{rules, ◌≡◌, ℕ, suc, ◌+◌, max, List, [], ◌∷◌, ◌++◌, length, Option, Some, None, refl}
+use Rattle.std.proofs.Common.{arith, sym, ap, subst, ◌∙◌, append_assoc, length-append}
+use Rattle.ctap_cbor.specs.{declared.fault.Kind.Kind, Head.head, Grammar.AreLawfulPairs}
+use Rattle.ctap_cbor.specs.Tree.{push, push_pair, Tree, Plain, Trees, no_trees, tree, Pairs, no_pairs, pair, Scalar}
+use Rattle.ctap_cbor.specs.Tree.{depth, depth_all, depth_pairs, count, count_pairs}
+use Rattle.ctap_cbor.specs.Grammar.{text, texts, pair_texts, scalar_text, IsKey, IsAbove, Rises, IsLawful, AreLawful}
 use Rattle.ctap_cbor.specs.Faults.{AKey, first_faults, fault}
-use Rattle.ctap_cbor.specs.Parts.{OpensArray, OpensMap}
-use Rattle.ctap_cbor.specs.Outcome.{InArray, AtKey, AtValue, fronts, last_key, later_keys, later_in_all, later_in_map, later_in_pairs, later_key}
-use Rattle.ctap_cbor.specs.Reading.{Reading, rest_of, counted, advance, compared, Takes, TakesKey, Passes, Halts, PassesAll, HaltsInAll, PassesPairs, HaltsAtKey, HaltsAtValue}
+use Rattle.ctap_cbor.specs.{Parts.OpensArray, Parts.OpensMap, Outcome.later_in_pairs, Outcome.later_key}
+use Rattle.ctap_cbor.specs.Outcome.{InArray, AtKey, AtValue, fronts, last_key, later_keys, later_in_all, later_in_map}
+use Rattle.ctap_cbor.specs.Reading.{Reading, rest_of, counted, advance, compared, Takes, TakesKey, Passes, Halts}
+use Rattle.ctap_cbor.specs.Reading.{PassesAll, HaltsInAll, PassesPairs, HaltsAtKey, HaltsAtValue}
 
 abbrev pub at : List ℕ → ℕ → ℕ → Reading
 at b p s = record { bytes = b; place = p; steps = s }
@@ -70,7 +72,8 @@ compared_is (pair j u ps) k = compared_some (text j) ps (length (text k))
 pub passes_none : (levels : ℕ) (r : Reading) → PassesAll levels 0 no_trees r r
 passes_none levels r = record { lawful = tt; flat = omega arith; number = refl; spelled = refl; moved = advance_zero r }
 
-pub passes_more : (levels n : ℕ) (ts : Trees) (u : Tree) (a b c : Reading) → PassesAll levels n ts a b → Passes levels u b c →
+pub passes_more : (levels n : ℕ) (ts : Trees) (u : Tree) (a b c : Reading) → PassesAll levels n ts a b →
+    Passes levels u b c →
     PassesAll levels (n + 1) (push ts u) a c
 passes_more levels n ts u a b c h k =
     let p = pushed ts u in
@@ -100,7 +103,8 @@ array_halts levels n a b c at kind t h =
       spelled = t.spelled ∙ ap (λ x. head 4 n ++ x) (h.passes.spelled ∙ ap (λ x. texts ts ++ x) hh.spelled)
           ∙ sym (append_assoc (head 4 n) (texts ts) (fronts hh.os ++ hh.tail))
           ∙ sym (append_assoc (head 4 n ++ texts ts) (fronts hh.os) hh.tail);
-      place = omega (arith, len, hh.place, ap (λ (r : Reading). r.place) h.passes.moved, ap (λ (r : Reading). r.place) t.moved);
+      place = omega
+          (arith, len, hh.place, ap (λ (r : Reading). r.place) h.passes.moved, ap (λ (r : Reading). r.place) t.moved);
       moved = moves a h.between c _ _ _ _ _ _ (moves a b h.between _ _ _ _ _ _ t.moved h.passes.moved refl refl)
           hh.moved (omega (arith, len)) (omega (arith, len));
     }

@@ -1,20 +1,13 @@
 -- Where a tree's text stands, that tree alone is passed, and nothing halts. Where reading halts, it halts there alone.
 use Rattle.std.proofs.Common.{arith, rules, ◌≡◌, ℕ, ◌+◌, List, [], ◌++◌, length, Ok, Err, Result, refl, sym, ap, ◌∙◌}
 use Rattle.std.specs.Prelude.{MatchResult}
-use Rattle.ctap_cbor.specs.declared.fault.Fault.{Fault}
-use Rattle.ctap_cbor.specs.declared.fault.Kind.{Kind}
-use Rattle.ctap_cbor.specs.Tree.{Tree}
-use Rattle.ctap_cbor.specs.Grammar.{text}
-use Rattle.ctap_cbor.specs.declared.item.Item.{Item}
-use Rattle.ctap_cbor.specs.Faults.{AnItem, passed}
+use Rattle.ctap_cbor.specs.declared.{fault.Fault.Fault, fault.Kind.Kind, item.Item.Item}
+use Rattle.ctap_cbor.specs.{Tree.Tree, Grammar.text, Outcome.later_keys, Views.part_of, Views.TakesOnly}
+use Rattle.ctap_cbor.specs.{Faults.AnItem, Faults.passed, Parse.Done, Parse.parse}
 use Rattle.ctap_cbor.specs.Laws.{NoItemBeginsAnother, OneTreePasses, NothingHalts}
-use Rattle.ctap_cbor.specs.Outcome.{later_keys}
 use Rattle.ctap_cbor.specs.Parts.{Part, item_text, Suits, read}
-use Rattle.ctap_cbor.specs.Views.{part_of, TakesOnly}
 use Rattle.ctap_cbor.specs.Reading.{Reading, rest_of, advance, Passes, PassesAs, Halts, Only}
-use Rattle.ctap_cbor.specs.Parse.{Done, parse}
-use Rattle.ctap_cbor.proofs.Items.{read_again}
-use Rattle.ctap_cbor.proofs.Again.{parse_again, halt_again}
+use Rattle.ctap_cbor.proofs.{Items.read_again, Again.parse_again, Again.halt_again}
 use Rattle.ctap_cbor.proofs.Uniqueness.{tree_of, rest_from}
 
 -- ---- items without what is inside them
@@ -78,7 +71,8 @@ only_passes levels old new t p = record {
   halted = λ at kind r h. absurd (halts_never levels t (rest_of new) old r at kind p.lawful p.flat p.spelled h);
 }
 
-pub only_halts : (levels : ℕ) (old new : Reading) (f : Fault) → Halts levels old new f.at f.kind → Only levels old new (Err f)
+pub only_halts : (levels : ℕ) (old new : Reading) (f : Fault) → Halts levels old new f.at f.kind →
+    Only levels old new (Err f)
 only_halts levels old new f h = record {
   passed = λ u r q. absurd (halts_never levels u (rest_of r) old new f.at f.kind q.lawful q.flat q.spelled h);
   halted = λ at kind r k.

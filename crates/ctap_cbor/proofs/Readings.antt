@@ -1,17 +1,11 @@
 -- What reading bytes whole tells of them.
 use Rattle.std.proofs.Common.{rules, ◌≡◌, ℕ, List, ◌++◌, length, drop, refl, arith, ap, ◌∙◌}
 use Rattle.std.proofs.lemmas.List.{append-nil, drop_at}
-use Rattle.ctap_cbor.specs.declared.fault.Kind.{Kind}
-use Rattle.ctap_cbor.specs.Tree.{Tree}
-use Rattle.ctap_cbor.specs.Head.{AreBytes}
-use Rattle.ctap_cbor.specs.Grammar.{text}
-use Rattle.ctap_cbor.specs.Faults.{fault_steps}
+use Rattle.ctap_cbor.specs.{declared.fault.Kind.Kind, Tree.Tree, Head.AreBytes, Grammar.text, Faults.fault_steps}
 use Rattle.ctap_cbor.specs.Outcome.{Outcome, Whole, Longer, Stopped, fronts, IsOutcome, steps}
-use Rattle.ctap_cbor.specs.Telling.{outcome_of, whole_tree}
+use Rattle.ctap_cbor.specs.{Telling.outcome_of, Telling.whole_tree, Laws.TellsTree, Laws.TellsNone, Laws.WholeReadings}
 use Rattle.ctap_cbor.specs.Reading.{Reading, at_front, rest_of, counted, Passes, Halts, Ends, GoesOn}
-use Rattle.ctap_cbor.specs.Laws.{TellsTree, TellsNone, WholeReadings}
-use Rattle.ctap_cbor.proofs.Moves.{at}
-use Rattle.ctap_cbor.proofs.Telling.{bytes_tell}
+use Rattle.ctap_cbor.proofs.{Moves.at, Telling.bytes_tell}
 
 -- the outcome is this one
 is : (b : List ℕ) (o : Outcome) → AreBytes b → IsOutcome b o → outcome_of b ≡ o
@@ -28,7 +22,8 @@ passed b t s middle new fits p e =
     omega (arith, ap length spelled, ap (λ (r : Reading). r.place) e.moved, ap (λ (r : Reading). r.place) p.moved)
     in
     let count : new.steps ≡ counted s (steps b (outcome_of b)) =
-    omega (arith, cost, ap length spelled, ap (λ (r : Reading). r.steps) e.moved, ap (λ (r : Reading). r.steps) p.moved) in
+    omega (arith, cost, ap length spelled, ap (λ (r : Reading). r.steps) e.moved, ap (λ (r : Reading). r.steps) p.moved)
+    in
     record {
       tree_is = ap whole_tree told;
       moved = ap (λ x. at x new.place new.steps) (ap (λ (r : Reading). r.bytes) e.moved
@@ -43,7 +38,8 @@ longer b t s middle new place kind fits p e =
     record {
       none = ap whole_tree told;
       bytes_stay = ap (λ (r : Reading). r.bytes) e.moved ∙ ap (λ (r : Reading). r.bytes) p.moved;
-      steps_are = omega (arith, ap (steps b) told, ap (λ (r : Reading). r.steps) e.moved, ap (λ (r : Reading). r.steps) p.moved);
+      steps_are = omega
+          (arith, ap (steps b) told, ap (λ (r : Reading). r.steps) e.moved, ap (λ (r : Reading). r.steps) p.moved);
     }
 
 stopped : (b : List ℕ) (s : ℕ) (new : Reading) (place : ℕ) (kind : Kind) → AreBytes b →

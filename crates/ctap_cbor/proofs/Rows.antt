@@ -1,12 +1,12 @@
 -- Worked texts.
 use Rattle.std.proofs.Common.{◌≡◌, [], ◌∷◌, Some, None, refl, arith, replicate}
-use Rattle.std.specs.Prelude.{pos, negsuc}
-use Rattle.std.specs.Str.{is_utf8, chars}
-use Rattle.ctap_cbor.specs.declared.fault.Kind.TheVariants.{Truncated, Reserved, NotShortest, TooDeep, KeyType, KeyOrder, NotUtf8, Unsupported}
+use Rattle.std.specs.{Prelude.pos, Prelude.negsuc, Str.is_utf8, Str.chars}
+use Rattle.ctap_cbor.specs.declared.fault.Kind.TheVariants.{Truncated, Reserved, NotShortest, TooDeep, KeyType}
+use Rattle.ctap_cbor.specs.declared.fault.Kind.TheVariants.{KeyOrder, NotUtf8, Unsupported}
 use Rattle.ctap_cbor.specs.Tree.{Int, Plain, Array, no_trees, tree, no_pairs, pair}
 use Rattle.ctap_cbor.specs.Head.{head, argument_len, argument, least_argument}
-use Rattle.ctap_cbor.specs.Grammar.{text}
-use Rattle.ctap_cbor.specs.Faults.{AnItem, AKey, fault, first_faults, body_faults, fault_steps, passed, item_len, string_len}
+use Rattle.ctap_cbor.specs.{Grammar.text, Faults.string_len}
+use Rattle.ctap_cbor.specs.Faults.{AnItem, AKey, fault, first_faults, body_faults, fault_steps, passed, item_len}
 use Rattle.ctap_cbor.specs.Outcome.{AtKey, Whole, Stopped, IsOutcome, steps}
 
 -- a2 02 00 01 00: a key not above the one before it

@@ -1,14 +1,13 @@
 -- Skipping, by the level at which an item stands.
 use Rattle.std.proofs.lemmas.Grind.{common_steps}
 use Rattle.std.proofs.Common.{rules, ◌≡◌, ℕ, suc, ◌+◌, ◌-◌, ◌<◌, List, refl, arith, sym, subst, Option, Some, ap}
-use Rattle.ctap_cbor.specs.declared.fault.Kind.{Kind}
-use Rattle.ctap_cbor.specs.declared.item.Item.{Item}
+use Rattle.ctap_cbor.specs.declared.{fault.Kind.Kind, item.Item.Item}
 use Rattle.ctap_cbor.specs.declared.item.Item.TheVariants as item
 use Rattle.ctap_cbor.specs.Tree.{push_pair, Tree, Trees, Pairs, Array, Map, Plain, Scalar}
-use Rattle.ctap_cbor.specs.Faults.{AnItem, AKey, passed}
+use Rattle.ctap_cbor.specs.{Faults.AnItem, Faults.AKey, Faults.passed, Views.part_of}
 use Rattle.ctap_cbor.specs.Parts.{Part, One, OpensArray, OpensMap}
-use Rattle.ctap_cbor.specs.Views.{part_of}
-use Rattle.ctap_cbor.specs.Reading.{Reading, Takes, Refuses, Passes, PassesAs, PassesSome, Halts, PassesAll, HaltsInAll, PassesPairs, PassesSomePairs, HaltsInPairs, GivesKey}
+use Rattle.ctap_cbor.specs.Reading.{Reading, Takes, Refuses, Passes, PassesAs, PassesSome, Halts, PassesAll, HaltsInAll}
+use Rattle.ctap_cbor.specs.Reading.{PassesPairs, PassesSomePairs, HaltsInPairs, GivesKey}
 use Rattle.ctap_cbor.proofs.Moves.{pairs_more, array_halts, key_halts, value_halts}
 
 deeper : (level : ℕ) → 0 < 5 - level → 5 - level ≡ suc (5 - (level + 1))
@@ -70,7 +69,8 @@ pub value_stops : (levels n i : ℕ) (ps : Pairs) (last : Option (List ℕ)) (a 
     Halts levels c d at kind → HaltsInPairs levels n a d at kind
 value_stops levels n i ps last a b c d part bytes at kind lt h k p = search (rules, arith)
 
-pub key_stops : (levels n i : ℕ) (ps : Pairs) (last : Option (List ℕ)) (a b c : Reading) (at : ℕ) (kind : Kind) → i < n →
+pub key_stops : (levels n i : ℕ) (ps : Pairs) (last : Option (List ℕ)) (a b c : Reading) (at : ℕ) (kind : Kind) →
+    i < n →
     PassesPairs levels i ps last a b → Refuses 0 (AKey last) b c at kind → HaltsInPairs levels n a c at kind
 key_stops levels n i ps last a b c at kind lt h k = search (rules, arith)
 

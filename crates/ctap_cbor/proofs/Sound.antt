@@ -1,15 +1,15 @@
 -- What reading answers is true of the text.
-use Rattle.std.proofs.lemmas.Grind.{common_steps}
-use Rattle.std.proofs.Common.{rules, ◌≡◌, ℕ, zero, suc, ◌^◌, ◌<◌, ◌≤◌, List, ◌++◌, Option, Some, None, Result, Ok, Err, refl, arith, append_assoc}
-use Rattle.ctap_cbor.specs.declared.fault.Kind.{Kind}
+use Rattle.std.proofs.{lemmas.Grind.common_steps, Common.refl, Common.arith, Common.append_assoc}
+use Rattle.std.proofs.Common.{rules, ◌≡◌, ℕ, zero, suc, ◌^◌, ◌<◌, ◌≤◌, List, ◌++◌, Option, Some, None, Result, Ok, Err}
+use Rattle.ctap_cbor.specs.{declared.fault.Kind.Kind, Head.AreBytes, Head.head}
 use Rattle.ctap_cbor.specs.Tree.{Scalar, Null, Plain, depth, depth_all, depth_pairs, count, count_pairs}
-use Rattle.ctap_cbor.specs.Head.{AreBytes, head}
-use Rattle.ctap_cbor.specs.Grammar.{scalar_text, text, texts, pair_texts, Fits, IsKey, IsAbove, Rises, IsLawful, AreLawful, AreLawfulPairs}
-use Rattle.ctap_cbor.specs.Faults.{AnItem, AKey, fault}
+use Rattle.ctap_cbor.specs.Grammar.{scalar_text, text, texts, pair_texts, Fits, IsKey, IsAbove, Rises, IsLawful}
+use Rattle.ctap_cbor.specs.{Grammar.AreLawful, Grammar.AreLawfulPairs, Faults.AnItem, Faults.AKey, Faults.fault}
 use Rattle.ctap_cbor.specs.Outcome.{fronts, last_key, HaltsIn}
 use Rattle.ctap_cbor.specs.Parts.{Part, One, OpensArray, OpensMap, read}
 use Rattle.ctap_cbor.proofs.Items.{read_sound, fault_read}
-use Rattle.ctap_cbor.specs.Parse.{Parse, Done, Halt, Run, Ran, Broke, Walk, Walked, BadKey, BadValue, array_of, map_of, then_items, items, then_pairs, then_value, pairs, then_inside, parse}
+use Rattle.ctap_cbor.specs.Parse.{Parse, Done, Halt, Run, Ran, Broke, Walk, Walked, BadKey, BadValue, array_of, map_of}
+use Rattle.ctap_cbor.specs.Parse.{then_items, items, then_pairs, then_value, pairs, then_inside, parse}
 
 abbrev pub IsParse : ℕ → List ℕ → Parse → Type 0
 IsParse levels bytes (Done t rest) = IsLawful t × (depth t ≤ levels) × (bytes ≡ text t ++ rest) × AreBytes rest
@@ -42,7 +42,8 @@ items_sound : (levels n : ℕ) (sub : List ℕ → Parse) →
     ((bytes : List ℕ) → AreBytes bytes → IsParse levels bytes (sub bytes)) → (bytes : List ℕ) → AreBytes bytes →
     IsRun levels n bytes (items sub n bytes)
 items_sound levels zero sub inside bytes fits = (tt, omega arith, refl, fits, refl)
-items_sound levels (suc n) sub inside bytes fits = search (rules, arith, then_items_sound, items_sound levels n sub inside)
+items_sound levels (suc n) sub inside bytes fits =
+    search (rules, arith, then_items_sound, items_sound levels n sub inside)
 
 array_sound : (levels n : ℕ) (bytes rest : List ℕ) (r : Run) → n < 2 ^ 64 → bytes ≡ head 4 n ++ rest →
     IsRun levels n rest r → IsParse (suc levels) bytes (array_of n r)
@@ -53,7 +54,8 @@ array_sound levels n bytes rest r lt e h = search (rules, arith, append_assoc)
 abbrev Key : Option (List ℕ) → Scalar → Type 0
 Key last s = Fits s × IsKey (Plain s) × IsAbove last (scalar_text s)
 
-then_pairs_sound : (levels n : ℕ) (last : Option (List ℕ)) (bytes beyond : List ℕ) (s : Scalar) (p : Parse) (go : List ℕ →
+then_pairs_sound : (levels n : ℕ) (last : Option (List ℕ)) (bytes beyond : List ℕ) (s : Scalar) (p : Parse)
+    (go : List ℕ →
     Walk) → Key last s → bytes ≡ scalar_text s ++ beyond → IsParse levels beyond p →
     ((rest : List ℕ) → AreBytes rest → IsWalk levels n (Some (scalar_text s)) rest (go rest)) →
     IsWalk levels (suc n) last bytes (then_pairs (Plain s) p go)

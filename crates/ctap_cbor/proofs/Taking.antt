@@ -1,13 +1,11 @@
 -- What a cursor's calls do, from what was found at its place.
-use Rattle.std.proofs.Common.{rules, ◌≡◌, ℕ, suc, ◌+◌, ◌<◌, ◌≤◌, List, [], ◌∷◌, ◌++◌, length, get_or, drop, Some, Ok, Err, arith, sym, ap, subst, ◌∙◌}
+use Rattle.std.proofs.Common.{rules, ◌≡◌, ℕ, suc, ◌+◌, ◌<◌, ◌≤◌, List, [], ◌∷◌, ◌++◌, length, get_or, drop, Some, Ok}
+use Rattle.std.proofs.Common.{Err, arith, sym, ap, subst, ◌∙◌}
 use Rattle.std.proofs.lemmas.List.{drop-drop, length-append, length-drop}
-use Rattle.ctap_cbor.specs.declared.fault.Kind.{Kind}
-use Rattle.ctap_cbor.specs.declared.fault.Kind.TheVariants.{KeyOrder}
-use Rattle.ctap_cbor.specs.Head.{AreBytes}
+use Rattle.ctap_cbor.specs.declared.fault.Kind.{Kind, TheVariants.KeyOrder}
+use Rattle.ctap_cbor.specs.{Head.AreBytes, Views.end_steps_of, Parts.Part, Parts.item_text, Parts.read}
 use Rattle.ctap_cbor.specs.Faults.{AnItem, first_faults, body_faults, fault, passed, fault_steps}
-use Rattle.ctap_cbor.specs.Parts.{Part, item_text, read}
 use Rattle.ctap_cbor.specs.Reading.{Reading, rest_of, advance, Takes, Refuses}
-use Rattle.ctap_cbor.specs.Views.{end_steps_of}
 use Rattle.ctap_cbor.proofs.Items.{read_sound, fault_read}
 
 pub all_bytes : (bs : List ℕ) → ((i : ℕ) → get_or bs i 0 < 256) → AreBytes bs
@@ -48,7 +46,8 @@ pub in_order_steps : (kind : Kind) (bytes : List ℕ) → InOrder kind →
 unfolding fault_steps passed
 in_order_steps kind bytes h = search (rules, arith)
 
-item_refused_at : (levels : ℕ) (old new : Reading) (at n : ℕ) (kind : Kind) → read levels AnItem (rest_of old) ≡ Err kind →
+item_refused_at : (levels : ℕ) (old new : Reading) (at n : ℕ) (kind : Kind) →
+    read levels AnItem (rest_of old) ≡ Err kind →
     n ≡ passed kind (rest_of old) → new ≡ advance old n (n + end_steps_of kind) → at ≡ old.place →
     Refuses levels AnItem old new at kind
 item_refused_at levels old new at n kind e len moved place = grind (arith, fault_read, in_order_steps, item_in_order)

@@ -1,21 +1,15 @@
 -- What bytes are, as a function of them.
-use Rattle.std.proofs.Common.{rules, ◌≡◌, ℕ, ◌+◌, ◌*◌, ◌≤◌, Bool, true, List, [], ◌∷◌, ◌++◌, length, Some, refl, arith, sym, ap, ◌∙◌}
+use Rattle.std.proofs.Common.{rules, ◌≡◌, ℕ, ◌+◌, ◌*◌, ◌≤◌, Bool, true, List, [], ◌∷◌, ◌++◌, length, Some, refl, arith}
+use Rattle.std.proofs.{Common.sym, Common.ap, Common.◌∙◌, lemmas.List.append-nil}
 use Rattle.std.specs.Prelude.{◌&&◌, if◌then◌else◌}
-use Rattle.std.proofs.lemmas.List.{append-nil}
-use Rattle.ctap_cbor.specs.declared.fault.Kind.TheVariants.{Reserved}
-use Rattle.ctap_cbor.specs.Tree.{Tree, count}
-use Rattle.ctap_cbor.specs.Head.{AreBytes}
-use Rattle.ctap_cbor.specs.Grammar.{texts, IsCanonical}
-use Rattle.ctap_cbor.specs.Faults.{passed, fault_steps}
+use Rattle.ctap_cbor.specs.{declared.fault.Kind.TheVariants.Reserved, Head.AreBytes, Tree.Tree, Tree.count}
+use Rattle.ctap_cbor.specs.{Grammar.texts, Grammar.IsCanonical, Faults.passed, Faults.fault_steps}
 use Rattle.ctap_cbor.specs.Outcome.{Outcome, Whole, Stopped, IsOutcome, steps}
 use Rattle.ctap_cbor.specs.Parse.{items, parse, outcome_by, ran_by}
 use Rattle.ctap_cbor.specs.Telling.{are_bytes, outcome_of, whole_tree, items_at}
 use Rattle.ctap_cbor.specs.Laws.{BytesTell, TreesAreTold, CheckStepsAreBounded, ItemsAreFound}
-use Rattle.ctap_cbor.proofs.Accepting.{below}
-use Rattle.ctap_cbor.proofs.Again.{items_again, all_ran}
-use Rattle.ctap_cbor.proofs.Sound.{parse_sound}
+use Rattle.ctap_cbor.proofs.{Accepting.below, Sound.parse_sound, Bounds.steps_bound, Again.items_again, Again.all_ran}
 use Rattle.ctap_cbor.proofs.Uniqueness.{outcome_sound, outcome_only}
-use Rattle.ctap_cbor.proofs.Bounds.{steps_bound}
 
 pub are_bytes_true : (b : List ℕ) → AreBytes b → are_bytes b ≡ true
 are_bytes_true [] h = refl

@@ -1,13 +1,11 @@
 -- The grammar's laws, by the reading.
 use Rattle.std.proofs.Common.{rules, ◌≡◌, ℕ, ◌+◌, List, [], ◌++◌, refl, arith, sym, ap, ◌∙◌}
 use Rattle.std.proofs.lemmas.List.{append-nil}
-use Rattle.ctap_cbor.specs.Tree.{Tree, depth}
-use Rattle.ctap_cbor.specs.Grammar.{text}
+use Rattle.ctap_cbor.specs.{Tree.Tree, Tree.depth, Grammar.text}
 use Rattle.ctap_cbor.specs.Outcome.{Outcome, Whole, Longer, Stopped, IsOutcome, result_of}
 use Rattle.ctap_cbor.specs.Laws.{EachTextIsOne, NoneBeginsAnother, WrittenIsReadAgain, EncodedIsDecoded}
 use Rattle.ctap_cbor.specs.Parse.{Parse, Done, Halt, parse, outcome_by}
-use Rattle.ctap_cbor.proofs.Again.{parse_again, halt_again}
-use Rattle.ctap_cbor.proofs.Sound.{IsParse, parse_sound}
+use Rattle.ctap_cbor.proofs.{Again.parse_again, Again.halt_again, Sound.IsParse, Sound.parse_sound}
 
 pub outcome_sound : (b : List ℕ) (p : Parse) → IsParse 4 b p → IsOutcome b (outcome_by p)
 outcome_sound b p h = search (rules, arith)

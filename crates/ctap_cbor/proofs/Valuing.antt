@@ -1,22 +1,17 @@
 -- Values that grow by one at the end, and refusals that aren't for want of memory.
-use Rattle.std.proofs.Common.{arith, rules, ◌≡◌, ◌≢◌, ℕ, ◌+◌, List, [], ◌∷◌, ◌++◌, Option, Some, map, refl, sym, ap, subst, ◌∙◌}
-use Rattle.std.proofs.lemmas.List.{map_push}
-use Rattle.ctap_cbor.specs.declared.fault.Fault.{Fault}
-use Rattle.ctap_cbor.specs.declared.fault.Kind.{Kind}
+use Rattle.std.proofs.Common.{arith, rules, ◌≡◌, ◌≢◌, ℕ, ◌+◌, List, [], ◌∷◌, ◌++◌, Option, Some, map, refl, sym, ap}
+use Rattle.std.proofs.{Common.subst, Common.◌∙◌, lemmas.List.map_push}
+use Rattle.ctap_cbor.specs.declared.{fault.Fault.Fault, fault.Kind.Kind, item.Item.Item}
 use Rattle.ctap_cbor.specs.declared.fault.Kind.TheVariants.{Trailing, Memory}
-use Rattle.ctap_cbor.specs.declared.item.Item.{Item}
 use Rattle.ctap_cbor.specs.declared.item.Item.TheVariants as item
-use Rattle.ctap_cbor.specs.declared.value.Value.{Value}
+use Rattle.ctap_cbor.specs.{declared.value.Value.Value, Parts.Part, Views.part_of}
 use Rattle.ctap_cbor.specs.Tree.{push, push_pair, Tree, Plain}
 use Rattle.ctap_cbor.specs.Faults.{Due, first_faults, body_faults, fault}
 use Rattle.ctap_cbor.specs.Outcome.{Outcome, IsOutcome, result_of}
-use Rattle.ctap_cbor.specs.Parts.{Part}
 use Rattle.ctap_cbor.specs.Reading.{Reading, Takes, Refuses, Passes, PassesAll, PassesPairs, GivesKey, Halts, GoesOn}
-use Rattle.ctap_cbor.specs.Views.{part_of}
 use Rattle.ctap_cbor.specs.Values.{trees, pairs, tree_of, pair_of, trees_of, pairs_of, IsScalarOf, UnlessMemory}
 use Rattle.ctap_cbor.proofs.Answering.{start, found_stopped, found_longer}
-use Rattle.ctap_cbor.proofs.Moves.{passes_more}
-use Rattle.ctap_cbor.proofs.Skipping.{given_more, one_passes}
+use Rattle.ctap_cbor.proofs.{Moves.passes_more, Skipping.given_more, Skipping.one_passes}
 
 -- ---- one more at the end
 
@@ -51,13 +46,17 @@ pub scalar_passes : (levels : ℕ) (a b : Reading) (i : Item) (t : Tree) → ((n
     ((n : ℕ) → i ≡ item.Map n → ⊥) → Takes levels a b (part_of i) → IsScalarOf (part_of i) t → Passes levels t a b
 scalar_passes levels a b (item.Array n) t no-array no-map k is = absurd (no-array n refl)
 scalar_passes levels a b (item.Map n) t no-array no-map k is = absurd (no-map n refl)
-scalar_passes levels a b (item.Int i) t no-array no-map k is = subst (λ x. Passes levels x a b) (sym (is _ refl k.suits))
+scalar_passes levels a b (item.Int i) t no-array no-map k is =
+    subst (λ x. Passes levels x a b) (sym (is _ refl k.suits))
     (one_passes levels a b _ k)
-scalar_passes levels a b (item.Bytes s) t no-array no-map k is = subst (λ x. Passes levels x a b) (sym (is _ refl k.suits))
+scalar_passes levels a b (item.Bytes s) t no-array no-map k is =
+    subst (λ x. Passes levels x a b) (sym (is _ refl k.suits))
     (one_passes levels a b _ k)
-scalar_passes levels a b (item.Text s) t no-array no-map k is = subst (λ x. Passes levels x a b) (sym (is _ refl k.suits))
+scalar_passes levels a b (item.Text s) t no-array no-map k is =
+    subst (λ x. Passes levels x a b) (sym (is _ refl k.suits))
     (one_passes levels a b _ k)
-scalar_passes levels a b (item.Bool f) t no-array no-map k is = subst (λ x. Passes levels x a b) (sym (is _ refl k.suits))
+scalar_passes levels a b (item.Bool f) t no-array no-map k is =
+    subst (λ x. Passes levels x a b) (sym (is _ refl k.suits))
     (one_passes levels a b _ k)
 scalar_passes levels a b item.Null t no-array no-map k is = subst (λ x. Passes levels x a b) (sym (is _ refl k.suits))
     (one_passes levels a b _ k)
@@ -69,7 +68,8 @@ fault_not_memory : (levels : ℕ) (due : Due) (bytes : List ℕ) (kind : Kind) �
 unfolding first_faults body_faults
 fault_not_memory levels due bytes kind e = search (rules, arith)
 
-pub refuses_not_memory : (levels : ℕ) (due : Due) (a b : Reading) (at : ℕ) (kind : Kind) → Refuses levels due a b at kind →
+pub refuses_not_memory : (levels : ℕ) (due : Due) (a b : Reading) (at : ℕ) (kind : Kind) →
+    Refuses levels due a b at kind →
     kind ≢ Memory
 refuses_not_memory levels due a b at kind h = fault_not_memory levels due _ kind h.is
 

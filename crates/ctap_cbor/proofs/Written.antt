@@ -1,21 +1,17 @@
 -- From one item or pair that is written to the next, by what is left to be written.
-use Rattle.std.proofs.lemmas.Grind.{common_steps}
-use Rattle.std.proofs.Common.{rules, ◌≡◌, ℕ, ◌+◌, ◌-◌, ◌<◌, ◌≤◌, ◌^◌, true, List, [], ◌∷◌, ◌++◌, length, get_or, drop, Option, Some, None, Result, refl, arith, sym, ap, ◌∙◌, append_assoc, length-append, length-drop}
-use Rattle.std.specs.Prelude.{IfErr}
-use Rattle.std.specs.Option.{ForSome}
-use Rattle.std.proofs.lemmas.Bool.{ne_eqb}
+use Rattle.std.proofs.{lemmas.Grind.common_steps, lemmas.Bool.ne_eqb, Common.length-drop}
+use Rattle.std.proofs.Common.{rules, ◌≡◌, ℕ, ◌+◌, ◌-◌, ◌<◌, ◌≤◌, ◌^◌, true, List, [], ◌∷◌, ◌++◌, length, get_or, drop}
+use Rattle.std.proofs.Common.{Option, Some, None, Result, refl, arith, sym, ap, ◌∙◌, append_assoc, length-append}
+use Rattle.std.specs.{Prelude.IfErr, Option.ForSome}
 use Rattle.std.proofs.lemmas.List.{at_drop_more, drop_at, take-append-le, drop-append-le, drop_all}
-use Rattle.ctap_cbor.specs.declared.encoding.Span.{Span}
-use Rattle.ctap_cbor.specs.declared.fault.Kind.{Kind}
-use Rattle.ctap_cbor.specs.declared.fault.Kind.TheVariants.{Memory}
-use Rattle.ctap_cbor.specs.declared.value.Value.{Value}
-use Rattle.ctap_cbor.specs.Tree.{Tree, Array, Map, Trees, no_trees, tree, Pairs, pair, depth_all, depth_pairs, count, count_pairs}
-use Rattle.ctap_cbor.specs.Head.{head}
+use Rattle.ctap_cbor.specs.declared.{encoding.Span.Span, value.Value.Value}
+use Rattle.ctap_cbor.specs.declared.fault.Kind.{Kind, TheVariants.Memory}
+use Rattle.ctap_cbor.specs.Tree.{Tree, Array, Map, Trees, no_trees, tree, Pairs, pair, depth_all, depth_pairs, count}
+use Rattle.ctap_cbor.specs.{Tree.count_pairs, Head.head, Writes.last_text, Faults.AKey, Faults.is_above}
 use Rattle.ctap_cbor.specs.Grammar.{text, texts, pair_texts, Rises, AreLawful, AreLawfulPairs}
-use Rattle.ctap_cbor.specs.Faults.{AKey, is_above}
 use Rattle.ctap_cbor.specs.Refusals.{own_refusal, refusal, refusal_all, refusal_pairs}
 use Rattle.ctap_cbor.specs.Values.{tree_of, trees_of, pairs_of}
-use Rattle.ctap_cbor.specs.Writes.{Extends, Writes, WritesAll, WritesPairs, WritesKey, FailsWith, IsShort, text_at, last_text}
+use Rattle.ctap_cbor.specs.Writes.{Extends, Writes, WritesAll, WritesPairs, WritesKey, FailsWith, IsShort, text_at}
 
 pub goes_on : (a b c : List ℕ) → Extends a b → Extends b c → Extends a c
 goes_on a b c h k = (h.0 ++ k.0, k.1 ∙ ap (λ x. x ++ k.0) h.1 ∙ append_assoc a h.0 k.0)
@@ -109,7 +105,8 @@ pairs_done levels vs i last start now all h = search (rules, arith, drop_all)
 
 pub key_stops_here : (levels : ℕ) (vs : List (Value × Value)) (i : ℕ) (v : Value × Value) (last : Option (List ℕ))
     (start a b : List ℕ) (kind : Kind) → i < length vs → v ≡ get_or vs i v →
-    PairsLeft levels (pairs_of vs) (pairs_of (drop i vs)) last start a → FailsWith kind (own_refusal (tree_of v.0)) a b →
+    PairsLeft levels (pairs_of vs) (pairs_of (drop i vs)) last start a →
+    FailsWith kind (own_refusal (tree_of v.0)) a b →
     FailsWith kind (refusal_pairs levels None (pairs_of vs)) start b
 key_stops_here levels vs i v last start a b kind lt is h g = grind (arith, common_steps)
 
@@ -150,7 +147,8 @@ pub array_fails : (levels n : ℕ) (vs : List Value) (old middle new : List ℕ)
     FailsWith kind (refusal levels (Array (trees_of vs))) old new
 array_fails levels n vs old middle new kind some e g = search (rules, arith, goes_on, ne_eqb)
 
-pub map_written : (levels n : ℕ) (vs : List (Value × Value)) (old middle new : List ℕ) → (levels ≡ 0 → ⊥) → n ≡ length vs →
+pub map_written : (levels n : ℕ) (vs : List (Value × Value)) (old middle new : List ℕ) → (levels ≡ 0 → ⊥) →
+    n ≡ length vs →
     n < 2 ^ 64 → middle ≡ old ++ head 5 n → WritesPairs (levels - 1) (pairs_of vs) middle new →
     Writes levels (Map (pairs_of vs)) old new
 map_written levels n vs old middle new some len fits e w = grind (arith, append_assoc, count_both)
@@ -171,7 +169,8 @@ item_short levels all rest t start a c d h le short =
 pub item_short_here : (levels : ℕ) (vs : List Value) (i : ℕ) (v : Value) (start a : List ℕ) (c d : ℕ) → i < length vs →
     v ≡ get_or vs i v → ItemsLeft levels (trees_of vs) (trees_of (drop i vs)) start a → c ≤ d →
     IsShort d a (text (tree_of v)) → IsShort c start (texts (trees_of vs))
-item_short_here levels vs i v start a c d lt is h le short = item_short levels (trees_of vs) (trees_of (drop (i + 1) vs))
+item_short_here levels vs i v start a c d lt is h le short =
+    item_short levels (trees_of vs) (trees_of (drop (i + 1) vs))
     (tree_of v) start a c d (items_here levels vs i v start a lt is h) le short
 
 key_short : (levels : ℕ) (all rest : Pairs) (k v : Tree) (last : Option (List ℕ)) (start a : List ℕ) (c d : ℕ) →
@@ -183,7 +182,8 @@ pub key_short_here : (levels : ℕ) (vs : List (Value × Value)) (i : ℕ) (v : 
     (start a : List ℕ) (c d : ℕ) → i < length vs → v ≡ get_or vs i v →
     PairsLeft levels (pairs_of vs) (pairs_of (drop i vs)) last start a → c ≤ d → IsShort d a (text (tree_of v.0)) →
     IsShort c start (pair_texts (pairs_of vs))
-key_short_here levels vs i v last start a c d lt is h le short = key_short levels (pairs_of vs) (pairs_of (drop (i + 1) vs))
+key_short_here levels vs i v last start a c d lt is h le short =
+    key_short levels (pairs_of vs) (pairs_of (drop (i + 1) vs))
     (tree_of v.0) (tree_of v.1) last start a c d (pairs_here levels vs i v last start a lt is h) le short
 
 value_short : (levels : ℕ) (all rest : Pairs) (k v : Tree) (last : Option (List ℕ)) (start a b : List ℕ) (c d : ℕ) →

@@ -1,8 +1,7 @@
 -- What several calls of a sink append, by what each appends.
 use Rattle.std.proofs.Common.{ℕ, ◌+◌, List, [], ◌++◌, drop, arith, refl, sym, ap, ◌∙◌, append_assoc, append-nil}
 use Rattle.std.proofs.lemmas.List.{drop-drop}
-use Rattle.ctap_cbor.specs.declared.sink.Sink.{Sink}
-use Rattle.ctap_cbor.specs.Writing.{contents, Appends}
+use Rattle.ctap_cbor.specs.{declared.sink.Sink.Sink, Writing.contents, Writing.Appends}
 
 -- one piece after another
 pub then : {a b c : Sink} {x y : List ℕ} {m n : ℕ} → Appends a b x m → Appends b c y n → Appends a c (x ++ y) (m + n)

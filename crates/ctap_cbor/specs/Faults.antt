@@ -1,10 +1,10 @@
 -- The fault of one item: the table of docs/use/PROFILE.md, "Faults".
-use Rattle.std.specs.Prelude.{ℕ, ◌+◌, Bool, true, false, not, ◌&&◌, ◌||◌, List, [], ◌∷◌, ◌++◌, length, take, drop, Option, Some, None, if◌then◌else◌, nat_lt, nat_le, nat_eq}
-use Rattle.std.specs.Ordering.{is_lt, nat_cmp}
-use Rattle.std.specs.Str.{is_utf8}
-use Rattle.std.specs.Cmp.Lexicographic.{slice_cmp}
+use Rattle.std.specs.Prelude.{ℕ, ◌+◌, Bool, true, false, not, ◌&&◌, ◌||◌, List, [], ◌∷◌, ◌++◌, length, take, drop}
+use Rattle.std.specs.Prelude.{Option, Some, None, if◌then◌else◌, nat_lt, nat_le, nat_eq}
+use Rattle.std.specs.{Ordering.is_lt, Ordering.nat_cmp, Str.is_utf8, Cmp.Lexicographic.slice_cmp}
 use Rattle.ctap_cbor.specs.declared.fault.Kind.{Kind}
-use Rattle.ctap_cbor.specs.declared.fault.Kind.TheVariants.{Truncated, Reserved, NotShortest, TooDeep, KeyType, KeyOrder, NotUtf8, Unsupported, Trailing, Memory}
+use Rattle.ctap_cbor.specs.declared.fault.Kind.TheVariants.{Truncated, Reserved, NotShortest, TooDeep, KeyType}
+use Rattle.ctap_cbor.specs.declared.fault.Kind.TheVariants.{KeyOrder, NotUtf8, Unsupported, Trailing, Memory}
 use Rattle.ctap_cbor.specs.Head.{major, info, argument_len, argument, least_argument}
 
 -- the number by which programs show a kind

@@ -1,10 +1,9 @@
 -- Which texts are canonical, and of which tree (CTAP 2.1, "Message Encoding"; RFC 8949, sections 3.1 and 4.2.1).
-use Rattle.std.specs.Prelude.{◌≡◌, ℕ, ◌^◌, ◌<◌, ◌≤◌, pos, negsuc, true, false, List, [], ◌∷◌, ◌++◌, length, Option, Some, None}
-use Rattle.std.specs.Ordering.{nat_cmp}
-use Rattle.std.specs.Str.{IsUtf8}
-use Rattle.std.specs.Cmp.Lexicographic.{slice_cmp}
-use Rattle.std.specs.declared.cmp.Ordering.TheVariants.{Less}
-use Rattle.ctap_cbor.specs.Tree.{Scalar, Int, Bytes, Text, Flag, Null, Tree, Plain, Array, Map, Trees, no_trees, tree, Pairs, no_pairs, pair, depth, count, count_pairs}
+use Rattle.std.specs.Prelude.{◌≡◌, ℕ, ◌^◌, ◌<◌, ◌≤◌, pos, negsuc, true, false, List, [], ◌∷◌, ◌++◌, length, Option}
+use Rattle.std.specs.Prelude.{Some, None}
+use Rattle.std.specs.{Ordering.nat_cmp, Str.IsUtf8, Cmp.Lexicographic.slice_cmp, declared.cmp.Ordering.TheVariants.Less}
+use Rattle.ctap_cbor.specs.Tree.{Scalar, Int, Bytes, Text, Flag, Null, Tree, Plain, Array, Map, Trees, no_trees, tree}
+use Rattle.ctap_cbor.specs.Tree.{Pairs, no_pairs, pair, depth, count, count_pairs}
 use Rattle.ctap_cbor.specs.Head.{AreBytes, head}
 
 -- the encoding of a scalar

@@ -1,12 +1,9 @@
 -- What holds of the encoding and of reading it, over the definitions alone.
 use Rattle.std.specs.Prelude.{◌≡◌, ◌↔◌, ℕ, ◌+◌, ◌*◌, ◌≤◌, List, ◌++◌, length, Some, None}
-use Rattle.ctap_cbor.specs.declared.fault.Kind.{Kind}
+use Rattle.ctap_cbor.specs.{declared.fault.Kind.Kind, Head.AreBytes, Refusals.refusal, Faults.AnItem}
 use Rattle.ctap_cbor.specs.Tree.{Tree, Trees, depth, depth_all, count}
-use Rattle.ctap_cbor.specs.Head.{AreBytes}
 use Rattle.ctap_cbor.specs.Grammar.{text, texts, IsLawful, AreLawful, IsEncoding, IsCanonical}
 use Rattle.ctap_cbor.specs.Outcome.{Outcome, Whole, IsOutcome, result_of, steps}
-use Rattle.ctap_cbor.specs.Refusals.{refusal}
-use Rattle.ctap_cbor.specs.Faults.{AnItem}
 use Rattle.ctap_cbor.specs.Parts.{Part, item_text, Suits}
 use Rattle.ctap_cbor.specs.Telling.{outcome_of, canonical_tree, check_steps, items_at}
 use Rattle.ctap_cbor.specs.Reading.{Reading, at_front, rest_of, counted, Passes, Halts, Ends, GoesOn}
@@ -86,4 +83,5 @@ CheckStepsAreBounded = (b : List ℕ) → check_steps b ≤ 2 * length b + 1
 
 -- items that are one after another are found there
 abbrev pub ItemsAreFound : Type 0
-ItemsAreFound = (levels : ℕ) (ts : Trees) → AreLawful ts → depth_all ts ≤ levels → items_at levels (count ts) (texts ts) ≡ ts
+ItemsAreFound = (levels : ℕ) (ts : Trees) → AreLawful ts → depth_all ts ≤ levels →
+    items_at levels (count ts) (texts ts) ≡ ts

@@ -1,11 +1,10 @@
 -- What a text is: the encoding of one tree, or a text with one first fault, of the first item that has any.
-use Rattle.std.specs.Prelude.{◌≡◌, ℕ, zero, suc, ◌+◌, ◌^◌, ◌<◌, ◌≤◌, List, [], ◌∷◌, ◌++◌, length, drop, min, Option, Some, None, Result, Ok, Err}
-use Rattle.ctap_cbor.specs.declared.fault.Fault.{Fault}
-use Rattle.ctap_cbor.specs.declared.fault.Kind.{Kind}
-use Rattle.ctap_cbor.specs.declared.fault.Kind.TheVariants.{Trailing}
-use Rattle.ctap_cbor.specs.Tree.{Tree, Plain, Array, Map, Trees, no_trees, tree, Pairs, no_pairs, pair, depth_all, depth_pairs, count, count_pairs}
-use Rattle.ctap_cbor.specs.Head.{head}
-use Rattle.ctap_cbor.specs.Grammar.{text, texts, pair_texts, IsKey, IsAbove, Rises, IsLawful, AreLawful, AreLawfulPairs, IsCanonical}
+use Rattle.std.specs.Prelude.{◌≡◌, ℕ, zero, suc, ◌+◌, ◌^◌, ◌<◌, ◌≤◌, List, [], ◌∷◌, ◌++◌, length, drop, min, Option}
+use Rattle.std.specs.Prelude.{Some, None, Result, Ok, Err}
+use Rattle.ctap_cbor.specs.declared.fault.{Fault.Fault, Kind.Kind, Kind.TheVariants.Trailing}
+use Rattle.ctap_cbor.specs.Tree.{Tree, Plain, Array, Map, Trees, no_trees, tree, Pairs, no_pairs, pair, depth_all}
+use Rattle.ctap_cbor.specs.{Tree.depth_pairs, Tree.count, Tree.count_pairs, Head.head, Grammar.IsCanonical}
+use Rattle.ctap_cbor.specs.Grammar.{text, texts, pair_texts, IsKey, IsAbove, Rises, IsLawful, AreLawful, AreLawfulPairs}
 use Rattle.ctap_cbor.specs.Faults.{Due, AnItem, AKey, fault, fault_steps}
 
 -- An array or a map that is open: what its head counts, and the whole items after the head.
@@ -32,7 +31,8 @@ last_key before (pair k v ps) = last_key (Some (text k)) ps
 
 -- It may be open where so many more may be opened inside of it.
 abbrev pub IsOpen : ℕ → Enclosing → Type 0
-IsOpen levels (InArray total done) = (total < 2 ^ 64) × (count done < total) × AreLawful done × (depth_all done ≤ levels)
+IsOpen levels (InArray total done) = (total < 2 ^ 64) × (count done < total) × AreLawful done
+    × (depth_all done ≤ levels)
 IsOpen levels (AtKey total done) = (total < 2 ^ 64) × (count_pairs done < total) × Rises None done × AreLawfulPairs done
     × (depth_pairs done ≤ levels)
 IsOpen levels (AtValue total done key) = (total < 2 ^ 64) × (count_pairs done < total) × Rises None done

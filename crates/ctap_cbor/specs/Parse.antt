@@ -1,10 +1,8 @@
 -- Reading a whole item, with all that is inside, as a function (RFC 8949, section 3): the tree, or where it stops. What
 -- the text is says Outcome.antt; that this function returns it is a law.
 use Rattle.std.proofs.Common.{ℕ, zero, suc, List, [], ◌∷◌, Option, Some, None, Result, Ok, Err}
-use Rattle.ctap_cbor.specs.declared.fault.Kind.{Kind}
+use Rattle.ctap_cbor.specs.{declared.fault.Kind.Kind, Grammar.scalar_text, Faults.AnItem, Faults.AKey}
 use Rattle.ctap_cbor.specs.Tree.{Null, Tree, Plain, Array, Map, Trees, no_trees, tree, Pairs, no_pairs, pair}
-use Rattle.ctap_cbor.specs.Grammar.{scalar_text}
-use Rattle.ctap_cbor.specs.Faults.{AnItem, AKey}
 use Rattle.ctap_cbor.specs.Outcome.{Enclosing, InArray, AtKey, AtValue, Outcome, Whole, Longer, Stopped}
 use Rattle.ctap_cbor.specs.Parts.{Part, One, OpensArray, OpensMap, read}
 

@@ -1,8 +1,8 @@
 -- One item: its head, and the bytes of a string (RFC 8949, section 3). Reading it returns its fault, or the item and
 -- what follows.
-use Rattle.std.specs.Prelude.{ℕ, zero, suc, ◌<◌, ◌^◌, pos, negsuc, true, false, List, [], ◌∷◌, take, drop, Option, Some, None, Result, Ok, Err, if◌then◌else◌, nat_eq}
-use Rattle.ctap_cbor.specs.declared.fault.Kind.{Kind}
-use Rattle.ctap_cbor.specs.declared.fault.Kind.TheVariants.{Truncated}
+use Rattle.std.specs.Prelude.{ℕ, zero, suc, ◌<◌, ◌^◌, pos, negsuc, true, false, List, [], ◌∷◌, take, drop, Option, Some}
+use Rattle.std.specs.Prelude.{None, Result, Ok, Err, if◌then◌else◌, nat_eq}
+use Rattle.ctap_cbor.specs.declared.fault.Kind.{Kind, TheVariants.Truncated}
 use Rattle.ctap_cbor.specs.Tree.{Scalar, Int, Bytes, Text, Flag, Null, Plain}
 use Rattle.ctap_cbor.specs.Head.{head, major, info, argument_len, argument}
 use Rattle.ctap_cbor.specs.Grammar.{scalar_text, Fits, IsKey, IsAbove}

@@ -1,13 +1,13 @@
 -- What a cursor is at, and what its calls do.
-use Rattle.std.specs.Prelude.{◌≡◌, ℕ, ◌+◌, ◌≤◌, ◌<◌, min, max, List, [], ◌++◌, length, drop, Option, Some, None, Result, Ok, Err, ◌⊎◌}
-use Rattle.ctap_cbor.specs.declared.fault.Fault.{Fault}
-use Rattle.ctap_cbor.specs.declared.fault.Kind.{Kind}
-use Rattle.ctap_cbor.specs.declared.fault.Kind.TheVariants.{Trailing}
-use Rattle.ctap_cbor.specs.Tree.{Tree, Plain, Array, Map, Trees, Pairs, Scalar, depth, depth_all, depth_pairs, count, count_pairs}
+use Rattle.std.specs.Prelude.{◌≡◌, ℕ, ◌+◌, ◌≤◌, ◌<◌, min, max, List, [], ◌++◌, length, drop, Option, Some, None, Result}
+use Rattle.std.specs.Prelude.{Ok, Err, ◌⊎◌}
+use Rattle.ctap_cbor.specs.declared.fault.{Fault.Fault, Kind.Kind, Kind.TheVariants.Trailing}
+use Rattle.ctap_cbor.specs.Tree.{Tree, Plain, Array, Map, Trees, Pairs, Scalar, depth, depth_all, depth_pairs, count}
+use Rattle.ctap_cbor.specs.{Tree.count_pairs, Outcome.later_in_open}
 use Rattle.ctap_cbor.specs.Grammar.{text, texts, pair_texts, scalar_text, Rises, IsLawful, AreLawful, AreLawfulPairs}
 use Rattle.ctap_cbor.specs.Faults.{Due, AnItem, AKey, fault, passed, fault_steps}
 use Rattle.ctap_cbor.specs.Parts.{Part, One, OpensArray, OpensMap, item_text, Suits}
-use Rattle.ctap_cbor.specs.Outcome.{Enclosing, fronts, last_key, HaltsIn, later_keys, later_in_all, later_in_map, later_in_open}
+use Rattle.ctap_cbor.specs.Outcome.{Enclosing, fronts, last_key, HaltsIn, later_keys, later_in_all, later_in_map}
 
 -- a message, the place of the next byte, and the steps so far
 pub record Reading : Type 0 where

@@ -1,9 +1,9 @@
 -- Which trees have no canonical text, and why: the first refusal in the order of writing.
-use Rattle.std.specs.Prelude.{ℕ, ◌-◌, pos, negsuc, Bool, true, false, List, Option, Some, None, if◌then◌else◌, nat_lt, nat_eq}
-use Rattle.ctap_cbor.specs.declared.fault.Kind.{Kind}
+use Rattle.std.specs.Prelude.{ℕ, ◌-◌, pos, negsuc, Bool, true, false, List, Option, Some, None, if◌then◌else◌, nat_lt}
+use Rattle.std.specs.Prelude.{nat_eq}
+use Rattle.ctap_cbor.specs.{declared.fault.Kind.Kind, Grammar.text, Tree.no_pairs, Tree.pair}
 use Rattle.ctap_cbor.specs.declared.fault.Kind.TheVariants.{TooDeep, KeyType, KeyOrder, Unsupported}
-use Rattle.ctap_cbor.specs.Tree.{Scalar, Int, Bytes, Text, Tree, Plain, Array, Map, Trees, no_trees, tree, Pairs, no_pairs, pair}
-use Rattle.ctap_cbor.specs.Grammar.{text}
+use Rattle.ctap_cbor.specs.Tree.{Scalar, Int, Bytes, Text, Tree, Plain, Array, Map, Trees, no_trees, tree, Pairs}
 use Rattle.ctap_cbor.specs.Faults.{AKey, is_above}
 
 -- integers from -2^64 to 2^64-1

@@ -1,8 +1,7 @@
 -- What bytes are, as functions of them, so that definitions above can name the tree of a message and the steps of
 -- reading it. Law `bytes_tell`: the outcome here is the one that Outcome.antt defines.
 use Rattle.std.specs.Prelude.{ℕ, Bool, true, ◌&&◌, List, [], ◌∷◌, Option, Some, None, if◌then◌else◌, nat_lt}
-use Rattle.ctap_cbor.specs.declared.fault.Kind.TheVariants.{Reserved}
-use Rattle.ctap_cbor.specs.Tree.{Tree, Trees}
+use Rattle.ctap_cbor.specs.{declared.fault.Kind.TheVariants.Reserved, Tree.Tree, Tree.Trees}
 use Rattle.ctap_cbor.specs.Outcome.{Outcome, Whole, Stopped, steps}
 use Rattle.ctap_cbor.specs.Parse.{outcome_by, ran_by, items, parse}
 

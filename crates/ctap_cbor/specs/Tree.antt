@@ -1,5 +1,6 @@
 -- Data items as trees (RFC 8949, section 2), how deep they are, and what they hold.
-use Rattle.std.specs.Prelude.{ℕ, ◌+◌, ◌^◌, ℤ, pos, Bool, true, false, nat_lt, List, Option, Some, None, if◌then◌else◌, max}
+use Rattle.std.specs.Prelude.{ℕ, ◌+◌, ◌^◌, ℤ, pos, Bool, true, false, nat_lt, List, Option, Some, None, if◌then◌else◌}
+use Rattle.std.specs.Prelude.{max}
 
 -- What is no array and no map.
 pub data Scalar : Type 0 where

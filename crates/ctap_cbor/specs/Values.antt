@@ -1,12 +1,10 @@
 -- The tree that a value shows.
 use Rattle.std.specs.Prelude.{◌≡◌, ◌≢◌, List, [], ◌∷◌, map, string_bytes}
-use Rattle.ctap_cbor.specs.declared.fault.Fault.{Fault}
-use Rattle.ctap_cbor.specs.declared.fault.Kind.TheVariants.{Memory}
+use Rattle.ctap_cbor.specs.declared.fault.{Fault.Fault, Kind.TheVariants.Memory}
 use Rattle.ctap_cbor.specs.declared.value.Value.{Value, Value-F, fold-Value}
 use Rattle.ctap_cbor.specs.declared.value.Value.TheOpen as layer
 use Rattle.ctap_cbor.specs.Tree as tree
-use Rattle.ctap_cbor.specs.Grammar.{Fits}
-use Rattle.ctap_cbor.specs.Parts.{Part, One}
+use Rattle.ctap_cbor.specs.{Grammar.Fits, Parts.Part, Parts.One}
 use Rattle.ctap_cbor.specs.Tree.{Scalar, Tree, Plain, Array, Map, Trees, no_trees, Pairs, no_pairs, pair}
 
 abbrev pub trees : List Tree → Trees

@@ -1,9 +1,8 @@
 -- What a lent item is, without where it lies in memory.
-use Rattle.std.specs.Prelude.{zero, suc, true, false, None, Some, nat_eq, pos, negsuc, if◌then◌else◌, ◌≡◌, ℕ, List, ◌∷◌, ◌++◌, drop, Result, Ok, Err, IsOkAnd, ◌≤◌, length}
-use Rattle.ctap_cbor.specs.declared.fault.Fault.{Fault}
-use Rattle.ctap_cbor.specs.declared.fault.Kind.{Kind}
+use Rattle.std.specs.Prelude.{zero, suc, true, false, None, Some, nat_eq, pos, negsuc, if◌then◌else◌, ◌≡◌, ℕ, List, ◌∷◌}
+use Rattle.std.specs.Prelude.{◌++◌, drop, Result, Ok, Err, IsOkAnd, ◌≤◌, length}
+use Rattle.ctap_cbor.specs.declared.{fault.Fault.Fault, fault.Kind.Kind, item.Item.Item}
 use Rattle.ctap_cbor.specs.declared.fault.Kind.TheVariants.{Truncated, KeyOrder}
-use Rattle.ctap_cbor.specs.declared.item.Item.{Item}
 use Rattle.ctap_cbor.specs.declared.item.Item.TheVariants.{Int, Bytes, Text, Array, Map, Bool as Logical, Null}
 use Rattle.std.specs.Prelude.{Bool}
 use Rattle.ctap_cbor.specs.Faults.{Due, AnItem, AKey, first_of, later_faults, item_len, passed}

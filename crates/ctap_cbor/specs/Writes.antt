@@ -1,10 +1,9 @@
 -- What an encoder does with its vector.
 use Rattle.std.specs.Prelude.{◌≡◌, ◌≢◌, ℕ, ◌+◌, ◌-◌, ◌<◌, ◌≤◌, List, ◌++◌, length, take, drop, Option, Some, None}
-use Rattle.ctap_cbor.specs.declared.fault.Kind.{Kind}
-use Rattle.ctap_cbor.specs.declared.fault.Kind.TheVariants.{Memory}
-use Rattle.ctap_cbor.specs.declared.encoding.Span.{Span}
+use Rattle.ctap_cbor.specs.declared.fault.Kind.{Kind, TheVariants.Memory}
+use Rattle.ctap_cbor.specs.{declared.encoding.Span.Span, Grammar.AreLawfulPairs}
 use Rattle.ctap_cbor.specs.Tree.{Scalar, Tree, Trees, Pairs, depth, depth_all, depth_pairs}
-use Rattle.ctap_cbor.specs.Grammar.{text, texts, pair_texts, scalar_text, Fits, Rises, IsKey, IsLawful, AreLawful, AreLawfulPairs}
+use Rattle.ctap_cbor.specs.Grammar.{text, texts, pair_texts, scalar_text, Fits, Rises, IsKey, IsLawful, AreLawful}
 use Rattle.ctap_cbor.specs.Refusals.{refusal, refusal_all, refusal_pairs, own_refusal}
 
 -- a list goes on

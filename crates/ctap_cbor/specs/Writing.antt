@@ -2,8 +2,7 @@
 use Rattle.std.specs.Prelude.{◌≡◌, ℕ, ◌+◌, ◌-◌, pos, negsuc, List, ◌++◌, length, take, drop}
 use Rattle.std.specs.Borrow.{MutBor}
 use Rattle.ctap_cbor.specs.Tree.{Scalar, Int, Bytes, Text, Flag, Null}
-use Rattle.ctap_cbor.specs.Head.{head_len}
-use Rattle.ctap_cbor.specs.declared.sink.Sink.{Sink}
+use Rattle.ctap_cbor.specs.{Head.head_len, declared.sink.Sink.Sink}
 
 -- what is written
 abbrev pub contents : Sink → List ℕ

@@ -1,8 +1,6 @@
 -- The maps of the answers of makeCredential and of assertions are written in canonical CBOR.
 use Rattle.std.proofs.Common.{rules, ℕ, ◌≤◌, List, drop, Option, arith, codes}
-use Rattle.ctap_cbor.specs.Tree.{depth}
-use Rattle.ctap_cbor.specs.Head.{head}
-use Rattle.ctap_cbor.specs.Grammar.{IsCanonical, IsLawful}
+use Rattle.ctap_cbor.specs.{Tree.depth, Head.head, Grammar.IsCanonical, Grammar.IsLawful}
 use Rattle.ctap_message.specs.Answers.{name, created_tree, created_answer, credential, assertion_tree, assertion_answer}
 use Rattle.ctap_message.specs.Answered.{AreShort, UserIsShort, NumberIsShort}
 use lib.Utf8.{encode}

@@ -1,13 +1,11 @@
 -- From two walks over the parameters to what they ask, and the steps.
-use Rattle.std.proofs.Common.{◌≡◌, ℕ, ◌*◌, true, false, List, Option, Some, None, Result, Ok, Err, arith, sym, ap, subst, ◌∙◌, inl, inr}
+use Rattle.std.proofs.Common.{◌≡◌, ℕ, ◌*◌, true, false, List, Option, Some, None, Result, Ok, Err, arith, sym, ap}
+use Rattle.std.proofs.Common.{subst, ◌∙◌, inl, inr}
 use Rattle.std.specs.Prelude.{MatchResult, ◌⊎◌, is_err, min}
-use Rattle.ctap_cbor.specs.declared.fault.Fault.{Fault}
-use Rattle.ctap_cbor.specs.Tree.{Tree}
+use Rattle.ctap_cbor.specs.{declared.fault.Fault.Fault, Tree.Tree, Telling.canonical_tree, Telling.check_steps}
 use Rattle.ctap_cbor.specs.Laws.{TellsTree, TellsNone, WholeReadings}
 use Rattle.ctap_cbor.specs.Reading.{Reading, at_front, PassesOne, Halts, Ends, GoesOn}
-use Rattle.ctap_cbor.specs.Telling.{canonical_tree, check_steps}
-use Rattle.ctap_message.specs.Requests.{reading_steps, LARGEST}
-use Rattle.ctap_message.specs.Walks.{Reads}
+use Rattle.ctap_message.specs.{Requests.reading_steps, Requests.LARGEST, Walks.Reads}
 
 abbrev steps_at : Reading → ℕ
 steps_at r = r.steps

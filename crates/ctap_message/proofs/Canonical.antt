@@ -1,7 +1,6 @@
 -- The map of authenticatorGetInfo's answer is written in canonical CBOR.
 use Rattle.std.proofs.Common.{rules, ◌≡◌, ℕ, List, length, drop, refl, arith, length-append, codes}
-use Rattle.ctap_cbor.specs.Head.{AreBytes, head}
-use Rattle.ctap_cbor.specs.Grammar.{IsCanonical, IsLawful}
+use Rattle.ctap_cbor.specs.{Head.AreBytes, Head.head, Grammar.IsCanonical, Grammar.IsLawful}
 use Rattle.ctap_message.specs.Answered.{versions, transports, algorithms}
 use Rattle.ctap_message.specs.Answers.{options, info_tree, info_answer}
 use lib.Utf8.{encode}

@@ -3,11 +3,11 @@
 -- the same request with other parameters.
 use Rattle.std.proofs.Common.{◌≡◌, ℕ, true, false, Bool, List, [], Option, Some, None, Result, Ok, Err, replicate, refl}
 use Rattle.std.specs.Prelude.{pos, negsuc, codes}
-use Rattle.ctap_cbor.specs.Tree.{Int, Bytes, Text, Flag, Null, Tree, Plain, Array, Map, Trees, no_trees, tree, Pairs, no_pairs, pair}
+use Rattle.ctap_cbor.specs.Tree.{Int, Bytes, Text, Flag, Null, Tree, Plain, Array, Map, Trees, no_trees, tree, Pairs}
+use Rattle.ctap_cbor.specs.Tree.{no_pairs, pair}
 use Rattle.ctap_message.specs.Asked.{Asked, MakeCredential, GetAssertion}
 use Rattle.ctap_message.specs.Members.{value_at, all_entries, some_entry, all_pairs}
-use Rattle.ctap_message.specs.MakeCredential.{make_request}
-use Rattle.ctap_message.specs.GetAssertion.{assertion_request}
+use Rattle.ctap_message.specs.{MakeCredential.make_request, GetAssertion.assertion_request}
 
 -- ---- trees
 

@@ -2,8 +2,7 @@
 use Rattle.std.proofs.Common.{arith, ◌≡◌, ℕ, Bool, false, List, Option, Some}
 use Rattle.std.specs.Prelude.{unwrap_or}
 use Rattle.ctap_cbor.specs.Tree.{Scalar, Tree, Plain, Array, Map, Trees, no_trees, Pairs, no_pairs, push, push_pair}
-use Rattle.ctap_cbor.specs.Parts.{Part, One}
-use Rattle.ctap_cbor.specs.Views.{head_of}
+use Rattle.ctap_cbor.specs.{Parts.Part, Parts.One, Views.head_of}
 use Rattle.ctap_cbor.specs.Reading.{Reading, Passes, PassesAs, part_of_tree}
 use Rattle.ctap_cbor.specs.Collecting.{Adds, AddsEntry, ReadsMap, ReadsArray}
 use Rattle.ctap_message.specs.Members.{MemberKey, pairs_of, entries_of, suits, all_pairs, all_entries, map_of, array_of}
@@ -38,7 +37,8 @@ adds_head shown types view next levels key part taken x y a c grows head h is pu
 
 -- ---- one entry more
 
-pub adds_entry : {M V : Type 0} (shown : M → V) (type : Tree → Bool) (view : Option Tree → V) (levels : ℕ) (taken : Bool)
+pub adds_entry : {M V : Type 0} (shown : M → V) (type : Tree → Bool) (view : Option Tree → V) (levels : ℕ)
+    (taken : Bool)
     (x y : M) (t : Tree) (a c : Reading)
     → Passes levels t a c → taken ≡ type t → ((ts : Trees) → shown x ≡ view (Some (Array ts)) →
     shown y ≡ view (Some (Array (push ts t))))

@@ -1,12 +1,10 @@
 -- What each map says, of one pair more, and which keys' values a head decides.
-use Rattle.std.proofs.Common.{arith, rules, ◌≡◌, ℕ, Bool, true, false, List, Option, Some, None, Result, Ok, Err, refl, ◌∙◌}
+use Rattle.std.proofs.Common.{arith, rules, ◌≡◌, ℕ, Bool, true, false, List, Option, Some, None, Result, Ok, Err, refl}
+use Rattle.std.{proofs.Common.◌∙◌, specs.Option.option_and_then}
 use Rattle.std.specs.Prelude.{ℤ, pos, MatchResult, is_some, unwrap_or, ◌&&◌, ◌||◌, codes}
-use Rattle.std.specs.Option.{option_and_then}
-use Rattle.ctap_cbor.specs.declared.fault.Fault.{Fault}
-use Rattle.ctap_cbor.specs.Tree.{Int, Text, Tree, Array, Map, Trees, no_trees, no_pairs, push, as_bytes, as_text, as_int, as_uint, as_flag}
-use Rattle.ctap_cbor.specs.Parts.{Part, One}
-use Rattle.ctap_cbor.specs.Reading.{Reading, Halts, PassesAs}
-use Rattle.ctap_cbor.specs.Views.{head_of}
+use Rattle.ctap_cbor.specs.{declared.fault.Fault.Fault, Views.head_of, Parts.Part, Parts.One}
+use Rattle.ctap_cbor.specs.Tree.{Int, Text, Tree, Array, Map, Trees, no_trees, no_pairs, push, as_bytes, as_text}
+use Rattle.ctap_cbor.specs.{Tree.as_int, Tree.as_uint, Tree.as_flag, Reading.Reading, Reading.Halts, Reading.PassesAs}
 use Rattle.ctap_cbor.specs.Collecting.{Adds, AddsEntry, InArray, ReadsArray}
 use Rattle.ctap_message.specs.declared.descriptor.Descriptor.{Descriptor as DescriptorFields}
 use Rattle.ctap_message.specs.declared.make.Make.{Make}
@@ -14,16 +12,21 @@ use Rattle.ctap_message.specs.declared.options.Options.{Options as OptionsFields
 use Rattle.ctap_message.specs.declared.parameters.Parameter.{Parameter as ParameterFields}
 use Rattle.ctap_message.specs.declared.rp.Rp.{Rp as RpFields}
 use Rattle.ctap_message.specs.declared.user.User.{User as UserFields}
-use Rattle.ctap_message.specs.declared.assert.Assert.{Assert}
-use Rattle.ctap_message.specs.Members.{Number, Name, is_key, suits, value_at, all_entries, some_entry, entries_of, map_of, array_of, is_text}
+use Rattle.ctap_message.specs.{declared.assert.Assert.Assert, GetAssertion.assertion_types}
+use Rattle.ctap_message.specs.Members.{Number, Name, is_key, suits, value_at, all_entries, some_entry, entries_of}
+use Rattle.ctap_message.specs.Members.{map_of, array_of, is_text}
 use Rattle.ctap_message.specs.MakeCredential.{rp_types, user_types, make_types}
-use Rattle.ctap_message.specs.GetAssertion.{assertion_types}
 use Rattle.ctap_message.specs.Descriptors.{option_types, parameter_types, descriptor_types}
-use Rattle.ctap_message.specs.Fields.{Descriptor, descriptor_in, DescriptorList, descriptors_in, Options, options_in, Parameter, parameter_in, is_whole_parameter, names_es256, Parameters, parameters_in, rp_in, User, user_in}
+use Rattle.ctap_message.specs.Fields.{Descriptor, descriptor_in, DescriptorList, descriptors_in, Options, options_in}
+use Rattle.ctap_message.specs.Fields.{Parameter, parameter_in, is_whole_parameter, names_es256, Parameters}
+use Rattle.ctap_message.specs.Fields.{parameters_in, rp_in, User, user_in}
 use Rattle.ctap_message.specs.Judged.{MakeParameters, AssertionParameters}
 use Rattle.ctap_message.specs.Walks.{Reads, typed, HasPairs}
-use Rattle.ctap_message.specs.Collected.{rp_next, user_next, options_next, parameter_next, descriptor_next, IsPlainName, shown_rp, shown_user, shown_options, shown_parameter, shown_descriptor}
-use Rattle.ctap_message.specs.CollectedRequests.{make_in, make_next, shown_make, IsPlainMake, IsOtherMake, TakesMake, no_parameters, assertion_in, assert_next, shown_assert, IsPlainAssert, IsOtherAssert, TakesAssert}
+use Rattle.ctap_message.specs.Collected.{rp_next, user_next, options_next, parameter_next, descriptor_next, IsPlainName}
+use Rattle.ctap_message.specs.Collected.{shown_rp, shown_user, shown_options, shown_parameter, shown_descriptor}
+use Rattle.ctap_message.specs.CollectedRequests.{make_in, make_next, shown_make, IsPlainMake, IsOtherMake, TakesMake}
+use Rattle.ctap_message.specs.CollectedRequests.{no_parameters, assertion_in, assert_next, shown_assert, IsPlainAssert}
+use Rattle.ctap_message.specs.CollectedRequests.{IsOtherAssert, TakesAssert}
 use Rattle.ctap_message.specs.DescriptorWalk.{DescriptorWalk, list_of, left_of, IsWhole}
 use Rattle.ctap_message.proofs.Pushes.{ap2, ap3, field_push, entries_push, some_push}
 use Rattle.ctap_message.proofs.Collecting.{Grows, HeadDecides, adds_head, adds_tree}
@@ -41,7 +44,8 @@ rp_grows ps k v = field_push (option_and_then as_text) (Name "id") ps k v
 rp_heads : (k : Tree) → HeadDecides rp_types rp_next k
 rp_heads k v = grind arith
 
-pub rp_adds : (levels : ℕ) (key part : Part) (taken : Bool) (x y : RpFields) (a c : Reading) → PassesAs levels part a c →
+pub rp_adds : (levels : ℕ) (key part : Part) (taken : Bool) (x y : RpFields) (a c : Reading) →
+    PassesAs levels part a c →
     taken ≡ suits rp_types (head_of key) (head_of part) → shown_rp y ≡ rp_next (head_of key) (head_of part) (shown_rp x)
     → Adds (λ m ok ps. HasPairs rp_types rp_in (shown_rp m) ok ps) levels key taken x y a c
 rp_adds levels key part taken x y a c = adds_head shown_rp rp_types rp_in rp_next levels key part taken x y a c rp_grows
@@ -67,7 +71,8 @@ pub user_adds : (levels : ℕ) (key part : Part) (taken : Bool) (x y : UserField
     PassesAs levels part a c → taken ≡ suits user_types (head_of key) (head_of part) →
     shown_user y ≡ user_next (head_of key) (head_of part) (shown_user x)
     → Adds (λ m ok ps. HasPairs user_types user_in (shown_user m) ok ps) levels key taken x y a c
-user_adds levels key part taken x y a c = adds_head shown_user user_types user_in user_next levels key part taken x y a c
+user_adds levels key part taken x y a c = adds_head shown_user user_types user_in user_next levels key part taken x y a
+    c
     user_grows (user_heads (head_of key))
 
 pub user_start : make_user None None ≡ user_in (Some (Map no_pairs))
@@ -92,7 +97,8 @@ pub options_adds : (levels : ℕ) (key part : Part) (taken : Bool) (x y : Option
     PassesAs levels part a c → taken ≡ suits option_types (head_of key) (head_of part) →
     shown_options y ≡ options_next (head_of key) (head_of part) (shown_options x)
     → Adds (λ m ok ps. HasPairs option_types options_in (shown_options m) ok ps) levels key taken x y a c
-options_adds levels key part taken x y a c = adds_head shown_options option_types options_in options_next levels key part
+options_adds levels key part taken x y a c = adds_head shown_options option_types options_in options_next levels key
+    part
     taken x y a c options_grows (options_heads (head_of key))
 
 pub options_start : make_options None None None ≡ options_in (Some (Map no_pairs))
@@ -115,7 +121,8 @@ pub parameter_adds : (levels : ℕ) (key part : Part) (taken : Bool) (x y : Para
     PassesAs levels part a c → taken ≡ suits parameter_types (head_of key) (head_of part) →
     shown_parameter y ≡ parameter_next (head_of key) (head_of part) (shown_parameter x)
     → Adds (λ m ok ps. HasPairs parameter_types parameter_in (shown_parameter m) ok ps) levels key taken x y a c
-parameter_adds levels key part taken x y a c = adds_head shown_parameter parameter_types parameter_in parameter_next levels
+parameter_adds levels key part taken x y a c = adds_head shown_parameter parameter_types parameter_in parameter_next
+    levels
     key part taken x y a c parameter_grows (parameter_heads (head_of key))
 
 pub parameter_start : make_parameter None None ≡ parameter_in (Some (Map no_pairs))
@@ -154,10 +161,12 @@ descriptor_start = refl
 pub transports_arm : (levels : ℕ) (key : Part) (x : DescriptorFields) (a c : Reading) (r : Result Bool Fault) →
     key ≡ One (Text (codes "transports"))
     → MatchResult r (λ is. Reads (array_of is_text) levels is a c) (λ f. Halts levels a c f.at f.kind)
-    → MatchResult r (λ taken. Adds (λ m ok ps. HasPairs descriptor_types descriptor_in (shown_descriptor m) ok ps) levels
+    → MatchResult r (λ taken. Adds (λ m ok ps. HasPairs descriptor_types descriptor_in (shown_descriptor m) ok ps)
+    levels
     key taken x x a c) (λ f. Halts levels a c f.at f.kind)
 transports_arm levels key x a c (Ok is) e h =
-    adds_tree shown_descriptor descriptor_types descriptor_in descriptor_next levels key (Text (codes "transports")) is x
+    adds_tree shown_descriptor descriptor_types descriptor_in descriptor_next levels key (Text (codes "transports")) is
+    x
     x a c descriptor_grows e (h.0, h.1, h.2, refl)
 transports_arm levels key x a c (Err f) e h = h
 
@@ -223,7 +232,8 @@ pub make_adds : (levels : ℕ) (key part : Part) (taken : Bool) (x y : Make) (a 
     → PassesAs levels part a c → taken ≡ suits make_types (head_of key) (head_of part)
     → shown_make y ≡ make_next (head_of key) (head_of part) (shown_make x)
     → Adds (λ m ok ps. HasPairs make_types make_in (shown_make m) ok ps) levels key taken x y a c
-make_adds levels key part taken x y a c plain = adds_head shown_make make_types make_in make_next levels key part taken x y
+make_adds levels key part taken x y a c plain = adds_head shown_make make_types make_in make_next levels key part taken
+    x y
     a c make_grows (make_heads (head_of key) plain)
 
 pub make_other : (levels : ℕ) (key part : Part) (x : Make) (a c : Reading) → IsOtherMake (head_of key) →
@@ -286,7 +296,8 @@ pub assert_adds : (levels : ℕ) (key part : Part) (taken : Bool) (x y : Assert)
     → PassesAs levels part a c → taken ≡ suits assertion_types (head_of key) (head_of part)
     → shown_assert y ≡ assert_next (head_of key) (head_of part) (shown_assert x)
     → Adds (λ m ok ps. HasPairs assertion_types assertion_in (shown_assert m) ok ps) levels key taken x y a c
-assert_adds levels key part taken x y a c plain = adds_head shown_assert assertion_types assertion_in assert_next levels key
+assert_adds levels key part taken x y a c plain = adds_head shown_assert assertion_types assertion_in assert_next levels
+    key
     part taken x y a c assert_grows (assert_heads (head_of key) plain)
 
 pub assert_other : (levels : ℕ) (key part : Part) (x : Assert) (a c : Reading) → IsOtherAssert (head_of key) →

@@ -1,14 +1,11 @@
 -- What is collected of lists of descriptors, of one entry more; and the bytes of a list that was passed.
-use Rattle.std.proofs.lemmas.Grind.{common_steps}
+use Rattle.std.{proofs.lemmas.Grind.common_steps, specs.Prelude.◌&&◌}
 use Rattle.std.proofs.Common.{◌≡◌, ℕ, ◌-◌, ◌<◌, Bool, true, false, List, take, drop, Some, refl, sym, ap, ◌∙◌, arith}
-use Rattle.std.specs.Prelude.{◌&&◌}
 use Rattle.ctap_cbor.specs.Tree.{Tree, Array, Trees, no_trees, tree, push}
 use Rattle.ctap_cbor.specs.Reading.{Reading, Passes}
 use Rattle.ctap_message.specs.Members.{array_of, map_of, all_entries, has_entries, entries_of}
-use Rattle.ctap_message.specs.Descriptors.{descriptor_types}
+use Rattle.ctap_message.specs.{Descriptors.descriptor_types, Walks.typed, Collected.listing_in, Collected.list_in}
 use Rattle.ctap_message.specs.Fields.{Descriptor, descriptor_in, is_whole_descriptor, DescriptorList}
-use Rattle.ctap_message.specs.Walks.{typed}
-use Rattle.ctap_message.specs.Collected.{listing_in, list_in}
 use Rattle.ctap_message.specs.DescriptorWalk.{DescriptorWalk, list_of, left_of, IsWhole, IsList}
 use Rattle.ctap_message.proofs.Pushes.{entries_push}
 

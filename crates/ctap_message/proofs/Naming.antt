@@ -1,28 +1,22 @@
 -- From one entry of a list to the next, and the head of a list.
-use Rattle.std.proofs.Common.{rules, ◌≡◌, ℕ, ◌+◌, ◌-◌, ◌<◌, Bool, true, false, List, [], ◌++◌, length, Option, Some, None, Ok, Err, Bor, refl, sym, ap, subst, ◌∙◌, arith, length-append}
-use Rattle.std.specs.Prelude.{is_some, if◌then◌else◌}
-use Rattle.std.specs.Option.{option_copied}
-use Rattle.ctap_cbor.specs.declared.fault.Kind.{Kind}
-use Rattle.ctap_cbor.specs.declared.fault.Fault.{Fault}
-use Rattle.ctap_cbor.specs.declared.item.Item.{Item}
+use Rattle.std.proofs.Common.{rules, ◌≡◌, ℕ, ◌+◌, ◌-◌, ◌<◌, Bool, true, false, List, [], ◌++◌, length, Option, Some}
+use Rattle.std.proofs.Common.{None, Ok, Err, Bor, refl, sym, ap, subst, ◌∙◌, arith, length-append}
+use Rattle.std.specs.{Prelude.is_some, Prelude.if◌then◌else◌, Option.option_copied}
+use Rattle.ctap_cbor.specs.declared.{fault.Kind.Kind, fault.Fault.Fault, item.Item.Item}
 use Rattle.ctap_cbor.specs.declared.item.Item.TheVariants as item
 use Rattle.ctap_cbor.specs.Tree.{Tree, Array, Trees, no_trees, tree, count}
-use Rattle.ctap_cbor.specs.Head.{AreBytes, head}
-use Rattle.ctap_cbor.specs.Grammar.{text, texts}
-use Rattle.ctap_cbor.specs.Faults.{AnItem}
+use Rattle.ctap_cbor.specs.{Head.AreBytes, Head.head, Faults.AnItem, Parse.parse, Views.part_of, Views.TakesOnly}
+use Rattle.ctap_cbor.specs.{Grammar.text, Grammar.texts, Outcome.Whole, Outcome.later_keys}
 use Rattle.ctap_cbor.specs.Parts.{Part, OpensArray, Suits, read}
-use Rattle.ctap_cbor.specs.Parse.{parse}
 use Rattle.ctap_cbor.specs.Laws.{OneTreePasses, NothingHalts, BytesTell, ItemsAreFound}
-use Rattle.ctap_cbor.specs.Outcome.{Whole, later_keys}
 use Rattle.ctap_cbor.specs.Reading.{Reading, at_front, rest_of, Halts, Passes, Takes}
 use Rattle.ctap_cbor.specs.Telling.{outcome_of, canonical_tree, whole_tree, items_at}
-use Rattle.ctap_cbor.specs.Views.{part_of, TakesOnly}
 use Rattle.ctap_message.specs.Members.{has_entries, entries_of, map_of}
-use Rattle.ctap_message.specs.Descriptors.{ids_of, descriptor_types}
+use Rattle.ctap_message.specs.{Descriptors.ids_of, Descriptors.descriptor_types, Walks.Reads, Walks.typed}
 use Rattle.ctap_message.specs.Fields.{Descriptor, descriptor_in, named_id}
 use Rattle.std.specs.List.{cons_option}
-use Rattle.ctap_message.specs.Walks.{Reads, typed}
-use Rattle.ctap_message.specs.DescriptorWalk.{DescriptorWalk, IsWhole, list_steps, entry_steps, after_first, Left, Walks, Gives, IsList, IsWalk}
+use Rattle.ctap_message.specs.DescriptorWalk.{DescriptorWalk, IsWhole, list_steps, entry_steps, after_first, Left}
+use Rattle.ctap_message.specs.DescriptorWalk.{Walks, Gives, IsList, IsWalk}
 
 -- as many ids are left as there were
 abbrev pub Sofar : Reading → ℕ → Reading → ℕ → Type 0

@@ -1,18 +1,16 @@
 -- Worked messages and answers, by computation.
-use Rattle.std.proofs.Common.{◌≡◌, ℕ, true, false, List, [], ◌∷◌, ◌++◌, length, Some, None, Result, Ok, Err, replicate, refl}
-use Rattle.std.specs.Prelude.{codes}
+use Rattle.std.proofs.Common.{◌≡◌, ℕ, true, false, List, [], ◌∷◌, ◌++◌, length, Some, None, Result, Ok, Err, replicate}
+use Rattle.std.{proofs.Common.refl, specs.Prelude.codes}
 use lib.Utf8.{encode}
 use Rattle.std.specs.Str.{is_utf8, chars}
 use Rattle.ctap_cbor.specs.Tree.{Bytes, Text, Tree, Plain, Array, Map, Trees, no_trees, tree, no_pairs, pair}
 use Rattle.ctap_cbor.specs.Faults.{first_faults, body_faults, item_len, string_len, passed, fault_steps}
-use Rattle.ctap_cbor.specs.Parse.{parse}
-use Rattle.ctap_cbor.specs.Parts.{read}
-use Rattle.ctap_cbor.specs.Telling.{outcome_of}
+use Rattle.ctap_cbor.specs.{Parse.parse, Parts.read, Telling.outcome_of}
 use Rattle.ctap_cbor.specs.Head.{head, argument_len, argument, least_argument}
 use Rattle.ctap_message.specs.Asked.{Asked, MakeCredential, GetAssertion, GetInfo}
 use Rattle.ctap_message.specs.Members.{value_at, all_entries, some_entry, all_pairs}
-use Rattle.ctap_message.specs.Requests.{read_of, steps_of}
-use Rattle.ctap_message.specs.Answers.{refusal, info_tree, info_answer, created_tree, created_answer, assertion_tree, assertion_answer}
+use Rattle.ctap_message.specs.{Requests.read_of, Requests.steps_of, Answers.assertion_answer}
+use Rattle.ctap_message.specs.Answers.{refusal, info_tree, info_answer, created_tree, created_answer, assertion_tree}
 use Rattle.ctap_message.proofs.Messages as message
 use Rattle.ctap_message.proofs.Messages.{domain, public_key}
 
@@ -65,7 +63,8 @@ unfolding read_of steps_of outcome_of parse read first_faults body_faults argume
     string_len passed fault_steps is_utf8 chars encode head value_at all_entries some_entry all_pairs
 made_from = ((refl, refl, refl), refl, (refl, refl, refl))
 
--- A user without an id, pinUvAuthParam, another algorithm, a hash of one byte, a user that is no map; what is cut to its
+-- A user without an id, pinUvAuthParam, another algorithm, a hash of one byte, a user that is no map; what is cut to
+-- its
 -- command byte, and by its last byte; a map of 2^64 - 1 pairs that aren't there; a key of 259 bytes; a value that isn't
 -- known, at the fourth level and at the fifth.
 make_refused :

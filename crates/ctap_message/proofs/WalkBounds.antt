@@ -2,9 +2,7 @@
 use Rattle.std.proofs.Common.{◌≡◌, ℕ, ◌*◌, ◌≤◌, List, length, ap, arith}
 use Rattle.std.specs.Prelude.{min}
 use Rattle.ctap_cbor.specs.Tree.{Array, Trees, no_trees, tree}
-use Rattle.ctap_cbor.specs.Grammar.{IsCanonical}
-use Rattle.ctap_cbor.specs.Outcome.{Whole}
-use Rattle.ctap_cbor.specs.Laws.{StepsAreBounded}
+use Rattle.ctap_cbor.specs.{Grammar.IsCanonical, Outcome.Whole, Laws.StepsAreBounded}
 use Rattle.ctap_message.specs.DescriptorWalk.{DescriptorWalk, list_of, left_of, list_steps, entry_steps, walked}
 use Rattle.ctap_message.specs.Requests.{LARGEST}
 

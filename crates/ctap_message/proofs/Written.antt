@@ -1,9 +1,8 @@
 -- The pieces of an assertion's answer, in the order in which they are written.
 use Rattle.std.proofs.Common.{arith, rules, ◌≡◌, ◌+◌, List, ℕ, ◌++◌, ◌∷◌, Option, codes, append_assoc, append-nil}
-use Rattle.ctap_cbor.specs.Tree.{Pairs, no_pairs, count_pairs}
-use Rattle.ctap_cbor.specs.Head.{head}
-use Rattle.ctap_cbor.specs.Grammar.{text, pair_texts}
-use Rattle.ctap_message.specs.Answers.{number, name, byte_string, with_user, with_number, assertion_tree, assertion_answer}
+use Rattle.ctap_cbor.specs.{Tree.Pairs, Tree.no_pairs, Tree.count_pairs, Head.head, Grammar.text, Grammar.pair_texts}
+use Rattle.ctap_message.specs.Answers.{number, name, byte_string, with_user, with_number, assertion_tree}
+use Rattle.ctap_message.specs.Answers.{assertion_answer}
 
 pub user_then : (user : Option (List ℕ)) (rest : Pairs)
     → pair_texts (with_user user no_pairs) ++ pair_texts rest ≡ pair_texts (with_user user rest)

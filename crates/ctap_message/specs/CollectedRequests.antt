@@ -4,12 +4,10 @@ use Rattle.std.specs.Prelude.{◌≡◌, ℕ, pos, Bool, true, false, Option, So
 use Rattle.std.specs.Option.{option_copied, option_map}
 use Rattle.ctap_cbor.specs.Tree.{Int, Tree, Plain, Trees, as_bytes, as_text, as_uint}
 use Rattle.ctap_cbor.specs.Reading.{Reading, Passes}
-use Rattle.ctap_message.specs.declared.make.Make.{Make}
-use Rattle.ctap_message.specs.declared.assert.Assert.{Assert}
+use Rattle.ctap_message.specs.declared.{make.Make.Make, assert.Assert.Assert}
 use Rattle.ctap_message.specs.Members.{Number, is_key, suits, member, entries_of}
 use Rattle.ctap_message.specs.Fields.{Parameters, parameters_in, descriptors_in, options_in, rp_in, user_in}
-use Rattle.ctap_message.specs.MakeCredential.{make_types}
-use Rattle.ctap_message.specs.GetAssertion.{assertion_types}
+use Rattle.ctap_message.specs.{MakeCredential.make_types, GetAssertion.assertion_types}
 use Rattle.ctap_message.specs.Judged.{MakeParameters, make_parameters, AssertionParameters, assertion_parameters}
 use Rattle.ctap_message.specs.Collected.{shown_rp, shown_user, shown_parameters, shown_options, shown_list}
 

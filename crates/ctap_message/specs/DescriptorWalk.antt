@@ -1,17 +1,13 @@
 -- A walk over a list of descriptors, which is the one stated second look at a part of a message: what is left of the
 -- list, and the walk's own steps.
-use Rattle.std.specs.Prelude.{◌≡◌, ℕ, ◌+◌, ◌-◌, ◌≤◌, min, Bool, true, List, length, Option, Some, None, is_some, if◌then◌else◌}
-use Rattle.std.specs.Borrow.{Bor}
-use Rattle.std.specs.Iterator.{YieldsFirstBy}
+use Rattle.std.specs.Prelude.{◌≡◌, ℕ, ◌+◌, ◌-◌, ◌≤◌, min, Bool, true, List, length, Option, Some, None, is_some}
+use Rattle.std.specs.{Prelude.if◌then◌else◌, Borrow.Bor, Iterator.YieldsFirstBy, List.cons_option}
 use Rattle.ctap_cbor.specs.Tree.{Array, Trees, no_trees, tree, depth_all, count}
 use Rattle.ctap_cbor.specs.Grammar.{text, texts, IsLawful, AreLawful}
 use Rattle.ctap_cbor.specs.Outcome.{Whole, steps, later_in_all}
-use Rattle.ctap_cbor.specs.Reading.{Reading, rest_of, counted}
-use Rattle.ctap_cbor.specs.Telling.{canonical_tree, items_at}
+use Rattle.ctap_cbor.specs.{Reading.Reading, Reading.rest_of, Reading.counted, Telling.canonical_tree, Telling.items_at}
 use Rattle.ctap_message.specs.Members.{entries_of, has_entries}
-use Rattle.ctap_message.specs.Descriptors.{ids_of}
-use Rattle.ctap_message.specs.Fields.{descriptor_in, named_id}
-use Rattle.std.specs.List.{cons_option}
+use Rattle.ctap_message.specs.{Descriptors.ids_of, Fields.descriptor_in, Fields.named_id}
 
 -- a cursor at the next entry, and how many entries are left
 pub record DescriptorWalk : Type 0 where

@@ -1,10 +1,10 @@
 -- Credential descriptors (WebAuthn Level 2, section 5.8.3), credential parameters (WebAuthn Level 2, section 5.3) and
 -- options, as the parameters of requests have them.
-use Rattle.std.specs.Prelude.{ℕ, ℤ, negsuc, ◌==◌, Bool, false, ◌&&◌, List, [], ◌∷◌, Option, Some, None, is_some, if◌then◌else◌, codes}
-use Rattle.std.specs.List.{cons_option}
-use Rattle.std.specs.Str.{bytes_eq}
+use Rattle.std.specs.Prelude.{ℕ, ℤ, negsuc, ◌==◌, Bool, false, ◌&&◌, List, [], ◌∷◌, Option, Some, None, is_some}
+use Rattle.std.specs.{Prelude.if◌then◌else◌, Prelude.codes, List.cons_option, Str.bytes_eq}
 use Rattle.ctap_cbor.specs.Tree.{Tree, Trees, no_trees, tree, as_bytes, as_text, as_int}
-use Rattle.ctap_message.specs.Members.{MemberKey, Name, member_as, is_some_and, is_bytes, is_text, is_int, is_flag, array_of}
+use Rattle.ctap_message.specs.Members.{MemberKey, Name, member_as, is_some_and, is_bytes, is_text, is_int, is_flag}
+use Rattle.ctap_message.specs.Members.{array_of}
 
 -- the types of a descriptor's members
 abbrev pub descriptor_types : List (MemberKey × (Tree → Bool))

@@ -1,11 +1,12 @@
 -- authenticatorGetAssertion (CTAP 2.1, sections 6.2 and 8.2): the types of its parameters, the checks of a request in
 -- their order, and what it asks. The order, and that pinUvAuthParam is refused, are this project's choice.
 use Prim.Native.String.{String}
-use Rattle.std.specs.Prelude.{ℕ, ◌==◌, Bool, true, false, not, ◌&&◌, List, [], ◌∷◌, length, Option, is_some, is_none, unwrap_or, Result}
+use Rattle.std.specs.Prelude.{ℕ, ◌==◌, Bool, true, false, not, ◌&&◌, List, [], ◌∷◌, length, Option, is_some, is_none}
+use Rattle.std.specs.Prelude.{unwrap_or, Result}
 use Rattle.ctap_cbor.specs.Tree.{Tree, is_map, as_bytes, as_text, as_flag}
-use Rattle.ctap_message.specs.Members.{MemberKey, Number, Name, member, member_as, entries_of, all_entries, is_some_and, is_bytes, is_text, is_uint, array_of, map_of}
-use Rattle.ctap_message.specs.Checks.{if_all_hold}
-use Rattle.ctap_message.specs.Asked.{Asked, GetAssertion}
+use Rattle.ctap_message.specs.Members.{MemberKey, Number, Name, member, member_as, entries_of, all_entries, is_some_and}
+use Rattle.ctap_message.specs.Members.{is_bytes, is_text, is_uint, array_of, map_of}
+use Rattle.ctap_message.specs.{Checks.if_all_hold, Asked.Asked, Asked.GetAssertion}
 use Rattle.ctap_message.specs.Descriptors.{descriptor_types, option_types, has_id_and_type}
 
 -- the types of the parameters

@@ -1,11 +1,12 @@
 -- What the code keeps of a request's parameters, and the same checks over it: of the tree that they are, these are the
 -- checks of MakeCredential.antt and GetAssertion.antt.
-use Rattle.std.specs.Prelude.{ℕ, ◌==◌, nat_le, Bool, true, false, not, ◌&&◌, List, [], ◌∷◌, length, Option, is_some, is_none, unwrap_or, Result}
+use Rattle.std.specs.Prelude.{ℕ, ◌==◌, nat_le, Bool, true, false, not, ◌&&◌, List, [], ◌∷◌, length, Option, is_some}
+use Rattle.std.specs.Prelude.{is_none, unwrap_or, Result}
 use Rattle.ctap_cbor.specs.Tree.{Tree, as_bytes, as_text, as_uint}
 use Rattle.ctap_message.specs.Members.{Number, member, member_as}
-use Rattle.ctap_message.specs.Checks.{if_all_hold}
-use Rattle.ctap_message.specs.Asked.{Asked, MakeCredential, GetAssertion}
-use Rattle.ctap_message.specs.Fields.{DescriptorList, descriptors_in, Options, options_in, Parameters, parameters_in, rp_in, User, user_in}
+use Rattle.ctap_message.specs.{Checks.if_all_hold, Asked.Asked, Asked.MakeCredential, Asked.GetAssertion}
+use Rattle.ctap_message.specs.Fields.{DescriptorList, descriptors_in, Options, options_in, Parameters, parameters_in}
+use Rattle.ctap_message.specs.Fields.{rp_in, User, user_in}
 
 pub record MakeParameters : Type 0 where
   pub client_data_hash : Option (List ℕ)

@@ -1,10 +1,10 @@
 -- How a request's parameters are found in the tree of its bytes (CTAP 2.1, section 8): members of maps, entries of
 -- arrays, and the types that they are to have.
 use Prim.Native.String.{String}
-use Rattle.std.specs.Prelude.{ℕ, pos, ◌==◌, Bool, true, false, ◌&&◌, ◌||◌, List, [], ◌∷◌, Option, Some, None, is_some, if◌then◌else◌, codes}
-use Rattle.std.specs.Option.{option_or, option_and_then}
-use Rattle.std.specs.Str.{bytes_eq}
-use Rattle.ctap_cbor.specs.Tree.{Int, Text, Tree, Plain, Array, Map, Trees, no_trees, tree, Pairs, no_pairs, pair, is_map, is_array, as_bytes, as_text, as_int, as_uint, as_flag}
+use Rattle.std.specs.Prelude.{ℕ, pos, ◌==◌, Bool, true, false, ◌&&◌, ◌||◌, List, [], ◌∷◌, Option, Some, None, is_some}
+use Rattle.std.specs.{Prelude.if◌then◌else◌, Prelude.codes, Option.option_or, Option.option_and_then, Str.bytes_eq}
+use Rattle.ctap_cbor.specs.Tree.{Int, Text, Tree, Plain, Array, Map, Trees, no_trees, tree, Pairs, no_pairs, pair}
+use Rattle.ctap_cbor.specs.Tree.{is_map, is_array, as_bytes, as_text, as_int, as_uint, as_flag}
 
 -- ---- members and entries
 

@@ -3,8 +3,7 @@
 use Rattle.std.specs.Prelude.{ℕ, ◌*◌, ◌==◌, ◌||◌, List, [], ◌∷◌, length, is_some, Result, Ok, Err, if◌then◌else◌}
 use Rattle.ctap_cbor.specs.Telling.{canonical_tree, check_steps}
 use Rattle.ctap_message.specs.Asked.{Asked, GetInfo, Reset, GetNextAssertion, Selection}
-use Rattle.ctap_message.specs.MakeCredential.{make_request}
-use Rattle.ctap_message.specs.GetAssertion.{assertion_request}
+use Rattle.ctap_message.specs.{MakeCredential.make_request, GetAssertion.assertion_request}
 
 -- a command without parameters (CTAP 2.1, sections 6.3, 6.4, 6.6 and 6.9)
 abbrev pub alone : List ℕ → Asked → Result Asked ℕ

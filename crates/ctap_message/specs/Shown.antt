@@ -2,8 +2,7 @@
 use Rattle.std.specs.Prelude.{◌≡◌, ℕ, ◌≤◌, length, Result, Ok, Err}
 use Rattle.ctap_message.specs.declared.request.Request.{Request}
 use Rattle.ctap_message.specs.declared.request.Request.TheVariants as request
-use Rattle.ctap_message.specs.declared.status.Status.{Status}
-use Rattle.ctap_message.specs.Asked.{Asked}
+use Rattle.ctap_message.specs.{declared.status.Status.Status, Asked.Asked}
 use Rattle.ctap_message.specs.Asked as asks
 use Rattle.ctap_message.specs.DescriptorWalk.{list_of, left_of}
 

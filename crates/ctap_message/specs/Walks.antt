@@ -1,7 +1,6 @@
 -- What the tree that a cursor passed says, and what is collected of its pairs or its entries.
 use Rattle.std.specs.Prelude.{◌≡◌, ℕ, Bool, List, Option, Some}
-use Rattle.ctap_cbor.specs.Tree.{Tree, Array, Map, Trees, Pairs}
-use Rattle.ctap_cbor.specs.Reading.{Reading, Passes}
+use Rattle.ctap_cbor.specs.{Tree.Tree, Tree.Array, Tree.Map, Tree.Trees, Tree.Pairs, Reading.Reading, Reading.Passes}
 use Rattle.ctap_message.specs.Members.{MemberKey, all_pairs, all_entries, suits}
 
 -- a tree was passed, and this is what it says

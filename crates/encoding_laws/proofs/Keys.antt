@@ -1,5 +1,6 @@
 -- A COSE key's bytes are the encoding of its map.
-use Rattle.std.proofs.Common.{◌≡◌, ℕ, ◌<◌, ◌^◌, List, [], ◌∷◌, ◌++◌, length, refl, sym, ◌∙◌, ap, arith, append-nil, append_assoc}
+use Rattle.std.proofs.Common.{◌≡◌, ℕ, ◌<◌, ◌^◌, List, [], ◌∷◌, ◌++◌, length, refl, sym, ◌∙◌, ap, arith, append-nil}
+use Rattle.std.proofs.Common.{append_assoc}
 use Rattle.ctap_cbor.specs.{Head.AreBytes, Head.head, Tree.Int, Tree.Bytes, Tree.Plain}
 use Rattle.ctap_cbor.specs.Grammar.{IsCanonical, IsEncoding, IsLawful, text}
 use Rattle.fido_authdata.specs.CoseKey.{cose_key_bytes}
@@ -24,5 +25,7 @@ lawful x y ex ey bx by = (
   (omega arith, omega arith, (omega arith, omega arith, (omega arith, omega arith, (omega arith, (omega arith, bx), (omega arith, (omega arith, by), tt))))),
 )
 
-pub canonical : (x y : List ℕ) → length x ≡ 32 → length y ≡ 32 → AreBytes x → AreBytes y → IsCanonical (cose_key_tree x y) (cose_key_bytes x y)
-canonical x y ex ey bx by = record { enc = record { lawful = lawful x y ex ey bx by; spelled = spelled x y ex ey }; flat = omega arith }
+pub canonical : (x y : List ℕ) → length x ≡ 32 → length y ≡ 32 → AreBytes x → AreBytes y →
+    IsCanonical (cose_key_tree x y) (cose_key_bytes x y)
+canonical x y ex ey bx by =
+    record { enc = record { lawful = lawful x y ex ey bx by; spelled = spelled x y ex ey }; flat = omega arith }

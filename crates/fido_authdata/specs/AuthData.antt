@@ -1,5 +1,6 @@
 -- Authenticator data: WebAuthn Level 2, section 6.1.
-use Rattle.std.specs.Prelude.{ℕ, List, [], ◌∷◌, ◌++◌, length, Bool, true, false, bit_or, if◌then◌else◌, Option, Some, None, is_some}
+use Rattle.std.specs.Prelude.{ℕ, List, [], ◌∷◌, ◌++◌, length, Bool, true, false, bit_or, if◌then◌else◌, Option, Some}
+use Rattle.std.specs.Prelude.{None, is_some}
 use Rattle.byteorder.specs.Endian.{big_bytes}
 use Rattle.fido_authdata.specs.{CoseKey.cose_key_bytes, declared.auth_data.AttestedCredential.AttestedCredential}
 

@@ -3,7 +3,10 @@ use Rattle.std.proofs.lemmas.Bool.Decides.{nat_tests}
 use Rattle.std.proofs.Common.{arith, rules, ◌≡◌, ℕ, Bool, cond, not, ◌&&◌, ◌||◌, ◌==◌, nat_le, nat_lt, Option}
 use Rattle.hid_packet.specs.Commands.{PING, INIT, CBOR, CANCEL, BROADCAST}
 use Rattle.hid_assemble.specs.declared.table.ReplyRow.{ReplyRow}
-use Rattle.hid_assemble.specs.declared.table.ReplyRow.TheVariants.{CancelsWork, CancelsNothing, NoSuchChannel, InitLength, InitFull, InitNew, InitAgain, BusyElsewhere, BusyHere, BrokenOff, NoSuchCommand, BadLength, Short, Long}
+use Rattle.hid_assemble.specs.declared.table.ReplyRow.TheVariants.{CancelsWork, CancelsNothing, NoSuchChannel}
+use Rattle.hid_assemble.specs.declared.table.ReplyRow.TheVariants.{InitLength, InitFull, InitNew, InitAgain}
+use Rattle.hid_assemble.specs.declared.table.ReplyRow.TheVariants.{BusyElsewhere, BusyHere, BrokenOff, NoSuchCommand}
+use Rattle.hid_assemble.specs.declared.table.ReplyRow.TheVariants.{BadLength, Short, Long}
 use Rattle.hid_assemble.specs.Table.{LAST_CHANNEL, is_given, is_on, is_elsewhere, initialization_row}
 use Rattle.hid_packet.specs.Limits.{LONGEST_MESSAGE}
 
@@ -21,12 +24,15 @@ begin_row current work cid cmd len =
     (cond (nat_le len 57) Short Long)))))
 
 kinds : (cancel work strange init length_is broadcast full : Bool) (r : ReplyRow)
-    → cond (cancel && work) CancelsWork (cond cancel CancelsNothing (cond strange NoSuchChannel (cond (init && length_is) InitLength
+    → cond (cancel && work) CancelsWork (cond cancel CancelsNothing
+    (cond strange NoSuchChannel (cond (init && length_is) InitLength
     (cond ((broadcast && init) && full) InitFull (cond (broadcast && init) InitNew (cond init InitAgain r))))))
-    ≡ cond cancel (cond work CancelsWork CancelsNothing) (cond strange NoSuchChannel (cond init (cond length_is InitLength (cond broadcast (cond full InitFull InitNew) InitAgain)) r))
+    ≡ cond cancel (cond work CancelsWork CancelsNothing) (cond strange NoSuchChannel
+    (cond init (cond length_is InitLength (cond broadcast (cond full InitFull InitNew) InitAgain)) r))
 kinds x0 w s i l b f r = search (rules, arith)
 
-pub by_command : (given : ℕ) (current work : Option ℕ) (cid cmd len : ℕ) → initialization_row given current work cid cmd len
+pub by_command : (given : ℕ) (current work : Option ℕ) (cid cmd len : ℕ) →
+    initialization_row given current work cid cmd len
     ≡ cond (cmd == CANCEL) (cond (is_on work cid) CancelsWork CancelsNothing)
     (cond (not (is_given given cid || ((cid == BROADCAST) && (cmd == INIT)))) NoSuchChannel
     (cond (cmd == INIT) (init_row given cid len) (begin_row current work cid cmd len)))

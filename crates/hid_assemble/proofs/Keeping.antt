@@ -1,7 +1,7 @@
 -- What the fields of an assembler tell of what is kept.
-use Rattle.std.proofs.lemmas.{Bool.Decides.nat_tests, List.take-append-le}
-use Rattle.std.proofs.{Common.rules, Math.Seq.take-append_seam}
-use Rattle.std.proofs.Common.{◌≡◌, ℕ, ◌+◌, ◌≤◌, ◌<◌, List, [], ◌++◌, length, take, drop, Option, Some, None, option_map, sym, ◌∙◌, ap, subst, arith, length-take-le}
+use Rattle.std.proofs.{lemmas.Bool.Decides.nat_tests, lemmas.List.take-append-le, Math.Seq.take-append_seam}
+use Rattle.std.proofs.Common.{rules, ◌≡◌, ℕ, ◌+◌, ◌≤◌, ◌<◌, List, [], ◌++◌, length, take, drop, Option, Some, None}
+use Rattle.std.proofs.Common.{option_map, sym, ◌∙◌, ap, subst, arith, length-take-le}
 use Rattle.hid_assemble.specs.declared.assembler.Contents.{Contents}
 use Rattle.hid_assemble.specs.declared.assembler.Contents.TheVariants.{Open as HoldsOpen, Finished}
 use Rattle.hid_packet.specs.Packet.{initialization}
@@ -14,11 +14,13 @@ lawful_in : (given : ℕ) (contents : Contents) (buffer : List ℕ) → length b
     → OpenIsLawful given (open_in buffer contents) × (length (finished_in buffer contents) ≤ 7609)
 lawful_in given x1 buffer size h = search (rules, arith, length-take-le)
 
-pub lawful : (given : ℕ) (contents : Contents) (buffer : List ℕ) (a : Assembly) → assembly given contents buffer ≡ a → IsKept given contents buffer → IsLawful a
+pub lawful : (given : ℕ) (contents : Contents) (buffer : List ℕ) (a : Assembly) → assembly given contents buffer ≡ a →
+    IsKept given contents buffer → IsLawful a
 unfolding assembly
 lawful given contents buffer a is kept = search (rules, arith, lawful_in)
 
-pub given-is : (given : ℕ) (contents : Contents) (buffer : List ℕ) (a : Assembly) → assembly given contents buffer ≡ a → given ≡ a.given
+pub given-is : (given : ℕ) (contents : Contents) (buffer : List ℕ) (a : Assembly) → assembly given contents buffer ≡ a →
+    given ≡ a.given
 unfolding assembly
 given-is given contents buffer a is = ap (λ (x : Assembly). x.given) is
 
@@ -26,25 +28,32 @@ more_held : (given : ℕ) (contents : Contents) → MayBeHeld given contents →
 more_held given x1 h = search (rules, arith)
 
 -- A channel more was given out.
-pub one_more : (given : ℕ) (contents : Contents) (buffer : List ℕ) → IsKept given contents buffer → given < LAST_CHANNEL → IsKept (given + 1) contents buffer
+pub one_more : (given : ℕ) (contents : Contents) (buffer : List ℕ) → IsKept given contents buffer →
+    given < LAST_CHANNEL → IsKept (given + 1) contents buffer
 one_more given contents buffer kept few = grind (arith, nat_tests)
 
 -- The data of an initialization packet stands at the buffer's head.
-module _ (given : ℕ) (contents : Contents) (buffer : List ℕ) (a : Assembly) (is : assembly given contents buffer ≡ a) (at cid cmd len size : ℕ) (work : Option ℕ) (part now : List ℕ)
+module _ (given : ℕ) (contents : Contents) (buffer : List ℕ) (a : Assembly) (is : assembly given contents buffer ≡ a)
+    (at cid cmd len size : ℕ) (work : Option ℕ) (part now : List ℕ)
     (full : length part ≡ 57) (e : now ≡ part ++ drop size buffer) where
   abbrev row : ReplyRow → Type 0
   row r = initialization_row a.given (option_map (λ m. m.cid) a.current) work cid cmd len ≡ r
 
-  pub short_state : row Short → len ≤ 57 → assembly given (Finished len) now ≡ accepted a at work (initialization cid cmd len part)
+  pub short_state : row Short → len ≤ 57 → assembly given (Finished len) now
+      ≡ accepted a at work (initialization cid cmd len part)
   unfolding assembly accepted ruling_of open_after message_after
   short_state r fits =
-      let bytes : take len now ≡ take len part = ap (take len) e ∙ take-append-le len part (drop size buffer) (omega (arith, fits)) in
+      let bytes : take len now ≡ take len part = ap (take len) e
+      ∙ take-append-le len part (drop size buffer) (omega (arith, fits)) in
       (λ i. record { given = given-is given contents buffer a is i; current = None; finished = bytes i })
       ∙ sym (ap (λ x. kept_by a at (initialization cid cmd len part) (Begins x)) r)
 
-  pub long_state : row Long → assembly given (HoldsOpen (record { cid = cid; cmd = cmd; len = len; kept = 0; last = at })) now ≡ accepted a at work (initialization cid cmd len part)
+  pub long_state : row Long →
+      assembly given (HoldsOpen (record { cid = cid; cmd = cmd; len = len; kept = 0; last = at })) now
+      ≡ accepted a at work (initialization cid cmd len part)
   unfolding assembly accepted ruling_of open_after message_after
   long_state r =
-      let bytes : take 57 now ≡ part = ap (take 57) e ∙ subst (λ n. take n (part ++ drop size buffer) ≡ part) full (take-append_seam part (drop size buffer)) in
+      let bytes : take 57 now ≡ part = ap (take 57) e ∙ subst (λ n. take n (part ++ drop size buffer) ≡ part) full
+      (take-append_seam part (drop size buffer)) in
       (λ i. record { given = given-is given contents buffer a is i; current = Some (record { cid = cid; cmd = cmd; len = len; bytes = bytes i; kept = 0; last = at }); finished = [] })
       ∙ sym (ap (λ x. kept_by a at (initialization cid cmd len part) (Begins x)) r)

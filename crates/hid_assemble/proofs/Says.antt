@@ -1,6 +1,6 @@
 -- What the row of a packet says of it.
-use Rattle.std.proofs.Common.{◌≡◌, ℕ, ◌+◌, ◌*◌, ◌≤◌, ◌<◌, false, not, ◌&&◌, ◌||◌, ◌==◌, nat_le, nat_lt, ◌⊎◌, Option, sym, subst, arith}
-use Rattle.std.proofs.lemmas.Bool.Decides.{nat_tests}
+use Rattle.std.proofs.Common.{◌≡◌, ℕ, ◌+◌, ◌*◌, ◌≤◌, ◌<◌, false, not, ◌&&◌, ◌||◌, ◌==◌, nat_le, nat_lt, ◌⊎◌, Option}
+use Rattle.std.proofs.{Common.sym, Common.subst, Common.arith, lemmas.Bool.Decides.nat_tests}
 use Rattle.hid_packet.specs.Commands.{PING, INIT, CBOR, CANCEL, BROADCAST}
 use Rattle.hid_assemble.specs.{declared.table.ReplyRow.ReplyRow, Assembly.IsOpenMessage}
 use Rattle.hid_assemble.specs.declared.table.ReplyRow.TheVariants.{InitNew, Short, Long}
@@ -35,11 +35,13 @@ served cmd h = grind (arith, nat_tests)
 within : (cmd len : ℕ) → (nat_lt LONGEST_MESSAGE len || ((cmd == CBOR) && (len == 0))) ≡ false → len ≤ LONGEST_MESSAGE
 within cmd len h = grind (arith, nat_tests)
 
-begin_says : (given : ℕ) (current work : Option ℕ) (cid cmd len : ℕ) → 1 ≤ cid → cid ≤ given → RowSays given cid cmd len (begin_row current work cid cmd len)
+begin_says : (given : ℕ) (current work : Option ℕ) (cid cmd len : ℕ) → 1 ≤ cid → cid ≤ given →
+    RowSays given cid cmd len (begin_row current work cid cmd len)
 unfolding begin_row
 begin_says given current work cid cmd len low high = grind (arith, nat_tests)
 
-channel_given : (given cid cmd : ℕ) → not ((nat_le 1 cid && nat_le cid given) || ((cid == BROADCAST) && (cmd == INIT))) ≡ false
+channel_given : (given cid cmd : ℕ) → not ((nat_le 1 cid && nat_le cid given) || ((cid == BROADCAST) && (cmd == INIT)))
+    ≡ false
     → (cmd == INIT) ≡ false → (1 ≤ cid) × (cid ≤ given)
 channel_given given cid cmd h other = grind (arith, nat_tests)
 
@@ -52,7 +54,8 @@ row_says given current work cid cmd len few =
     (λ _. cond_case P (is_on work cid) _ _ (λ _. tt) (λ _. tt))
     (λ _. cond_case P (not (is_given given cid || ((cid == BROADCAST) && (cmd == INIT)))) _ _ (λ _. tt)
     (λ known. cond_case P (cmd == INIT) _ _ (λ _. init_says given cid cmd len few)
-    (λ other. let on = channel_given given cid cmd known other in begin_says given current work cid cmd len on.0 on.1))))
+    (λ other. let on = channel_given given cid cmd known other in
+    begin_says given current work cid cmd len on.0 on.1))))
 
 pub continuation_says : (on len kept cid number : ℕ) → ContinuationSays len kept (continues on len kept cid number)
 continuation_says on len kept cid number = grind (arith, nat_tests)

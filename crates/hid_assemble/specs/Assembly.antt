@@ -1,13 +1,13 @@
 -- What is kept of the packets that came, and what each row of the reply table makes of it (CTAP 2.1, section 11.2.4).
-use Rattle.std.specs.Prelude.{◌≡◌, ℕ, ◌+◌, ◌≤◌, ◌<◌, ◌⊎◌, Bool, false, ◌==◌, nat_le, List, [], ◌++◌, take, length, Option, Some, None, option_map, if◌then◌else◌}
+use Rattle.std.specs.Prelude.{◌≡◌, ℕ, ◌+◌, ◌≤◌, ◌<◌, ◌⊎◌, Bool, false, ◌==◌, nat_le, List, [], ◌++◌, take, length}
+use Rattle.std.specs.Prelude.{Option, Some, None, option_map, if◌then◌else◌}
 use Rattle.hid_packet.specs.Commands.{PING, CBOR}
 use Rattle.hid_packet.specs.Packet.{Fields, channel_of, command_of, length_of, data_of}
 use Rattle.hid_assemble.specs.Table.{Open, Ruling, Begins, Continues, LAST_CHANNEL, ruling_of}
-use Rattle.hid_assemble.specs.declared.table.ReplyRow.TheVariants.{InitLength, InitNew, InitAgain, BrokenOff, Short, Long}
+use Rattle.hid_assemble.specs.declared.table.ReplyRow.TheVariants.{InitLength, InitNew, InitAgain, BrokenOff, Short}
+use Rattle.hid_assemble.specs.declared.table.ReplyRow.TheVariants.{Long}
 use Rattle.hid_assemble.specs.declared.table.Continuation.TheVariants.{Stray, WrongNumber, Kept, Whole}
-use Rattle.hid_packet.specs.Limits.{data_capacity}
-use Rattle.hid_packet.specs.Limits.{INITIALIZATION_DATA, LONGEST_MESSAGE}
-use Rattle.hid_packet.specs.Limits.{MESSAGE_TIMEOUT}
+use Rattle.hid_packet.specs.Limits.{data_capacity, INITIALIZATION_DATA, LONGEST_MESSAGE, MESSAGE_TIMEOUT}
 
 -- A finished message.
 pub record Message : Type 0 where

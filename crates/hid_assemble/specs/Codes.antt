@@ -1,7 +1,8 @@
 -- The numbers that an ERROR packet carries (CTAP 2.1, section 11.2.9.1.6).
 use Rattle.std.specs.Prelude.{ℕ}
 use Rattle.hid_assemble.specs.declared.code.ErrorCode.{ErrorCode}
-use Rattle.hid_assemble.specs.declared.code.ErrorCode.TheVariants.{InvalidCommand, InvalidLength, InvalidSequence, MessageTimeout, ChannelBusy, InvalidChannel, Other}
+use Rattle.hid_assemble.specs.declared.code.ErrorCode.TheVariants.{InvalidCommand, InvalidLength, InvalidSequence}
+use Rattle.hid_assemble.specs.declared.code.ErrorCode.TheVariants.{MessageTimeout, ChannelBusy, InvalidChannel, Other}
 
 abbrev pub code_number : ErrorCode → ℕ
 code_number InvalidCommand = 0x01

@@ -1,12 +1,9 @@
 -- What the fields of an `Assembler` mean.
 use Rattle.std.specs.Prelude.{◌≡◌, ℕ, ◌≤◌, List, [], take, length, Option, Some, None}
-use Rattle.hid_assemble.specs.Table.{Open, LAST_CHANNEL}
-use Rattle.hid_assemble.specs.Assembly.{Assembly, IsOpenMessage}
-use Rattle.hid_assemble.specs.declared.assembler.OpenMessage.{OpenMessage}
-use Rattle.hid_assemble.specs.declared.assembler.Contents.{Contents}
+use Rattle.hid_assemble.specs.{Table.Open, Table.LAST_CHANNEL, Assembly.Assembly, Assembly.IsOpenMessage}
+use Rattle.hid_assemble.specs.declared.assembler.{OpenMessage.OpenMessage, Contents.Contents}
 use Rattle.hid_assemble.specs.declared.assembler.Contents.TheVariants.{Nothing, Open as HoldsOpen, Finished}
-use Rattle.hid_packet.specs.Limits.{data_capacity}
-use Rattle.hid_packet.specs.Limits.{LONGEST_MESSAGE}
+use Rattle.hid_packet.specs.Limits.{data_capacity, LONGEST_MESSAGE}
 
 -- the open message, whose data bytes are the first of the buffer
 abbrev pub opened : List ℕ → OpenMessage → Open

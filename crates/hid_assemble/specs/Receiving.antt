@@ -1,12 +1,8 @@
 -- Packets that come one after the other, with their moments.
 use Rattle.std.specs.Prelude.{◌≡◌, ℕ, ◌+◌, ◌≤◌, ◌<◌, ◌⊎◌, List, [], ◌∷◌, length, map, None}
-use Rattle.hid_packet.specs.Commands.{PING, CBOR}
-use Rattle.hid_packet.specs.Packet.{fields}
-use Rattle.hid_assemble.specs.Assembly.{Assembly, still_open, accepted}
-use Rattle.hid_assemble.specs.Verdicts.{verdict}
-use Rattle.hid_assemble.specs.declared.verdict.Verdict.{Verdict}
-use Rattle.hid_assemble.specs.declared.verdict.Verdict.TheVariants.{Ignored}
-use Rattle.hid_packet.specs.Limits.{MESSAGE_TIMEOUT}
+use Rattle.hid_packet.specs.{Commands.PING, Commands.CBOR, Packet.fields, Limits.MESSAGE_TIMEOUT}
+use Rattle.hid_assemble.specs.{Assembly.Assembly, Assembly.still_open, Assembly.accepted, Verdicts.verdict}
+use Rattle.hid_assemble.specs.declared.verdict.Verdict.{Verdict, TheVariants.Ignored}
 
 -- a packet's bytes, with the moment at which it comes
 pub record Arrival : Type 0 where

@@ -1,14 +1,17 @@
 -- What the reply table answers to a packet.
 use Rattle.std.specs.Prelude.{ℕ, ◌+◌, List, take, Option, Some, None, if◌then◌else◌}
-use Rattle.hid_packet.specs.Commands.{BROADCAST}
-use Rattle.hid_packet.specs.Packet.{Fields, channel_of, data_of}
+use Rattle.hid_packet.specs.{Commands.BROADCAST, Packet.Fields, Packet.channel_of, Packet.data_of}
 use Rattle.hid_assemble.specs.Table.{Ruling, Begins, Continues, is_on, ruling_of}
 use Rattle.hid_assemble.specs.Assembly.{Assembly, Message, message_after}
-use Rattle.hid_assemble.specs.declared.code.ErrorCode.TheVariants.{InvalidCommand, InvalidLength, InvalidSequence, ChannelBusy, InvalidChannel, Other}
-use Rattle.hid_assemble.specs.declared.table.ReplyRow.TheVariants.{CancelsWork, CancelsNothing, NoSuchChannel, InitLength, InitFull, InitNew, InitAgain, BusyElsewhere, BusyHere, BrokenOff, NoSuchCommand, BadLength, Short, Long}
+use Rattle.hid_assemble.specs.declared.code.ErrorCode.TheVariants.{InvalidCommand, InvalidLength, InvalidSequence}
+use Rattle.hid_assemble.specs.declared.code.ErrorCode.TheVariants.{ChannelBusy, InvalidChannel, Other}
+use Rattle.hid_assemble.specs.declared.table.ReplyRow.TheVariants.{CancelsWork, CancelsNothing, NoSuchChannel}
+use Rattle.hid_assemble.specs.declared.table.ReplyRow.TheVariants.{InitLength, InitFull, InitNew, InitAgain}
+use Rattle.hid_assemble.specs.declared.table.ReplyRow.TheVariants.{BusyElsewhere, BusyHere, BrokenOff, NoSuchCommand}
+use Rattle.hid_assemble.specs.declared.table.ReplyRow.TheVariants.{BadLength, Short, Long}
 use Rattle.hid_assemble.specs.declared.table.Continuation.TheVariants.{Stray, WrongNumber, Kept as KeptOn, Whole}
-use Rattle.hid_assemble.specs.declared.verdict.Verdict.{Verdict}
-use Rattle.hid_assemble.specs.declared.verdict.Verdict.TheVariants.{Ignored, Kept, Finished, Refuse, Greet, GreetAndDrop, CancelWork}
+use Rattle.hid_assemble.specs.declared.verdict.Verdict.{Verdict, TheVariants.GreetAndDrop, TheVariants.CancelWork}
+use Rattle.hid_assemble.specs.declared.verdict.Verdict.TheVariants.{Ignored, Kept, Finished, Refuse, Greet}
 
 abbrev pub finished_verdict : Option Message → Verdict
 finished_verdict None = Ignored

@@ -1,11 +1,10 @@
 -- Numbers and the bytes that spell them, highest first.
-use Rattle.std.proofs.lemmas.Bool.Decides.{nat_tests}
-use Rattle.std.proofs.Common.{◌≡◌, ℕ, ◌+◌, ◌*◌, ◌/◌, ◌%◌, ◌^◌, ◌<◌, ◌≤◌, suc, zero, List, [], ◌∷◌, ◌++◌, length, take, drop, replicate, get_or, refl, ◌∙◌, ap, ap₂, arith}
-use Rattle.std.proofs.Math.Nat.{mod-eq_of_lt, mul-add-div_right, mul-add-mod_self_right, mul_assoc, one-le-pow, pow-succ'}
-use Rattle.std.proofs.lemmas.Nat.{div-mul-add}
+use Rattle.std.proofs.{lemmas.Bool.Decides.nat_tests, lemmas.Nat.div-mul-add, Math.Nat.pow-succ'}
+use Rattle.std.proofs.Common.{◌≡◌, ℕ, ◌+◌, ◌*◌, ◌/◌, ◌%◌, ◌^◌, ◌<◌, ◌≤◌, suc, zero, List, [], ◌∷◌, ◌++◌, length, take}
+use Rattle.std.proofs.Common.{drop, replicate, get_or, refl, ◌∙◌, ap, ap₂, arith}
+use Rattle.std.proofs.Math.Nat.{mod-eq_of_lt, mul-add-div_right, mul-add-mod_self_right, mul_assoc, one-le-pow}
 use Rattle.std.specs.Int.{byte_at}
-use Rattle.byteorder.specs.Endian.{big_bytes, big_number}
-use Rattle.byteorder.specs.Numbers.{big_from-cons, big_from-lt}
+use Rattle.byteorder.specs.{Endian.big_bytes, Endian.big_number, Numbers.big_from-cons, Numbers.big_from-lt}
 use Rattle.hid_packet.specs.Padding.{AreBytes}
 
 byte_at_is : (k x : ℕ) → byte_at k x ≡ x / 256 ^ k % 256

@@ -1,19 +1,19 @@
 -- The written packets carry their message.
-use Rattle.std.proofs.Common.{rules}
-use Rattle.std.proofs.Common.{◌≡◌, ℕ, ◌+◌, ◌-◌, ◌*◌, ◌/◌, ◌^◌, ◌<◌, ◌≤◌, true, false, inl, inr, suc, zero, List, [], ◌∷◌, ◌++◌, length, take, drop, replicate, flat_map, append_assoc, append-nil, zero-add, refl, sym, ◌∙◌, ap, ap₂, subst, arith, nat_le, length-append, length-drop}
-use Rattle.std.proofs.lemmas.Bool.Decides.{nat_tests}
-use Rattle.std.proofs.lemmas.Bool.{cases_lt}
-use Rattle.std.proofs.lemmas.List.{take-append-drop, take_all, length-take, length-replicate, replicate-append-replicate}
-use Rattle.std.proofs.Math.ListN.{drop_of_length-le}
-use Rattle.std.proofs.Math.Seq.{take-append_seam}
-use Rattle.byteorder.specs.Endian.{big_bytes}
-use Rattle.byteorder.specs.Numbers.{big_number-reads_back}
-use Rattle.hid_packet.specs.Packet.{channel, is_initialization, command, message_length, initialization_data, sequence, continuation_data}
+use Rattle.std.proofs.Common.{rules, ◌≡◌, ℕ, ◌+◌, ◌-◌, ◌*◌, ◌/◌, ◌^◌, ◌<◌, ◌≤◌, true, false, inl, inr, suc, zero, List}
+use Rattle.std.proofs.Common.{[], ◌∷◌, ◌++◌, length, take, drop, replicate, flat_map, append_assoc, append-nil}
+use Rattle.std.proofs.Common.{zero-add, refl, sym, ◌∙◌, ap, ap₂, subst, arith, nat_le, length-append, length-drop}
+use Rattle.std.proofs.lemmas.{Bool.Decides.nat_tests, Bool.cases_lt, List.replicate-append-replicate}
+use Rattle.std.proofs.lemmas.List.{take-append-drop, take_all, length-take, length-replicate}
+use Rattle.std.proofs.Math.{ListN.drop_of_length-le, Seq.take-append_seam}
+use Rattle.byteorder.specs.{Endian.big_bytes, Numbers.big_number-reads_back}
+use Rattle.hid_packet.specs.Packet.{channel, is_initialization, command, message_length, initialization_data, sequence}
+use Rattle.hid_packet.specs.Packet.{continuation_data}
 use Rattle.hid_packet.specs.Message.{padded, initialization_packet, continuation_packet, continuation_packets, written}
 use Rattle.hid_packet.specs.Carries.{Continue, IsLeast, joined, Carries, CarriesMessage}
 
 -- data bytes and the zeros after them fill a packet
-all_data : (k : ℕ) (part : List ℕ) → length part ≤ k → take k (part ++ replicate (k - length part) 0) ≡ part ++ replicate (k - length part) 0
+all_data : (k : ℕ) (part : List ℕ) → length part ≤ k → take k (part ++ replicate (k - length part) 0) ≡ part
+    ++ replicate (k - length part) 0
 all_data k part short = grind (arith, length-append, length-replicate, take_all)
 
 -- The fields of the packets that are written.
@@ -44,17 +44,20 @@ module _ (cid cmd len : ℕ) (part : List ℕ) where
       let zeros = replicate (64 - length (big_bytes 4 cid ++ (cmd + 128) ∷ [] ++ big_bytes 2 len ++ part)) 0 in
       big_number-reads_back 2 len (part ++ zeros) fits
 
-  data-initialization : length part ≤ 57 → initialization_data (initialization_packet cid cmd len part) ≡ part ++ replicate (57 - length part) 0
+  data-initialization : length part ≤ 57 → initialization_data (initialization_packet cid cmd len part) ≡ part
+      ++ replicate (57 - length part) 0
   unfolding initialization_data initialization_packet padded
   data-initialization short =
-      let rest : 64 - length (big_bytes 4 cid ++ (cmd + 128) ∷ [] ++ big_bytes 2 len ++ part) ≡ 57 - length part = omega arith in
+      let rest : 64 - length (big_bytes 4 cid ++ (cmd + 128) ∷ [] ++ big_bytes 2 len ++ part) ≡ 57 - length part =
+      omega arith in
       ap (λ k. take 57 (part ++ replicate k 0)) rest ∙ all_data 57 part short
 
 module _ (cid number : ℕ) (part : List ℕ) where
   channel-continuation : cid < 2 ^ 32 → channel (continuation_packet cid number part) ≡ cid
   unfolding channel continuation_packet padded
   channel-continuation fits =
-      big_number-reads_back 4 cid (number ∷ part ++ replicate (64 - length (big_bytes 4 cid ++ number ∷ [] ++ part)) 0) fits
+      big_number-reads_back 4 cid (number ∷ part ++ replicate (64 - length (big_bytes 4 cid ++ number ∷ [] ++ part)) 0)
+      fits
 
   is_initialization-continuation : number < 128 → is_initialization (continuation_packet cid number part) ≡ false
   unfolding is_initialization continuation_packet padded
@@ -67,7 +70,8 @@ module _ (cid number : ℕ) (part : List ℕ) where
   unfolding sequence continuation_packet padded
   sequence-continuation = refl
 
-  data-continuation : length part ≤ 59 → continuation_data (continuation_packet cid number part) ≡ part ++ replicate (59 - length part) 0
+  data-continuation : length part ≤ 59 → continuation_data (continuation_packet cid number part) ≡ part
+      ++ replicate (59 - length part) 0
   unfolding continuation_data continuation_packet padded
   data-continuation short =
       let rest : 64 - length (big_bytes 4 cid ++ number ∷ [] ++ part) ≡ 59 - length part = omega arith in
@@ -75,7 +79,8 @@ module _ (cid number : ℕ) (part : List ℕ) where
 
 -- Where the first k bytes fill up with zeros and the others do, all of the bytes do.
 pub fill_up : (k n : ℕ) (bytes : List ℕ)
-    → (take k bytes ++ replicate (k - length (take k bytes)) 0) ++ (drop k bytes ++ replicate n 0) ≡ bytes ++ replicate (k - length (take k bytes) + n) 0
+    → (take k bytes ++ replicate (k - length (take k bytes)) 0) ++ (drop k bytes ++ replicate n 0) ≡ bytes
+    ++ replicate (k - length (take k bytes) + n) 0
 fill_up k n bytes = elim (cases_lt (length bytes) k) [
   | inl few ↦
       let all : take k bytes ≡ bytes = take_all k bytes (omega arith) in
@@ -88,7 +93,8 @@ fill_up k n bytes = elim (cases_lt (length bytes) k) [
 
 -- The data of continuation packets are the bytes, and zeros after them.
 data_continuations : (most cid number : ℕ) (bytes : List ℕ) → length bytes ≤ 59 * most
-    → (further : ℕ) × (flat_map continuation_data (continuation_packets most cid number bytes) ≡ bytes ++ replicate further 0)
+    → (further : ℕ) × (flat_map continuation_data (continuation_packets most cid number bytes) ≡ bytes
+    ++ replicate further 0)
 unfolding continuation_packets
 data_continuations zero cid number [] fits = (0, refl)
 data_continuations zero cid number (b ∷ bytes) fits = absurd (omega arith)
@@ -114,7 +120,8 @@ continues_all (suc most) cid number (b ∷ bytes) fits below =
 
 -- how many continuation packets there are
 length-continuation_packets : (most cid number : ℕ) (bytes : List ℕ) → length bytes ≤ 59 * most
-    → (length bytes ≤ 59 * length (continuation_packets most cid number bytes)) × (59 * length (continuation_packets most cid number bytes) < length bytes + 59)
+    → (length bytes ≤ 59 * length (continuation_packets most cid number bytes))
+    × (59 * length (continuation_packets most cid number bytes) < length bytes + 59)
 unfolding continuation_packets
 length-continuation_packets zero cid number bytes fits = (omega arith, omega arith)
 length-continuation_packets (suc most) cid number [] fits = (omega arith, omega arith)
@@ -126,7 +133,8 @@ length-continuation_packets (suc most) cid number (b ∷ bytes) fits =
 
 -- The data of the written packets, joined, are the message, and zeros after it.
 pub data_written : (cid cmd : ℕ) (bytes : List ℕ) → length bytes ≤ 7609
-    → (further : ℕ) × (joined (initialization_packet cid cmd (length bytes) (take 57 bytes)) (continuation_packets 128 cid 0 (drop 57 bytes)) ≡ bytes ++ replicate further 0)
+    → (further : ℕ) × (joined (initialization_packet cid cmd (length bytes) (take 57 bytes))
+    (continuation_packets 128 cid 0 (drop 57 bytes)) ≡ bytes ++ replicate further 0)
 data_written cid cmd bytes short =
     let part = data-initialization cid cmd (length bytes) (take 57 bytes) (omega (arith, length-take 57 bytes)) in
     let rest = data_continuations 128 cid 0 (drop 57 bytes) (omega (arith, length-drop 57 bytes)) in
@@ -144,7 +152,8 @@ least_continuations cid bytes short =
     least_of _ _ (omega (arith, dropped, count.0)) (omega (arith, dropped, count.1))
 
 pub written_carries : (cid cmd : ℕ) (bytes : List ℕ) → cid < 2 ^ 32 → length bytes ≤ 7609
-    → Carries (initialization_packet cid cmd (length bytes) (take 57 bytes)) (continuation_packets 128 cid 0 (drop 57 bytes)) cid cmd bytes
+    → Carries (initialization_packet cid cmd (length bytes) (take 57 bytes))
+    (continuation_packets 128 cid 0 (drop 57 bytes)) cid cmd bytes
 written_carries cid cmd bytes fits short =
     let part = take 57 bytes in
     record {
@@ -163,17 +172,20 @@ pub one_least : (a b len : ℕ) → IsLeast a len → IsLeast b len → a ≡ b
 one_least a b len x3 x4 = search (rules, arith)
 
 -- Packets carry at most one message.
-pub one_message : (packets : List (List ℕ)) (c d k l : ℕ) (a b : List ℕ) → CarriesMessage packets c k a → CarriesMessage packets d l b
+pub one_message : (packets : List (List ℕ)) (c d k l : ℕ) (a b : List ℕ) → CarriesMessage packets c k a →
+    CarriesMessage packets d l b
     → (c ≡ d) × (k ≡ l) × (a ≡ b)
 one_message x0 c d k l a b x y = search (rules, arith)
 
-pub fewest_written : (cid cmd : ℕ) (bytes : List ℕ) → length bytes ≤ 7609 → IsLeast (length (written cid cmd bytes) - 1) (length bytes)
+pub fewest_written : (cid cmd : ℕ) (bytes : List ℕ) → length bytes ≤ 7609 →
+    IsLeast (length (written cid cmd bytes) - 1) (length bytes)
 unfolding written
 fewest_written cid cmd bytes short =
     subst (λ n. IsLeast n (length bytes)) (omega arith) (least_continuations cid bytes short)
 
 -- as many as `packets_for` counts
-pub length-written : (cid cmd count : ℕ) (bytes : List ℕ) → length bytes ≤ 7609 → 1 ≤ count → IsLeast (count - 1) (length bytes) → length (written cid cmd bytes) ≡ count
+pub length-written : (cid cmd count : ℕ) (bytes : List ℕ) → length bytes ≤ 7609 → 1 ≤ count →
+    IsLeast (count - 1) (length bytes) → length (written cid cmd bytes) ≡ count
 unfolding written
 length-written cid cmd count bytes short some least = grind (arith, least_continuations, one_least)
 

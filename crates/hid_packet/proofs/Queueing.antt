@@ -1,26 +1,26 @@
 -- The packets that wait in an outbox, as entries come and go.
-use Rattle.std.proofs.lemmas.Grind.{common_steps}
-use Rattle.std.proofs.Common.{rules}
-use Rattle.std.proofs.Common.{◌≡◌, ℕ, ◌+◌, ◌-◌, ◌*◌, ◌<◌, ◌≤◌, suc, zero, inl, inr, List, [], ◌∷◌, ◌++◌, length, take, drop, get_or, set, sum_by, refl, sym, ◌∙◌, ap, arith, length-append, length-drop, append_assoc, append-nil, length-take-le}
+use Rattle.std.proofs.lemmas.{Grind.common_steps, List.Sums.sum_by-append, List.Sums.sum_by-cons}
+use Rattle.std.proofs.Common.{rules, ◌≡◌, ℕ, ◌+◌, ◌-◌, ◌*◌, ◌<◌, ◌≤◌, suc, zero, inl, inr, List, [], ◌∷◌, ◌++◌, length}
+use Rattle.std.proofs.Common.{take, drop, get_or, set, sum_by, refl, sym, ◌∙◌, ap, arith, length-append, length-drop}
+use Rattle.std.proofs.Common.{append_assoc, append-nil, length-take-le}
 use Rattle.std.specs.List.{AllByRecursion, refill, remove}
 use Rattle.std.proofs.Math.Seq.{drop-length, take-length}
 use Rattle.std.proofs.lemmas.List.{take-append-le, drop-append-le, take_all, drop_all}
-use Rattle.std.proofs.lemmas.List.Sums.{sum_by-append, sum_by-cons}
 use Rattle.hid_packet.specs.Message.{continuation_packets, initialization_packet, written}
 use Rattle.hid_packet.specs.Queue.{held_by, packets_by, waiting, MayCome, IsDue, IsHeld, IsQueued}
-use Rattle.hid_packet.specs.declared.entry.Queued.{Queued}
-use Rattle.hid_packet.specs.declared.entry.Queued.TheVariants.{Whole, Part}
-use Rattle.hid_packet.specs.declared.fragments.NextPacket.{NextPacket}
+use Rattle.hid_packet.specs.declared.entry.Queued.{Queued, TheVariants.Whole, TheVariants.Part}
+use Rattle.hid_packet.{specs.declared.fragments.NextPacket.NextPacket, proofs.Carrying.fewest_written}
 use Rattle.hid_packet.specs.declared.fragments.NextPacket.TheVariants.{Initialization, Continuation}
-use Rattle.hid_packet.proofs.Carrying.{fewest_written}
 
 -- a short message has its initialization packet alone
-pub short_written : (cid cmd : ℕ) (bytes : List ℕ) → length bytes ≤ 57 → written cid cmd bytes ≡ initialization_packet cid cmd (length bytes) bytes ∷ []
+pub short_written : (cid cmd : ℕ) (bytes : List ℕ) → length bytes ≤ 57 →
+    written cid cmd bytes ≡ initialization_packet cid cmd (length bytes) bytes ∷ []
 unfolding written continuation_packets
 short_written cid cmd bytes short = search (rules, arith, drop_all, take_all)
 
 -- continuation packets hold their bytes, 59 each
-continuations_hold : (most cid number : ℕ) (bytes : List ℕ) → length bytes ≤ 59 * most → length bytes ≤ 59 * length (continuation_packets most cid number bytes)
+continuations_hold : (most cid number : ℕ) (bytes : List ℕ) → length bytes ≤ 59 * most →
+    length bytes ≤ 59 * length (continuation_packets most cid number bytes)
 unfolding continuation_packets
 continuations_hold zero cid number bytes fits = fits
 continuations_hold (suc most) cid number [] fits = omega arith
@@ -46,7 +46,8 @@ entry_fills (Part message) bytes due len = go message.due refl due
     go (Initialization cmd) is may =
         let one = first_written message.cid cmd bytes in
         let least = fewest_written message.cid cmd bytes (omega (arith, may.1)) in
-        let bound : length bytes ≤ 64 * length (written message.cid cmd bytes) = elim least [ inl a ↦ omega (arith, a.0) | inr b ↦ omega (arith, b.0) ] in
+        let bound : length bytes ≤ 64 * length (written message.cid cmd bytes) =
+        elim least [ inl a ↦ omega (arith, a.0) | inr b ↦ omega (arith, b.0) ] in
         record { some = rw is one; enough = rw is (omega (arith, bound)) }
     go (Continuation number) is may = search (rules, arith, continuations_hold)
 
@@ -61,7 +62,8 @@ bounds [] bytes held = search (rules, arith)
 bounds (e ∷ es) bytes held = grind (arith, common_steps, entry_fills, length-append, length-drop, length-take-le, sum_by-cons, bounds es (drop (held_by e) bytes))
 
 -- one entry more, at the end
-pub waiting-push : (es : List Queued) (bytes more : List ℕ) (e : Queued) → sum_by held_by es ≡ length bytes → length more ≡ held_by e
+pub waiting-push : (es : List Queued) (bytes more : List ℕ) (e : Queued) → sum_by held_by es ≡ length bytes →
+    length more ≡ held_by e
     → waiting (es ++ e ∷ []) (bytes ++ more) ≡ waiting es bytes ++ packets_by e more
 unfolding waiting
 waiting-push [] [] more e sum len = grind (arith, append-nil, take-length)
@@ -72,21 +74,26 @@ all-push : (es : List Queued) (e : Queued) → AllByRecursion IsDue es → IsDue
 all-push [] e all one = (one, tt)
 all-push (x ∷ es) e all one = (all.0, all-push es e all.1 one)
 
-pub held-push : (es : List Queued) (bytes more : List ℕ) (e : Queued) → IsHeld es bytes → IsDue e → length more ≡ held_by e → IsHeld (es ++ e ∷ []) (bytes ++ more)
+pub held-push : (es : List Queued) (bytes more : List ℕ) (e : Queued) → IsHeld es bytes → IsDue e →
+    length more ≡ held_by e → IsHeld (es ++ e ∷ []) (bytes ++ more)
 held-push es bytes more e held due len = grind (arith, all-push, length-append, sum_by-append, sum_by-cons)
 
 -- the first entry is gone, with its packet
-pub held-pop : (es more : List Queued) (e : Queued) (bytes : List ℕ) → es ≡ e ∷ more → IsHeld es bytes → IsHeld (remove es 0) (drop (held_by e) bytes)
+pub held-pop : (es more : List Queued) (e : Queued) (bytes : List ℕ) → es ≡ e ∷ more → IsHeld es bytes →
+    IsHeld (remove es 0) (drop (held_by e) bytes)
 held-pop es more e bytes is held = grind (arith, common_steps, length-drop, sum_by-cons)
 
-pub waiting-pop : (es more : List Queued) (e : Queued) (bytes : List ℕ) → es ≡ e ∷ more → waiting es bytes ≡ packets_by e (take (held_by e) bytes) ++ waiting (remove es 0) (drop (held_by e) bytes)
+pub waiting-pop : (es more : List Queued) (e : Queued) (bytes : List ℕ) → es ≡ e ∷ more →
+    waiting es bytes ≡ packets_by e (take (held_by e) bytes) ++ waiting (remove es 0) (drop (held_by e) bytes)
 unfolding waiting
 waiting-pop es more e bytes is = search (rules, arith)
 
 -- An entry was put, with its packets.
-pub queued-push : (es : List Queued) (bytes more : List ℕ) (e : Queued) (len count : ℕ) → IsQueued es bytes len → IsDue e → length more ≡ held_by e → count ≡ length (packets_by e more) → len + count ≤ 130
+pub queued-push : (es : List Queued) (bytes more : List ℕ) (e : Queued) (len count : ℕ) → IsQueued es bytes len →
+    IsDue e → length more ≡ held_by e → count ≡ length (packets_by e more) → len + count ≤ 130
     → IsQueued (es ++ e ∷ []) (bytes ++ more) (len + count)
-queued-push es bytes more e len count q due fits counts few = grind (arith, common_steps, held-push, length-append, waiting-push)
+queued-push es bytes more e len count q due fits counts few =
+    grind (arith, common_steps, held-push, length-append, waiting-push)
 
 -- a new outbox
 pub queued_none : IsQueued [] [] 0
@@ -98,7 +105,8 @@ pub record HasSpace (es : List Queued) (bytes : List ℕ) (len count : ℕ) : Ty
   pub entry : length es < 130
   pub bytes_left : length bytes + 64 * count ≤ 8320
 
-pub space : (es : List Queued) (bytes : List ℕ) (len count : ℕ) → IsQueued es bytes len → 1 ≤ count → len + count ≤ 130 → HasSpace es bytes len count
+pub space : (es : List Queued) (bytes : List ℕ) (len count : ℕ) → IsQueued es bytes len → 1 ≤ count →
+    len + count ≤ 130 → HasSpace es bytes len count
 space es bytes len count q some few = search (rules, arith, bounds)
 
 -- an outbox without an entry has no packet
@@ -107,21 +115,26 @@ unfolding waiting
 none_wait es bytes now is none = sym is ∙ ap (λ l. waiting l bytes) none
 
 -- the first entry gave a packet and stays with what is left of it
-pub part_more : (es others more : List Queued) (e f : Queued) (ring after p : List ℕ) → es ≡ e ∷ more → others ≡ f ∷ more
-    → packets_by e (take (held_by e) ring) ≡ p ∷ packets_by f (take (held_by f) after) → drop (held_by f) after ≡ drop (held_by e) ring
+pub part_more : (es others more : List Queued) (e f : Queued) (ring after p : List ℕ) → es ≡ e ∷ more →
+    others ≡ f ∷ more
+    → packets_by e (take (held_by e) ring) ≡ p ∷ packets_by f (take (held_by f) after) →
+    drop (held_by f) after ≡ drop (held_by e) ring
     → waiting es ring ≡ p ∷ waiting others after
 unfolding waiting
 part_more es others more e f ring after p is others_are made rest = search (rules, arith)
 
 -- it gave its last packet and is gone
-pub part_last : (es others more : List Queued) (e : Queued) (ring after p : List ℕ) (left : ℕ) (rest : List ℕ → List (List ℕ)) → es ≡ e ∷ more → others ≡ remove es 0
-    → packets_by e (take (held_by e) ring) ≡ p ∷ rest (take left after) → drop left after ≡ drop (held_by e) ring → left ≡ 0 → rest [] ≡ []
+pub part_last : (es others more : List Queued) (e : Queued) (ring after p : List ℕ) (left : ℕ)
+    (rest : List ℕ → List (List ℕ)) → es ≡ e ∷ more → others ≡ remove es 0
+    → packets_by e (take (held_by e) ring) ≡ p ∷ rest (take left after) → drop left after ≡ drop (held_by e) ring →
+    left ≡ 0 → rest [] ≡ []
     → waiting es ring ≡ p ∷ waiting others after
 unfolding waiting
 part_last es others more e ring after p left rest is others_are made back none last = search (rules, arith)
 
 -- the first of several was written over
-pub first_set : (es ds more : List Queued) (e f : Queued) → es ≡ e ∷ more → ds ≡ es → refill (length es) es (set ds 0 f) ≡ f ∷ more
+pub first_set : (es ds more : List Queued) (e f : Queued) → es ≡ e ∷ more → ds ≡ es →
+    refill (length es) es (set ds 0 f) ≡ f ∷ more
 first_set es ds more e f is same = grind (arith, append-nil, drop-length, take-length)
 
 pub no_entry : (es ds : List Queued) → ds ≡ es → length ds < 1 → es ≡ []

@@ -1,6 +1,7 @@
 -- The definitions at worked packets: a reader's check that they say what CTAP 2.1 says.
 use Rattle.std.proofs.Common.{◌≡◌, ℕ, ◌-◌, List, [], ◌∷◌, ◌++◌, length, replicate, refl}
-use Rattle.hid_packet.specs.Packet.{Fields, initialization, continuation, fields, channel, is_initialization, command, message_length, initialization_data, sequence, continuation_data}
+use Rattle.hid_packet.specs.Packet.{Fields, initialization, continuation, fields, channel, is_initialization, command}
+use Rattle.hid_packet.specs.Packet.{message_length, initialization_data, sequence, continuation_data}
 use Rattle.hid_packet.specs.Message.{written, initialization_packet, continuation_packet, continuation_packets, padded}
 
 -- x, and zeros after it
@@ -16,7 +17,8 @@ unfolding written initialization_packet continuation_packet continuation_packets
 packets_of cid cmd bytes = written cid cmd bytes
 
 -- PING of `abc` on channel 1
-ping : fields_of (pad (0 ∷ 0 ∷ 0 ∷ 1 ∷ 0x81 ∷ 0 ∷ 3 ∷ 0x61 ∷ 0x62 ∷ 0x63 ∷ [])) ≡ initialization 1 1 3 (0x61 ∷ 0x62 ∷ 0x63 ∷ replicate 54 0)
+ping : fields_of (pad (0 ∷ 0 ∷ 0 ∷ 1 ∷ 0x81 ∷ 0 ∷ 3 ∷ 0x61 ∷ 0x62 ∷ 0x63 ∷ []))
+    ≡ initialization 1 1 3 (0x61 ∷ 0x62 ∷ 0x63 ∷ replicate 54 0)
 unfolding fields_of
 ping = refl
 
@@ -40,7 +42,8 @@ unfolding packets_of
 full_packet = refl
 
 -- 58 bytes: a continuation packet with sequence number 0 and one byte
-one_more : packets_of 1 1 (replicate 58 9) ≡ (0 ∷ 0 ∷ 0 ∷ 1 ∷ 0x81 ∷ 0 ∷ 0x3a ∷ replicate 57 9) ∷ pad (0 ∷ 0 ∷ 0 ∷ 1 ∷ 0 ∷ 9 ∷ []) ∷ []
+one_more : packets_of 1 1 (replicate 58 9) ≡ (0 ∷ 0 ∷ 0 ∷ 1 ∷ 0x81 ∷ 0 ∷ 0x3a ∷ replicate 57 9)
+    ∷ pad (0 ∷ 0 ∷ 0 ∷ 1 ∷ 0 ∷ 9 ∷ []) ∷ []
 unfolding packets_of
 one_more = refl
 

@@ -1,10 +1,9 @@
 -- How a packet is filled, and how the packets of a message follow one another.
-use Rattle.std.proofs.Common.{rules}
-use Rattle.std.proofs.Common.{◌≡◌, ℕ, ◌+◌, ◌-◌, ◌<◌, suc, zero, min, List, [], ◌∷◌, ◌++◌, length, take, drop, replicate, refl, arith}
+use Rattle.std.proofs.Common.{rules, ◌≡◌, ℕ, ◌+◌, ◌-◌, ◌<◌, suc, zero, min, List, [], ◌∷◌, ◌++◌, length, take, drop}
+use Rattle.std.proofs.Common.{replicate, refl, arith}
 use Rattle.std.proofs.lemmas.List.{drop-replicate, take_min, drop_min}
 use Rattle.hid_packet.specs.Message.{padded, initialization_packet, continuation_packet, continuation_packets, written}
-use Rattle.hid_packet.specs.Remaining.{packets_left, CanCarry}
-use Rattle.hid_packet.specs.declared.fragments.NextPacket.{NextPacket}
+use Rattle.hid_packet.specs.{Remaining.packets_left, Remaining.CanCarry, declared.fragments.NextPacket.NextPacket}
 use Rattle.hid_packet.specs.declared.fragments.NextPacket.TheVariants.{Initialization, Continuation}
 
 -- bytes in front of what is left of 64 zeros
@@ -21,13 +20,15 @@ one_continuation zero cid number bytes some left = absurd (omega arith)
 one_continuation (suc most) cid number [] some left = absurd (omega arith)
 one_continuation (suc most) cid number (b ∷ bytes) some left = search (rules, arith)
 
-pub no_continuation : (most cid number : ℕ) (bytes : List ℕ) → length bytes ≡ 0 → continuation_packets most cid number bytes ≡ []
+pub no_continuation : (most cid number : ℕ) (bytes : List ℕ) → length bytes ≡ 0 →
+    continuation_packets most cid number bytes ≡ []
 unfolding continuation_packets
 no_continuation x0 cid number bytes none = search (rules, arith)
 
 -- What is left of a message after its initialization packet.
 pub first_taken : (cid cmd n : ℕ) (due : NextPacket) (rest front back packet : List ℕ) (now : List (List ℕ))
-    → packets_left cid due rest ≡ now → due ≡ Initialization cmd → n ≡ min 57 (length rest) → front ≡ take n rest → back ≡ drop n rest
+    → packets_left cid due rest ≡ now → due ≡ Initialization cmd → n ≡ min 57 (length rest) → front ≡ take n rest →
+    back ≡ drop n rest
     → packet ≡ initialization_packet cid cmd (length rest) front → now ≡ packet ∷ continuation_packets 128 cid 0 back
 unfolding written
 first_taken cid cmd n due rest front back packet now left is least f b p = grind (arith, drop_min, take_min)
@@ -36,8 +37,10 @@ first_taken cid cmd n due rest front back packet now left is least f b p = grind
 pub next_taken : (cid number n : ℕ) (due : NextPacket) (rest front back packet : List ℕ) (now : List (List ℕ))
     → packets_left cid due rest ≡ now → due ≡ Continuation number → CanCarry due rest → 0 < length rest
     → n ≡ min 59 (length rest) → front ≡ take n rest → back ≡ drop n rest
-    → packet ≡ continuation_packet cid number front → now ≡ packet ∷ continuation_packets (128 - (number + 1)) cid (number + 1) back
-next_taken cid number n due rest front back packet now left is fits some least f b p = grind (arith, drop_min, one_continuation, take_min)
+    → packet ≡ continuation_packet cid number front → now ≡ packet
+    ∷ continuation_packets (128 - (number + 1)) cid (number + 1) back
+next_taken cid number n due rest front back packet now left is fits some least f b p =
+    grind (arith, drop_min, one_continuation, take_min)
 
 -- Nothing is left where no byte is.
 pub none_taken : (cid number : ℕ) (due : NextPacket) (rest : List ℕ) (now : List (List ℕ))

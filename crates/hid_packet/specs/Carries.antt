@@ -1,8 +1,8 @@
 -- What it is that packets carry a message (CTAP 2.1, section 11.2.4, "Message and packet structure").
 use Rattle.std.specs.Prelude.{◌≡◌, ℕ, ◌+◌, ◌≤◌, ◌<◌, ◌⊎◌, true, false, List, [], ◌∷◌, ◌++◌, length, take, flat_map}
-use Rattle.hid_packet.specs.Packet.{channel, is_initialization, command, message_length, sequence, initialization_data, continuation_data}
-use Rattle.hid_packet.specs.Limits.{CONTINUATION_DATA, INITIALIZATION_DATA, LONGEST_MESSAGE}
-use Rattle.hid_packet.specs.Limits.{data_capacity}
+use Rattle.hid_packet.specs.Packet.{channel, is_initialization, command, message_length, sequence, initialization_data}
+use Rattle.hid_packet.specs.Packet.{continuation_data}
+use Rattle.hid_packet.specs.Limits.{CONTINUATION_DATA, INITIALIZATION_DATA, LONGEST_MESSAGE, data_capacity}
 
 -- These are continuation packets on the channel, numbered one after the other from `number` on.
 abbrev pub Continue : ℕ → ℕ → List (List ℕ) → Type 0

@@ -1,9 +1,9 @@
 -- The fields of a packet of 64 bytes (CTAP 2.1, section 11.2.4, "Message and packet structure"). A packet is the list
 -- of its bytes.
-use Rattle.std.specs.Prelude.{◌≡◌, ℕ, ◌-◌, Bool, ◌&&◌, ◌==◌, nat_le, List, length, take, drop, slice_index, if◌then◌else◌}
+use Rattle.std.specs.Prelude.{◌≡◌, ℕ, ◌-◌, Bool, ◌&&◌, ◌==◌, nat_le, List, length, take, drop, slice_index}
+use Rattle.std.specs.Prelude.{if◌then◌else◌}
 use Rattle.byteorder.specs.Endian.{big_number}
-use Rattle.hid_packet.specs.declared.packet.View.{View}
-use Rattle.hid_packet.specs.declared.packet.View.TheVariants.{Start, More}
+use Rattle.hid_packet.specs.declared.packet.View.{View, TheVariants.Start, TheVariants.More}
 use Rattle.hid_packet.specs.Limits.{CONTINUATION_DATA, INITIALIZATION_DATA}
 
 -- bytes 0 to 3

@@ -1,10 +1,8 @@
 -- The packets that wait in an outbox, by its entries and the bytes of its ring.
 use Rattle.std.specs.Prelude.{◌≡◌, ℕ, ◌+◌, ◌*◌, ◌-◌, ◌<◌, ◌≤◌, List, [], ◌∷◌, ◌++◌, length, take, drop, sum_by}
 use Rattle.std.specs.List.{AllByRecursion}
-use Rattle.hid_packet.specs.Remaining.{packets_left}
-use Rattle.hid_packet.specs.declared.entry.Queued.{Queued}
-use Rattle.hid_packet.specs.declared.entry.Queued.TheVariants.{Whole, Part}
-use Rattle.hid_packet.specs.declared.fragments.NextPacket.{NextPacket}
+use Rattle.hid_packet.specs.{Remaining.packets_left, declared.fragments.NextPacket.NextPacket}
+use Rattle.hid_packet.specs.declared.entry.Queued.{Queued, TheVariants.Whole, TheVariants.Part}
 use Rattle.hid_packet.specs.declared.fragments.NextPacket.TheVariants.{Initialization, Continuation}
 use Rattle.hid_packet.specs.Limits.{CONTINUATION_DATA, LONGEST_MESSAGE, OUTBOX_CAPACITY}
 

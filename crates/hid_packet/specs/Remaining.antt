@@ -1,9 +1,8 @@
 -- The packets of a message that are still to be taken.
 use Rattle.std.specs.Prelude.{ℕ, ◌*◌, ◌-◌, ◌<◌, ◌≤◌, List, length}
 use Rattle.hid_packet.specs.Message.{written, continuation_packets}
-use Rattle.hid_packet.specs.declared.fragments.NextPacket.{NextPacket}
+use Rattle.hid_packet.specs.{declared.fragments.NextPacket.NextPacket, Limits.CONTINUATION_DATA, Limits.LONGEST_MESSAGE}
 use Rattle.hid_packet.specs.declared.fragments.NextPacket.TheVariants.{Initialization, Continuation}
-use Rattle.hid_packet.specs.Limits.{CONTINUATION_DATA, LONGEST_MESSAGE}
 
 -- With the initialization packet due, these are all packets of the message; else the continuation packets of the rest.
 abbrev pub packets_left : ℕ → NextPacket → List ℕ → List (List ℕ)

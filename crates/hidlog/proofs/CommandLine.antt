@@ -1,19 +1,29 @@
 -- What follows from the rules of `clap` for the words of the program.
-use Rattle.std.proofs.Common.{◌≡◌, ℕ, Bool, true, false, not, ◌&&◌, List, [], ◌∷◌, ◌++◌, ◌+◌, ◌<◌, ap₂, length, take, get_or, map, Option, Some, None, is_some, codes, option_and_then, option_map, unwrap_or, refl, sym, ◌∙◌, ap, subst, cond, if◌then◌else◌, ◌||◌}
+use Rattle.std.proofs.Common.{◌≡◌, ℕ, Bool, true, false, not, ◌&&◌, List, [], ◌∷◌, ◌++◌, ◌+◌, ◌<◌, ap₂, length, take}
+use Rattle.std.proofs.Common.{get_or, map, Option, Some, None, is_some, codes, option_and_then, option_map, unwrap_or}
+use Rattle.std.proofs.Common.{refl, sym, ◌∙◌, ap, subst, cond, if◌then◌else◌, ◌||◌}
 use Rattle.std.specs.{List.fold, List.slice_index_or, Str.bytes_eq}
 use Rattle.std.proofs.lemmas.{Slice.Eq.bytes_eq-Decides, List.map-append, List.take_more, List.Sums.fold-append}
 use Rattle.clap.proofs.{OnLiterals.clap_on_literals, WalkLemmas.first_value-rows, WalkLemmas.raw_values-rows}
-use Rattle.clap.specs.{Built.AddsArg, Built.AddsSubcommand, declared.builder.arg.Arg.Arg, Lexer.long_of, Lexer.short_of}
-use Rattle.clap.specs.Walk.{rule_of, Held, Names, Outcome, done, waits, plain, refused, Row, Rule, Step, next, trailing, subcommand, value, Text, Waiting, idle, option, positional, Walk, after_flag, after_step, arg_by_index, arg_by_long, bundle, finished, long_met, long_or_other, plain_word, settled, short_or_plain, subcommand_met, subcommand_or_other, to_positional, walk, walk_from, walked, word_met, nothing_held, first_of, rows_of}
-use Rattle.clap.specs.Kinds.{Kinds, or_else, check_kinds}
-use Rattle.clap.specs.Faults.{fault_of, check_fault, defaults_fault, entered_fault, level_fault, other_fault, settle_fault, step_fault, turn_fault, walk_fault, word_fault, is_simple_and_free}
-use Rattle.clap.specs.Simple.{new_app, on_top, App, HasMatchesOf, Shape, is_simple, subcommand_of, argument_words, built, entered, help_shape, names_of, rows_at, shape_of, app_of, subcommand_rows_of, with_subcommand}
+use Rattle.clap.specs.{Built.AddsArg, Built.AddsSubcommand, declared.builder.arg.Arg.Arg, Simple.with_subcommand}
+use Rattle.clap.specs.{Lexer.long_of, Lexer.short_of, Kinds.Kinds, Kinds.or_else, Kinds.check_kinds}
+use Rattle.clap.specs.Walk.{rule_of, Held, Names, Outcome, done, waits, plain, refused, Row, Rule, Step, next, trailing}
+use Rattle.clap.specs.Walk.{subcommand, value, Text, Waiting, idle, option, positional, Walk, after_flag, after_step}
+use Rattle.clap.specs.Walk.{arg_by_index, arg_by_long, bundle, finished, long_met, long_or_other, plain_word, settled}
+use Rattle.clap.specs.Walk.{short_or_plain, subcommand_met, subcommand_or_other, to_positional, walk, walk_from, walked}
+use Rattle.clap.specs.Walk.{word_met, nothing_held, first_of, rows_of}
+use Rattle.clap.specs.Faults.{fault_of, check_fault, defaults_fault, entered_fault, level_fault, other_fault}
+use Rattle.clap.specs.Faults.{settle_fault, step_fault, turn_fault, walk_fault, word_fault, is_simple_and_free}
+use Rattle.clap.specs.Simple.{new_app, on_top, App, HasMatchesOf, Shape, is_simple, subcommand_of, argument_words}
+use Rattle.clap.specs.Simple.{built, entered, help_shape, names_of, rows_at, shape_of, app_of, subcommand_rows_of}
 use Rattle.clap.specs.Matches.{first_value, matched_of, raw_values, subcommand_name_of}
 use Rattle.clap.specs.declared.builder.command.Command.{Command, TheViews.out-Command as fields_of}
 use Rattle.clap.specs.declared.parser.matches.{ArgMatches.ArgMatches, Found.Found}
-use Rattle.hidlog.specs.declared.command_line.{CommandOptions.CommandOptions, Form.TheVariants.Lines, Manner.Manner, Manner.TheVariants.ByTerminal}
+use Rattle.hidlog.specs.declared.command_line.{CommandOptions.CommandOptions, Form.TheVariants.Lines}
+use Rattle.hidlog.specs.declared.command_line.Manner.{Manner, TheVariants.ByTerminal}
 use Rattle.hidlog.specs.declared.grammar.{CommandName.CommandName, CommandParameter.CommandParameter}
-use Rattle.hidlog.specs.CommandLine.{AreFound, Ask, command, command_for, rule_for, ask_of, asked_by, grammar, answers_to, logs_of, manner_of, play, check, show, task_by, task_for}
+use Rattle.hidlog.specs.CommandLine.{AreFound, Ask, command, command_for, rule_for, ask_of, asked_by, grammar}
+use Rattle.hidlog.specs.CommandLine.{answers_to, logs_of, manner_of, play, check, show, task_by, task_for}
 use Rattle.clap.specs.declared.error.kind.ErrorKind.TheVariants as kind
 use Rattle.session_log.specs.declared.command.LogCommand.TheVariants as playing
 
@@ -38,62 +48,77 @@ NamesNothing (subcommand name) = ⊥
 NamesNothing value = Unit {0}
 
 -- A word that is no command names none.
-plain_names : (c : List Rule) (waiting : Waiting) (word : Text) (h : Held) → NamesNothing (plain_word c waiting word h).1
+plain_names : (c : List Rule) (waiting : Waiting) (word : Text) (h : Held) →
+    NamesNothing (plain_word c waiting word h).1
 plain_names c idle word h = tt
 plain_names c (option id) word h = tt
 plain_names c positional word h = tt
 
-flag_names : (c : List Rule) (waiting : Waiting) (word : Text) (h : Held) (met : Outcome) → NamesNothing (after_flag c waiting word h met).1
+flag_names : (c : List Rule) (waiting : Waiting) (word : Text) (h : Held) (met : Outcome) →
+    NamesNothing (after_flag c waiting word h met).1
 flag_names c waiting word h done = tt
 flag_names c waiting word h (waits id) = tt
 flag_names c waiting word h plain = plain_names c waiting word h
 flag_names c waiting word h refused = plain_names c waiting word h
 
-short_names : (c : List Rule) (waiting : Waiting) (word : Text) (flags : Option Text) (h : Held) → NamesNothing (short_or_plain c waiting word flags h).1
+short_names : (c : List Rule) (waiting : Waiting) (word : Text) (flags : Option Text) (h : Held) →
+    NamesNothing (short_or_plain c waiting word flags h).1
 short_names c waiting word None h = plain_names c waiting word h
 short_names c waiting word (Some flags) h = flag_names c waiting word (bundle c flags h).0 (bundle c flags h).1
 
-long_names : (c : List Rule) (waiting : Waiting) (word : Text) (long : Option (Text × Option Text)) (h : Held) → NamesNothing (long_or_other c waiting word long h).1
+long_names : (c : List Rule) (waiting : Waiting) (word : Text) (long : Option (Text × Option Text)) (h : Held) →
+    NamesNothing (long_or_other c waiting word long h).1
 long_names c waiting word None h = short_names c waiting word (short_of word) h
 long_names c waiting word (Some p) h =
     flag_names c waiting word (long_met c (arg_by_long c p.0) p.1 h).0 (long_met c (arg_by_long c p.0) p.1 h).1
 
-other_names : (c : List Rule) (waiting : Waiting) (position : ℕ) (word : Text) (h : Held) → NamesNothing (subcommand_or_other c None waiting position word h).1
+other_names : (c : List Rule) (waiting : Waiting) (position : ℕ) (word : Text) (h : Held) →
+    NamesNothing (subcommand_or_other c None waiting position word h).1
 other_names c waiting position word h = go (bytes_eq word (45 ∷ 45 ∷ []))
   where
-    go : (b : Bool) → NamesNothing (if b then (h, trailing position) else long_or_other c waiting word (long_of word) h).1
+    go : (b : Bool) → NamesNothing (if b then (h, trailing position) else long_or_other c waiting word (long_of word)
+        h).1
     go true = tt
     go false = long_names c waiting word (long_of word) h
 
 -- Where no fault is found in a word, the walk doesn't stop at `help`.
-positional_goes_on : (c : List Rule) (a : Option Rule) (word : Text) (w : Walk) (h : Held) → NoHelp w.stopped → NoHelp (to_positional c a word w h).stopped
+positional_goes_on : (c : List Rule) (a : Option Rule) (word : Text) (w : Walk) (h : Held) → NoHelp w.stopped →
+    NoHelp (to_positional c a word w h).stopped
 positional_goes_on c None word w h so_far = so_far
 positional_goes_on c (Some a) word w h so_far = tt
 
-step_goes_on : (c : List Rule) (word : Text) (w : Walk) (h : Held) (step : Step) → NamesNothing step → NoHelp w.stopped → NoHelp (after_step c word w h step).stopped
+step_goes_on : (c : List Rule) (word : Text) (w : Walk) (h : Held) (step : Step) → NamesNothing step →
+    NoHelp w.stopped → NoHelp (after_step c word w h step).stopped
 step_goes_on c word w h (next waiting) none so_far = so_far
 step_goes_on c word w h (trailing position) none so_far = so_far
 step_goes_on c word w h (subcommand name) none so_far = absurd none
 step_goes_on c word w h value none so_far = positional_goes_on c (arg_by_index c w.position) word w h so_far
 
-no_help_named : (k : Kinds) (disabled is_help : Bool) → disabled ≡ false → (if is_help && not disabled then kind.DisplayHelp ∷ k else []) ≡ [] → is_help ≡ false
+no_help_named : (k : Kinds) (disabled is_help : Bool) → disabled ≡ false →
+    (if is_help && not disabled then kind.DisplayHelp ∷ k else []) ≡ [] → is_help ≡ false
 no_help_named k disabled false enabled none = refl
 no_help_named k false true enabled none = cc
 no_help_named k true true enabled none = cc
 
-command_goes_on : (s : Shape) (met : Option Text) (word : Text) (w : Walk) → s.disable_help_subcommand ≡ false → NoHelp w.stopped
+command_goes_on : (s : Shape) (met : Option Text) (word : Text) (w : Walk) → s.disable_help_subcommand ≡ false →
+    NoHelp w.stopped
     → other_fault s met word w.held ≡ []
-    → NoHelp (after_step s.rules word w (subcommand_or_other s.rules met w.waiting w.position word w.held).0 (subcommand_or_other s.rules met w.waiting w.position word w.held).1).stopped
+    → NoHelp (after_step s.rules word w (subcommand_or_other s.rules met w.waiting w.position word w.held).0
+    (subcommand_or_other s.rules met w.waiting w.position word w.held).1).stopped
 command_goes_on s (Some name) word w enabled so_far faultless =
     let other = no_help_named _ s.disable_help_subcommand (bytes_eq name (codes "help")) enabled faultless in
     λ same. let is : bytes_eq name (codes "help") ≡ true = (bytes_eq-Decides name (codes "help")).1 same in cc
 command_goes_on s None word w enabled so_far faultless =
     step_goes_on s.rules word w _ _ (other_names s.rules w.waiting w.position word w.held) so_far
 
-turn_goes_on : (s : Shape) (names : Names) (held : Held) (waiting : Waiting) (position : ℕ) (is_trailing : Bool) (stopped : Option (Text × List Text)) (word : Text)
+turn_goes_on : (s : Shape) (names : Names) (held : Held) (waiting : Waiting) (position : ℕ) (is_trailing : Bool)
+    (stopped : Option (Text × List Text)) (word : Text)
     → s.disable_help_subcommand ≡ false → NoHelp stopped
-    → turn_fault s names (record { held = held; waiting = waiting; position = position; is_trailing = is_trailing; stopped = stopped }) word ≡ []
-    → NoHelp (walked s.rules names (record { held = held; waiting = waiting; position = position; is_trailing = is_trailing; stopped = stopped }) word).stopped
+    → turn_fault s names (record
+    { held = held; waiting = waiting; position = position; is_trailing = is_trailing; stopped = stopped }) word ≡ []
+    → NoHelp (walked s.rules names
+    (record { held = held; waiting = waiting; position = position; is_trailing = is_trailing; stopped = stopped })
+    word).stopped
 unfolding walked
 turn_goes_on s names held waiting position is_trailing (Some stop) word enabled so_far faultless = so_far
 turn_goes_on s names held waiting position true None word enabled so_far faultless =
@@ -102,26 +127,32 @@ turn_goes_on s names held waiting position false None word enabled so_far faultl
     command_goes_on s (subcommand_met names waiting word) word
     (record { held = held; waiting = waiting; position = position; is_trailing = false; stopped = None }) enabled tt
     (or_else_none (word_fault s names false waiting word held)
-    (step_fault s position (word_met s.rules names false waiting position word held).0 (word_met s.rules names false waiting position word held).1) faultless).0
+    (step_fault s position (word_met s.rules names false waiting position word held).0
+    (word_met s.rules names false waiting position word held).1) faultless).0
 
-walk_goes_on : (s : Shape) (names : Names) (words : List Text) (w : Walk) → s.disable_help_subcommand ≡ false → NoHelp w.stopped
+walk_goes_on : (s : Shape) (names : Names) (words : List Text) (w : Walk) → s.disable_help_subcommand ≡ false →
+    NoHelp w.stopped
     → walk_fault s names w words ≡ [] → NoHelp (fold (walked s.rules names) w words).stopped
 unfolding walk_fault
 walk_goes_on s names [] w enabled so_far faultless = so_far
 walk_goes_on s names (word ∷ words) w enabled so_far faultless =
-    let parts = or_else_none (turn_fault s names w word) (walk_fault s names (walked s.rules names w word) words) faultless in
+    let parts = or_else_none (turn_fault s names w word) (walk_fault s names (walked s.rules names w word) words)
+    faultless in
     walk_goes_on s names words (walked s.rules names w word) enabled
     (turn_goes_on s names w.held w.waiting w.position w.is_trailing w.stopped word enabled so_far parts.0) parts.1
 
 -- the parts of a parse of which none has a fault
-level_parts : (s : Shape) (names : Names) (h : Held) (words : List Text) (has : Bool) (below : Kinds) → level_fault s names h words has below ≡ []
-    → (walk_fault s names (walk_from h) words ≡ []) × (check_fault s (finished s.rules (walk s.rules names h words).held) has ≡ [])
+level_parts : (s : Shape) (names : Names) (h : Held) (words : List Text) (has : Bool) (below : Kinds) →
+    level_fault s names h words has below ≡ []
+    → (walk_fault s names (walk_from h) words ≡ []) × (check_fault s
+    (finished s.rules (walk s.rules names h words).held) has ≡ [])
 level_parts s names h words has below faultless =
     let end = (walk s.rules names h words).held in
     let settle = settle_fault s.rules s.args_override_self end in
     let defaults = defaults_fault (settled s.rules end).rows s.rules in
     let last = check_fault s (finished s.rules end) has in
-    let one = or_else_none (walk_fault s names (walk_from h) words) (or_else below (or_else settle (or_else defaults last))) faultless in
+    let one = or_else_none (walk_fault s names (walk_from h) words)
+    (or_else below (or_else settle (or_else defaults last))) faultless in
     let two = or_else_none below (or_else settle (or_else defaults last)) one.1 in
     let three = or_else_none settle (or_else defaults last) two.1 in
     (one.0, (or_else_none defaults last three.1).1)
@@ -134,17 +165,26 @@ command_given false false b faultless = cc
 
 -- The command that a walk stopped at asks for something, unless it is `help`.
 asks_something : (a b c d e help : Shape) (words : List Text) (is_a is_b is_c is_d is_e is_help : Bool)
-    → a.name ≡ codes "replay" → b.name ≡ codes "live" → c.name ≡ codes "check" → d.name ≡ codes "quiet" → e.name ≡ codes "show" → (is_help ≡ true → ⊥)
+    → a.name ≡ codes "replay" → b.name ≡ codes "live" → c.name ≡ codes "check" → d.name ≡ codes "quiet" →
+    e.name ≡ codes "show" → (is_help ≡ true → ⊥)
     → let met = option_map (λ (s : Shape). rows_at s words) (cond (is_a || false) (Some a) (cond (is_b || false) (Some b)
-    (cond (is_c || false) (Some c) (cond (is_d || false) (Some d) (cond (is_e || false) (Some e) (cond (is_help || false) (Some help) None)))))) in
+    (cond (is_c || false) (Some c) (cond (is_d || false) (Some d)
+    (cond (is_e || false) (Some e) (cond (is_help || false) (Some help) None)))))) in
     is_some met ≡ true → is_some (option_and_then ask_of met) ≡ true
-asks_something a b c d e help words true is_b is_c is_d is_e is_help a_name b_name c_name d_name e_name no_help some = rw a_name refl
-asks_something a b c d e help words false true is_c is_d is_e is_help a_name b_name c_name d_name e_name no_help some = rw b_name refl
-asks_something a b c d e help words false false true is_d is_e is_help a_name b_name c_name d_name e_name no_help some = rw c_name refl
-asks_something a b c d e help words false false false true is_e is_help a_name b_name c_name d_name e_name no_help some = rw d_name refl
-asks_something a b c d e help words false false false false true is_help a_name b_name c_name d_name e_name no_help some = rw e_name refl
-asks_something a b c d e help words false false false false false true a_name b_name c_name d_name e_name no_help some = absurd (no_help refl)
-asks_something a b c d e help words false false false false false false a_name b_name c_name d_name e_name no_help some = cc
+asks_something a b c d e help words true is_b is_c is_d is_e is_help a_name b_name c_name d_name e_name no_help some =
+    rw a_name refl
+asks_something a b c d e help words false true is_c is_d is_e is_help a_name b_name c_name d_name e_name no_help some =
+    rw b_name refl
+asks_something a b c d e help words false false true is_d is_e is_help a_name b_name c_name d_name e_name no_help some =
+    rw c_name refl
+asks_something a b c d e help words false false false true is_e is_help a_name b_name c_name d_name e_name no_help some
+    = rw d_name refl
+asks_something a b c d e help words false false false false true is_help a_name b_name c_name d_name e_name no_help some
+    = rw e_name refl
+asks_something a b c d e help words false false false false false true a_name b_name c_name d_name e_name no_help some =
+    absurd (no_help refl)
+asks_something a b c d e help words false false false false false false a_name b_name c_name d_name e_name no_help some
+    = cc
 
 entered_asks : (stop : Option (Text × List Text)) → NoHelp stop → is_some (entered (built grammar) stop) ≡ true
     → is_some (option_and_then ask_of (entered (built grammar) stop)) ≡ true
@@ -152,44 +192,54 @@ entered_asks None no_help some = cc
 entered_asks (Some stop) no_help some =
     let sub : ℕ → Shape = λ place. slice_index_or (built grammar).subs place help_shape in
     asks_something (sub 0) (sub 1) (sub 2) (sub 3) (sub 4) (sub 5) stop.1
-    (bytes_eq (codes "replay") stop.0) (bytes_eq (codes "live") stop.0) (bytes_eq (codes "check") stop.0) (bytes_eq (codes "quiet") stop.0) (bytes_eq (codes "show") stop.0) (bytes_eq (codes "help") stop.0)
+    (bytes_eq (codes "replay") stop.0) (bytes_eq (codes "live") stop.0) (bytes_eq (codes "check") stop.0)
+    (bytes_eq (codes "quiet") stop.0) (bytes_eq (codes "show") stop.0) (bytes_eq (codes "help") stop.0)
     refl refl refl refl refl
     (λ same. no_help (sym ((bytes_eq-Decides (codes "help") stop.0).0 same))) some
 
 -- Words without fault ask for something.
-faultless_asks : (words : List Text) → answers_to words ≡ [] → is_some (option_and_then ask_of (subcommand_of grammar words)) ≡ true
+faultless_asks : (words : List Text) → answers_to words ≡ [] →
+    is_some (option_and_then ask_of (subcommand_of grammar words)) ≡ true
 unfolding answers_to
 faultless_asks words faultless =
     let app = built grammar in
     let args = argument_words grammar words in
     let stop = (walk app.top.rules (names_of app) nothing_held args).stopped in
-    let parts = level_parts app.top (names_of app) nothing_held args (is_some (entered app stop)) (entered_fault app stop) faultless in
+    let parts = level_parts app.top (names_of app) nothing_held args (is_some (entered app stop))
+    (entered_fault app stop) faultless in
     entered_asks stop (walk_goes_on app.top (names_of app) args (walk_from nothing_held) refl tt parts.0)
     (command_given (is_some (entered app stop)) false false parts.1)
 
 -- What a parse of these words says, where its command has this grammar.
-pub faults_are : (app : App) (words : List Text) (P : Kinds → Type 0) → app ≡ grammar → (is_simple_and_free app ≡ true → P (fault_of app words)) → P (answers_to words)
+pub faults_are : (app : App) (words : List Text) (P : Kinds → Type 0) → app ≡ grammar →
+    (is_simple_and_free app ≡ true → P (fault_of app words)) → P (answers_to words)
 unfolding answers_to
-faults_are app words P is says = subst (λ a. P (fault_of a words)) is (says (ap is_simple_and_free is ∙ is_simple_grammar))
+faults_are app words P is says = subst (λ a. P (fault_of a words)) is
+    (says (ap is_simple_and_free is ∙ is_simple_grammar))
 
 -- Words without fault ask for what the command asks for that was met.
-pub asked_is : (app : App) (words : List Text) (m : ArgMatches) → app ≡ grammar → HasMatchesOf app words m → answers_to words ≡ []
+pub asked_is : (app : App) (words : List Text) (m : ArgMatches) → app ≡ grammar → HasMatchesOf app words m →
+    answers_to words ≡ []
     → asked_by words ≡ option_and_then ask_of (subcommand_rows_of m)
 unfolding asked_by
 asked_is app words m is has faultless =
     rw faultless (ap (option_and_then ask_of) (sym ((has (ap is_simple is)).1 ∙ ap (λ a. subcommand_of a words) is)))
 
 -- They ask for something.
-pub asked_some : (app : App) (words : List Text) (m : ArgMatches) → app ≡ grammar → HasMatchesOf app words m → answers_to words ≡ []
+pub asked_some : (app : App) (words : List Text) (m : ArgMatches) → app ≡ grammar → HasMatchesOf app words m →
+    answers_to words ≡ []
     → is_some (option_and_then ask_of (subcommand_rows_of m)) ≡ true
 asked_some app words m is has faultless =
-    ap (λ met. is_some (option_and_then ask_of met)) ((has (ap is_simple is)).1 ∙ ap (λ a. subcommand_of a words) is) ∙ faultless_asks words faultless
+    ap (λ met. is_some (option_and_then ask_of met)) ((has (ap is_simple is)).1 ∙ ap (λ a. subcommand_of a words) is)
+    ∙ faultless_asks words faultless
 
 -- ---- what the code meets
 
 -- a command with one more parameter
-pub one_more : (old new : Command) (argument : Arg) (name : Text) (before : List CommandParameter) (parameter : CommandParameter) → AddsArg old argument new
-    → shape_of old ≡ command name (map rule_for before) → rule_of argument ≡ rule_for parameter → argument.global ≡ false
+pub one_more : (old new : Command) (argument : Arg) (name : Text) (before : List CommandParameter)
+    (parameter : CommandParameter) → AddsArg old argument new
+    → shape_of old ≡ command name (map rule_for before) → rule_of argument ≡ rule_for parameter →
+    argument.global ≡ false
     → shape_of new ≡ command name (map rule_for (before ++ parameter ∷ []))
 one_more old new argument name before parameter adds so_far rule local =
     ap (λ (a : App). a.top) (adds.shape local)
@@ -204,33 +254,42 @@ alone = on_top (λ top. record top { has_version = true; subcommand_required = t
 abbrev pub with_name : App → CommandName → App
 with_name app name = with_subcommand app (command_for name)
 
-pub one_command_more : (old sub new : Command) (names : List CommandName) (place : ℕ) (name : CommandName) → AddsSubcommand old sub new
+pub one_command_more : (old sub new : Command) (names : List CommandName) (place : ℕ) (name : CommandName) →
+    AddsSubcommand old sub new
     → (fields_of sub).has_globals ≡ false → shape_of sub ≡ command_for (get_or names place name) → place < length names
     → app_of old ≡ fold with_name alone (take place names) → app_of new ≡ fold with_name alone (take (place + 1) names)
 one_command_more old sub new names place name adds local shape below so_far =
     adds.shape local ∙ ap₂ with_subcommand so_far shape
-    ∙ sym (ap (fold with_name alone) (take_more names place name below) ∙ fold-append with_name alone (take place names) (get_or names place name ∷ []))
+    ∙ sym (ap (fold with_name alone) (take_more names place name below)
+    ∙ fold-append with_name alone (take place names) (get_or names place name ∷ []))
 
-name_first : {X A B : Type 0} (f : X → A) (g : X → B) (o : Option X) → option_map (λ (p : A × B). p.0) (option_map (λ x. (f x, g x)) o) ≡ option_map f o
+name_first : {X A B : Type 0} (f : X → A) (g : X → B) (o : Option X) →
+    option_map (λ (p : A × B). p.0) (option_map (λ x. (f x, g x)) o) ≡ option_map f o
 name_first f g None = refl
 name_first f g (Some x) = refl
 
-both_parts : {A B : Type 0} (o : Option (A × B)) (a : A) (b : B) → Some a ≡ option_map (λ p. p.0) o → Some b ≡ option_map (λ p. p.1) o → o ≡ Some (a, b)
+both_parts : {A B : Type 0} (o : Option (A × B)) (a : A) (b : B) → Some a ≡ option_map (λ p. p.0) o →
+    Some b ≡ option_map (λ p. p.1) o → o ≡ Some (a, b)
 both_parts None a b first second = cc
 both_parts (Some (x, y)) a b first second = cc
 
 -- the command that was met, by its name and what was found for its options
 pub met_is : (m : ArgMatches) (name : Text) (found : Found) → Some name ≡ subcommand_name_of m
-    → Some (rows_of found) ≡ option_map (λ p. p.1) (subcommand_rows_of m) → subcommand_rows_of m ≡ Some (name, rows_of found)
-met_is m name found named rows = both_parts (subcommand_rows_of m) name (rows_of found) (named ∙ sym (name_first _ _ _)) rows
+    → Some (rows_of found) ≡ option_map (λ p. p.1) (subcommand_rows_of m) →
+    subcommand_rows_of m ≡ Some (name, rows_of found)
+met_is m name found named rows = both_parts (subcommand_rows_of m) name (rows_of found) (named ∙ sym (name_first _ _ _))
+    rows
 
-pub path_is : (found : Found) (id : Text) (path : Option Text) → path ≡ first_value found id → path ≡ first_of id (rows_of found)
+pub path_is : (found : Found) (id : Text) (path : Option Text) → path ≡ first_value found id →
+    path ≡ first_of id (rows_of found)
 path_is found id path is = is ∙ first_value-rows found id
 
-pub three_parts : {A B C D : Type 0} (f : A → B → C → D) {a a' : A} {b b' : B} {d d' : C} → a ≡ a' → b ≡ b' → d ≡ d' → f a b d ≡ f a' b' d'
+pub three_parts : {A B C D : Type 0} (f : A → B → C → D) {a a' : A} {b b' : B} {d d' : C} → a ≡ a' → b ≡ b' → d ≡ d' →
+    f a b d ≡ f a' b' d'
 three_parts f {a} {a'} {b} {b'} {d} {d'} p q r = ap (λ x. f x b d) p ∙ (ap (λ x. f a' x d) q ∙ ap (f a' b') r)
 
-pub four_parts : {A B C D E : Type 0} (f : A → B → C → D → E) {a a' : A} {b b' : B} {c c' : C} {d d' : D} → a ≡ a' → b ≡ b' → c ≡ c' → d ≡ d' → f a b c d ≡ f a' b' c' d'
+pub four_parts : {A B C D E : Type 0} (f : A → B → C → D → E) {a a' : A} {b b' : B} {c c' : C} {d d' : D} → a ≡ a' →
+    b ≡ b' → c ≡ c' → d ≡ d' → f a b c d ≡ f a' b' c' d'
 four_parts f {a} {a'} {b} {b'} {c} {c'} {d} {d'} p q r s = ap (λ x. f x b c d) p ∙ three_parts (f a') q r s
 
 -- the paths of logs, where some were found, and where none was
@@ -238,21 +297,26 @@ pub logs_are : (found : Found) (logs : List Text) → Some logs ≡ option_map r
     → logs ≡ logs_of (rows_of found)
 logs_are found logs is = ap (λ all. unwrap_or all []) (is ∙ raw_values-rows found (codes "log"))
 
-pub no_logs : (found : Found) → None ≡ option_map raw_values (matched_of found (codes "log")) → [] ≡ logs_of (rows_of found)
+pub no_logs : (found : Found) → None ≡ option_map raw_values (matched_of found (codes "log")) →
+    [] ≡ logs_of (rows_of found)
 no_logs found is = ap (λ all. unwrap_or all []) (is ∙ raw_values-rows found (codes "log"))
 
 -- What the command that was met asks for, with the manner of its texts.
-pub asked_is_met : (m : ArgMatches) (name : Text) (rows : List Row) (task : Option Ask) (manner : Manner) → subcommand_rows_of m ≡ Some (name, rows)
-    → task ≡ task_by name rows → manner ≡ manner_of rows → option_map (λ ask. (ask, manner)) task ≡ option_and_then ask_of (subcommand_rows_of m)
+pub asked_is_met : (m : ArgMatches) (name : Text) (rows : List Row) (task : Option Ask) (manner : Manner) →
+    subcommand_rows_of m ≡ Some (name, rows)
+    → task ≡ task_by name rows → manner ≡ manner_of rows → option_map (λ ask. (ask, manner)) task
+    ≡ option_and_then ask_of (subcommand_rows_of m)
 asked_is_met m name rows task manner met is worded =
     ap₂ (λ t w. option_map (λ ask. (ask, w)) t) is worded ∙ sym (ap (option_and_then ask_of) met)
 
 -- What a command alone asks for, whatever the program's name is.
-pub plain_replay : (name : Text) → asked_by (name ∷ codes "replay" ∷ []) ≡ Some (play playing.Replay None None None, ByTerminal)
+pub plain_replay : (name : Text) → asked_by (name ∷ codes "replay" ∷ [])
+    ≡ Some (play playing.Replay None None None, ByTerminal)
 unfolding asked_by answers_to clap_on_literals
 plain_replay name = refl
 
-pub plain_live : (name : Text) → asked_by (name ∷ codes "live" ∷ []) ≡ Some (play playing.Live None None None, ByTerminal)
+pub plain_live : (name : Text) → asked_by (name ∷ codes "live" ∷ [])
+    ≡ Some (play playing.Live None None None, ByTerminal)
 unfolding asked_by answers_to clap_on_literals
 plain_live name = refl
 
@@ -260,7 +324,8 @@ pub plain_check : (name : Text) → asked_by (name ∷ codes "check" ∷ []) ≡
 unfolding asked_by answers_to clap_on_literals
 plain_check name = refl
 
-pub plain_quiet : (name : Text) → asked_by (name ∷ codes "quiet" ∷ []) ≡ Some (play playing.Quiet None None None, ByTerminal)
+pub plain_quiet : (name : Text) → asked_by (name ∷ codes "quiet" ∷ [])
+    ≡ Some (play playing.Quiet None None None, ByTerminal)
 unfolding asked_by answers_to clap_on_literals
 plain_quiet name = refl
 
@@ -270,22 +335,30 @@ plain_show name = refl
 
 -- the options of a command alone
 abbrev pub plain_options : CommandOptions
-plain_options = record { load = None; save = None; log = None; all = false; json = false; wide = false; form = Lines; manner = ByTerminal }
+plain_options = record
+    { load = None; save = None; log = None; all = false; json = false; wide = false; form = Lines; manner = ByTerminal }
 
 -- What a word after the program's name asks for, is what the two words ask for.
-pub plain_asks : (program name : Text) (ask : Ask) → task_for name plain_options [] ≡ Some ask → asked_by (program ∷ name ∷ []) ≡ Some (ask, ByTerminal)
+pub plain_asks : (program name : Text) (ask : Ask) → task_for name plain_options [] ≡ Some ask →
+    asked_by (program ∷ name ∷ []) ≡ Some (ask, ByTerminal)
 plain_asks program name ask is =
-    go (bytes_eq name (codes "replay")) (bytes_eq name (codes "live")) (bytes_eq name (codes "check")) (bytes_eq name (codes "quiet")) (bytes_eq name (codes "show")) refl refl refl refl refl is
+    go (bytes_eq name (codes "replay")) (bytes_eq name (codes "live")) (bytes_eq name (codes "check"))
+    (bytes_eq name (codes "quiet")) (bytes_eq name (codes "show")) refl refl refl refl refl is
   where
-    named : (word : Text) (task : Ask) → bytes_eq name word ≡ true → asked_by (program ∷ word ∷ []) ≡ Some (task, ByTerminal) → Some task ≡ Some ask
+    named : (word : Text) (task : Ask) → bytes_eq name word ≡ true →
+        asked_by (program ∷ word ∷ []) ≡ Some (task, ByTerminal) → Some task ≡ Some ask
         → asked_by (program ∷ name ∷ []) ≡ Some (ask, ByTerminal)
     named word task same asked so =
-        subst (λ n. asked_by (program ∷ n ∷ []) ≡ Some (ask, ByTerminal)) (sym ((bytes_eq-Decides name word).0 same)) (asked ∙ ap (option_map (λ a. (a, ByTerminal))) so)
+        subst (λ n. asked_by (program ∷ n ∷ []) ≡ Some (ask, ByTerminal)) (sym ((bytes_eq-Decides name word).0 same))
+        (asked ∙ ap (option_map (λ a. (a, ByTerminal))) so)
 
-    go : (a b c d e : Bool) → bytes_eq name (codes "replay") ≡ a → bytes_eq name (codes "live") ≡ b → bytes_eq name (codes "check") ≡ c
+    go : (a b c d e : Bool) → bytes_eq name (codes "replay") ≡ a → bytes_eq name (codes "live") ≡ b →
+        bytes_eq name (codes "check") ≡ c
         → bytes_eq name (codes "quiet") ≡ d → bytes_eq name (codes "show") ≡ e
-        → (if a then Some (play playing.Replay None None None) else if b then Some (play playing.Live None None None) else if c then Some (check None false false [])
-        else if d then Some (play playing.Quiet None None None) else if e then Some (show Lines false None) else None) ≡ Some ask
+        → (if a then Some (play playing.Replay None None None) else if b then Some (play playing.Live None None None)
+        else if c then Some (check None false false [])
+        else if d then Some (play playing.Quiet None None None) else if e then Some (show Lines false None) else None)
+        ≡ Some ask
         → asked_by (program ∷ name ∷ []) ≡ Some (ask, ByTerminal)
     go true b c d e is_a is_b is_c is_d is_e so = named (codes "replay") _ is_a (plain_replay program) so
     go false true c d e is_a is_b is_c is_d is_e so = named (codes "live") _ is_b (plain_live program) so
@@ -295,5 +368,6 @@ plain_asks program name ask is =
     go false false false false false is_a is_b is_c is_d is_e so = cc
 
 -- Options that were found ask for what the rows ask for.
-pub found_asks : (name : Text) (options : CommandOptions) (found : List Row) → AreFound options found → task_for name options (logs_of found) ≡ task_by name found
+pub found_asks : (name : Text) (options : CommandOptions) (found : List Row) → AreFound options found →
+    task_for name options (logs_of found) ≡ task_by name found
 found_asks name options found are = rw (are.0, are.1, are.2, are.3, are.4, are.5, are.6) refl

@@ -1,7 +1,7 @@
 -- Several logs that are compared, one after the other.
-use Rattle.std.proofs.Common.{◌≡◌, ◌∙◌, ℕ, ◌+◌, ◌<◌, false, List, [], ◌∷◌, ◌++◌, length, take, get_or, Option, Ok, Err, OnOk, is_err, refl, sym, ap, subst}
-use Rattle.std.specs.Borrow.{Bor}
-use Rattle.std.proofs.lemmas.List.{map-append, take_more}
+use Rattle.std.proofs.Common.{◌≡◌, ◌∙◌, ℕ, ◌+◌, ◌<◌, false, List, [], ◌∷◌, ◌++◌, length, take, get_or, Option, Ok, Err}
+use Rattle.std.proofs.Common.{OnOk, is_err, refl, sym, ap, subst}
+use Rattle.std.{specs.Borrow.Bor, proofs.lemmas.List.map-append, proofs.lemmas.List.take_more}
 use Rattle.session_log.specs.Command.{Status}
 use Rattle.hidlog.specs.{CommandLine.texts_of, Model.Model, Several.AreSame, Several.IsSameAt}
 
@@ -11,7 +11,8 @@ on_ok (Err code) h = tt
 
 module _ {D I O F : Type 0} (model : Model D I O F) where
   -- one after several others
-  one_more_same : (load : Option (List ℕ)) (files : D) (logs : List (List ℕ)) (log : List ℕ) (input between after : I) → AreSame model load files logs (input, between)
+  one_more_same : (load : Option (List ℕ)) (files : D) (logs : List (List ℕ)) (log : List ℕ) (input between after : I) →
+      AreSame model load files logs (input, between)
       → IsSameAt model load files log (between, after) → AreSame model load files (logs ++ log ∷ []) (input, after)
   one_more_same load files [] log input between after are is =
       (after, subst (λ (i : I). IsSameAt model load files log (i, after)) are is, refl)
@@ -19,13 +20,16 @@ module _ {D I O F : Type 0} (model : Model D I O F) where
       (are.0, are.1, one_more_same load files logs log are.0 between after are.2 is)
 
   -- the next of several, where it didn't fail
-  pub next_same : (load : Option (List ℕ)) (files files' : D) (paths : List (Bor (List ℕ))) (place : ℕ) (d : Bor (List ℕ)) (r : Status) (input between after : I) → place < length paths → files' ≡ files
+  pub next_same : (load : Option (List ℕ)) (files files' : D) (paths : List (Bor (List ℕ))) (place : ℕ)
+      (d : Bor (List ℕ)) (r : Status) (input between after : I) → place < length paths → files' ≡ files
       → AreSame model load files (texts_of (take place paths)) (input, between) → is_err r ≡ false
-      → OnOk r (IsSameAt model load files' (get_or paths place d).now (between, after)) → AreSame model load files (texts_of (take (place + 1) paths)) (input, after)
+      → OnOk r (IsSameAt model load files' (get_or paths place d).now (between, after)) →
+      AreSame model load files (texts_of (take (place + 1) paths)) (input, after)
   next_same load files files' paths place d (Err code) input between after below same are none is = cc
   next_same load files files' paths place d (Ok x) input between after below same are none is =
       let names : texts_of (take (place + 1) paths) ≡ texts_of (take place paths) ++ (get_or paths place d).now ∷ [] =
-      ap texts_of (take_more paths place d below) ∙ map-append (λ (w : Bor (List ℕ)). w.now) (take place paths) (get_or paths place d ∷ []) in
+      ap texts_of (take_more paths place d below) ∙ map-append (λ (w : Bor (List ℕ)). w.now) (take place paths)
+      (get_or paths place d ∷ []) in
       subst (λ (logs : List (List ℕ)). AreSame model load files logs (input, after)) (sym names)
       (one_more_same load files (texts_of (take place paths)) (get_or paths place d).now input between after are
       (subst (λ (f : D). IsSameAt model load f (get_or paths place d).now (between, after)) same is))

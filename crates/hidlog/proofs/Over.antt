@@ -1,5 +1,7 @@
 -- A file that is written over.
-use Rattle.std.proofs.Common.{Option, Result, Ok, Err, OnOk, is_err, false, ◌≡◌, ◌+◌, ◌≤◌, ◌⊎◌, ℕ, zero, suc, List, ◌++◌, length, min, take, drop, Some, None, IfSome, ap, ◌∙◌, refl, subst, arith, inl, inr, append-nil, take_at, take-append-drop, length-take, length-append, length-drop}
+use Rattle.std.proofs.Common.{Option, Result, Ok, Err, OnOk, is_err, false, ◌≡◌, ◌+◌, ◌≤◌, ◌⊎◌, ℕ, zero, suc, List}
+use Rattle.std.proofs.Common.{◌++◌, length, min, take, drop, Some, None, IfSome, ap, ◌∙◌, refl, subst, arith, inl, inr}
+use Rattle.std.proofs.Common.{append-nil, take_at, take-append-drop, length-take, length-append, length-drop}
 use Rattle.std.proofs.lemmas.List.{take_all, drop_all, drop_at}
 use Rattle.hidlog.specs.Streams.{over}
 
@@ -22,10 +24,12 @@ either (suc m) (suc n) = next m n (either m n)
 -- what the file is too short for was appended, and the others are written over its front
 whole_by : (has bytes : List ℕ) (old shared : ℕ) → length has ≡ old → shared ≡ min old (length bytes)
     → (old ≤ length bytes) ⊎ (length bytes ≤ old)
-    → take (length bytes) (take shared bytes ++ drop (0 + length (take shared bytes)) (has ++ drop shared bytes)) ≡ bytes
+    → take (length bytes) (take shared bytes ++ drop (0 + length (take shared bytes)) (has ++ drop shared bytes))
+    ≡ bytes
 whole_by has bytes old shared e s (inl p) =
     ap (λ l. take (length bytes) (take shared bytes ++ l))
-    (drop_at has (drop shared bytes) (0 + length (take shared bytes)) (omega (arith, e, s, p, length-take shared bytes)))
+    (drop_at has (drop shared bytes) (0 + length (take shared bytes))
+    (omega (arith, e, s, p, length-take shared bytes)))
     ∙ ap (take (length bytes)) (take-append-drop shared bytes)
     ∙ take_all (length bytes) bytes (omega arith)
 whole_by has bytes old shared e s (inr p) =
@@ -56,12 +60,16 @@ written_whole : (a b c d : Option (List ℕ)) (bytes : List ℕ) (old shared : �
     → IfSome a (λ _. d ≡ Some bytes)
 written_whole None b c d bytes old shared size s first second last = tt
 written_whole (Some has) b c d bytes old shared size s first second last =
-    let one : b ≡ Some (has ++ drop shared bytes) = first (omega (arith, size)) ∙ ap Some (at_end has (drop shared bytes) old size) in
-    let two : c ≡ Some (over (has ++ drop shared bytes) 0 (take shared bytes)) = subst (λ k. IfSome k (λ has. 0 ≤ length has → c ≡ Some (over has 0 (take shared bytes)))) one second (omega arith) in
-    subst (λ k. IfSome k (λ has. length bytes ≤ length has → d ≡ Some (take (length bytes) has))) two last (long_by has bytes old shared size s)
+    let one : b ≡ Some (has ++ drop shared bytes) = first (omega (arith, size))
+    ∙ ap Some (at_end has (drop shared bytes) old size) in
+    let two : c ≡ Some (over (has ++ drop shared bytes) 0 (take shared bytes)) = subst
+    (λ k. IfSome k (λ has. 0 ≤ length has → c ≡ Some (over has 0 (take shared bytes)))) one second (omega arith) in
+    subst (λ k. IfSome k (λ has. length bytes ≤ length has → d ≡ Some (take (length bytes) has))) two last
+    (long_by has bytes old shared size s)
     ∙ ap Some (whole_by has bytes old shared size s (either old (length bytes)))
 
-pub written_over : {E F : Type 0} (r : Result (Unit {0}) E) (q : Result (Unit {0}) F) (a b c d : Option (List ℕ)) (bytes front more : List ℕ)
+pub written_over : {E F : Type 0} (r : Result (Unit {0}) E) (q : Result (Unit {0}) F) (a b c d : Option (List ℕ))
+    (bytes front more : List ℕ)
     (old shared : ℕ) → front ≡ take shared bytes → more ≡ drop shared bytes
     → IfSome a (λ has. length has ≡ old) → shared ≡ min old (length bytes)
     → is_err q ≡ false → OnOk q (IfSome a (λ has. old ≤ length has → b ≡ Some (over has old more)))
@@ -69,7 +77,8 @@ pub written_over : {E F : Type 0} (r : Result (Unit {0}) E) (q : Result (Unit {0
     → OnOk r (IfSome c (λ has. length bytes ≤ length has → d ≡ Some (take (length bytes) has)))
     → OnOk r (IfSome a (λ _. d ≡ Some bytes))
 written_over (Err x) q a b c d bytes front more old shared f m size s is first second last = tt
-written_over (Ok x) (Err y) a b c d bytes front more old shared f m size s is first second last = absurd (grind (arith, is))
+written_over (Ok x) (Err y) a b c d bytes front more old shared f m size s is first second last =
+    absurd (grind (arith, is))
 written_over (Ok x) (Ok y) a b c d bytes front more old shared f m size s is first second last =
     written_whole a b c d bytes old shared size s
     (subst (λ l. IfSome a (λ has. old ≤ length has → b ≡ Some (over has old l))) m first)

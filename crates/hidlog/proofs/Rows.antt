@@ -25,16 +25,19 @@ replay_alone : asked (codes "replay" ∷ []) ≡ Some (play playing.Replay None 
 unfolding asked
 replay_alone = refl
 
-both_options : asked (codes "replay" ∷ codes "--save" ∷ codes "new" ∷ codes "--load" ∷ codes "old" ∷ []) ≡ Some (play playing.Replay (Some (codes "old")) (Some (codes "new")) None, ByTerminal)
+both_options : asked (codes "replay" ∷ codes "--save" ∷ codes "new" ∷ codes "--load" ∷ codes "old" ∷ [])
+    ≡ Some (play playing.Replay (Some (codes "old")) (Some (codes "new")) None, ByTerminal)
 unfolding asked
 both_options = refl
 
-live_alone : asked (codes "live" ∷ codes "--save" ∷ codes "new" ∷ []) ≡ Some (play playing.Live None (Some (codes "new")) None, ByTerminal)
+live_alone : asked (codes "live" ∷ codes "--save" ∷ codes "new" ∷ [])
+    ≡ Some (play playing.Live None (Some (codes "new")) None, ByTerminal)
 unfolding asked
 live_alone = refl
 
 -- a value may stand after `=`
-attached : asked (codes "check" ∷ codes "--load=old" ∷ []) ≡ Some (check (Some (codes "old")) false false [], ByTerminal)
+attached : asked (codes "check" ∷ codes "--load=old" ∷ []) ≡ Some
+    (check (Some (codes "old")) false false [], ByTerminal)
 unfolding asked
 attached = refl
 
@@ -47,11 +50,13 @@ unfolding asked
 show_alone = refl
 
 -- a log may be named, before an option and after one, and several to `check` alone
-log_named : asked (codes "replay" ∷ codes "a.log" ∷ codes "--save" ∷ codes "new" ∷ []) ≡ Some (play playing.Replay None (Some (codes "new")) (Some (codes "a.log")), ByTerminal)
+log_named : asked (codes "replay" ∷ codes "a.log" ∷ codes "--save" ∷ codes "new" ∷ [])
+    ≡ Some (play playing.Replay None (Some (codes "new")) (Some (codes "a.log")), ByTerminal)
 unfolding asked
 log_named = refl
 
-logs_named : asked (codes "check" ∷ codes "a.log" ∷ codes "-" ∷ codes "b.log" ∷ []) ≡ Some (check None false false (codes "a.log" ∷ codes "-" ∷ codes "b.log" ∷ []), ByTerminal)
+logs_named : asked (codes "check" ∷ codes "a.log" ∷ codes "-" ∷ codes "b.log" ∷ [])
+    ≡ Some (check None false false (codes "a.log" ∷ codes "-" ∷ codes "b.log" ∷ []), ByTerminal)
 unfolding asked
 logs_named = refl
 
@@ -60,12 +65,14 @@ unfolding asked
 one_to_show = refl
 
 -- a log whose name begins with a hyphen comes after `--`
-hyphens_end_options : asked (codes "quiet" ∷ codes "--" ∷ codes "-a" ∷ []) ≡ Some (play playing.Quiet None None (Some (codes "-a")), ByTerminal)
+hyphens_end_options : asked (codes "quiet" ∷ codes "--" ∷ codes "-a" ∷ [])
+    ≡ Some (play playing.Quiet None None (Some (codes "-a")), ByTerminal)
 unfolding asked
 hyphens_end_options = refl
 
 -- a summary, JSON, and a summary as JSON
-summary_asked : asked (codes "show" ∷ codes "--summary" ∷ codes "a.log" ∷ []) ≡ Some (show Summary false (Some (codes "a.log")), ByTerminal)
+summary_asked : asked (codes "show" ∷ codes "--summary" ∷ codes "a.log" ∷ [])
+    ≡ Some (show Summary false (Some (codes "a.log")), ByTerminal)
 unfolding asked
 summary_asked = refl
 
@@ -73,20 +80,24 @@ json_asked : asked (codes "show" ∷ codes "--json" ∷ []) ≡ Some (show Json 
 unfolding asked
 json_asked = refl
 
-json_summary_asked : asked (codes "show" ∷ codes "--json" ∷ codes "--summary" ∷ []) ≡ Some (show JsonSummary false None, ByTerminal)
+json_summary_asked : asked (codes "show" ∷ codes "--json" ∷ codes "--summary" ∷ [])
+    ≡ Some (show JsonSummary false None, ByTerminal)
 unfolding asked
 json_summary_asked = refl
 
 -- a comparison that goes on after a difference, and lines that aren't cut
-all_asked : asked (codes "check" ∷ codes "--all" ∷ codes "a.log" ∷ []) ≡ Some (check None true false (codes "a.log" ∷ []), ByTerminal)
+all_asked : asked (codes "check" ∷ codes "--all" ∷ codes "a.log" ∷ [])
+    ≡ Some (check None true false (codes "a.log" ∷ []), ByTerminal)
 unfolding asked
 all_asked = refl
 
-check_as_json : asked (codes "check" ∷ codes "--json" ∷ codes "a.log" ∷ []) ≡ Some (check None false true (codes "a.log" ∷ []), ByTerminal)
+check_as_json : asked (codes "check" ∷ codes "--json" ∷ codes "a.log" ∷ [])
+    ≡ Some (check None false true (codes "a.log" ∷ []), ByTerminal)
 unfolding asked
 check_as_json = refl
 
-wide_asked : asked (codes "show" ∷ codes "--wide" ∷ codes "a.log" ∷ []) ≡ Some (show Lines true (Some (codes "a.log")), ByTerminal)
+wide_asked : asked (codes "show" ∷ codes "--wide" ∷ codes "a.log" ∷ [])
+    ≡ Some (show Lines true (Some (codes "a.log")), ByTerminal)
 unfolding asked
 wide_asked = refl
 
@@ -95,7 +106,8 @@ explained_asked : asked (codes "replay" ∷ codes "--explain" ∷ []) ≡ Some (
 unfolding asked
 explained_asked = refl
 
-plain_asked : asked (codes "show" ∷ codes "a.log" ∷ codes "--plain" ∷ []) ≡ Some (show Lines false (Some (codes "a.log")), Fixed)
+plain_asked : asked (codes "show" ∷ codes "a.log" ∷ codes "--plain" ∷ [])
+    ≡ Some (show Lines false (Some (codes "a.log")), Fixed)
 unfolding asked
 plain_asked = refl
 

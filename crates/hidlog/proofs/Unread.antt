@@ -1,5 +1,6 @@
 -- What is held of a stream, as some of it is handed on or more is read.
-use Rattle.std.proofs.Common.{Option, ◌≡◌, ◌+◌, ◌≤◌, ℕ, List, [], ◌++◌, length, take, drop, sym, ap, ◌∙◌, arith, take_at, length-take-le, take-append-drop, append_assoc, append-nil, None, Some}
+use Rattle.std.proofs.Common.{Option, ◌≡◌, ◌+◌, ◌≤◌, ℕ, List, [], ◌++◌, length, take, drop, sym, ap, ◌∙◌, arith}
+use Rattle.std.proofs.Common.{take_at, length-take-le, take-append-drop, append_assoc, append-nil, None, Some}
 use Rattle.std.proofs.lemmas.List.{drop-append-le, drop-take, drop-drop, take_all, length-drop, length-take}
 use Rattle.std.specs.Io.KnownBytes.{Appends, Consumes, Keeps, append_known, prepend_known}
 
@@ -8,7 +9,8 @@ pub handed_on : (at n : ℕ) (held out copied : List ℕ) → n ≤ length (drop
     → drop at held ≡ take n (copied ++ drop n out) ++ drop (at + n) held
 handed_on at n held out copied fits same =
     sym (take-append-drop n (drop at held))
-    ∙ ap (λ l. l ++ drop n (drop at held)) (sym (ap (λ l. take n (l ++ drop n out)) same ∙ take_at (take n (drop at held)) (drop n out) n (length-take-le n (drop at held) fits)))
+    ∙ ap (λ l. l ++ drop n (drop at held)) (sym (ap (λ l. take n (l ++ drop n out)) same
+    ∙ take_at (take n (drop at held)) (drop n out) n (length-take-le n (drop at held) fits)))
     ∙ ap (λ l. take n (copied ++ drop n out) ++ l) (drop-drop n at held)
 
 -- what was read behind all that was handed on is unread
@@ -26,28 +28,33 @@ none_read end n held fits none =
 -- What a target holds back is the end of what it took.
 
 -- some of it was handed on
-pub handed : (a t u : Option (List ℕ)) (at n : ℕ) (held : List ℕ) → Keeps a (append_known t (drop at held)) → Appends t u (take n (drop at held))
+pub handed : (a t u : Option (List ℕ)) (at n : ℕ) (held : List ℕ) → Keeps a (append_known t (drop at held)) →
+    Appends t u (take n (drop at held))
     → Keeps a (append_known u (drop (at + n) held))
 handed None t u at n held p q = tt
 handed (Some x) None u at n held p q = absurd p
 handed (Some x) (Some y) None at n held p q = absurd q
 handed (Some x) (Some y) (Some z) at n held p q =
     ap (λ l. l ++ drop (at + n) held) q ∙ append_assoc y (take n (drop at held)) (drop (at + n) held)
-    ∙ ap (λ l. y ++ (take n (drop at held) ++ l)) (sym (drop-drop n at held)) ∙ ap (λ l. y ++ l) (take-append-drop n (drop at held)) ∙ p
+    ∙ ap (λ l. y ++ (take n (drop at held) ++ l)) (sym (drop-drop n at held))
+    ∙ ap (λ l. y ++ l) (take-append-drop n (drop at held)) ∙ p
 
 -- a piece is held back, too
 pub held_back : (t : Option (List ℕ)) (at : ℕ) (held more piece : List ℕ) → at ≤ length held → more ≡ held ++ piece
     → Appends (append_known t (drop at held)) (append_known t (drop at more)) (take (length piece) piece)
 held_back None at held more piece p q = tt
 held_back (Some x) at held more piece p q =
-    ap (λ l. x ++ drop at l) q ∙ ap (λ l. x ++ l) (drop-append-le at held piece p) ∙ sym (append_assoc x (drop at held) piece)
+    ap (λ l. x ++ drop at l) q ∙ ap (λ l. x ++ l) (drop-append-le at held piece p)
+    ∙ sym (append_assoc x (drop at held) piece)
     ∙ ap (λ l. (x ++ drop at held) ++ l) (sym (take_all (length piece) piece (omega arith)))
 
 -- a piece was handed on, after all that was held back
-pub taken_after : (a t u : Option (List ℕ)) (held rest piece : List ℕ) → Keeps a (append_known t held) → held ≡ [] → rest ≡ held → Appends t u piece
+pub taken_after : (a t u : Option (List ℕ)) (held rest piece : List ℕ) → Keeps a (append_known t held) → held ≡ [] →
+    rest ≡ held → Appends t u piece
     → Appends a (append_known u rest) piece
 taken_after None t u held rest piece p none same q = tt
 taken_after (Some x) None u held rest piece p none same q = absurd p
 taken_after (Some x) (Some y) None held rest piece p none same q = absurd q
 taken_after (Some x) (Some y) (Some z) held rest piece p none same q =
-    ap (λ l. z ++ l) (same ∙ none) ∙ append-nil z ∙ q ∙ ap (λ l. l ++ piece) (sym (append-nil y) ∙ ap (λ l. y ++ l) (sym none) ∙ p)
+    ap (λ l. z ++ l) (same ∙ none) ∙ append-nil z ∙ q ∙ ap (λ l. l ++ piece)
+    (sym (append-nil y) ∙ ap (λ l. y ++ l) (sym none) ∙ p)

@@ -1,10 +1,12 @@
 -- Which words ask for what, by the rules of `clap`.
-use Rattle.std.specs.Prelude.{◌≡◌, ℕ, Bool, true, false, List, [], ◌∷◌, Option, Some, None, codes, option_map, option_and_then, unwrap_or, map, if◌then◌else◌}
+use Rattle.std.specs.Prelude.{◌≡◌, ℕ, Bool, true, false, List, [], ◌∷◌, Option, Some, None, codes, option_map}
+use Rattle.std.specs.Prelude.{option_and_then, unwrap_or, map, if◌then◌else◌}
 use Rattle.std.specs.{Borrow.Bor, Option.option_map_or, Str.bytes_eq}
 use Rattle.clap.specs.Simple.{App, Shape, new_rule, new_shape, subcommand_of}
 use Rattle.clap.specs.{Kinds.Kinds, Faults.fault_of, Walk.Row, Walk.Rule, Walk.all_of, Walk.first_of}
 use Rattle.clap.specs.declared.builder.action.ArgAction.TheVariants.{Append, SetTrue}
-use Rattle.hidlog.specs.declared.command_line.{Form.Form, Manner.Manner, CommandOptions.CommandOptions, Invocation.Invocation, ProgramTask.ProgramTask}
+use Rattle.hidlog.specs.declared.command_line.{Form.Form, Manner.Manner, CommandOptions.CommandOptions}
+use Rattle.hidlog.specs.declared.command_line.{Invocation.Invocation, ProgramTask.ProgramTask}
 use Rattle.hidlog.specs.declared.command_line.Form.TheVariants.{Json, JsonSummary, Lines, Summary}
 use Rattle.hidlog.specs.declared.grammar.{CommandParameter.CommandParameter, CommandName.CommandName}
 use Rattle.hidlog.specs.declared.grammar.CommandParameter.TheVariants.{Load, Save, All, Summary as SummaryFlag, Json as JsonFlag, Wide, Explain, Plain, Log, Logs}
@@ -89,7 +91,8 @@ grammar = record {
   top = record (new_shape (codes "hidlog")) { has_version = true; subcommand_required = true; is_leaf = false };
   subs = command (codes "replay") (path_option (codes "load") ∷ path_option (codes "save") ∷ worded log_path)
       ∷ command (codes "live") (path_option (codes "load") ∷ path_option (codes "save") ∷ worded log_path)
-      ∷ command (codes "check") (path_option (codes "load") ∷ flag (codes "all") ∷ flag (codes "json") ∷ worded log_paths)
+      ∷ command (codes "check") (path_option (codes "load") ∷ flag (codes "all") ∷ flag (codes "json")
+      ∷ worded log_paths)
       ∷ command (codes "quiet") (path_option (codes "load") ∷ worded log_path)
       ∷ command (codes "show") (flag (codes "summary") ∷ flag (codes "json") ∷ flag (codes "wide") ∷ worded log_path)
       ∷ [];

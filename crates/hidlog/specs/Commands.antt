@@ -1,5 +1,6 @@
 -- What each command does to the files, the log, the output and the faults of a host: `old` before it, `new` after it.
-use Rattle.std.specs.Prelude.{◌≡◌, ◌≢◌, ◌⊎◌, ℕ, Bool, true, false, List, [], ◌∷◌, Option, Some, None, Ok, Err, MatchOption, MatchResult, IsSomeAnd, OnOk, codes}
+use Rattle.std.specs.Prelude.{◌≡◌, ◌≢◌, ◌⊎◌, ℕ, Bool, true, false, List, [], ◌∷◌, Option, Some, None, Ok, Err}
+use Rattle.std.specs.Prelude.{MatchOption, MatchResult, IsSomeAnd, OnOk, codes}
 use Rattle.std.specs.Bool.{MatchBool}
 use Rattle.clap.specs.Words.{IsAmong}
 use Rattle.clap.specs.declared.error.kind.ErrorKind.{ErrorKind, TheVariants.OutOfMemory}
@@ -13,9 +14,9 @@ use Rattle.session_show.specs.Shown.{IsLineText, Shows, reading}
 use Rattle.session_show.specs.declared.wording.Wording.{Wording, TheVariants.Explained, TheVariants.Fixed}
 use Rattle.hidlog.specs.CommandLine.{Ask, answers_to, asked_by, explains, named, play, check, show}
 use Rattle.hidlog.specs.declared.command_line.Form.{Form, TheVariants.Lines}
-use Rattle.hidlog.specs.{declared.host.Host.Host, Model.Model, Several.AreSame}
+use Rattle.hidlog.specs.{declared.host.Host.Host, Model.Model, Several.AreSame, Program.writing_failed}
 use Rattle.hidlog.specs.Fault.{Came, Tells, came_from, of_log, reasoned}
-use Rattle.hidlog.specs.Program.{Ended, IsGiven, IsWhole, SaysMore, Settles, cannot_read_log, is_help, no_memory, writing_failed}
+use Rattle.hidlog.specs.Program.{Ended, IsGiven, IsWhole, SaysMore, Settles, cannot_read_log, is_help, no_memory}
 use Rattle.hidlog.specs.Saved.{FailsToOpen, FailsToSave, Opens, Saves}
 
 -- The path to save at that is looked at before the log is read: that of `live`, whose log may take long to come.
@@ -28,10 +29,13 @@ abbrev pub or_input : List (List ℕ) → List (List ℕ)
 or_input [] = codes "-" ∷ []
 or_input (log ∷ logs) = log ∷ logs
 
--- The log was shown in a form. Line by line it was shown by texts that begin with the lines' numbers, and no more was read
--- than it takes to find a fault. Without a fault all of it was read, and no read and no write failed. A pair is a source or
+-- The log was shown in a form. Line by line it was shown by texts that begin with the lines' numbers, and no more was
+-- read
+-- than it takes to find a fault. Without a fault all of it was read, and no read and no write failed. A pair is a
+-- source or
 -- a target before and after.
-abbrev pub ShowsIn : {I O : Type 0} → Form → Wording → (left : I → Option (List ℕ)) → (unread : I → ℕ) → (ended : I → Bool)
+abbrev pub ShowsIn : {I O : Type 0} → Form → Wording → (left : I → Option (List ℕ)) → (unread : I → ℕ) →
+    (ended : I → Bool)
     → (taken : O → Option (List ℕ)) → (unput : O → ℕ) → Ended → (I × I) → (O × O) → Type 0
 ShowsIn Lines wording left unread ended taken unput answer input output =
     Shows (IsLineText wording) (left input.0, left input.1) (taken output.0, taken output.1) (ending_of answer)
@@ -61,7 +65,8 @@ module _ {D I O F : Type 0} (model : Model D I O F) where
       ((new ≡ old) × FailsToOpen model.holds model.unreadable old.files path came)
       ⊎ ((rows : List Row) × Opens model.holds old.files path rows × Goes (start_with rows))
 
-  -- The log was played on the start, and what was held back of its text was written out. Then, where nothing failed, the
+  -- The log was played on the start, and what was held back of its text was written out. Then, where nothing failed,
+  -- the
   -- credentials were saved at the path, if there is one.
   abbrev pub RunsOn : LogCommand → Option (List ℕ) → Came → (old new : Host D I O F) → Start → Type 0
   RunsOn command save came old new start =
@@ -94,10 +99,12 @@ module _ {D I O F : Type 0} (model : Model D I O F) where
   abbrev pub Reports : (explained : Bool) → Came → Status → (old new : Host D I O F) → Type 0
   Reports explained (Ok x) status old new = (status ≡ Ok tt) × (new ≡ old)
   Reports explained (Err told) status old new =
-      (new ≡ record old { faults = new.faults }) × Tells explained model.said model.unsaid told status (old.faults, new.faults)
+      (new ≡ record old { faults = new.faults }) × Tells explained model.said model.unsaid told status
+      (old.faults, new.faults)
 
   -- A command played a log, and what that came to was reported.
-  abbrev pub DoesCommand : LogCommand → (load save log : Option (List ℕ)) → (explained : Bool) → Status → (old new : Host D I O F)
+  abbrev pub DoesCommand : LogCommand → (load save log : Option (List ℕ)) → (explained : Bool) → Status →
+      (old new : Host D I O F)
       → Type 0
   DoesCommand command load save log explained status old new = (came : Came) × (played : Host D I O F)
       × RunsCommand command load save log came old played × Reports explained came status played new
@@ -109,15 +116,18 @@ module _ {D I O F : Type 0} (model : Model D I O F) where
 
   -- What is asked for is done. Several logs are compared each, and so are those that JSON is asked of.
   abbrev pub Does : Ask → Wording → (explained : Bool) → Status → (old new : Host D I O F) → Type 0
-  Does (play command load save log) wording explained status old new = DoesCommand command load save log explained status old new
+  Does (play command load save log) wording explained status old new =
+      DoesCommand command load save log explained status old new
   Does (check load all true logs) wording explained status old new = Compares load (or_input logs) status old new
-  Does (check load all false []) wording explained status old new = DoesCommand Check load None None explained status old new
+  Does (check load all false []) wording explained status old new =
+      DoesCommand Check load None None explained status old new
   Does (check load all false (log ∷ [])) wording explained status old new =
       DoesCommand Check load None (Some log) explained status old new
   Does (check load all false (log ∷ next ∷ logs)) wording explained status old new =
       Compares load (log ∷ next ∷ logs) status old new
   Does (show form wide log) wording explained status old new = (came : Came) × (shown : Host D I O F)
-      × Reads log (λ read. ShowsLog form wording came read shown) came old shown × Reports explained came status shown new
+      × Reads log (λ read. ShowsLog form wording came read shown) came old shown
+      × Reports explained came status shown new
 
   -- Memory was refused, and that was written.
   abbrev pub LacksMemory : Status → (old new : Host D I O F) → Type 0
@@ -143,13 +153,15 @@ module _ {D I O F : Type 0} (model : Model D I O F) where
   Explains kind status old new = LacksMemory status old new
       ⊎ ((kind ≢ OutOfMemory) × MatchBool (is_help kind) (Helps status old new) (Refuses status old new))
 
-  -- What words ask for is done, or memory was refused. Where they ask for nothing, clap's answer is returned. Except for
+  -- What words ask for is done, or memory was refused. Where they ask for nothing, clap's answer is returned. Except
+  -- for
   -- what was asked for, the files and the log are left as they are. Texts are for people where that is asked for, or
   -- where they go to a terminal.
   abbrev pub Answers : List (List ℕ) → Status → (old new : Host D I O F) → Type 0
   Answers words status old new = MatchOption (asked_by words)
       ((kind : ErrorKind) × IsAmong kind (OutOfMemory ∷ answers_to words) × Explains kind status old new)
-      (λ asked. Does asked.0 (wording_for (explains asked.1 old.terminals.output)) (explains asked.1 old.terminals.faults)
+      (λ asked. Does asked.0 (wording_for (explains asked.1 old.terminals.output))
+      (explains asked.1 old.terminals.faults)
       status old new
       ⊎ LacksMemory status old new)
 

@@ -2,7 +2,8 @@
 use Rattle.std.specs.Prelude.{◌≡◌, ℕ, Bool, List, [], Option, Result, Ok, Err}
 use Rattle.session_log.specs.Command.{Status}
 use Rattle.hidlog.specs.declared.fault.ProgramFault.{ProgramFault}
-use Rattle.hidlog.specs.declared.fault.ProgramFault.TheVariants.{Memory, Log, UnreadLog, UnreadSnapshot, RefusedSnapshot, UnsavedSnapshot}
+use Rattle.hidlog.specs.declared.fault.ProgramFault.TheVariants.{Memory, Log, UnreadLog, UnreadSnapshot}
+use Rattle.hidlog.specs.declared.fault.ProgramFault.TheVariants.{RefusedSnapshot, UnsavedSnapshot}
 use Rattle.hidlog.specs.Program.{Ended, IsGiven, IsTold, cannot_read, cannot_read_log, cannot_write, no_memory, refused}
 
 -- the exit status
@@ -20,7 +21,8 @@ text_of (UnreadSnapshot path error) = cannot_read
 text_of (RefusedSnapshot path fault bytes) = refused fault
 text_of (UnsavedSnapshot path unwritten) = cannot_write
 
--- What is told of a fault: the log's own text; or a text alone; or a text and then, where faults are explained, a reason.
+-- What is told of a fault: the log's own text; or a text alone; or a text and then, where faults are explained, a
+-- reason.
 pub data FaultText : Type 0 where
   of_log : FaultText
   alone : (code : ℕ) (text : List ℕ) → FaultText
@@ -48,7 +50,8 @@ came_from (Ok x) = Ok tt
 came_from (Err fault) = Err of_log
 
 -- A fault was told, and nothing else. The exit status is its own. A pair is a target before and after the call.
-abbrev pub Tells : {F : Type 0} → (explained : Bool) → (F → Option (List ℕ)) → (F → ℕ) → FaultText → Status → (F × F) → Type 0
+abbrev pub Tells : {F : Type 0} → (explained : Bool) → (F → Option (List ℕ)) → (F → ℕ) → FaultText → Status → (F × F) →
+    Type 0
 Tells explained said unsaid of_log status faults = status ≡ Err 1
 Tells explained said unsaid (alone code text) status faults = (status ≡ Err code) × IsGiven said unsaid faults text
 Tells explained said unsaid (reasoned code text) status faults =

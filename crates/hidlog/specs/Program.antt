@@ -1,6 +1,6 @@
 -- What the program answers, and what it writes. A pair is a source or a target before and after the call.
-use Rattle.std.specs.Prelude.{◌≡◌, ◌⊎◌, ◌<◌, ◌+◌, ◌-◌, ◌^◌, ℕ, Bool, true, false, List, [], ◌∷◌, ◌++◌, length, Option, Result, Err, codes}
-use Rattle.std.specs.{Bool.MatchBool, Io.KnownBytes.Keeps}
+use Rattle.std.specs.Prelude.{◌≡◌, ◌⊎◌, ◌<◌, ◌+◌, ◌-◌, ◌^◌, ℕ, Bool, true, false, List, [], ◌∷◌, ◌++◌, length, Option}
+use Rattle.std.specs.{Prelude.Result, Prelude.Err, Prelude.codes, Bool.MatchBool, Io.KnownBytes.Keeps}
 use Rattle.clap.specs.declared.error.kind.ErrorKind.{ErrorKind, TheVariants.DisplayHelp, TheVariants.DisplayVersion}
 use Rattle.cred_table.specs.declared.fault.SnapshotFault.{SnapshotFault}
 use Rattle.cred_table.specs.declared.fault.SnapshotFault.TheVariants.{NotSnapshot, TooMany, RowBroken, Memory}
@@ -28,7 +28,8 @@ SaysMore taken failed target = ((taken target.1 ≡ taken target.0) × (failed t
     ⊎ ((more : List ℕ) × IsGiven taken failed target more)
 
 -- all of a source was read, and no call of it or of a target failed
-abbrev pub IsWhole : {I O : Type 0} → (I → Option (List ℕ)) → (I → Bool) → (I → ℕ) → (O → ℕ) → (I × I) → (O × O) → Type 0
+abbrev pub IsWhole : {I O : Type 0} → (I → Option (List ℕ)) → (I → Bool) → (I → ℕ) → (O → ℕ) → (I × I) → (O × O) →
+    Type 0
 IsWhole left ended unread unput input output = IsAllRead left ended input.1
     × (unread input.1 ≡ unread input.0) × (unput output.1 ≡ unput output.0)
 
@@ -38,9 +39,11 @@ Ended = Result (Unit {0}) LogFault
 
 -- After this answer all that a target held back was handed on, and the answer is the same; or that failed, and so it is
 -- that of a write that failed. After a write that failed, or as many as can be counted, nothing is handed on.
-abbrev pub Settles : {O : Type 0} → (O → Option (List ℕ)) → (O → ℕ) → (waits : O → List ℕ) → Ended → (O × O) → Ended → Type 0
+abbrev pub Settles : {O : Type 0} → (O → Option (List ℕ)) → (O → ℕ) → (waits : O → List ℕ) → Ended → (O × O) → Ended →
+    Type 0
 Settles taken failed waits answer output ended =
-    ((ended ≡ answer) × Keeps (taken output.0) (taken output.1) × (failed output.1 ≡ failed output.0) × (waits output.1 ≡ []))
+    ((ended ≡ answer) × Keeps (taken output.0) (taken output.1) × (failed output.1 ≡ failed output.0)
+    × (waits output.1 ≡ []))
     ⊎ ((ended ≡ Err Write) × Keeps (taken output.0) (taken output.1) × (failed output.1 ≡ failed output.0 + 1)
     × (0 < length (waits output.1)))
     ⊎ (((answer ≡ Err Write) ⊎ (failed output.0 ≡ 2 ^ 64 - 1)) × (ended ≡ Err Write) × (output.1 ≡ output.0))

@@ -17,7 +17,8 @@ module _ {D I O F : Type 0} (model : Model D I O F) where
   -- The log at the path is, read from its front; or that on standard input.
   abbrev pub IsSameAt : Option (List ℕ) → D → (log : List ℕ) → (I × I) → Type 0
   IsSameAt load files log input = (start : I)
-      × MatchOption (named (Some log)) (Unit {0}) (λ path. model.opened input.0 path start) × IsSame load files (start, input.1)
+      × MatchOption (named (Some log)) (Unit {0}) (λ path. model.opened input.0 path start)
+      × IsSame load files (start, input.1)
 
   -- Each of these logs is, one after the other.
   abbrev pub AreSame : Option (List ℕ) → D → (logs : List (List ℕ)) → (I × I) → Type 0

@@ -1,6 +1,7 @@
 -- A device after lines were played on it, and after a snapshot of it was written.
-use Rattle.std.proofs.Common.{◌≡◌, ◌≤◌, ◌++◌, ℕ, ℤ, pos, List, [], length, take, drop, Some, Result, Ok, Err, to_z, w32, refl, arith, sym, ap, ◌∙◌, append_assoc, length-append, length-drop, length-take-le, take-append-drop}
-use Rattle.std.proofs.lemmas.{Int.to_z_pos, List.drop-append-le}
+use Rattle.std.proofs.Common.{◌≡◌, ◌≤◌, ◌++◌, ℕ, ℤ, pos, List, [], length, take, drop, Some, Result, Ok, Err, to_z, w32}
+use Rattle.std.proofs.Common.{refl, arith, sym, ap, ◌∙◌, append_assoc, length-append, length-drop, length-take-le}
+use Rattle.std.proofs.{Common.take-append-drop, lemmas.Int.to_z_pos, lemmas.List.drop-append-le}
 use Rattle.session_log.specs.declared.fault.LogFault.{LogFault}
 use Rattle.token_session.specs.Meters.{SessionState}
 use Rattle.hidlog_c.specs.{declared.outcome.CallOutcome.CallOutcome, Changed.SavesLen, Key.DeviceState}

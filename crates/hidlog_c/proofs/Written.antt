@@ -1,8 +1,10 @@
 -- What a call that plays a log over a slice into a lent buffer did.
-use Rattle.std.proofs.Common.{◌≡◌, ◌+◌, ◌<◌, ◌≤◌, ℕ, Bool, true, false, List, [], ◌∷◌, ◌++◌, length, take, drop, Option, Some, Result, Ok, Err, OnOk, inl, inr, if◌then◌else◌, ap, ◌∙◌, sym, refl, subst, arith}
+use Rattle.std.proofs.Common.{◌≡◌, ◌+◌, ◌<◌, ◌≤◌, ℕ, Bool, true, false, List, [], ◌∷◌, ◌++◌, length, take, drop, Option}
+use Rattle.std.proofs.Common.{Some, Result, Ok, Err, OnOk, inl, inr, if◌then◌else◌, ap, ◌∙◌, sym, refl, subst, arith}
 use Rattle.std.proofs.lemmas.List.{append_cancel_right}
-use Rattle.session_log.specs.declared.{fault.LogFault.LogFault, command.LogCommand.LogCommand, source.SliceIn.SliceIn}
-use Rattle.session_log.specs.declared.fault.LogFault.TheVariants.{BadLine, TooLong, Differs, Read, Write, TooManyLines, Memory}
+use Rattle.session_log.specs.declared.fault.LogFault.{LogFault, TheVariants.Memory}
+use Rattle.session_log.specs.declared.{command.LogCommand.LogCommand, source.SliceIn.SliceIn}
+use Rattle.session_log.specs.declared.fault.LogFault.TheVariants.{BadLine, TooLong, Differs, Read, Write, TooManyLines}
 use Rattle.session_log.specs.Ending.{Ending, Done, Refused, Unread, Unwritten, ending_of, read_fails, write_fails}
 use Rattle.session_log.specs.Replay.{Finds, IsShown, Makes, Reaches, ReadsTo}
 use Rattle.cred_table.specs.declared.row.Row.{Row}

@@ -1,11 +1,12 @@
 -- Credentials of a key that are put in and taken out, and the snapshot of all.
-use Rattle.std.specs.Prelude.{◌≡◌, ◌≢◌, ◌⊎◌, ◌<◌, ◌≤◌, ℕ, ℤ, pos, true, List, [], ◌∷◌, ◌++◌, length, take, Option, Some, None, is_some}
-use Rattle.std.specs.{List.find, Str.IsUtf8}
+use Rattle.std.specs.Prelude.{◌≡◌, ◌≢◌, ◌⊎◌, ◌<◌, ◌≤◌, ℕ, ℤ, pos, true, List, [], ◌∷◌, ◌++◌, length, take, Option, Some}
+use Rattle.std.specs.{Prelude.None, Prelude.is_some, List.find, Str.IsUtf8}
 use Rattle.authn_core.specs.Views.{needs, nothing}
 use Rattle.cred_table.specs.{declared.row.Row.Row, Snapshots.clashes, Rows.has_id, Rows.without}
 use Rattle.cred_table.specs.Saving.{SavesInto, longest}
 use Rattle.hidlog_c.specs.declared.{capacity.TheConstants.CAPACITY, reports.Credential.Credential}
-use Rattle.hidlog_c.specs.declared.fault.TheConstants.{NOT_MADE, PACKETS_WAIT, BAD_ARGUMENT, TOO_SMALL, WORK_WAITS, CLASHES, TOO_MANY_ROWS}
+use Rattle.hidlog_c.specs.declared.fault.TheConstants.{NOT_MADE, PACKETS_WAIT, BAD_ARGUMENT, TOO_SMALL, WORK_WAITS}
+use Rattle.hidlog_c.specs.declared.fault.TheConstants.{CLASHES, TOO_MANY_ROWS}
 use Rattle.hidlog_c.specs.{Key.DeviceState, Reports.bit, Switched.IsStarted}
 
 -- These are the rows of the device's table.

@@ -41,7 +41,8 @@ PlaysOn d [] after log out outcome result = (t : SessionState) × (after ≡ Som
 PlaysOn d (packet ∷ more) after log out outcome result =
     (after ≡ Some d) × (out.1 ≡ out.0) × (outcome.1 ≡ outcome.0) × (result ≡ PACKETS_WAIT)
 
-abbrev pub TakesLines : (before after : Option DeviceState) → (log : List ℕ) → (List ℕ × List ℕ) → (CallOutcome × CallOutcome)
+abbrev pub TakesLines : (before after : Option DeviceState) → (log : List ℕ) → (List ℕ × List ℕ) →
+    (CallOutcome × CallOutcome)
     → ℤ → Type 0
 TakesLines None after log out outcome result =
     (after ≡ None) × (out.1 ≡ out.0) × (outcome.1 ≡ outcome.0) × (result ≡ NOT_MADE)

@@ -1,8 +1,9 @@
 -- The outcome of a command in numbers.
 use Rattle.std.specs.Prelude.{ℕ, Result, Ok, Err}
 use Rattle.cred_table.specs.{declared.fault.SnapshotFault.SnapshotFault, Numbers.refusal_number}
-use Rattle.session_log.specs.{declared.fault.LogFault.LogFault, Numbers.fault_number}
-use Rattle.session_log.specs.declared.fault.LogFault.TheVariants.{BadLine, TooLong, Differs, Read, Write, TooManyLines, Memory}
+use Rattle.session_log.specs.declared.fault.LogFault.{LogFault, TheVariants.Memory}
+use Rattle.session_log.specs.Numbers.{fault_number}
+use Rattle.session_log.specs.declared.fault.LogFault.TheVariants.{BadLine, TooLong, Differs, Read, Write, TooManyLines}
 use Rattle.hidlog_c.specs.declared.outcome.CallOutcome.{CallOutcome}
 
 -- the line that a fault names, and the packet; 0 where it names none

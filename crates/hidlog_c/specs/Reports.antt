@@ -1,5 +1,6 @@
 -- What a key reports to C.
-use Rattle.std.specs.Prelude.{◌≡◌, ◌<◌, ◌≤◌, ℕ, ℤ, pos, ◌-◌, List, ◌++◌, length, replicate, Bool, true, false, Option, Some, None, slice_index_or}
+use Rattle.std.specs.Prelude.{◌≡◌, ◌<◌, ◌≤◌, ℕ, ℤ, pos, ◌-◌, List, ◌++◌, length, replicate, Bool, true, false, Option}
+use Rattle.std.specs.Prelude.{Some, None, slice_index_or}
 use Rattle.authn_core.specs.Views.{Needed, needs, nothing, presence, key, sign}
 use Rattle.cred_table.specs.{declared.row.Row.Row, Waiting.pending_count}
 use Rattle.token_session.specs.declared.input.Meters.{Meters}

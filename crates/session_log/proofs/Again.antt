@@ -1,5 +1,7 @@
 -- A log that is played again gives the same bytes.
-use Rattle.std.proofs.Common.{◌≡◌, ℕ, suc, ◌+◌, ◌≤◌, ◌<◌, ◌^◌, true, List, [], ◌∷◌, ◌++◌, length, map, flat_map, codes, decimal, Option, Some, None, Ok, IsOk, refl, sym, ap, ◌∙◌, arith, append_assoc, append-nil, length-append, Bool, false, cond, subst}
+use Rattle.std.proofs.Common.{◌≡◌, ℕ, suc, ◌+◌, ◌≤◌, ◌<◌, ◌^◌, true, List, [], ◌∷◌, ◌++◌, length, map, flat_map, codes}
+use Rattle.std.proofs.Common.{decimal, Option, Some, None, Ok, IsOk, refl, sym, ap, ◌∙◌, arith, append_assoc}
+use Rattle.std.proofs.Common.{append-nil, length-append, Bool, false, cond, subst}
 use Rattle.std.proofs.lemmas.{Fmt.length-decimal-le, Grind.flat_map-append, List.length-map}
 use Rattle.hex.specs.Hex.{decode_sized, encode_lower}
 use Rattle.hex.proofs.HexLemmas.{decode_sized-encode_lower, length-encode_with, IsOk-decode_sized}
@@ -11,7 +13,8 @@ use Rattle.session_log.specs.Log.{Played, prefixed, played, playing, log_of, log
 use Rattle.session_log.specs.{Sent.SendsPackets, Sent.AllSend, Sent.FitsMeters, Needs.need_lines, Needs.is_need_line}
 use Rattle.session_log.specs.Text.{IsPacket, ArePackets, ended, sent_text, meters_line}
 use Rattle.session_log.specs.World.{World, Course, replaying, living}
-use Rattle.session_log.proofs.Feeds.{feedless, AreLines, feedless-append, AreLines-append, lines_joined, lines_are_lines, decimal_feedless, hex_feedless, IsSound, sound_line, sound_first}
+use Rattle.session_log.proofs.Feeds.{feedless, AreLines, feedless-append, AreLines-append, lines_joined}
+use Rattle.session_log.proofs.Feeds.{lines_are_lines, decimal_feedless, hex_feedless, IsSound, sound_line, sound_first}
 use Rattle.session_log.proofs.Spelled.{count_rest, spelled_is_read}
 use Rattle.session_log.proofs.Through.{played_sound, prefixed_twice, said_fault, log_is}
 use Rattle.authn_core.specs.Views.{Needed}

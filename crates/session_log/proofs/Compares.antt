@@ -1,12 +1,13 @@
 -- Where a comparison stands, and what the packet decides that is due next.
-use Rattle.std.proofs.Common.{◌<◌, ◌-◌, ◌^◌, ◌==◌, Bool, cond, not, ◌≡◌, ◌⊎◌, ◌≤◌, ℕ, ◌+◌, List, Option, Some, None, true, false, is_some, inl, inr, refl, ap, sym, ◌∙◌, arith}
+use Rattle.std.proofs.Common.{◌<◌, ◌-◌, ◌^◌, ◌==◌, Bool, cond, not, ◌≡◌, ◌⊎◌, ◌≤◌, ℕ, ◌+◌, List, Option, Some, None}
+use Rattle.std.proofs.Common.{true, false, is_some, inl, inr, refl, ap, sym, ◌∙◌, arith}
 use Rattle.std.specs.{Cmp.Lexicographic.pointwise, Option.option_eq}
 use Rattle.hid_packet.specs.declared.packet.Packet.{Packet}
 use Rattle.token_session.specs.Meters.{SessionState}
-use Rattle.session_log.specs.Check.{Compared, after_first, differs_from, compared, due_packets, missing_of, moves_compared, stops_compared}
+use Rattle.session_log.specs.Check.{Compared, after_first, differs_from, compared, due_packets, missing_of}
+use Rattle.session_log.specs.{Check.moves_compared, Check.stops_compared, Session.sessions}
 use Rattle.session_log.specs.declared.{checking.Checking.Checking, fault.LogFault.LogFault, line.Line.Line}
 use Rattle.session_log.specs.declared.line.Line.TheVariants.{Comment, Count}
-use Rattle.session_log.specs.Session.{sessions}
 
 abbrev pub standing : Checking → SessionState → Compared SessionState
 standing o s = compared s o.lines o.input o.found (due_packets o.awaited o.outbox) o.inputs o.packets

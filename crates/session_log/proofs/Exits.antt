@@ -1,17 +1,18 @@
 -- Each way in which the playing of lines ends.
-use Rattle.std.proofs.Common.{◌≡◌, ℕ, ◌+◌, ◌<◌, ◌^◌, cond, is_none, List, [], ◌∷◌, ◌++◌, length, Option, Some, None, Result, Ok, Err, refl, ap, ◌∙◌, take, drop, arith, append_assoc, take-append-drop}
+use Rattle.std.proofs.Common.{◌≡◌, ℕ, ◌+◌, ◌<◌, ◌^◌, cond, is_none, List, [], ◌∷◌, ◌++◌, length, Option, Some, None}
+use Rattle.std.proofs.Common.{Result, Ok, Err, refl, ap, ◌∙◌, take, drop, arith, append_assoc, take-append-drop}
 use Rattle.std.specs.Io.KnownBytes.{Consumes, Appends, Keeps}
 use Rattle.std.proofs.KnownBytes.{Appends-trans, Appends-kept, Consumes-trans}
-use Rattle.session_log.specs.declared.{fault.LogFault.LogFault}
+use Rattle.session_log.specs.{declared.fault.LogFault.LogFault, Said.said, World.World, Lines.lines}
 use Rattle.session_log.specs.declared.fault.LogFault.TheVariants.{TooLong, Read, Write, TooManyLines}
-use Rattle.session_log.specs.Ending.{ended_by, ending_of}
-use Rattle.session_log.specs.{Said.said, World.World, Lines.lines, Sent.AllSend, Sent.SendsPackets}
+use Rattle.session_log.specs.{Ending.ended_by, Ending.ending_of, Sent.AllSend, Sent.SendsPackets}
 use Rattle.session_log.specs.Log.{text_of, last_text, after, fault_by}
 use Rattle.session_log.specs.Streams.{Moves, IsTaken, IsBroken}
-use Rattle.session_log.specs.Window.{HasLine, IsUnfinished, Stops}
+use Rattle.session_log.{specs.Window.HasLine, specs.Window.IsUnfinished, specs.Window.Stops, proofs.Gathering.in_count}
 use Rattle.session_log.specs.Replay.{IsRefused, IsUnwritten, IsPlayed, IsDone, Plays, PlaysLine}
-use Rattle.session_log.proofs.{Cutting.last_line, Cutting.line_in_front, Cutting.short_front, Cutting.some_line, Gathering.in_count}
-use Rattle.session_log.proofs.Through.{Through, first_is_last, through_line, refused, unread, unwritten, unwritten_end, played_last, said_fault, too_long, too_many}
+use Rattle.session_log.proofs.Cutting.{last_line, line_in_front, short_front, some_line}
+use Rattle.session_log.proofs.Through.{Through, first_is_last, through_line, refused, unread, unwritten, unwritten_end}
+use Rattle.session_log.proofs.Through.{played_last, said_fault, too_long, too_many}
 
 -- more was read into the window
 pub read_on : (a b c : Option (List ℕ)) (read w w' : List ℕ) → Consumes a b (read ++ w)

@@ -1,12 +1,13 @@
 -- Lines with no line feed in them: what they are joined to is cut into them again.
-use Rattle.std.proofs.Common.{◌≡◌, ℕ, suc, ◌<◌, ◌^◌, ◌==◌, Bool, true, false, cond, List, [], ◌∷◌, ◌++◌, length, decimal, flat_map, refl, ap, ◌∙◌, arith, append_assoc, append-nil, ◌≢◌, None}
+use Rattle.std.proofs.Common.{◌≡◌, ℕ, suc, ◌<◌, ◌^◌, ◌==◌, Bool, true, false, cond, List, [], ◌∷◌, ◌++◌, length}
+use Rattle.std.proofs.Common.{decimal, flat_map, refl, ap, ◌∙◌, arith, append_assoc, append-nil, ◌≢◌, None}
 use Rattle.std.proofs.lemmas.{Fmt.decimal_is_IsNumeral, Bool.ne_eqb}
 use Rattle.std.proofs.lemmas.List.Splits.{slice_split-cons_yes, slice_split-cons_no}
 use Rattle.std.specs.{Char.digit_value, Str.Parse.AllDigits, List.AllPass, List.onto_first}
 use Rattle.hex.specs.Hex.{is_hex_digit}
 use Rattle.session_log.proofs.{Cases.no_some, Through.played_faulty, Cutting.pieces_some, Cutting.lines_beyond}
-use Rattle.session_log.specs.{Lines.is_feed, Lines.pieces, Lines.lines_of_pieces, Lines.lines, Log.played, Log.fault_at}
-use Rattle.session_log.specs.{Text.ended, Said.said, World.World}
+use Rattle.session_log.specs.Lines.{is_feed, pieces, lines_of_pieces, lines}
+use Rattle.session_log.specs.{Log.played, Log.fault_at, Text.ended, Said.said, World.World}
 
 abbrev pub feedless : List ℕ → Bool
 feedless [] = true

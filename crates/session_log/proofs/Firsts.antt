@@ -1,7 +1,6 @@
 -- The first place of a byte is the position that a definition names.
-use Rattle.std.proofs.Common.{◌≡◌, ◌==◌, ℕ, Bool, true, false, ltb, cond, List, Option, Some, None, length, position, arith}
-use Rattle.std.specs.List.{position_or_len}
-use Rattle.std.proofs.lemmas.List.Sums.{position_or_len_is}
+use Rattle.std.proofs.Common.{◌≡◌, ◌==◌, ℕ, Bool, true, false, ltb, cond, List, Option, Some, None, length, position}
+use Rattle.std.{proofs.Common.arith, proofs.lemmas.List.Sums.position_or_len_is, specs.List.position_or_len}
 use Rattle.memchr.specs.Find.{IsFirstByte, is_byte}
 
 falsely : (b : Bool) → (b ≡ true → ⊥) → b ≡ false

@@ -1,14 +1,14 @@
 -- What a log that was compared has.
-use Rattle.std.proofs.Common.{◌≡◌, ℕ, suc, ◌+◌, List, [], ◌∷◌, ◌++◌, length, sum_by, Option, Some, None, refl, sym, ap, ◌∙◌, subst, arith}
+use Rattle.std.proofs.Common.{◌≡◌, ℕ, suc, ◌+◌, List, [], ◌∷◌, ◌++◌, length, sum_by, Option, Some, None, refl, sym, ap}
+use Rattle.std.proofs.{Common.◌∙◌, Common.subst, Common.arith, lemmas.List.Sums.sum_by-cons}
 use Rattle.std.specs.Cmp.Lexicographic.{same_text, other_text}
-use Rattle.std.proofs.lemmas.List.Sums.{sum_by-cons}
 use Rattle.token_session.specs.declared.input.Timed.{Timed}
-use Rattle.session_log.proofs.{Cases.no_some, Feeds.sound_first}
+use Rattle.session_log.{proofs.Cases.no_some, proofs.Feeds.sound_first, specs.Inputs.inputs, specs.Inputs.inputs_by}
 use Rattle.session_log.specs.declared.fault.LogFault.{LogFault, TheVariants.Differs}
 use Rattle.session_log.specs.declared.line.Line.{Line, TheVariants.Input, TheVariants.Sent}
 use Rattle.session_log.specs.Check.{Compared, begun, difference, missing_of, differs_from, after_first, checking}
-use Rattle.session_log.specs.Groups.{Groups, with_first, grouped, found_groups, sent_groups, number_by, input_lines, DifferFirst, IsFirstDifference}
-use Rattle.session_log.specs.{Inputs.inputs, Inputs.inputs_by, Said.said, World.Course, World.World}
+use Rattle.session_log.specs.Groups.{Groups, with_first, grouped, found_groups, sent_groups, number_by, input_lines}
+use Rattle.session_log.specs.{Groups.DifferFirst, Groups.IsFirstDifference, Said.said, World.Course, World.World}
 use Rattle.session_log.specs.Log.{played, first_fault, fault_of, fault_by, fault_at, after, after_by}
 use Rattle.session_log.proofs.Through.{played_sound, played_faulty, first_is_line}
 

@@ -5,15 +5,14 @@ use Rattle.token_session.specs.declared.input.{Timed.Timed, Meters.Meters}
 use Rattle.token_session.specs.{History.judged, Law.named, Meters.SessionState, Meters.StandsAfter, Meters.session_of}
 use Rattle.token_session.proofs.Metering.{stands_longer, machine_after}
 use Rattle.token_session.proofs.{Noise.noise_is_named, Follows.step_sends}
-use Rattle.session_log.specs.declared.{fault.LogFault.LogFault, line.Line.Line}
-use Rattle.session_log.specs.Command.{PlaysLog, PlaysThrough}
+use Rattle.session_log.{specs.declared.fault.LogFault.LogFault, specs.declared.line.Line.Line, proofs.Whole.there}
+use Rattle.session_log.specs.{Command.PlaysLog, Command.PlaysThrough, Ending.Ending, Ending.ending_of}
 use Rattle.session_log.specs.declared.command.LogCommand.TheVariants.{Check, Quiet}
-use Rattle.session_log.specs.Check.{Compared, compared, begun, missing, stops_compared, moves_compared, check_machine, check_history}
-use Rattle.session_log.specs.{Ending.Ending, Ending.ending_of, Streams.Moves, Text.ended}
+use Rattle.session_log.specs.Check.{Compared, compared, begun, missing, stops_compared, moves_compared, check_machine}
+use Rattle.session_log.specs.{Check.check_history, Streams.Moves, Text.ended, World.World, World.writes_again}
 use Rattle.session_log.specs.Replay.{Logs, Makes, Plays, ReadsTo, Writes}
-use Rattle.session_log.specs.Session.{sessions, histories, machine, history, quiet_machine, quiet_history, live_machine, live_history, session_needs, history_needs}
-use Rattle.session_log.specs.World.{World, writes_again}
-use Rattle.session_log.proofs.Whole.{there}
+use Rattle.session_log.specs.Session.{sessions, histories, machine, history, quiet_machine, quiet_history, live_machine}
+use Rattle.session_log.specs.Session.{live_history, session_needs, history_needs}
 use Rattle.session_log.proofs.Worlds.{Follows, makes_alike, logs_alike, plays_alike, reads_alike}
 
 module _ (start : Start) where

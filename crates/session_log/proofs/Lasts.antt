@@ -1,6 +1,7 @@
 -- How far was read where a line is faulty.
-use Rattle.std.proofs.Common.{◌≡◌, ℕ, suc, ◌+◌, ◌≤◌, ◌^◌, List, [], ◌∷◌, ◌++◌, length, take, drop, Option, Some, Result, Ok, Err, inl, inr, IfErr, refl, sym, ap, ◌∙◌, arith, append-nil, length-append, take-append-drop}
-use Rattle.std.specs.Io.KnownBytes.{Consumes}
+use Rattle.std.proofs.Common.{◌≡◌, ℕ, suc, ◌+◌, ◌≤◌, ◌^◌, List, [], ◌∷◌, ◌++◌, length, take, drop, Option, Some, Result}
+use Rattle.std.proofs.Common.{Ok, Err, inl, inr, IfErr, refl, sym, ap, ◌∙◌, arith, append-nil, length-append}
+use Rattle.std.{proofs.Common.take-append-drop, specs.Io.KnownBytes.Consumes}
 use Rattle.session_log.specs.{declared.fault.LogFault.LogFault, World.World, Log.fault_at, Window.HasLine, Window.Stops}
 use Rattle.session_log.specs.declared.fault.LogFault.TheVariants.{TooLong, Read, Write, TooManyLines, Memory}
 use Rattle.session_log.specs.Ending.{ended_by, ending_of}

@@ -1,10 +1,10 @@
 -- What a player makes of one line, and of the end of the lines.
-use Rattle.std.proofs.Common.{◌≡◌, ◌≤◌, ◌<◌, ℕ, [], ◌∷◌, length, length-append, List, Option, None, Some, IfErr, OnOk, Result, Ok, Err, inl, inr, ◌⊎◌, refl, sym, ap, ◌∙◌, subst, arith}
+use Rattle.std.proofs.Common.{◌≡◌, ◌≤◌, ◌<◌, ℕ, [], ◌∷◌, length, length-append, List, Option, None, Some, IfErr, OnOk}
+use Rattle.std.proofs.Common.{Result, Ok, Err, inl, inr, ◌⊎◌, refl, sym, ap, ◌∙◌, subst, arith}
 use Rattle.std.proofs.KnownBytes.{Appends-nil, Keeps-refl}
 use Rattle.hid_packet.specs.declared.packet.Packet.{Packet}
-use Rattle.session_log.specs.declared.{fault.LogFault.LogFault, line.Line.Line}
-use Rattle.session_log.specs.declared.line.Line.TheVariants.{Sent, Count}
-use Rattle.session_log.specs.declared.fault.LogFault.TheVariants.{Differs}
+use Rattle.session_log.specs.declared.fault.LogFault.{LogFault, TheVariants.Differs}
+use Rattle.session_log.specs.declared.line.Line.{Line, TheVariants.Sent, TheVariants.Count}
 use Rattle.session_log.specs.{Ending.ending_of, Log.fault_by, Said.said, Streams.PutsLine, Text.ended, World.World}
 use Rattle.session_log.specs.Replay.{Closes, IsOfEnd, IsOfLine, PlaysLine}
 use Rattle.session_log.proofs.Failures.{on_any}
@@ -44,7 +44,8 @@ module _ {S F : Type 0} (world : World S) (taken : F → Option (List ℕ)) (fai
       record { played = search arith; own = (written_at taken failed target text r n put).0; next = on_any r next }
 
   -- nothing is written for it
-  pub writes_none : {X : Type 0} (n : ℕ) (s t : S) (line : List ℕ) (l : Line) (w : F) → said line ≡ Some l → world.stops s l ≡ None
+  pub writes_none : {X : Type 0} (n : ℕ) (s t : S) (line : List ℕ) (l : Line) (w : F) → said line ≡ Some l →
+      world.stops s l ≡ None
       → t ≡ world.moves s l → world.sound s l → [] ≡ world.writes s line l → X
       → Played X n s t line (w, w) quietly
   writes_none n s t line l w is sound stood packets same next =
@@ -63,7 +64,8 @@ module _ {S F : Type 0} (world : World S) (taken : F → Option (List ℕ)) (fai
   IsDropped s line l =
       (world.stops s l ≡ None) × (s ≡ world.moves s l) × world.sound s l × ([] ≡ world.writes s line l)
 
-  pub drops : {X : Type 0} (n : ℕ) (s : S) (line : List ℕ) (l : Line) (w : F) → ((x : Packet) × (l ≡ Sent x)) ⊎ (l ≡ Count)
+  pub drops : {X : Type 0} (n : ℕ) (s : S) (line : List ℕ) (l : Line) (w : F) →
+      ((x : Packet) × (l ≡ Sent x)) ⊎ (l ≡ Count)
       → said line ≡ Some l → ((x : Packet) → IsDropped s line (Sent x)) → IsDropped s line Count → X
       → Played X n s s line (w, w) quietly
   drops n s line l w (inl h) is sent count next = let d = sent h.0 in

@@ -1,5 +1,7 @@
 -- What a log that was made quiet says.
-use Rattle.std.proofs.Common.{◌≡◌, ◌≢◌, ℕ, ◌+◌, ◌≤◌, ◌<◌, ◌^◌, nat_le, Bool, true, false, cond, List, [], ◌∷◌, ◌++◌, length, flat_map, codes, decimal, Option, Some, None, inl, refl, sym, ap, ◌∙◌, arith, append-nil, length-append}
+use Rattle.std.proofs.Common.{◌≡◌, ◌≢◌, ℕ, ◌+◌, ◌≤◌, ◌<◌, ◌^◌, nat_le, Bool, true, false, cond, List, [], ◌∷◌, ◌++◌}
+use Rattle.std.proofs.Common.{length, flat_map, codes, decimal, Option, Some, None, inl, refl, sym, ap, ◌∙◌, arith}
+use Rattle.std.proofs.Common.{append-nil, length-append}
 use Rattle.std.proofs.lemmas.{Bool.Decides.nat_tests, Fmt.length-decimal-le}
 use Rattle.authn_core.specs.Turn.{Start}
 use Rattle.token_session.specs.{declared.input.Timed.Timed, Law.named, Law.onto, Meters.SessionState, Meters.session_of}
@@ -12,7 +14,8 @@ use Rattle.session_log.specs.{Lines.lines, Said.said, Text.ended, Text.tick_text
 use Rattle.session_log.specs.Log.{played, playing, text_by, after, after_by, fault_by, fault_at}
 use Rattle.session_log.specs.World.{Course, World, quieting}
 use Rattle.session_log.proofs.Again.{WritesLines, written, written_are, written_text}
-use Rattle.session_log.proofs.Feeds.{IsSound, sound_first, sound_line, feedless, AreLines, feedless-append, lines_joined, lines_are_lines, decimal_feedless}
+use Rattle.session_log.proofs.Feeds.{IsSound, sound_first, sound_line, feedless, AreLines, feedless-append}
+use Rattle.session_log.proofs.Feeds.{lines_joined, lines_are_lines, decimal_feedless}
 use Rattle.session_log.proofs.Spelled.{read_is_spelled, spelled_is_read}
 use Rattle.session_log.proofs.Through.{played_sound, said_fault}
 

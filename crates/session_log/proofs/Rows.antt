@@ -1,5 +1,6 @@
 -- The definitions on worked examples, by computation.
-use Rattle.std.proofs.Common.{◌≡◌, ℕ, ◌+◌, ◌-◌, ◌*◌, ◌^◌, List, [], ◌∷◌, ◌++◌, map, ◌==◌, codes, replicate, Option, Some, None, refl, if◌then◌else◌, nat_lt}
+use Rattle.std.proofs.Common.{◌≡◌, ℕ, ◌+◌, ◌-◌, ◌*◌, ◌^◌, List, [], ◌∷◌, ◌++◌, map, ◌==◌, codes, replicate, Option}
+use Rattle.std.proofs.Common.{Some, None, refl, if◌then◌else◌, nat_lt}
 use Rattle.std.specs.Fmt.{digits}
 use Rattle.hex.proofs.OnLiterals.{hex_on_literals}
 use Rattle.token_session.specs.declared.input.Input.{Input as AnyInput}

@@ -1,11 +1,14 @@
 -- A number has one spelling in digits.
-use Rattle.std.proofs.Common.{◌≡◌, ℕ, ◌<◌, ◌^◌, ◌==◌, ◌&&◌, nat_lt, Bool, true, false, cond, List, Option, Some, None, decimal, refl, sym, ap, ◌∙◌, subst, suc, ◌+◌, [], ◌∷◌, ◌++◌, length, get_or, take, drop, position, arith, add-one, length-append, take-append-drop, ◌*◌, ◌≤◌, codes}
+use Rattle.std.proofs.Common.{◌≡◌, ℕ, ◌<◌, ◌^◌, ◌==◌, ◌&&◌, nat_lt, Bool, true, false, cond, List, Option, Some, None}
+use Rattle.std.proofs.Common.{decimal, refl, sym, ap, ◌∙◌, subst, suc, ◌+◌, [], ◌∷◌, ◌++◌, length, get_or, take, drop}
+use Rattle.std.proofs.Common.{position, arith, add-one, length-append, take-append-drop, ◌*◌, ◌≤◌, codes}
 use Rattle.std.proofs.lemmas.Bool.{ne_eqb, lt-ltb, ltb-true, eqb-true, le-leb, leb-true}
 use Rattle.std.proofs.lemmas.{Fmt.decimal_is_IsNumeral, List.Quantifiers.position-Some}
 use Rattle.std.specs.Cmp.Lexicographic.{pointwise, same_text, other_text}
 use Rattle.std.specs.{Str.Parse.digits_value, Str.Parse.AllDigits, Char.digit_value, List.AllPass, List.position_or_len}
 use Rattle.session_log.proofs.Cases.{no_some, refuted}
-use Rattle.session_log.specs.Said.{moment, first_field, ◌>>=◌, is_word, packet_said, presence_said, key_of, key_said, signature_of, signature_said, input_by, input_line, said}
+use Rattle.session_log.specs.Said.{moment, first_field, ◌>>=◌, is_word, packet_said, presence_said, key_of, key_said}
+use Rattle.session_log.specs.Said.{signature_of, signature_said, input_by, input_line, said}
 use Rattle.std.proofs.Math.Seq.{take-append_seam, drop-append-add, drop-cons}
 use Rattle.hex.specs.Hex.{is_hex_digit}
 use Rattle.hex.proofs.HexLemmas.{IsOk-decode_sized, decode_sized-ok, decode_sized-twice, decode_of-ok}

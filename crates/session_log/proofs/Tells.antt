@@ -1,5 +1,7 @@
 -- Bytes in pieces of 96, and the lines of what is needed.
-use Rattle.std.proofs.Common.{◌≡◌, ℕ, zero, suc, ◌+◌, ◌-◌, ◌*◌, ◌/◌, ◌<◌, ◌≤◌, true, false, List, [], ◌∷◌, ◌++◌, length, take, drop, min, map, flat_map, All, refl, ap, ◌∙◌, arith, length-drop, take-append-drop, codes, Some, length-append, slice_index}
+use Rattle.std.proofs.Common.{◌≡◌, ℕ, zero, suc, ◌+◌, ◌-◌, ◌*◌, ◌/◌, ◌<◌, ◌≤◌, true, false, List, [], ◌∷◌, ◌++◌, length}
+use Rattle.std.proofs.Common.{take, drop, min, map, flat_map, All, refl, ap, ◌∙◌, arith, length-drop, take-append-drop}
+use Rattle.std.proofs.Common.{codes, Some, length-append, slice_index}
 use Rattle.std.proofs.lemmas.List.{length-take, take_min, drop_min, Elements.All-nil, Elements.All-cons}
 use Rattle.std.specs.Simd.{first_chunks}
 use Rattle.authn_core.specs.{Views.Needed, Views.nothing, Views.presence, Views.key, Views.sign, Needs.IsNeed}

@@ -1,10 +1,12 @@
 -- What has been played when lines were read and played one by one.
-use Rattle.std.proofs.Common.{◌≡◌, ℕ, ◌+◌, ◌≤◌, ◌<◌, ◌^◌, nat_le, nat_lt, Bool, true, false, cond, List, [], ◌∷◌, ◌++◌, length, take, position, Option, Some, None, is_none, refl, sym, ap, ◌∙◌, arith, append_assoc, append-nil, length-append}
+use Rattle.std.proofs.Common.{◌≡◌, ℕ, ◌+◌, ◌≤◌, ◌<◌, ◌^◌, nat_le, nat_lt, Bool, true, false, cond, List, [], ◌∷◌, ◌++◌}
+use Rattle.std.proofs.Common.{length, take, position, Option, Some, None, is_none, refl, sym, ap, ◌∙◌, arith}
+use Rattle.std.proofs.Common.{append_assoc, append-nil, length-append}
 use Rattle.std.proofs.lemmas.Bool.{le-leb, le-ltb, lt-leb, lt-ltb}
 use Rattle.session_log.specs.declared.fault.LogFault.{LogFault, TheVariants.TooLong, TheVariants.TooManyLines}
 use Rattle.session_log.specs.{Said.said, World.World, Window.IsUnfinished, Sent.SendsPackets, Sent.AllSend}
-use Rattle.session_log.specs.Lines.{is_feed, pieces, lines}
-use Rattle.session_log.specs.Log.{Played, prefixed, played, playing, log_of, first_fault, fault_of, fault_by, fault_at, text_of, last_text, after}
+use Rattle.session_log.specs.{Lines.is_feed, Lines.pieces, Lines.lines, Log.text_of, Log.last_text, Log.after}
+use Rattle.session_log.specs.Log.{Played, prefixed, played, playing, log_of, first_fault, fault_of, fault_by, fault_at}
 use Rattle.session_log.specs.Replay.{IsRefused, IsUnread, IsUnwritten, IsPlayed}
 use Rattle.session_log.proofs.Cutting.{first_piece, one_piece, pieces_some, lines_beyond, front_of, last_is}
 

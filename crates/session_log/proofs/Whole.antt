@@ -7,8 +7,8 @@ use Rattle.session_log.specs.Ending.{Ending, Done, ended_by, ending_of, read_fai
 use Rattle.session_log.specs.Replay.{Closes, IsOfEnd, IsPlayed, Logs, Makes, MakesSoundly, Plays, ReadsTo}
 use Rattle.session_log.specs.Streams.{Counts, IsAllRead, Moves}
 use Rattle.session_log.specs.declared.fault.LogFault.{LogFault, TheVariants.Differs, TheVariants.Write}
-use Rattle.session_log.proofs.Exits.{closes, closes_not}
-use Rattle.session_log.proofs.{Through.first_is_last, Worlds.Follows, Worlds.reads_alike}
+use Rattle.session_log.proofs.{Exits.closes, Exits.closes_not, Through.first_is_last}
+use Rattle.session_log.proofs.Worlds.{Follows, reads_alike}
 
 module _ {S I O : Type 0} (world : World S) (s t : S) (left : I → Option (List ℕ)) (unread : I → ℕ) (ended : I → Bool)
     (taken : O → Option (List ℕ)) (unwritten : O → ℕ) (i j : I) (o p : O) where

@@ -1,12 +1,15 @@
 -- Two kinds of state that send and count the same have the same log.
-use Rattle.std.proofs.Common.{◌≡◌, ℕ, ◌+◌, ◌^◌, Bool, cond, List, [], ◌∷◌, take, Option, Result, Ok, Err, inl, inr, is_some, refl, sym, ◌∙◌, arith}
+use Rattle.std.proofs.Common.{◌≡◌, ℕ, ◌+◌, ◌^◌, Bool, cond, List, [], ◌∷◌, take, Option, Result, Ok, Err, inl, inr}
+use Rattle.std.proofs.Common.{is_some, refl, sym, ◌∙◌, arith}
 use Rattle.token_session.specs.declared.input.Meters.{Meters}
-use Rattle.session_log.specs.declared.{fault.LogFault.LogFault, line.Line.Line}
-use Rattle.session_log.specs.declared.fault.LogFault.TheVariants.{BadLine, TooLong, Differs, Read, Write, TooManyLines, Memory}
-use Rattle.session_log.specs.{Lines.lines, Lines.whole_lines, Said.said, World.World}
-use Rattle.session_log.specs.Log.{Played, played, playing, text_by, after_by, first_fault, fault_by, fault_at, fault_of, log_of}
+use Rattle.session_log.specs.declared.fault.LogFault.{LogFault, TheVariants.Memory}
+use Rattle.session_log.specs.{declared.line.Line.Line, Said.said, World.World, Log.log_of}
+use Rattle.session_log.specs.declared.fault.LogFault.TheVariants.{BadLine, TooLong, Differs, Read, Write, TooManyLines}
+use Rattle.session_log.specs.Lines.{lines, whole_lines}
+use Rattle.session_log.specs.Log.{Played, played, playing, text_by, after_by, first_fault, fault_by, fault_at, fault_of}
 use Rattle.session_log.specs.Ending.{Ending, Done, Refused, Unread, Unwritten, ended_by}
-use Rattle.session_log.specs.Replay.{AreWritten, IsDone, IsPlayed, IsRefused, IsUnread, IsUnwritten, IsNear, IsShown, Reaches, ReadsTo, Makes, Logs, Plays, Writes, next_text, next_state}
+use Rattle.session_log.specs.Replay.{AreWritten, IsDone, IsPlayed, IsRefused, IsUnread, IsUnwritten, IsNear, IsShown}
+use Rattle.session_log.specs.Replay.{Reaches, ReadsTo, Makes, Logs, Plays, Writes, next_text, next_state}
 
 -- b stands after what a names, and stays so
 pub record Follows {A B : Type 0} (v : World A) (w : World B) (R : A → B → Type 0) : Type 0 where

@@ -1,12 +1,13 @@
 -- Digits of bytes that end in zeros.
-use Rattle.std.proofs.Common.{◌≡◌, ◌+◌, ◌*◌, ◌/◌, ◌%◌, ◌++◌, ◌∷◌, [], ℕ, zero, suc, List, length, take, drop, replicate, refl, sym, ap, ◌∙◌, arith, append_assoc, ◌-◌, ◌≤◌, Some, None, Ok, Err, Result}
-use Rattle.std.specs.{Prelude.slice_index_or, Option.option_map}
+use Rattle.std.proofs.Common.{◌≡◌, ◌+◌, ◌*◌, ◌/◌, ◌%◌, ◌++◌, ◌∷◌, [], ℕ, zero, suc, List, length, take, drop, replicate}
+use Rattle.std.proofs.Common.{refl, sym, ap, ◌∙◌, arith, append_assoc, ◌-◌, ◌≤◌, Some, None, Ok, Err, Result}
+use Rattle.std.{specs.Prelude.slice_index_or, specs.Option.option_map, proofs.Math.ListN.drop_of_length-le}
 use Rattle.std.specs.Result.{result_ok, IsOk, MatchResult, OnOk}
-use Rattle.hex.specs.Hex.{decode_pairs, decode_sized, encode_lower, encode_with, lower_digits, pair_value, ◌>>=◌, IsBytes}
-use Rattle.hex.specs.declared.error.FromHexError.{FromHexError}
-use Rattle.hex.proofs.HexLemmas.{decode_pairs-encode_with, IsDigits-lower_digits, decode_sized-twice, decode_of-even, length-encode_with}
-use Rattle.std.proofs.lemmas.List.{replicate-append-replicate, take-append-drop, drop_more, drop-replicate, length-replicate, length-append, length-take}
-use Rattle.std.proofs.Math.ListN.{drop_of_length-le}
+use Rattle.hex.specs.Hex.{decode_pairs, decode_sized, encode_lower, encode_with, lower_digits, pair_value, ◌>>=◌}
+use Rattle.hex.{specs.Hex.IsBytes, specs.declared.error.FromHexError.FromHexError, proofs.HexLemmas.length-encode_with}
+use Rattle.hex.proofs.HexLemmas.{decode_pairs-encode_with, IsDigits-lower_digits, decode_sized-twice, decode_of-even}
+use Rattle.std.proofs.lemmas.List.{replicate-append-replicate, take-append-drop, drop_more, drop-replicate}
+use Rattle.std.proofs.lemmas.List.{length-replicate, length-append, length-take}
 
 encode-append : (xs ys : List ℕ) → encode_lower (xs ++ ys) ≡ encode_lower xs ++ encode_lower ys
 unfolding encode_with
@@ -22,7 +23,8 @@ encode-zeros (suc n) =
 
 first : (b : Result ℕ FromHexError) (cs : List ℕ) (p q : Result (List ℕ) FromHexError)
     → result_ok p ≡ option_map (λ bs. bs ++ cs) (result_ok q)
-    → result_ok (b >>= λ v. p >>= λ bs. Ok (v ∷ bs)) ≡ option_map (λ bs. bs ++ cs) (result_ok (b >>= λ v. q >>= λ bs. Ok (v ∷ bs)))
+    → result_ok (b >>= λ v. p >>= λ bs. Ok (v ∷ bs)) ≡ option_map (λ bs. bs ++ cs)
+    (result_ok (b >>= λ v. q >>= λ bs. Ok (v ∷ bs)))
 first b cs p q h = search arith
 
 decode-append : (i : ℕ) (xs zs cs : List ℕ) → length xs % 2 ≡ 0 → ((j : ℕ) → decode_pairs j zs ≡ Ok cs)
@@ -41,13 +43,15 @@ zero_bytes (suc n) zero = omega arith
 zero_bytes (suc n) (suc i) = zero_bytes n i
 
 decode-zeros : (n : ℕ) (xs : List ℕ) → length xs % 2 ≡ 0
-    → result_ok (decode_pairs 0 (xs ++ encode_lower (replicate n 0))) ≡ option_map (λ bs. bs ++ replicate n 0) (result_ok (decode_pairs 0 xs))
+    → result_ok (decode_pairs 0 (xs ++ encode_lower (replicate n 0)))
+    ≡ option_map (λ bs. bs ++ replicate n 0) (result_ok (decode_pairs 0 xs))
 decode-zeros n xs even = search (arith, decode-append, decode_pairs-encode_with, IsDigits-lower_digits, zero_bytes)
 
 -- the bytes that digits write are those that they write without zeros at their end, and zeros
 pub decode-without_zeros : (digits used : List ℕ) (n size : ℕ) → length digits ≡ 2 * size
     → digits ≡ used ++ encode_lower (replicate n 0)
-    → result_ok (decode_sized digits size) ≡ option_map (λ bs. bs ++ drop (length used / 2) (replicate size 0)) (result_ok (decode_sized used (length (take (length used / 2) (replicate {A = ℕ} size 0)))))
+    → result_ok (decode_sized digits size) ≡ option_map (λ bs. bs ++ drop (length used / 2) (replicate size 0))
+    (result_ok (decode_sized used (length (take (length used / 2) (replicate {A = ℕ} size 0)))))
 decode-without_zeros digits used n size len is =
     let long = length-encode_with lower_digits (replicate n 0) in
     let all = length-append used (encode_lower (replicate n 0)) in
@@ -63,10 +67,12 @@ pub failed : (d : Result (List ℕ) FromHexError) (r : Result (Unit {0}) FromHex
 failed d r out f h k = search arith
 
 -- the last element, and the last two
-pub last_is : (xs : List ℕ) (x : ℕ) → 1 ≤ length xs → slice_index_or xs (length xs - 1) 0 ≡ x → xs ≡ take (length xs - 1) xs ++ x ∷ []
+pub last_is : (xs : List ℕ) (x : ℕ) → 1 ≤ length xs → slice_index_or xs (length xs - 1) 0 ≡ x →
+    xs ≡ take (length xs - 1) xs ++ x ∷ []
 last_is xs x some is = search (arith, drop_of_length-le, take-append-drop, drop_more)
 
-pub last_two_are : (xs : List ℕ) (x y : ℕ) → 2 ≤ length xs → slice_index_or xs (length xs - 2) 0 ≡ x → slice_index_or xs (length xs - 1) 0 ≡ y
+pub last_two_are : (xs : List ℕ) (x y : ℕ) → 2 ≤ length xs → slice_index_or xs (length xs - 2) 0 ≡ x →
+    slice_index_or xs (length xs - 1) 0 ≡ y
     → xs ≡ take (length xs - 2) xs ++ x ∷ y ∷ []
 last_two_are xs x y some first second = search (arith, drop_of_length-le, drop_more, take-append-drop, first)
 
@@ -74,7 +80,8 @@ pub zero_pair : (n : ℕ) → 48 ∷ 48 ∷ encode_lower (replicate n 0) ≡ enc
 unfolding encode_with
 zero_pair n = refl
 
-pub written : (bytes used digits out : List ℕ) (n : ℕ) (r : Result (Unit {0}) FromHexError) → bytes ≡ used ++ replicate n 0
+pub written : (bytes used digits out : List ℕ) (n : ℕ) (r : Result (Unit {0}) FromHexError) →
+    bytes ≡ used ++ replicate n 0
     → digits ≡ replicate (2 * length bytes) 48
     → (length (take (2 * length used) digits) ≡ 2 * length used → IsOk r) → OnOk r (out ≡ encode_lower used)
     → out ++ drop (2 * length used) digits ≡ encode_lower bytes

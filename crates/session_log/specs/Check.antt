@@ -3,15 +3,11 @@ use Rattle.std.specs.Prelude.{ℕ, ◌+◌, ◌==◌, List, [], ◌∷◌, Optio
 use Rattle.std.specs.Cmp.Lexicographic.{pointwise}
 use Rattle.authn_core.specs.Turn.{Start}
 use Rattle.hid_packet.specs.declared.packet.Packet.{Packet}
-use Rattle.token_session.specs.declared.input.Timed.{Timed}
-use Rattle.token_session.specs.Meters.{SessionState}
-use Rattle.session_log.specs.declared.fault.LogFault.{LogFault}
-use Rattle.session_log.specs.declared.fault.LogFault.TheVariants.{Differs}
-use Rattle.session_log.specs.declared.line.Line.{Line}
+use Rattle.token_session.specs.{declared.input.Timed.Timed, Meters.SessionState}
+use Rattle.session_log.specs.declared.fault.LogFault.{LogFault, TheVariants.Differs}
+use Rattle.session_log.specs.{declared.line.Line.Line, Text.same_line, World.Course, World.World}
 use Rattle.session_log.specs.declared.line.Line.TheVariants.{Input, Sent, Comment, Count}
 use Rattle.session_log.specs.Session.{sessions, histories}
-use Rattle.session_log.specs.Text.{same_line}
-use Rattle.session_log.specs.World.{Course, World}
 
 -- what the lines so far led to: where the inputs led; how many lines there were; the line of the last input (0 before
 -- any), how many of its packets were found, and those that are due; and how many inputs and packets were the same

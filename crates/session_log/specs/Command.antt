@@ -2,18 +2,14 @@
 use Rattle.std.specs.Prelude.{ℕ, Bool, List, [], Option, OnOk, Result, Ok, Err, replicate}
 use Rattle.authn_core.specs.Turn.{Start}
 use Rattle.cred_table.specs.declared.row.Row.{Row}
-use Rattle.token_session.specs.declared.input.Meters.{Meters}
-use Rattle.token_session.specs.declared.input.Timed.{Timed}
+use Rattle.token_session.specs.declared.input.{Meters.Meters, Timed.Timed}
 use Rattle.token_session.specs.Meters.{SessionState, StandsAfter}
-use Rattle.session_log.specs.declared.command.LogCommand.{LogCommand}
+use Rattle.session_log.specs.declared.{command.LogCommand.LogCommand, fault.LogFault.LogFault}
 use Rattle.session_log.specs.declared.command.LogCommand.TheVariants.{Check, Live, Quiet, Replay}
-use Rattle.session_log.specs.declared.fault.LogFault.{LogFault}
-use Rattle.session_log.specs.Check.{begun, check_history}
+use Rattle.session_log.specs.{Check.begun, Check.check_history, World.World, Replay.Makes, Replay.ReadsTo}
 use Rattle.session_log.specs.Ending.{ending_of, read_fails, write_fails}
-use Rattle.session_log.specs.Replay.{Makes, ReadsTo}
 use Rattle.session_log.specs.Session.{history, live_history, quiet_history}
 use Rattle.session_log.specs.Streams.{Counts, IsAllRead, Moves}
-use Rattle.session_log.specs.World.{World}
 
 -- the start of the program's session: an AAGUID of sixteen zero bytes, the moment 0, and space for 64 credentials, none
 -- of which is there

@@ -1,7 +1,7 @@
 -- How the playing of a log ends.
 use Rattle.std.specs.Prelude.{ℕ, Bool, true, false, Result, Ok, Err}
-use Rattle.session_log.specs.declared.fault.LogFault.{LogFault}
-use Rattle.session_log.specs.declared.fault.LogFault.TheVariants.{BadLine, TooLong, Differs, Read, Write, TooManyLines, Memory}
+use Rattle.session_log.specs.declared.fault.LogFault.{LogFault, TheVariants.Memory}
+use Rattle.session_log.specs.declared.fault.LogFault.TheVariants.{BadLine, TooLong, Differs, Read, Write, TooManyLines}
 
 -- at the log's end, at a faulty line, at a read that failed in this line, or at a write that failed
 pub data Ending : Type 0 where

@@ -3,9 +3,8 @@ use Rattle.std.specs.Prelude.{◌≡◌, ℕ, ◌<◌, ◌≤◌, ◌^◌, List,
 use Rattle.hex.specs.Hex.{decode_sized}
 use Rattle.token_session.specs.declared.input.Input.{Input as AnyInput}
 use Rattle.token_session.specs.declared.input.Input.TheVariants.{Packet, Tick, Presence, Key, Signature}
-use Rattle.session_log.specs.declared.line.Line.{Line}
+use Rattle.session_log.specs.{declared.line.Line.Line, Words.presence_word, Words.refusal_word}
 use Rattle.session_log.specs.declared.line.Line.TheVariants.{Input, Sent, Comment, Count}
-use Rattle.session_log.specs.Words.{presence_word, refusal_word}
 
 -- two hexadecimal digits a byte, in either case
 abbrev pub IsHexOf : List ℕ → ℕ → List ℕ → Type 0

@@ -2,10 +2,8 @@
 -- each input its own.
 use Rattle.std.specs.Prelude.{◌≡◌, ◌≢◌, ℕ, ◌+◌, List, [], ◌∷◌, ◌++◌, length, Option, Some, None}
 use Rattle.token_session.specs.declared.input.Timed.{Timed}
-use Rattle.session_log.specs.declared.line.Line.{Line}
+use Rattle.session_log.specs.{declared.line.Line.Line, Said.said, World.Course}
 use Rattle.session_log.specs.declared.line.Line.TheVariants.{Input, Sent, Comment, Count}
-use Rattle.session_log.specs.Said.{said}
-use Rattle.session_log.specs.World.{Course}
 
 abbrev pub Groups : Type 0
 Groups = List (List (List ℕ))

@@ -1,9 +1,8 @@
 -- The inputs that the lines of a log say.
 use Rattle.std.specs.Prelude.{ℕ, List, [], ◌∷◌, ◌++◌, Option, Some, None}
 use Rattle.token_session.specs.declared.input.Timed.{Timed}
-use Rattle.session_log.specs.declared.line.Line.{Line}
+use Rattle.session_log.specs.{declared.line.Line.Line, Said.said}
 use Rattle.session_log.specs.declared.line.Line.TheVariants.{Input, Sent, Comment, Count}
-use Rattle.session_log.specs.Said.{said}
 
 abbrev pub inputs_by : Option Line → List Timed
 inputs_by None = []

@@ -1,11 +1,9 @@
 -- The log that is written for a log that is read.
-use Rattle.std.specs.Prelude.{ℕ, ◌+◌, ◌^◌, nat_le, nat_lt, List, [], ◌∷◌, ◌++◌, length, Option, Some, None, is_some, is_none, if◌then◌else◌}
-use Rattle.session_log.specs.declared.fault.LogFault.{LogFault}
+use Rattle.std.specs.Prelude.{ℕ, ◌+◌, ◌^◌, nat_le, nat_lt, List, [], ◌∷◌, ◌++◌, length, Option, Some, None, is_some}
+use Rattle.std.specs.Prelude.{is_none, if◌then◌else◌}
+use Rattle.session_log.specs.declared.{fault.LogFault.LogFault, line.Line.Line}
 use Rattle.session_log.specs.declared.fault.LogFault.TheVariants.{BadLine, TooLong, TooManyLines}
-use Rattle.session_log.specs.declared.line.Line.{Line}
-use Rattle.session_log.specs.Lines.{lines}
-use Rattle.session_log.specs.Said.{said}
-use Rattle.session_log.specs.World.{World}
+use Rattle.session_log.specs.{Lines.lines, Said.said, World.World}
 
 -- what is written for a line, by what it says
 abbrev pub text_by : {S : Type 0} → World S → S → List ℕ → Option Line → List ℕ

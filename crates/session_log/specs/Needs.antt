@@ -1,7 +1,6 @@
 -- The lines that say what is needed (docs/use/LOG_FORMAT.md).
 use Rattle.std.specs.Prelude.{ℕ, ◌+◌, ◌/◌, ◌==◌, ◌||◌, Bool, List, [], ◌∷◌, ◌++◌, length, map, codes}
-use Rattle.std.specs.List.{starts_with}
-use Rattle.std.specs.Simd.{first_chunks}
+use Rattle.std.specs.{List.starts_with, Simd.first_chunks}
 use Rattle.hex.specs.Hex.{encode_lower}
 use Rattle.authn_core.specs.Views.{Needed, nothing, presence, key, sign}
 

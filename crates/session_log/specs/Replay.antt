@@ -1,16 +1,13 @@
 -- What each answer of a call that plays a log means.
-use Rattle.std.specs.Prelude.{◌≡◌, ℕ, ◌+◌, ◌<◌, ◌≤◌, ◌^◌, List, [], ◌∷◌, ◌++◌, length, take, Option, Some, None, Result, IfOk, OnOk, ◌⊎◌}
-use Rattle.std.specs.Io.KnownBytes.{Consumes, Keeps}
+use Rattle.std.specs.Prelude.{◌≡◌, ℕ, ◌+◌, ◌<◌, ◌≤◌, ◌^◌, List, [], ◌∷◌, ◌++◌, length, take, Option, Some, None, Result}
+use Rattle.std.specs.{Prelude.IfOk, Prelude.OnOk, Prelude.◌⊎◌, Io.KnownBytes.Consumes, Io.KnownBytes.Keeps}
 use Rattle.token_session.specs.declared.input.Meters.{Meters}
-use Rattle.session_log.specs.declared.fault.LogFault.{LogFault}
-use Rattle.session_log.specs.declared.fault.LogFault.TheVariants.{BadLine, TooLong, Differs, Read, Write, TooManyLines, Memory}
+use Rattle.session_log.specs.declared.fault.LogFault.{LogFault, TheVariants.Memory}
+use Rattle.session_log.specs.declared.fault.LogFault.TheVariants.{BadLine, TooLong, Differs, Read, Write, TooManyLines}
 use Rattle.session_log.specs.Ending.{Ending, Done, Refused, Unread, Unwritten, ending_of}
-use Rattle.session_log.specs.Lines.{lines, whole_lines, last_piece}
+use Rattle.session_log.specs.{Lines.lines, Lines.whole_lines, Lines.last_piece, Streams.IsTaken, Streams.IsBroken}
 use Rattle.session_log.specs.Log.{played, playing, log, text_of, last_text, after, fault_by, fault_of}
-use Rattle.session_log.specs.Said.{said}
-use Rattle.session_log.specs.Sent.{SendsPackets, AllSend}
-use Rattle.session_log.specs.Streams.{IsTaken, IsBroken}
-use Rattle.session_log.specs.World.{World}
+use Rattle.session_log.specs.{Said.said, World.World, Sent.SendsPackets, Sent.AllSend}
 
 -- nothing is faulty, and the whole log was written
 pub record IsDone {S : Type 0} (world : World S) (s t : S) (bytes text : List ℕ) : Type 0 where

@@ -1,19 +1,18 @@
 -- What a line says, computed: `the_grammar_is_read` shows that this is the grammar.
-use Rattle.std.specs.Prelude.{ℕ, ◌+◌, ◌/◌, ◌==◌, ◌&&◌, ◌^◌, nat_le, nat_lt, Bool, List, [], ◌∷◌, length, take, drop, position, codes, decimal, Option, Some, None, if◌then◌else◌}
+use Rattle.std.specs.Prelude.{ℕ, ◌+◌, ◌/◌, ◌==◌, ◌&&◌, ◌^◌, nat_le, nat_lt, Bool, List, [], ◌∷◌, length, take, drop}
+use Rattle.std.specs.Prelude.{position, codes, decimal, Option, Some, None, if◌then◌else◌}
 use Rattle.std.specs.Option.{option_and_then, option_map}
-use Rattle.std.specs.Result.{result_ok}
-use Rattle.std.specs.Cmp.Lexicographic.{pointwise}
-use Rattle.std.specs.Str.Parse.{digits_value}
+use Rattle.std.specs.{Result.result_ok, Cmp.Lexicographic.pointwise, Str.Parse.digits_value}
 use Rattle.hex.specs.Hex.{decode_sized}
 use Rattle.authn_core.specs.declared.replies.NewKey.{NewKey}
 use Rattle.authn_core.specs.declared.replies.Presence.TheVariants.{Granted, Denied, TimedOut}
 use Rattle.token_session.specs.declared.input.Input.{Input as AnyInput}
 use Rattle.token_session.specs.declared.input.Input.TheVariants.{Packet, Tick, Presence, Key, Signature}
-use Rattle.session_log.specs.declared.line.Line.{Line}
+use Rattle.session_log.specs.declared.line.{Line.Line, LineKind.LineKind}
 use Rattle.session_log.specs.declared.line.Line.TheVariants.{Input, Sent, Comment, Count}
-use Rattle.session_log.specs.declared.line.LineKind.{LineKind}
 use Rattle.session_log.specs.declared.line.LineKind.TheVariants as kind
-use Rattle.session_log.specs.Letters.{host_letter, key_letter, tick_letter, presence_letter, new_key_letter, signature_letter, comment_letter, count_letter, space}
+use Rattle.session_log.specs.Letters.{host_letter, key_letter, tick_letter, presence_letter, new_key_letter}
+use Rattle.session_log.specs.Letters.{signature_letter, comment_letter, count_letter, space}
 use Rattle.session_log.specs.Words.{refusal_word}
 
 -- a value where there is one, and else nothing

@@ -1,10 +1,7 @@
 -- What is known of all that is written while lines are played.
 use Rattle.std.specs.Prelude.{ℕ, ◌<◌, ◌^◌, List, [], ◌∷◌, Option, Some, None}
 use Rattle.token_session.specs.declared.input.Meters.{Meters}
-use Rattle.session_log.specs.declared.line.Line.{Line}
-use Rattle.session_log.specs.Log.{after}
-use Rattle.session_log.specs.Said.{said}
-use Rattle.session_log.specs.World.{World}
+use Rattle.session_log.specs.{declared.line.Line.Line, Log.after, Said.said, World.World}
 
 -- for a line, by what it says
 abbrev pub SendsPackets : {S : Type 0} → World S → S → Option Line → Type 0

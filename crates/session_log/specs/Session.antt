@@ -1,15 +1,11 @@
 -- What a log is played on: what a session holds, or a history.
 use Rattle.std.specs.Prelude.{◌≡◌, ℕ, ◌<◌, ◌^◌, List, ◌∷◌, length, Option}
 use Rattle.std.specs.Io.KnownBytes.{Appends}
-use Rattle.authn_core.specs.Turn.{Start}
-use Rattle.token_session.specs.declared.input.Timed.{Timed}
+use Rattle.authn_core.specs.{Turn.Start, Views.Needed, Views.needs}
+use Rattle.token_session.specs.{declared.input.Timed.Timed, Law.sent_now, Noise.is_noise_at, Noise.is_noise_after}
 use Rattle.token_session.specs.History.{core, judge, judged}
-use Rattle.token_session.specs.Law.{sent_now}
 use Rattle.token_session.specs.Meters.{SessionState, stepped, sent_by, meters_of}
-use Rattle.token_session.specs.Noise.{is_noise_at, is_noise_after}
-use Rattle.session_log.specs.Lines.{lines}
-use Rattle.session_log.specs.Log.{log}
-use Rattle.authn_core.specs.Views.{Needed, needs}
+use Rattle.session_log.specs.{Lines.lines, Log.log}
 use Rattle.session_log.specs.World.{Course, World, replaying, quieting, living}
 
 -- what a session holds, moved on by inputs

@@ -1,8 +1,8 @@
 -- What sources give and targets take. A pair is a source or a target before and after a call.
-use Rattle.std.specs.Prelude.{◌≡◌, ℕ, ◌+◌, ◌<◌, ◌==◌, ◌&&◌, nat_lt, Bool, true, false, List, ◌++◌, length, Option, Result, Ok, Err, MatchResult, if◌then◌else◌}
+use Rattle.std.specs.Prelude.{◌≡◌, ℕ, ◌+◌, ◌<◌, ◌==◌, ◌&&◌, nat_lt, Bool, true, false, List, ◌++◌, length, Option}
+use Rattle.std.specs.Prelude.{Result, Ok, Err, MatchResult, if◌then◌else◌}
 use Rattle.std.specs.Io.KnownBytes.{Consumes, Appends, IsAtEnd}
-use Rattle.session_log.specs.declared.fault.LogFault.{LogFault}
-use Rattle.session_log.specs.declared.fault.LogFault.TheVariants.{Write}
+use Rattle.session_log.specs.declared.fault.LogFault.{LogFault, TheVariants.Write}
 
 -- whether a read that had space returned nothing
 abbrev pub gave_nothing : {E : Type 0} → Result ℕ E → ℕ → Bool

@@ -1,7 +1,7 @@
 -- What is in front in a window, as line n.
 use Rattle.std.specs.Prelude.{◌≡◌, ℕ, ◌<◌, ◌≤◌, ◌^◌, List, [], length, position, Some, None}
-use Rattle.session_log.specs.declared.fault.LogFault.{LogFault}
-use Rattle.session_log.specs.declared.fault.LogFault.TheVariants.{BadLine, TooLong, Differs, Read, Write, TooManyLines, Memory}
+use Rattle.session_log.specs.declared.fault.LogFault.{LogFault, TheVariants.Memory}
+use Rattle.session_log.specs.declared.fault.LogFault.TheVariants.{BadLine, TooLong, Differs, Read, Write, TooManyLines}
 use Rattle.session_log.specs.Lines.{is_feed}
 
 -- the front of a line that can still go on

@@ -1,12 +1,9 @@
 -- What a log is played on, and what is made of its lines.
 use Rattle.std.specs.Prelude.{ℕ, Bool, List, [], ◌++◌, flat_map, Option, None, if◌then◌else◌}
-use Rattle.token_session.specs.declared.input.Timed.{Timed}
-use Rattle.token_session.specs.declared.input.Meters.{Meters}
-use Rattle.session_log.specs.declared.fault.LogFault.{LogFault}
-use Rattle.session_log.specs.declared.line.Line.{Line}
+use Rattle.token_session.specs.declared.input.{Timed.Timed, Meters.Meters}
+use Rattle.session_log.specs.declared.{fault.LogFault.LogFault, line.Line.Line}
 use Rattle.session_log.specs.declared.line.Line.TheVariants.{Input, Sent, Comment, Count}
-use Rattle.authn_core.specs.Views.{Needed}
-use Rattle.authn_core.specs.Needs.{IsNeed}
+use Rattle.authn_core.specs.{Views.Needed, Needs.IsNeed}
 use Rattle.session_log.specs.Needs.{need_lines, is_need_line}
 use Rattle.session_log.specs.Text.{ArePackets, ended, sent_text, tick_text, meters_line}
 

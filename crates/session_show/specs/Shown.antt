@@ -1,5 +1,6 @@
 -- Which lines of a log were shown, and what is said of the text for each.
-use Rattle.std.specs.Prelude.{◌≡◌, ℕ, ◌+◌, Bool, true, false, not, ◌==◌, List, [], ◌∷◌, ◌++◌, length, flat_map, decimal, Option, Some, None}
+use Rattle.std.specs.Prelude.{◌≡◌, ℕ, ◌+◌, Bool, true, false, not, ◌==◌, List, [], ◌∷◌, ◌++◌, length, flat_map, decimal}
+use Rattle.std.specs.Prelude.{Option, Some, None}
 use Rattle.std.specs.{Bool.MatchBool, Io.KnownBytes.Appends, Io.KnownBytes.Keeps}
 use Rattle.session_log.specs.Ending.{Done, Ending, Refused, Unread, Unwritten}
 use Rattle.session_log.specs.Replay.{Plays, PlaysLine}
@@ -91,7 +92,8 @@ abbrev pub ShowsLine : ℕ → List ℕ → (ℕ × ℕ) → Ending → Type 0
 ShowsLine n line failures ending = PlaysLine reading unknown failures_of n tt tt line failures ending
 
 -- The text for line n was written; or the line is faulty, and nothing was; or the text broke off.
-abbrev pub TellsLine : (ℕ → List ℕ → List ℕ → Type 0) → ℕ → List ℕ → (Option (List ℕ) × Option (List ℕ)) → Ending → Type 0
+abbrev pub TellsLine : (ℕ → List ℕ → List ℕ → Type 0) → ℕ → List ℕ → (Option (List ℕ) × Option (List ℕ)) → Ending →
+    Type 0
 TellsLine shows n line taken Done = (text : List ℕ) × Appends taken.0 taken.1 text × shows n line text
 TellsLine shows n line taken (Refused fault) = Keeps taken.0 taken.1
 TellsLine shows n line taken (Unread m) = Unit {0}

@@ -1,21 +1,15 @@
 -- What a history sends is what is told of it without a state: by the law of the authenticator's answers.
-use Rattle.std.proofs.Common.{arith}
-use Rattle.std.proofs.Common.{rules}
-use Rattle.std.proofs.Common.{◌≡◌, ℕ, max, List, [], ◌∷◌, ◌++◌, Option, refl, ap}
-use Rattle.authn_core.specs.Answers.{answer_to, exchanges}
-use Rattle.authn_core.specs.Exchanges.{Exchange}
-use Rattle.authn_core.specs.State.{Event}
+use Rattle.std.proofs.Common.{arith, rules, ◌≡◌, ℕ, max, List, [], ◌∷◌, ◌++◌, Option, refl, ap}
+use Rattle.authn_core.specs.{Answers.answer_to, Answers.exchanges, Exchanges.Exchange, State.Event}
 use Rattle.authn_core.specs.Turn.{Start, CoreState, core_answer, first_state, waiting, working}
 use Rattle.authn_core.specs.Marks.{Step, Orderly, core_at}
-use Rattle.token_session.specs.declared.input.Timed.{Timed}
+use Rattle.token_session.specs.{declared.input.Timed.Timed, Events.event_packets, Law.event_at, Replies.ping_packets}
 use Rattle.token_session.specs.Inputs.{Judged, end, given, is_packet}
-use Rattle.token_session.specs.Messages.{open_at, finished}
-use Rattle.token_session.specs.History.{admits, core, judge, judged, last_keepalive, sent, sent_at, service_packets, table_packets, time_packets}
-use Rattle.token_session.specs.Events.{event_packets}
-use Rattle.token_session.specs.Law.{event_at}
-use Rattle.token_session.specs.Replies.{ping_packets}
+use Rattle.token_session.specs.{Messages.open_at, Messages.finished, History.table_packets, History.time_packets}
+use Rattle.token_session.specs.History.{admits, core, judge, judged, last_keepalive, sent, sent_at, service_packets}
 use Rattle.token_session.specs.Credentials.{step_of, steps}
-use Rattle.token_session.specs.Answered.{judge_told, judged_told, waits_in, with_event, happened, answered_packets, service_told, time_told, keepalive_told, sent_told}
+use Rattle.token_session.specs.Answered.{judge_told, judged_told, waits_in, with_event, happened, answered_packets}
+use Rattle.token_session.specs.Answered.{service_told, time_told, keepalive_told, sent_told}
 use Rattle.token_session.proofs.Credentials.{core_is, orderly}
 
 -- the law of the authenticator, of its histories of events
@@ -44,20 +38,23 @@ waits_told start law h = grind (arith, core_is, happened_steps, orderly)
 -- ---- packets
 
 -- what an event sends is what its answer, as it is told, sends
-event_told : (start : Start) (law : Law start) (h : List Step) (k : CoreState) (past : List Exchange) (at : ℕ) (o : Option Event)
+event_told : (start : Start) (law : Law start) (h : List Step) (k : CoreState) (past : List Exchange) (at : ℕ)
+    (o : Option Event)
     → k ≡ core_at (first_state start) h → past ≡ exchanges start h → Orderly (first_state start) h
     → Orderly (first_state start) (step_of at o ++ h)
     → event_packets k at o ≡ answered_packets start past at o
 event_told start law h k past at x6 e p r s = search (rules, arith)
 
 pub service_told_so : (start : Start) (law : Law start) (h : List Timed) (x : Timed)
-    → let past = judged start h in service_packets start (judge start x past) past ≡ service_told start (judge start x past) past
+    → let past = judged start h in service_packets start (judge start x past) past
+    ≡ service_told start (judge start x past) past
 unfolding service_packets judged steps
 service_told_so start law h x =
     let past = judged start h in
     let e = judge start x past in
     let w = waits_told start law h in
-    let told = event_told start law (steps start past) (core start past) (happened start past) e.at (event_at start e past)
+    let told = event_told start law (steps start past) (core start past) (happened start past) e.at
+    (event_at start e past)
     (core_is start past) (happened_steps start law h) (orderly start h) (orderly start (x ∷ h)) in
     rw (← w) (ap (λ v. table_packets (given past) (open_at past e.at) (working (core start past)) e.input
     ++ ping_packets (finished (open_at past e.at) e.admitted e.input) ++ v) told)
@@ -69,7 +66,8 @@ time_told_so start law h latest t = rw (waits_told start law h) refl
 
 both_told : (start : Start) (law : Law start) (h : List Timed) (x : Timed) (latest : ℕ)
     → let past = judged start h in let e = judge start x past in
-    time_packets start past latest e.at ++ service_packets start e past ≡ time_told start past latest e.at ++ service_told start e past
+    time_packets start past latest e.at ++ service_packets start e past ≡ time_told start past latest e.at
+    ++ service_told start e past
 both_told start law h x latest = grind (arith, service_told_so, time_told_so)
 
 keepalive_told_so : (start : Start) (law : Law start) (h : List Timed)
@@ -78,7 +76,8 @@ unfolding judged last_keepalive keepalive_told
 keepalive_told_so start law [] = refl
 keepalive_told_so start law (x ∷ h) = search (rules, arith, both_told, keepalive_told_so start law h)
 
-pub sent_told_so : (start : Start) (law : Law start) (h : List Timed) → sent start (judged start h) ≡ sent_told start (judged start h)
+pub sent_told_so : (start : Start) (law : Law start) (h : List Timed) →
+    sent start (judged start h) ≡ sent_told start (judged start h)
 unfolding judged sent sent_at sent_told
 sent_told_so start law [] = refl
 sent_told_so start law (x ∷ h) = grind (arith, both_told, keepalive_told_so, sent_told_so start law h)

@@ -1,33 +1,22 @@
 -- A finished CBOR message is a request, and its answer is all that is sent for it.
-use Rattle.std.proofs.Common.{rules}
-use Rattle.std.proofs.Common.{◌≡◌, ℕ, ◌≤◌, ◌⊎◌, true, nat_le, List, [], ◌∷◌, ◌++◌, length, Option, take, Some, None, option_map, Ok, refl, sym, ◌∙◌, ap, arith}
+use Rattle.std.proofs.Common.{rules, ◌≡◌, ℕ, ◌≤◌, ◌⊎◌, true, nat_le, List, [], ◌∷◌, ◌++◌, length, Option, take, Some}
+use Rattle.std.proofs.Common.{None, option_map, Ok, refl, sym, ◌∙◌, ap, arith}
 use Rattle.std.proofs.lemmas.Bool.Decides.{nat_tests}
-use Rattle.ctap_message.specs.Answers.{info_answer}
-use Rattle.ctap_message.specs.Asked.{GetInfo}
-use Rattle.ctap_message.specs.Requests.{read_of}
-use Rattle.authn_core.specs.State.{Request}
+use Rattle.ctap_message.specs.{Answers.info_answer, Asked.GetInfo, Requests.read_of}
+use Rattle.authn_core.{specs.State.Request, proofs.Facts.info_answered}
 use Rattle.authn_core.specs.Turn.{Start, working, waiting}
-use Rattle.authn_core.proofs.Facts.{info_answered}
-use Rattle.hid_assemble.specs.Table.{Open, Ruling, ruling_of}
-use Rattle.hid_assemble.specs.Assembly.{Message, message_after}
-use Rattle.hid_packet.specs.Carries.{Carries, joined}
-use Rattle.hid_packet.specs.Commands.{CBOR, PING}
+use Rattle.hid_assemble.specs.{Table.Open, Table.Ruling, Table.ruling_of, Assembly.Message, Assembly.message_after}
+use Rattle.hid_packet.specs.{Carries.Carries, Carries.joined, Commands.CBOR, Commands.PING}
 use Rattle.hid_packet.specs.declared.packet.Packet.{Packet as Packet64}
-use Rattle.hid_packet.specs.Message.{written}
-use Rattle.hid_packet.specs.Packet.{Fields, fields, message_length}
-use Rattle.token_session.specs.Inputs.{Judged, end, given}
+use Rattle.hid_packet.specs.{Message.written, Packet.Fields, Packet.fields, Packet.message_length}
+use Rattle.token_session.specs.{Inputs.Judged, Inputs.end, Inputs.given, Effects.verdict_event, Effects.verdict_packets}
 use Rattle.token_session.specs.Messages.{finished_at, finished, open_at, as_open}
-use Rattle.token_session.specs.History.{admits, core, event, judge, judged, packet_event, service_packets, table_packets}
-use Rattle.token_session.specs.Effects.{verdict_event, verdict_packets}
-use Rattle.hid_assemble.specs.Verdicts.{ruling_verdict}
-use Rattle.hid_assemble.specs.declared.verdict.Verdict.{Verdict}
-use Rattle.token_session.specs.Events.{event_packets}
+use Rattle.token_session.specs.History.{admits, core, event, judge, judged, packet_event, service_packets}
+use Rattle.token_session.{specs.History.table_packets, specs.Events.event_packets, proofs.Serve.serves}
+use Rattle.hid_assemble.specs.{Verdicts.ruling_verdict, declared.verdict.Verdict.Verdict}
 use Rattle.token_session.specs.Replies.{answer_packets, asker, ping_packets, status_of}
-use Rattle.token_session.specs.declared.input.Input.{Input}
-use Rattle.token_session.specs.declared.input.Input.TheVariants.{Packet}
-use Rattle.token_session.specs.declared.input.Timed.{Timed}
+use Rattle.token_session.specs.declared.input.{Input.Input, Input.TheVariants.Packet, Timed.Timed}
 use Rattle.token_session.proofs.Follows.{Good, good_judged, judged_at, safe_at}
-use Rattle.token_session.proofs.Serve.{serves}
 
 -- A finished message's row sends nothing of its own, and a request is its event.
 record Asks (m : Message) (v : Verdict) : Type 0 where
@@ -73,7 +62,8 @@ requests_answered start h x m fin is = grind (arith, good_judged, request_at)
 
 pub info_is_answered : (start : Start) (h : List Timed) (x : Timed) (m : Message)
     → finished_at (judge start x (judged start h)) (judged start h) ≡ Some m → m.cmd ≡ CBOR → m.bytes ≡ 0x04 ∷ []
-    → service_packets start (judge start x (judged start h)) (judged start h) ≡ written m.cid CBOR (info_answer start.aaguid)
+    → service_packets start (judge start x (judged start h)) (judged start h)
+    ≡ written m.cid CBOR (info_answer start.aaguid)
 unfolding answer_packets read_of
 info_is_answered start h x m fin is bytes =
     let past = judged start h in
@@ -81,7 +71,8 @@ info_is_answered start h x m fin is bytes =
     let t = (judge start x past).at in
     let asks : read_of m.bytes ≡ Ok GetInfo = ap read_of bytes in
     requests_answered start h x m fin is
-    ∙ ap (answer_packets (asker (waiting k) (Request m.cid m.bytes)) (status_of (waiting k))) (info_answered k t m.cid m.bytes asks)
+    ∙ ap (answer_packets (asker (waiting k) (Request m.cid m.bytes)) (status_of (waiting k)))
+    (info_answered k t m.cid m.bytes asks)
     ∙ ap (λ aaguid. written m.cid CBOR (info_answer aaguid)) (core_aaguid start past)
 
 -- A packet that begins such a message is admitted where nothing is open and no work waits.

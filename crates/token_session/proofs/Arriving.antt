@@ -1,23 +1,18 @@
 -- A message of several packets finishes, whatever other hosts send between.
-use Rattle.std.proofs.Common.{rules}
-use Rattle.std.proofs.Common.{◌≡◌, ℕ, ◌+◌, ◌*◌, ◌≤◌, ◌<◌, true, false, List, [], ◌∷◌, ◌++◌, length, append-nil, append_assoc, length-append, Some, None, refl, sym, ◌∙◌, ap, arith}
-use Rattle.std.proofs.lemmas.Bool.{false_from_ne_true}
-use Rattle.std.proofs.lemmas.Bool.Decides.{nat_tests}
-use Rattle.std.proofs.lemmas.List.{length-map}
+use Rattle.std.proofs.Common.{rules, ◌≡◌, ℕ, ◌+◌, ◌*◌, ◌≤◌, ◌<◌, true, false, List, [], ◌∷◌, ◌++◌, length, append-nil}
+use Rattle.std.proofs.Common.{append_assoc, length-append, Some, None, refl, sym, ◌∙◌, ap, arith}
+use Rattle.std.proofs.lemmas.{Bool.false_from_ne_true, Bool.Decides.nat_tests, List.length-map}
 use Rattle.hid_packet.specs.Carries.{Carries, Continue, IsLeast}
 use Rattle.hid_packet.specs.declared.packet.Packet.{Packet as Packet64}
 use Rattle.hid_packet.specs.Packet.{channel, is_initialization, message_length, sequence}
 use Rattle.authn_core.specs.Turn.{Start}
 use Rattle.token_session.specs.Arriving.{Arrives, ComeSoon, arriving}
-use Rattle.token_session.specs.declared.input.Input.TheVariants.{Packet}
-use Rattle.token_session.specs.declared.input.Timed.{Timed}
+use Rattle.token_session.specs.{declared.input.Input.TheVariants.Packet, declared.input.Timed.Timed, Law.onto}
 use Rattle.token_session.specs.History.{admits, judge, judged}
 use Rattle.token_session.specs.Inputs.{Judged, end, given, is_own, own, packet}
-use Rattle.token_session.specs.Law.{onto}
-use Rattle.token_session.specs.Messages.{Begun, begun_by, finished, finished_at, finished_long, goes_on, is_last, is_long, is_next, is_open, message, open_among, open_at, packets_of}
-use Rattle.token_session.proofs.Answering.{admitted_first}
-use Rattle.token_session.proofs.Carrying.{On, own_on}
-use Rattle.token_session.proofs.Follows.{good_judged}
+use Rattle.token_session.specs.Messages.{Begun, begun_by, finished, finished_at, finished_long, goes_on, is_last}
+use Rattle.token_session.specs.Messages.{is_long, is_next, is_open, message, open_among, open_at, packets_of}
+use Rattle.token_session.proofs.{Answering.admitted_first, Follows.good_judged, Carrying.On, Carrying.own_on}
 use Rattle.token_session.proofs.Opens.{From, from_earlier, goes_on_prefix, own-append, own_from}
 
 -- ---- the moments
@@ -41,7 +36,8 @@ end_rises start (x ∷ xs) h = search (rules, arith, judged_at_end, end_rises st
 
 -- Over inputs D after its first packet e, a message stays open at each later moment, as long as its own packets go on.
 abbrev StaysOpen : Judged → Start → List Timed → List Judged → Type 0
-StaysOpen e start g D = (M : List Judged) (t : ℕ) → goes_on (message_length (packet e.input)) 0 e.at (own (channel (packet e.input)) (D ++ M)) t ≡ true
+StaysOpen e start g D = (M : List Judged) (t : ℕ) → goes_on (message_length (packet e.input)) 0 e.at
+    (own (channel (packet e.input)) (D ++ M)) t ≡ true
     → open_among M (judged start g) t ≡ Some (begun_by e (D ++ M))
 
 -- an admitted long packet
@@ -74,7 +70,8 @@ alone start g z is_open_there = false_from_ne_true _ (λ a. is_open_there ((good
 
 stays_open : (e : Judged) (start : Start) (zs g : List Timed) (D : List Judged) (t : ℕ) → StaysOpen e start g D
     → end start (judged start (onto zs g)) ≤ t
-    → goes_on (message_length (packet e.input)) 0 e.at (own (channel (packet e.input)) (D ++ arriving start g zs)) t ≡ true
+    → goes_on (message_length (packet e.input)) 0 e.at (own (channel (packet e.input)) (D ++ arriving start g zs)) t
+    ≡ true
     → open_at (judged start (onto zs g)) t ≡ Some (begun_by e (D ++ arriving start g zs))
 unfolding judged open_at
 stays_open e start [] g D t stays le goes = stays [] t goes
@@ -85,10 +82,12 @@ stays_open e start (z ∷ zs) g D t stays le goes =
     let rest = y ∷ arriving start (z ∷ g) zs in
     let later : From y.at rest = (omega arith, arrive_from start (z ∷ g) zs) in
     let earlier : y.at ≤ t = let rises = end_rises start zs (z ∷ g) in omega (arith, le, rises) in
-    let now = goes_on_prefix (own c D) (own c rest) n 0 e.at y.at t (own_from c rest y.at later) earlier (rw (← (own-append c D rest)) goes) in
+    let now = goes_on_prefix (own c D) (own c rest) n 0 e.at y.at t (own_from c rest y.at later) earlier
+    (rw (← (own-append c D rest)) goes) in
     let here : open_at (judged start g) y.at ≡ Some (begun_by e (D ++ [])) = stays [] y.at (rw (append-nil D) now) in
     let away = alone start g z (λ none. let clash : Some (begun_by e (D ++ [])) ≡ None = sym here ∙ none in cc) in
-    let same : (D ++ y ∷ []) ++ arriving start (z ∷ g) zs ≡ D ++ rest = append_assoc D (y ∷ []) (arriving start (z ∷ g) zs) in
+    let same : (D ++ y ∷ []) ++ arriving start (z ∷ g) zs ≡ D ++ rest =
+    append_assoc D (y ∷ []) (arriving start (z ∷ g) zs) in
     let all = stays_open e start zs (z ∷ g) (D ++ y ∷ []) t (one_longer e start g D z away stays) le (rw same goes) in
     rw same at all
 
@@ -130,7 +129,8 @@ ends b q cmd bytes c = grind (arith, last_of, length-append, length-map, long_of
 on_its_channel : (start : Start) (h xs : List Timed) (s t : ℕ) (p q : Packet64) (cmd : ℕ) (bytes : List ℕ)
     → let x : Timed = record { at = s; input = Packet p } in let y : Timed = record { at = t; input = Packet q } in
     Arrives start h x xs (judge start y (judged start (onto xs (x ∷ h)))) (channel p.0) cmd bytes
-    → finished_at (judge start y (judged start (onto xs (x ∷ h)))) (judged start (onto xs (x ∷ h))) ≡ Some (record { cid = channel p.0; cmd = cmd; bytes = bytes })
+    → finished_at (judge start y (judged start (onto xs (x ∷ h)))) (judged start (onto xs (x ∷ h)))
+    ≡ Some (record { cid = channel p.0; cmd = cmd; bytes = bytes })
 unfolding judge admits finished finished_long
 on_its_channel start h xs s t p q cmd bytes a =
     let x : Timed = record { at = s; input = Packet p } in
@@ -140,13 +140,18 @@ on_its_channel start h xs s t p q cmd bytes a =
     let v = judge start y (judged start (onto xs (x ∷ h))) in
     let b = begun_by e L in
     let z = ends b q.0 cmd bytes a.carried in
-    let admitted : e.admitted ≡ true = rw (a.free, a.idle) (admitted_first (given (judged start h)) (channel p.0) cmd p.0 _ bytes a.carried a.served a.low a.high) in
-    let goes = all_go_on b.own (channel p.0) (message_length p.0) 0 e.at v.at v (own_on (channel p.0) L) (a.carried).continues z.more a.soon refl in
-    let opens = stays_open e start xs (x ∷ h) [] v.at (begins_open start h x admitted z.long) (judged_at_end start (onto xs (x ∷ h)) y) goes in
+    let admitted : e.admitted ≡ true = rw (a.free, a.idle) (admitted_first (given (judged start h)) (channel p.0) cmd
+    p.0 _ bytes a.carried a.served a.low a.high) in
+    let goes = all_go_on b.own (channel p.0) (message_length p.0) 0 e.at v.at v (own_on (channel p.0) L)
+    (a.carried).continues z.more a.soon refl in
+    let opens = stays_open e start xs (x ∷ h) [] v.at (begins_open start h x admitted z.long)
+    (judged_at_end start (onto xs (x ∷ h)) y) goes in
     rw (opens, z.away, z.last) (ap Some z.carried)
 
-pub several_packets_finish : (start : Start) (h xs : List Timed) (x y : Timed) (p q : Packet64) (cid cmd : ℕ) (bytes : List ℕ)
+pub several_packets_finish : (start : Start) (h xs : List Timed) (x y : Timed) (p q : Packet64) (cid cmd : ℕ)
+    (bytes : List ℕ)
     → x.input ≡ Packet p → y.input ≡ Packet q
     → Arrives start h x xs (judge start y (judged start (onto xs (x ∷ h)))) cid cmd bytes
-    → finished_at (judge start y (judged start (onto xs (x ∷ h)))) (judged start (onto xs (x ∷ h))) ≡ Some (record { cid = cid; cmd = cmd; bytes = bytes })
+    → finished_at (judge start y (judged start (onto xs (x ∷ h)))) (judged start (onto xs (x ∷ h)))
+    ≡ Some (record { cid = cid; cmd = cmd; bytes = bytes })
 several_packets_finish start h xs x y p q cid cmd bytes xp yq = search (rules, arith, on_its_channel)

@@ -1,16 +1,13 @@
 -- At most one message is open, and how much is held of it.
-use Rattle.std.proofs.Common.{rules}
-use Rattle.std.proofs.Common.{◌≡◌, ℕ, ◌+◌, ◌-◌, ◌*◌, ◌≤◌, ◌<◌, min, sum_by, true, List, [], ◌∷◌, length, Option, Some, None, option_to_list, refl, arith}
-use Rattle.std.proofs.lemmas.Bool.Decides.{nat_tests}
-use Rattle.std.proofs.lemmas.List.Sums.{sum_by-cons}
+use Rattle.std.proofs.Common.{rules, ◌≡◌, ℕ, ◌+◌, ◌-◌, ◌*◌, ◌≤◌, ◌<◌, min, sum_by, true, List, [], ◌∷◌, length, Option}
+use Rattle.std.proofs.Common.{Some, None, option_to_list, refl, arith}
+use Rattle.std.proofs.lemmas.{Bool.Decides.nat_tests, List.Sums.sum_by-cons}
 use Rattle.authn_core.specs.Turn.{Start}
 use Rattle.ctap_message.specs.Requests.{LARGEST}
 use Rattle.hid_packet.specs.Packet.{channel}
 use Rattle.token_session.specs.Inputs.{Judged, end, own, packet}
 use Rattle.token_session.specs.Messages.{Begun, goes_on, is_long, is_next, is_open, open_among, open_at}
-use Rattle.token_session.specs.History.{held}
-use Rattle.token_session.specs.Law.{all_open}
-use Rattle.token_session.specs.Meters.{peak_held}
+use Rattle.token_session.specs.{History.held, Law.all_open, Meters.peak_held}
 use Rattle.token_session.proofs.Opens.{From, Lawful, from_earlier, none_stays, open_is_admitted}
 
 none_all : (h L : List Judged) (t : ℕ) → open_among L h t ≡ None → all_open L h t ≡ []
@@ -23,7 +20,8 @@ pub one_open : (h L : List Judged) (start : Start) (t : ℕ) → Lawful start h 
 unfolding open_among all_open open_at
 one_open [] L start t l f le = refl
 one_open (e ∷ before) L start t l f le =
-    let none : e.admitted ≡ true → all_open (e ∷ L) before t ≡ [] = λ a. none_all before (e ∷ L) t (none_stays before [] (e ∷ L) e.at t (omega arith, f) le (l.1 a)) in
+    let none : e.admitted ≡ true → all_open (e ∷ L) before t ≡ [] =
+    λ a. none_all before (e ∷ L) t (none_stays before [] (e ∷ L) e.at t (omega arith, f) le (l.1 a)) in
     grind (arith, open_is_admitted e L t, none, one_open before (e ∷ L) start t l.2 (l.0, from_earlier L (end start before) e.at l.0 f) (omega (arith, l.0)))
 
 pub goes_on_below : (os : List Judged) (len m since t : ℕ) → 57 + 59 * m < len → goes_on len m since os t ≡ true

@@ -1,21 +1,19 @@
 -- A finished message is carried by its initialization packet and its channel's own packets.
-use Rattle.std.proofs.Common.{◌≡◌, ℕ, ◌+◌, ◌*◌, ◌≤◌, Bool, true, false, cond, ◌&&◌, inl, List, [], ◌∷◌, ◌++◌, length, take, drop, flat_map, refl, sym, ◌∙◌, ap, subst, arith, Option, Some, max, nat_le, length-append, length-drop, length-take}
-use Rattle.std.proofs.lemmas.Bool.{cond_both}
-use Rattle.std.proofs.lemmas.Bool.Decides.{nat_tests}
-use Rattle.std.proofs.lemmas.List.{length-map}
+use Rattle.std.proofs.Common.{◌≡◌, ℕ, ◌+◌, ◌*◌, ◌≤◌, Bool, true, false, cond, ◌&&◌, inl, List, [], ◌∷◌, ◌++◌, length}
+use Rattle.std.proofs.Common.{take, drop, flat_map, refl, sym, ◌∙◌, ap, subst, arith, Option, Some, max, nat_le}
+use Rattle.std.proofs.Common.{length-append, length-drop, length-take}
+use Rattle.std.proofs.lemmas.{Bool.cond_both, Bool.Decides.nat_tests, List.length-map, Option.same_Some}
 use Rattle.authn_core.specs.Turn.{Start}
-use Rattle.token_session.proofs.Bounds.{goes_on_below}
-use Rattle.std.proofs.lemmas.Option.{same_Some}
+use Rattle.token_session.{proofs.Bounds.goes_on_below, specs.History.admits, specs.History.judge, specs.History.judged}
 use Rattle.token_session.specs.Carried.{Are64, IsWhole, AreWhole, ArriveWhole, carriers, long_carriers, carriers_at}
 use Rattle.hid_assemble.specs.Assembly.{Message}
 use Rattle.hid_packet.specs.Carries.{Carries, CarriesMessage, Continue, joined}
-use Rattle.hid_packet.specs.Packet.{channel, command, continuation_data, initialization_data, is_initialization, message_length, sequence}
+use Rattle.hid_packet.specs.Packet.{channel, command, continuation_data, initialization_data, is_initialization}
+use Rattle.hid_packet.specs.Packet.{message_length, sequence}
 use Rattle.token_session.specs.Inputs.{Judged, end, is_own, is_packet, own, packet}
-use Rattle.token_session.specs.Messages.{finished_at, Begun, begun_by, message, finished, finished_long, goes_on, is_last, is_long, is_next, is_open, open_among, open_at, packets_of}
-use Rattle.token_session.specs.History.{admits, judge, judged}
-use Rattle.token_session.specs.declared.input.Input.{Input}
-use Rattle.token_session.specs.declared.input.Input.TheVariants.{Packet}
-use Rattle.token_session.specs.declared.input.Timed.{Timed}
+use Rattle.token_session.specs.Messages.{finished_at, Begun, begun_by, message, finished, finished_long, goes_on}
+use Rattle.token_session.specs.Messages.{is_last, is_long, is_next, is_open, open_among, open_at, packets_of}
+use Rattle.token_session.specs.declared.input.{Input.Input, Input.TheVariants.Packet, Timed.Timed}
 
 -- each is a packet of channel c
 abbrev pub On : ℕ → List Judged → Type 0
@@ -55,7 +53,8 @@ length_joined : (start : List ℕ) (ps : List (List ℕ)) → length start ≡ 6
     → length (joined start ps) ≡ 57 + 59 * length ps
 unfolding initialization_data
 length_joined start ps h a =
-    let one : length (take 57 (drop 7 start)) ≡ 57 = omega (arith, length-take 57 (drop 7 start), length-drop 7 start, h) in
+    let one : length (take 57 (drop 7 start)) ≡ 57 =
+    omega (arith, length-take 57 (drop 7 start), length-drop 7 start, h) in
     let rest = length_parts ps a in
     omega (arith, length-append (take 57 (drop 7 start)) (flat_map continuation_data ps))
 
@@ -65,7 +64,8 @@ pub last_carries : (b : Begun) (t : ℕ) (p : List ℕ) → is_initialization b.
     → length p ≡ 64
     → On (channel b.packet) b.own → 58 ≤ message_length b.packet → message_length b.packet ≤ 7609
     → goes_on (message_length b.packet) 0 b.at b.own t ≡ true → is_last b p ≡ true
-    → Carries b.packet (packets_of b.own ++ p ∷ []) (channel b.packet) (command b.packet) (take (message_length b.packet) (joined b.packet (packets_of b.own ++ p ∷ [])))
+    → Carries b.packet (packets_of b.own ++ p ∷ []) (channel b.packet) (command b.packet)
+    (take (message_length b.packet) (joined b.packet (packets_of b.own ++ p ∷ [])))
 unfolding is_last
 last_carries b t p st l64 a64 p64 own low high goes last = grind (arith, all_continue, are64_more, continue_more, goes_on_below, length-append, length-map, length-take, length_joined, nat_tests)
 
@@ -97,7 +97,8 @@ known start [] L t b w v is = cc
 known start (x ∷ h) L t b w v is =
     let e = judge start x (judged start h) in
     cond_both (is_open e L t) _ _ (λ o. (o ≡ Some b → Known b t))
-    (λ o q. subst (λ v. Known v t) (same_Some _ b q) (known_here start (judged start h) x L t w.0 v o)) (λ _ q. known start h (e ∷ L) t b w.1 (w.0, v) q) is
+    (λ o q. subst (λ v. Known v t) (same_Some _ b q) (known_here start (judged start h) x L t w.0 v o))
+    (λ _ q. known start h (e ∷ L) t b w.1 (w.0, v) q) is
 
 -- a finished long message
 long_is : (b : Begun) (p : List ℕ) (m : Message) → finished_long (Some b) p ≡ Some m
@@ -116,7 +117,8 @@ short_carries : (p : List ℕ) → is_initialization p ≡ true → length p ≡
     → Carries p [] (channel p) (command p) (take (message_length p) (joined p []))
 short_carries p start whole few =
     let size = length_joined p [] whole tt in
-    let exact : length (take (message_length p) (joined p [])) ≡ message_length p = omega (arith, length-take (message_length p) (joined p [])) in
+    let exact : length (take (message_length p) (joined p [])) ≡ message_length p =
+    omega (arith, length-take (message_length p) (joined p [])) in
     record {
       short = omega arith;
       begins = start;
@@ -156,4 +158,5 @@ unfolding judge open_at
 finished_is_carried start h x m w f =
     let past = judged start h in
     let t = max (end start past) x.at in
-    carried (open_at past t) t _ x.input m (λ b is. known start h [] t b w.1 tt is) w.0 (admitted_starts _ _ _ x.input) f
+    carried (open_at past t) t _ x.input m (λ b is. known start h [] t b w.1 tt is) w.0 (admitted_starts _ _ _ x.input)
+    f

@@ -1,27 +1,17 @@
 -- The authenticator after a history is that of its events, so that the laws of its credentials hold of the history.
 use Rattle.std.proofs.lemmas.Bool.Decides.{nat_tests}
-use Rattle.std.proofs.Common.{rules}
-use Rattle.std.proofs.Common.{◌≡◌, ℕ, List, [], ◌∷◌, ◌++◌, Option, Some, None, option_map, refl, arith}
+use Rattle.std.proofs.Common.{rules, ◌≡◌, ℕ, List, [], ◌∷◌, ◌++◌, Option, Some, None, option_map, refl, arith}
 use Rattle.authn_core.specs.State.{ChannelTask, Event, SignatureIs, Answer, Answered}
-use Rattle.authn_core.specs.Views.{as_work, needs, sign}
+use Rattle.authn_core.specs.{Views.as_work, Views.needs, Views.sign, Ready.Ready, Signed.IsSigned}
 use Rattle.authn_core.specs.Turn.{Start, CoreState, Work, working, first_state, core_answer}
-use Rattle.authn_core.specs.Ready.{Ready}
 use Rattle.authn_core.specs.Marks.{Step, Orderly, core_at}
-use Rattle.token_session.specs.declared.input.Timed.{Timed}
-use Rattle.token_session.specs.Inputs.{Judged}
-use Rattle.token_session.specs.Messages.{finished}
+use Rattle.token_session.specs.declared.input.{Timed.Timed, Input.TheVariants.Signature}
+use Rattle.token_session.specs.{Inputs.Judged, Messages.finished, Events.event_packets, Replies.answer_packets}
 use Rattle.token_session.specs.History.{core, judge, judged, event, service_packets, table_packets}
-use Rattle.token_session.specs.Events.{event_packets}
-use Rattle.token_session.specs.Credentials.{step_of, steps}
-use Rattle.token_session.proofs.Safety.{EventGiven, event_given}
-use Rattle.token_session.proofs.Follows.{good_judged, safe_at}
-use Rattle.hid_packet.specs.Commands.{CBOR}
-use Rattle.hid_packet.specs.Message.{written}
+use Rattle.token_session.specs.{Credentials.step_of, Credentials.steps, Signing.came, Signing.IsAnsweredBy}
+use Rattle.token_session.proofs.{Safety.EventGiven, Safety.event_given, Follows.good_judged, Follows.safe_at}
+use Rattle.hid_packet.specs.{Commands.CBOR, Message.written}
 use Rattle.ctap_message.specs.Asked.{Asked}
-use Rattle.authn_core.specs.Signed.{IsSigned}
-use Rattle.token_session.specs.declared.input.Input.TheVariants.{Signature}
-use Rattle.token_session.specs.Replies.{answer_packets}
-use Rattle.token_session.specs.Signing.{came, IsAnsweredBy}
 
 -- The laws of an authenticator over its steps hold of a history by this.
 pub core_is : (start : Start) (h : List Judged) → core start h ≡ core_at (first_state start) (steps start h)
@@ -47,7 +37,8 @@ pub first_ready : (start : Start) → Ready start.capacity (first_state start).s
 first_ready start = record { pending = tt; work = tt }
 
 -- what is answered has bytes, and is sent where the request came from
-answered_bytes : (aaguid : List ℕ) (work : Option ChannelTask) (id signed sig : List ℕ) (answer : Answer) (asked : Option Asked)
+answered_bytes : (aaguid : List ℕ) (work : Option ChannelTask) (id signed sig : List ℕ) (answer : Answer)
+    (asked : Option Asked)
     → IsSigned aaguid work id signed sig answer asked → (bytes : List ℕ) × (answer ≡ Answered bytes)
 answered_bytes aaguid work id signed sig answer other s = search (rules, arith)
 
@@ -65,6 +56,7 @@ asked_on (Some work) id signed e = (work.cid, refl)
 pub signature_at : (start : Start) (e : Judged) (h : List Judged) (id signed sig : List ℕ)
     → e.input ≡ Signature (Some sig)
     → needs (core start h).state.work ≡ sign id signed
-    → IsSigned start.aaguid (core start h).state.work id signed sig (core_answer (core start h) e.at (SignatureIs (Some sig))) (came start h).asked → IsAnsweredBy start h e id signed sig
+    → IsSigned start.aaguid (core start h).state.work id signed sig (core_answer (core start h) e.at
+    (SignatureIs (Some sig))) (came start h).asked → IsAnsweredBy start h e id signed sig
 unfolding service_packets table_packets finished event answer_packets
 signature_at start e h id signed sig is need answer = grind (arith, answered_bytes, asked_on, sends)

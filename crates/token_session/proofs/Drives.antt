@@ -1,21 +1,15 @@
 -- A drive goes on by one input.
-use Rattle.std.proofs.lemmas.Grind.{common_steps}
-use Rattle.std.proofs.Common.{Result, Ok, IfOk, MatchResult, ◌≡◌, ℕ, ◌+◌, ◌<◌, ◌≤◌, List, [], ◌∷◌, ◌++◌, append_assoc, append-nil, length, take, get_or, refl, ap, arith, length-take}
-use Rattle.std.proofs.lemmas.List.{take_more}
-use Rattle.std.proofs.Math.Seq.{take-length}
+use Rattle.std.proofs.{lemmas.Grind.common_steps, lemmas.List.take_more, Math.Seq.take-length}
+use Rattle.std.proofs.Common.{Result, Ok, IfOk, MatchResult, ◌≡◌, ℕ, ◌+◌, ◌<◌, ◌≤◌, List, [], ◌∷◌, ◌++◌, append_assoc}
+use Rattle.std.proofs.Common.{append-nil, length, take, get_or, refl, ap, arith, length-take}
 use Rattle.authn_core.specs.Turn.{Start}
-use Rattle.token_session.specs.declared.input.Timed.{Timed}
-use Rattle.token_session.specs.Carried.{ArriveWhole, IsWhole}
-use Rattle.token_session.specs.Drive.{done_of, driven, driven_sends}
-use Rattle.token_session.specs.declared.driving.DriveFault.{DriveFault}
-use Rattle.token_session.specs.declared.driving.BothFault.{BothFault}
-use Rattle.token_session.specs.Law.{numbered, onto, sent_from}
-use Rattle.token_session.specs.declared.input.Meters.{Meters}
-use Rattle.token_session.specs.Noise.{Quiet, quiet_from}
+use Rattle.token_session.specs.declared.input.{Timed.Timed, Meters.Meters}
+use Rattle.token_session.specs.{Carried.ArriveWhole, Carried.IsWhole, Noise.Quiet, Noise.quiet_from}
+use Rattle.token_session.specs.{Drive.done_of, Drive.driven, Drive.driven_sends, Law.numbered, Law.onto, Law.sent_from}
+use Rattle.token_session.specs.declared.driving.{DriveFault.DriveFault, BothFault.BothFault}
 use Rattle.token_session.specs.Meters.{SessionState, StandsAfter, stepped, sent_by}
 use Rattle.token_session.proofs.Metering.{stands_longer, machine_after}
-use Rattle.token_session.proofs.Noise.{quiet_alike, quiet_runs}
-use Rattle.token_session.proofs.Follows.{step_sends}
+use Rattle.token_session.proofs.{Noise.quiet_alike, Noise.quiet_runs, Follows.step_sends}
 
 driven_append : (xs : List Timed) (s : SessionState) (x : Timed) → driven s (xs ++ x ∷ []) ≡ stepped (driven s xs) x
 driven_append [] s x = refl
@@ -31,7 +25,8 @@ pub driven_more : (xs : List Timed) (i : ℕ) (s v w : SessionState) (x d : Time
     → v ≡ driven s (take i xs) → w ≡ driven s (take (i + 1) xs)
 driven_more xs i s v w x d h is e f = grind (arith, common_steps, driven_append, take_more)
 
-pub sends_more : (xs : List Timed) (i : ℕ) (s v : SessionState) (ps : List (List ℕ)) (old now next : List (ℕ × List ℕ)) (x d : Timed)
+pub sends_more : (xs : List Timed) (i : ℕ) (s v : SessionState) (ps : List (List ℕ)) (old now next : List (ℕ × List ℕ))
+    (x d : Timed)
     → i < length xs → x ≡ get_or xs i d
     → next ≡ now ++ numbered i ps → ps ≡ sent_by v x → v ≡ driven s (take i xs)
     → now ≡ old ++ driven_sends 0 s (take i xs)
@@ -68,11 +63,13 @@ abbrev IsPassed : Result Meters DriveFault → Meters → Type 0
 IsPassed r m = let passed : Result Meters BothFault = Ok m in MatchResult r (λ x. passed ≡ Ok x) (λ e. ⊥)
 
 -- Two drives by which quiet histories go on.
-pub drives_alike : (start : Start) (h g xs ys : List Timed) (s t : SessionState) (r q : Result Meters DriveFault) (m k : Meters) (old new : List (ℕ × List ℕ))
+pub drives_alike : (start : Start) (h g xs ys : List Timed) (s t : SessionState) (r q : Result Meters DriveFault)
+    (m k : Meters) (old new : List (ℕ × List ℕ))
     → IsPassed r m → IsPassed q k → Quiet start h g → Quiet start (onto xs h) (onto ys g)
     → StandsAfter s start (onto (take (done_of (length xs) r) xs) h)
     → StandsAfter t start (onto (take (done_of (length ys) q) ys) g)
     → IfOk r (λ m. m ≡ s.meters) → IfOk q (λ k. k ≡ t.meters)
     → new ≡ old ++ sent_from 0 start g (take (done_of (length ys) q) ys)
     → (s ≡ t) × (m ≡ k) × (new ≡ old ++ quiet_from 0 start h xs ys)
-drives_alike start h g xs ys s t x7 q m k old new is x14 quiet longer stands x18 counts x20 sent = grind (arith, quiet_alike, quiet_runs, take-length)
+drives_alike start h g xs ys s t x7 q m k old new is x14 quiet longer stands x18 counts x20 sent =
+    grind (arith, quiet_alike, quiet_runs, take-length)

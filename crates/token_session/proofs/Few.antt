@@ -1,19 +1,14 @@
 -- One input sends at most 130 packets.
 use Rattle.std.proofs.Common.{◌≡◌, ℕ, ◌≤◌, suc, List, [], ◌++◌, append-nil, length, Option, Some, arith, length-append}
-use Rattle.std.proofs.lemmas.Bool.Decides.{nat_tests}
-use Rattle.std.proofs.lemmas.List.{drop_all}
-use Rattle.hid_packet.proofs.Carrying.{few_written}
-use Rattle.authn_core.proofs.Facts.{drop_answers_nothing}
+use Rattle.std.proofs.lemmas.{Bool.Decides.nat_tests, List.drop_all}
+use Rattle.hid_packet.{proofs.Carrying.few_written, specs.Message.continuation_packets, specs.Message.written}
+use Rattle.authn_core.{proofs.Facts.drop_answers_nothing, specs.Turn.CoreState}
 use Rattle.authn_core.specs.State.{Answer, Drop, Event}
-use Rattle.authn_core.specs.Turn.{CoreState}
 use Rattle.hid_assemble.specs.declared.verdict.Verdict.{Verdict}
-use Rattle.token_session.specs.Effects.{verdict_event, verdict_packets}
-use Rattle.hid_packet.specs.Message.{continuation_packets, written}
+use Rattle.token_session.specs.{Effects.verdict_event, Effects.verdict_packets, Events.event_packets}
 use Rattle.token_session.specs.Machine.{MachineState, time_passed, served, turn}
-use Rattle.token_session.specs.Events.{event_packets}
 use Rattle.token_session.specs.Replies.{answer_packets, greeting}
-use Rattle.token_session.specs.declared.input.Input.{Input}
-use Rattle.token_session.specs.declared.input.Timed.{Timed}
+use Rattle.token_session.specs.declared.input.{Input.Input, Timed.Timed}
 
 no_more : (c : ℕ) → suc (length (continuation_packets 128 c 0 [])) ≤ 1
 unfolding continuation_packets

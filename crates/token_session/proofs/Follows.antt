@@ -1,27 +1,19 @@
 -- The machine follows the history.
-use Rattle.std.proofs.Common.{rules}
-use Rattle.std.proofs.Common.{◌≡◌, ℕ, ◌+◌, ◌≤◌, true, cond, ◌&&◌, not, List, [], ◌∷◌, ◌++◌, max, min, Option, None, option_map, refl, sym, ◌∙◌, ap, arith}
-use Rattle.std.proofs.lemmas.Bool.Decides.{nat_tests}
-use Rattle.std.proofs.lemmas.List.Sums.{sum_by-cons}
-use Rattle.authn_core.specs.State.{Event}
-use Rattle.authn_core.specs.Turn.{Start, working, waiting}
-use Rattle.hid_assemble.specs.Table.{Open, LAST_CHANNEL}
-use Rattle.hid_assemble.specs.Assembly.{accepted, is_overdue}
-use Rattle.hid_assemble.specs.Verdicts.{verdict}
+use Rattle.std.proofs.Common.{rules, ◌≡◌, ℕ, ◌+◌, ◌≤◌, true, cond, ◌&&◌, not, List, [], ◌∷◌, ◌++◌, max, min, Option}
+use Rattle.std.proofs.Common.{None, option_map, refl, sym, ◌∙◌, ap, arith}
+use Rattle.std.proofs.lemmas.{Bool.Decides.nat_tests, List.Sums.sum_by-cons}
+use Rattle.authn_core.specs.{State.Event, Turn.Start, Turn.working, Turn.waiting}
+use Rattle.hid_assemble.specs.{Table.Open, Table.LAST_CHANNEL, Verdicts.verdict, Assembly.accepted, Assembly.is_overdue}
 use Rattle.token_session.specs.Inputs.{Judged, asks_channel, end, given, is_own, is_packet}
 use Rattle.token_session.specs.Messages.{Begun, as_open, finished, open_at}
-use Rattle.token_session.specs.History.{admits, core, event, judge, judged, last_keepalive, packet_event, sent_at, service_packets, table_packets, time_packets}
+use Rattle.token_session.specs.History.{admits, core, event, judge, judged, last_keepalive, packet_event, sent_at}
+use Rattle.token_session.specs.History.{service_packets, table_packets, time_packets}
 use Rattle.token_session.specs.Law.{event_at, named, is_cut, IsAfter, onto, run_sent, run_state, sent_from, sent_now}
-use Rattle.token_session.specs.Machine.{MachineState, MachineTurn, happens, machine, time_passed, served, start_state, turn}
-use Rattle.token_session.specs.Events.{keepalive_due}
-use Rattle.token_session.specs.Replies.{ping_packets}
-use Rattle.token_session.specs.declared.input.Input.{Input}
-use Rattle.token_session.specs.declared.input.Input.TheVariants.{Packet}
-use Rattle.token_session.specs.declared.input.Timed.{Timed}
+use Rattle.token_session.specs.Machine.{MachineState, MachineTurn, happens, machine, time_passed, served, start_state}
+use Rattle.token_session.specs.{Machine.turn, Events.keepalive_due, Replies.ping_packets}
+use Rattle.token_session.specs.declared.input.{Input.Input, Input.TheVariants.Packet, Timed.Timed}
 use Rattle.token_session.proofs.Opens.{Lawful, next, open_next_is, still, still_open}
-use Rattle.token_session.proofs.Serve.{Safe, OpenGiven, serves}
-use Rattle.token_session.proofs.Safety.{input_safe}
-use Rattle.token_session.proofs.Noted.{last_noted}
+use Rattle.token_session.proofs.{Serve.Safe, Serve.OpenGiven, Serve.serves, Safety.input_safe, Noted.last_noted}
 use Rattle.token_session.specs.Messages as messages
 
 -- What holds after every history.
@@ -38,7 +30,8 @@ safe_at start t h good le =
     record {
       few = (good.safe).few;
       works = (good.safe).works;
-      opens = rw (still_open h start t good.lawful le) (still_given (given h) t (working (core start h)) _ (good.safe).opens);
+      opens = rw (still_open h start t good.lawful le) (still_given (given h) t (working (core start h)) _
+          (good.safe).opens);
     }
 
 -- ---- time
@@ -50,11 +43,13 @@ late start h t = record {
   given = given h;
   current = option_map as_open (open_at h t);
   core = core start h;
-  keepalive_at = cond (not (is_cut (open_at h (end start h)) (open_at h t)) && keepalive_due (waiting (core start h)) (last_keepalive start h) t) t (last_keepalive start h);
+  keepalive_at = cond (not (is_cut (open_at h (end start h)) (open_at h t)) && keepalive_due (waiting (core start h))
+      (last_keepalive start h) t) t (last_keepalive start h);
 }
 
 pub time_named : (start : Start) (t : ℕ) (h : List Judged) → Good start h → end start h ≤ t
-    → time_passed (named start h) t ≡ record { state = late start h t; packets = time_packets start h (last_keepalive start h) t; event = None }
+    → time_passed (named start h) t
+    ≡ record { state = late start h t; packets = time_packets start h (last_keepalive start h) t; event = None }
 unfolding named time_packets time_passed is_overdue
 time_named start t h good le = rw (still_open h start t good.lawful le) (grind (arith, nat_tests))
 
@@ -74,36 +69,44 @@ given_rises e h = let few = given_few h in rw (given_more e h) (grind arith)
 
 -- the input is judged so at t
 abbrev pub judged_at : Start → ℕ → List Judged → Input → Judged
-judged_at start t h i = record { at = t; input = i; admitted = is_packet (admits (given h) (open_at h t) (working (core start h))) i }
+judged_at start t h i =
+    record { at = t; input = i; admitted = is_packet (admits (given h) (open_at h t) (working (core start h))) i }
 
 -- what the history names, as a turn
 abbrev goal_turn : Start → Judged → List Judged → MachineTurn
 goal_turn start e h = record { state = named start (e ∷ h); packets = sent_at start e h; event = event_at start e h }
 
 -- An input that does to each part what the history says leads to the state that it names.
-named_turn : (start : Start) (e : Judged) (h : List Judged) (g : ℕ) (c : Option Open) (packets : List (List ℕ)) (ev : Option Event)
+named_turn : (start : Start) (e : Judged) (h : List Judged) (g : ℕ) (c : Option Open) (packets : List (List ℕ))
+    (ev : Option Event)
     → g ≡ given (e ∷ h) → c ≡ option_map as_open (open_at (e ∷ h) e.at)
-    → packets ≡ table_packets (given h) (open_at h e.at) (working (core start h)) e.input ++ ping_packets (finished (open_at h e.at) e.admitted e.input)
+    → packets ≡ table_packets (given h) (open_at h e.at) (working (core start h)) e.input
+    ++ ping_packets (finished (open_at h e.at) e.admitted e.input)
     → ev ≡ event_at start e h
-    → happens e.at g c (core start h) (late start h e.at).keepalive_at (time_packets start h (last_keepalive start h) e.at) packets ev ≡ goal_turn start e h
+    → happens e.at g c (core start h) (late start h e.at).keepalive_at
+    (time_packets start h (last_keepalive start h) e.at) packets ev ≡ goal_turn start e h
 unfolding named sent_at service_packets core
 named_turn start e h g c packets ev eg ec ep ee = rw (eg, ec, ep, ee, last_noted start e h) refl
 
 served_named : (start : Start) (t : ℕ) (h : List Judged) (i : Input) → Good start h → end start h ≤ t
-    → served (late start h t) (time_packets start h (last_keepalive start h) t) i ≡ goal_turn start (judged_at start t h i) h
+    → served (late start h t) (time_packets start h (last_keepalive start h) t) i
+    ≡ goal_turn start (judged_at start t h i) h
 unfolding event finished table_packets accepted verdict next is_own
 served_named start t h (Packet x) good le =
     let e = judged_at start t h (Packet x) in
     let w = working (core start h) in
     let s = serves (given h) (open_at h t) w t x (safe_at start t h good le) in
-    named_turn start e h _ _ _ _ (sym (given_more e h ∙ s.channels)) (sym (ap (option_map as_open) (open_next_is h e start good.lawful le) ∙ s.current))
+    named_turn start e h _ _ _ _ (sym (given_more e h ∙ s.channels))
+    (sym (ap (option_map as_open) (open_next_is h e start good.lawful le) ∙ s.current))
     (sym s.packets ∙ ap (λ m. table_packets (given h) (open_at h t) w (Packet x) ++ ping_packets m) (sym s.message))
     (sym s.event ∙ ap (λ m. packet_event w m x.0) (sym s.message))
 served_named start t h other good le =
     let e = judged_at start t h other in
-    named_turn start e h _ _ _ _ (sym (given_more e h)) (sym (ap (option_map as_open) (open_next_is h e start good.lawful le) ∙ grind arith)) refl refl
+    named_turn start e h _ _ _ _ (sym (given_more e h)) (sym
+    (ap (option_map as_open) (open_next_is h e start good.lawful le) ∙ grind arith)) refl refl
 
--- One input: the machine's turn on the state that a history names gives the state that the longer history names, and its packets.
+-- One input: the machine's turn on the state that a history names gives the state that the longer history names, and
+-- its packets.
 pub follows : (start : Start) (h : List Judged) (x : Timed) → Good start h
     → turn (named start h) x ≡ goal_turn start (judge start x h) h
 unfolding turn judge named
@@ -128,7 +131,8 @@ good_longer start h x good =
     record {
       lawful = (le, admitted_alone (given h) (open_at h t) (working (core start h)) x.input, good.lawful);
       safe = safe_more (given h) _ _ _ (given_rises e h) (given_few (e ∷ h))
-          (input_safe (given h) (open_at h t) (core start h) t x.input _ (safe_at start t h good le) (sym (open_next_is h e start good.lawful le)));
+          (input_safe (given h) (open_at h t) (core start h) t x.input _ (safe_at start t h good le)
+          (sym (open_next_is h e start good.lawful le)));
     }
 
 pub good_judged : (start : Start) (h : List Timed) → Good start (judged start h)
@@ -136,7 +140,8 @@ unfolding judged given core open_at messages.open_among
 good_judged start [] = record { lawful = tt; safe = record { few = omega arith; works = tt; opens = tt } }
 good_judged start (x ∷ h) = good_longer start (judged start h) x (good_judged start h)
 
--- The machine over a history is in the state that the history names, and each input sends the packets that the history says.
+-- The machine over a history is in the state that the history names, and each input sends the packets that the history
+-- says.
 pub machine_follows : (start : Start) (h : List Timed) → machine start h ≡ named start (judged start h)
 unfolding machine judged start_state named given core open_at messages.open_among last_keepalive
 machine_follows start [] = refl

@@ -1,23 +1,17 @@
 -- The promises of every history, together.
-use Rattle.std.proofs.lemmas.Grind.{common_steps}
-use Rattle.std.proofs.Common.{◌≡◌, ℕ, ◌+◌, ◌-◌, ◌*◌, ◌≤◌, List, [], ◌∷◌, ◌++◌, length, map, reverse, Result, IfOk, take, refl, ◌∙◌, ap, subst, append-nil, append_assoc, arith}
-use Rattle.std.proofs.lemmas.List.{map-append, reverse-append}
+use Rattle.std.proofs.lemmas.{Grind.common_steps, List.map-append, List.reverse-append}
+use Rattle.std.proofs.Common.{◌≡◌, ℕ, ◌+◌, ◌-◌, ◌*◌, ◌≤◌, List, [], ◌∷◌, ◌++◌, length, map, reverse, Result, IfOk, take}
+use Rattle.std.proofs.Common.{refl, ◌∙◌, ap, subst, append-nil, append_assoc, arith}
 use Rattle.std.specs.List.{AllByRecursion}
 use Rattle.ctap_message.specs.Requests.{steps_of}
 use Rattle.authn_core.specs.Turn.{Start}
-use Rattle.token_session.specs.declared.input.Sent.{Sent}
-use Rattle.token_session.specs.declared.input.Timed.{Timed}
-use Rattle.token_session.specs.Carried.{ArriveWhole}
+use Rattle.token_session.specs.declared.input.{Sent.Sent, Timed.Timed, Meters.Meters}
+use Rattle.token_session.specs.{Carried.ArriveWhole, declared.driving.DriveFault.DriveFault, Inputs.Judged}
 use Rattle.token_session.specs.Drive.{as_pair, done_of, packet_of}
-use Rattle.token_session.specs.declared.driving.DriveFault.{DriveFault}
-use Rattle.token_session.specs.declared.input.Meters.{Meters}
-use Rattle.token_session.specs.Inputs.{Judged}
-use Rattle.token_session.specs.History.{judged, sent}
+use Rattle.token_session.specs.{History.judged, History.sent, Headline.AllCarried, Headline.IsAnswered}
 use Rattle.token_session.specs.Law.{numbered, onto, sent_from, sent_now, turns_send}
 use Rattle.token_session.specs.Meters.{requests, meters_of, session_of, SessionState, StandsAfter}
-use Rattle.token_session.specs.Headline.{AllCarried, IsAnswered}
-use Rattle.token_session.proofs.Carrying.{finished_is_carried}
-use Rattle.token_session.proofs.Follows.{machine_follows, step_sends}
+use Rattle.token_session.proofs.{Carrying.finished_is_carried, Follows.machine_follows, Follows.step_sends}
 
 pub turns_send_sent : (start : Start) (h : List Timed) → turns_send start h ≡ sent start (judged start h)
 unfolding turns_send sent judged sent_now
@@ -42,7 +36,8 @@ packets_numbered n [] = refl
 packets_numbered n (p ∷ ps) = ap (λ qs. p ∷ qs) (packets_numbered n ps)
 
 sent_along : (xs : List Timed) (n : ℕ) (start : Start) (h : List Timed) →
-    sent start (judged start h) ++ map (λ (p : ℕ × List ℕ). p.1) (sent_from n start h xs) ≡ sent start (judged start (onto xs h))
+    sent start (judged start h) ++ map (λ (p : ℕ × List ℕ). p.1) (sent_from n start h xs)
+    ≡ sent start (judged start (onto xs h))
 unfolding sent judged sent_now
 sent_along [] n start h = append-nil _
 sent_along (x ∷ xs) n start h =
@@ -56,7 +51,8 @@ onto_reverse (x ∷ xs) h = grind (arith, common_steps, append_assoc, reverse-ap
 sent_reverse : (xs : List Timed) (start : Start)
     → map (λ (p : ℕ × List ℕ). p.1) (sent_from 0 start [] xs) ≡ sent start (judged start (reverse xs))
 unfolding sent judged
-sent_reverse xs start = sent_along xs 0 start [] ∙ ap (λ h. sent start (judged start h)) (onto_reverse xs [] ∙ append-nil (reverse xs))
+sent_reverse xs start = sent_along xs 0 start [] ∙ ap (λ h. sent start (judged start h))
+    (onto_reverse xs [] ∙ append-nil (reverse xs))
 
 whole_onto : (xs h : List Timed) → ArriveWhole xs → ArriveWhole h → ArriveWhole (onto xs h)
 whole_onto [] h ws w = w

@@ -1,23 +1,19 @@
 -- The meters that a history names go on by one input.
-use Rattle.std.proofs.lemmas.Grind.{common_steps}
-use Rattle.std.proofs.Common.{rules}
-use Rattle.std.proofs.Common.{◌≡◌, ℕ, ◌+◌, ◌-◌, ◌*◌, ◌≤◌, List, [], ◌∷◌, length, max, min, sum_by, Option, refl, ap, arith}
-use Rattle.std.proofs.lemmas.List.Sums.{sum_by-cons}
+use Rattle.std.proofs.{lemmas.Grind.common_steps, lemmas.List.Sums.sum_by-cons, Common.ap, Common.arith}
+use Rattle.std.proofs.Common.{rules, ◌≡◌, ℕ, ◌+◌, ◌-◌, ◌*◌, ◌≤◌, List, [], ◌∷◌, length, max, min, sum_by, Option, refl}
 use Rattle.hid_assemble.specs.Assembly.{held_bytes}
 use Rattle.ctap_message.specs.Requests.{steps_of, LARGEST}
 use Rattle.authn_core.specs.Turn.{Start}
-use Rattle.token_session.specs.declared.input.Timed.{Timed}
-use Rattle.token_session.specs.declared.input.Meters.{Meters}
-use Rattle.token_session.specs.Effects.{request_in}
-use Rattle.token_session.specs.Inputs.{Judged, given}
+use Rattle.token_session.specs.declared.input.{Timed.Timed, Meters.Meters}
+use Rattle.token_session.{specs.Effects.request_in, proofs.Follows.turn_after}
+use Rattle.token_session.specs.{Inputs.Judged, Inputs.given, Law.named, Law.event_at, Law.IsAfter}
 use Rattle.token_session.specs.Messages.{open_at, open_among}
 use Rattle.token_session.specs.History.{judged, judge, held, core, last_keepalive}
 use Rattle.token_session.specs.Machine.{MachineState, turn, start_state}
-use Rattle.token_session.specs.Law.{named, event_at, IsAfter}
 use Rattle.cred_table.specs.Waiting.{pending_count}
 use Rattle.std.specs.List.{cons_option}
-use Rattle.token_session.specs.Meters.{AreBounded, peak_rows, peak_pending, requests, peak_held, meters_of, counted, metered, SessionState, StandsAfter, stepped, session_of}
-use Rattle.token_session.proofs.Follows.{turn_after}
+use Rattle.token_session.specs.Meters.{AreBounded, peak_rows, peak_pending, requests, peak_held, meters_of, counted}
+use Rattle.token_session.specs.Meters.{metered, SessionState, StandsAfter, stepped, session_of}
 
 -- the bytes held are those that the history names
 pub held_named : (start : Start) (h : List Judged) → held_bytes (named start h).current ≡ held start h
@@ -41,7 +37,8 @@ unfolding counted
 counted_more x0 held rows pending rs = grind (arith, common_steps, sum_by-cons)
 
 pub meters_more : (start : Start) (e : Judged) (h : List Judged)
-    → metered (meters_of start h) (held start (e ∷ h)) (length (core start (e ∷ h)).state.rows) (pending_count (core start (e ∷ h)).state.pending) (request_in (event_at start e h))
+    → metered (meters_of start h) (held start (e ∷ h)) (length (core start (e ∷ h)).state.rows)
+    (pending_count (core start (e ∷ h)).state.pending) (request_in (event_at start e h))
     ≡ meters_of start (e ∷ h)
 unfolding meters_of metered requests peak_held peak_rows peak_pending
 meters_more start e h = search (rules, arith, counted_more)
@@ -70,7 +67,8 @@ pub begins : (start : Start) (m : MachineState) (k : Meters) (rows : ℕ) → m 
     → k ≡ record { held = 0; rows = rows; pending = 0; requests = 0; bytes = 0; steps = 0 }
     → rows ≡ length m.core.state.rows
     → record { machine = m; meters = k } ≡ session_of start []
-unfolding start_state session_of named meters_of requests peak_held peak_rows peak_pending held given open_at open_among core last_keepalive
+unfolding start_state session_of named meters_of requests peak_held peak_rows peak_pending held given open_at open_among
+    core last_keepalive
 begins start m k rows is first counted = rw (first, counted, is) refl
 
 pub bounded_first : (k : Meters) (rows : ℕ)
@@ -87,7 +85,8 @@ unfolding session_of
 session_held start h = held_named start h
 
 -- The meters stay bounded, where each message takes at most four steps for each byte after the first and two more.
-pub counted_bounded : (each : (m : List ℕ) → steps_of m ≤ 4 * (length m - 1) + 2) (m : Meters) (request : Option (List ℕ)) → AreBounded m
+pub counted_bounded : (each : (m : List ℕ) → steps_of m ≤ 4 * (length m - 1) + 2) (m : Meters)
+    (request : Option (List ℕ)) → AreBounded m
     → AreBounded (counted m request)
 unfolding counted
 counted_bounded each m request h = grind (arith, each)

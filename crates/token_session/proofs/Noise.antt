@@ -1,25 +1,24 @@
 -- Noise leaves all as a tick leaves it: of one turn, of a session's step, and of histories.
-use Rattle.std.proofs.Common.{rules}
-use Rattle.std.proofs.Common.{◌≡◌, ℕ, ◌+◌, Bool, true, false, List, [], ◌∷◌, append-nil, length, max, Some, None, refl, sym, ◌∙◌, ap, suc, arith}
+use Rattle.std.proofs.Common.{rules, ◌≡◌, ℕ, ◌+◌, Bool, true, false, List, [], ◌∷◌, append-nil, length, max, Some, None}
+use Rattle.std.proofs.Common.{refl, sym, ◌∙◌, ap, suc, arith}
 use Rattle.hid_packet.specs.Packet.{Fields}
-use Rattle.hid_assemble.specs.Table.{Ruling, is_noise}
-use Rattle.hid_assemble.specs.Assembly.{Assembly, accepted, bytes_of, given_after, still_open, open_after, message_after}
+use Rattle.hid_assemble.specs.{Table.Ruling, Table.is_noise, Assembly.message_after}
+use Rattle.hid_assemble.specs.Assembly.{Assembly, accepted, bytes_of, given_after, still_open, open_after}
 use Rattle.hid_assemble.specs.Verdicts.{ruling_verdict, verdict}
 use Rattle.authn_core.specs.State.{Event, PresenceIs, KeyIs, SignatureIs, Ignored}
 use Rattle.authn_core.specs.Turn.{Start, CoreState, working, turn as turn_of}
 use Rattle.authn_core.proofs.Facts.{presence_ignored, key_ignored, signature_ignored}
-use Rattle.token_session.specs.declared.input.Input.{Input}
+use Rattle.token_session.specs.declared.input.{Input.Input, Timed.Timed}
 use Rattle.token_session.specs.declared.input.Input.TheVariants.{Packet, Tick, Presence, Key, Signature}
-use Rattle.token_session.specs.declared.input.Timed.{Timed}
 use Rattle.token_session.specs.Effects.{request_in, verdict_event, verdict_packets}
-use Rattle.token_session.specs.Machine.{MachineState, MachineTurn, answer_keeps_alive, turn, time_passed, served, happens}
-use Rattle.token_session.specs.Inputs.{end}
+use Rattle.token_session.specs.Machine.{MachineState, MachineTurn, answer_keeps_alive, turn, time_passed, served}
+use Rattle.token_session.{specs.Machine.happens, specs.Inputs.end, proofs.Metering.stands_longer}
 use Rattle.token_session.specs.History.{judge, judged, sent}
 use Rattle.token_session.specs.Law.{named, IsAfter, onto, sent_now, sent_from}
 use Rattle.token_session.specs.Meters.{SessionState, stepped, session_of}
-use Rattle.token_session.specs.Noise.{is_noise_among, is_noise_to, is_noise_at, is_noise_after, tick_at, IsQuiet, Quiet, is_replaced, quiet_now, quiet_sent, quiet_from}
+use Rattle.token_session.specs.Noise.{is_noise_among, is_noise_to, is_noise_at, is_noise_after, tick_at, IsQuiet, Quiet}
+use Rattle.token_session.specs.Noise.{is_replaced, quiet_now, quiet_sent, quiet_from}
 use Rattle.token_session.proofs.Follows.{good_judged, time_named, step_sends}
-use Rattle.token_session.proofs.Metering.{stands_longer}
 
 -- What a turn leaves after, beside the packets: the state, and what a request that it finished took to read.
 pub record Leaves (t : MachineTurn) (u : MachineTurn) : Type 0 where
@@ -31,7 +30,8 @@ abbrev ruled : MachineState → Fields → List (List ℕ) → Ruling → Machin
 ruled s f early r =
     let m = message_after s.current f r in
     let v = ruling_verdict s.given (working s.core) f m r in
-    happens s.now (given_after s.given r) (open_after s.current s.now f r) s.core s.keepalive_at early (verdict_packets v (bytes_of m)) (verdict_event v (bytes_of m))
+    happens s.now (given_after s.given r) (open_after s.current s.now f r) s.core s.keepalive_at early
+    (verdict_packets v (bytes_of m)) (verdict_event v (bytes_of m))
 
 row_leaves : (s : MachineState) (f : Fields) (early : List (List ℕ)) (r : Ruling) → is_noise r ≡ true
     → Leaves (ruled s f early r) (served s early Tick)
@@ -50,9 +50,12 @@ served_leaves : (s : MachineState) (early : List (List ℕ)) (i : Input) → is_
     → Leaves (served s early i) (served s early Tick)
 unfolding accepted verdict
 served_leaves s early (Packet p) h = search (rules, arith, row_leaves)
-served_leaves s early (Presence reply) h = event_leaves s early (PresenceIs reply) (presence_ignored (s.core).setup (s.core).state s.now reply (grind arith)) refl
-served_leaves s early (Key key) h = event_leaves s early (KeyIs key) (key_ignored (s.core).setup (s.core).state s.now key (grind arith)) refl
-served_leaves s early (Signature sig) h = event_leaves s early (SignatureIs sig) (signature_ignored (s.core).setup (s.core).state s.now sig (grind arith)) refl
+served_leaves s early (Presence reply) h = event_leaves s early (PresenceIs reply)
+    (presence_ignored (s.core).setup (s.core).state s.now reply (grind arith)) refl
+served_leaves s early (Key key) h = event_leaves s early (KeyIs key)
+    (key_ignored (s.core).setup (s.core).state s.now key (grind arith)) refl
+served_leaves s early (Signature sig) h = event_leaves s early (SignatureIs sig)
+    (signature_ignored (s.core).setup (s.core).state s.now sig (grind arith)) refl
 served_leaves s early Tick h = cc
 
 pub noise_leaves : (s : MachineState) (x : Timed) → is_noise_at s x ≡ true → Leaves (turn s x) (turn s (tick_at x.at))
@@ -60,7 +63,8 @@ unfolding turn is_noise_at
 noise_leaves s x h = search (rules, arith, served_leaves)
 
 -- whether an input is noise, by the parts of a session when time has passed
-pub noise_now : (s : MachineState) (latest keepalive_at at now : ℕ) (a : Assembly) (k : CoreState) (i : Input) (answer : Bool)
+pub noise_now : (s : MachineState) (latest keepalive_at at now : ℕ) (a : Assembly) (k : CoreState) (i : Input)
+    (answer : Bool)
     → record { now = latest; given = a.given; current = a.current; core = k; keepalive_at = keepalive_at } ≡ s
     → now ≡ max latest at
     → answer ≡ is_noise_among a.given (still_open a.current now) k i
@@ -97,7 +101,8 @@ pub quiet_alike : (start : Start) (h g : List Timed) → Quiet start h g
 quiet_alike start [] [] q = refl
 quiet_alike start (x ∷ h) (y ∷ g) q =
     let s = session_of start (judged start h) in
-    sym (stands_longer s start h x refl) ∙ stepped_alike start h x y q.1 ∙ stands_longer s start g y (quiet_alike start h g q.0)
+    sym (stands_longer s start h x refl) ∙ stepped_alike start h x y q.1
+    ∙ stands_longer s start g y (quiet_alike start h g q.0)
 quiet_alike start h g q = absurd q
 
 -- The packets that one input sends after both, the second with the same input or with a tick.
@@ -117,7 +122,8 @@ now_tick start h g x b noise =
     let past = judged start h in
     let replaced : is_replaced x.input Tick ≡ true = grind arith in
     rw replaced (sym (step_sends (named start past) start g (tick_at x.at) b) ∙ tick_sends (named start past) x.at
-    ∙ ap (λ (v : MachineTurn). v.packets) (time_named start (max (end start past) x.at) past (good_judged start h) (omega arith)))
+    ∙ ap (λ (v : MachineTurn). v.packets) (time_named start (max (end start past) x.at) past (good_judged start h)
+    (omega arith)))
 
 quiet_sends_now : (start : Start) (h g : List Timed) (x y : Timed) → Quiet start h g → IsQuiet start h x y
     → sent_now start g y ≡ quiet_now start h x y
@@ -152,7 +158,8 @@ runs_alike : (xs ys : List Timed) (n : ℕ) (start : Start) (h g : List Timed) �
     → Quiet start (onto xs h) (onto ys g)
     → sent_from n start g ys ≡ quiet_from n start h xs ys
 runs_alike [] [] n start h g l q = refl
-runs_alike (x ∷ xs) (y ∷ ys) n start h g l q = grind (arith, quiet_sends_now, shorter, runs_alike xs ys (n + 1) start (x ∷ h) (y ∷ g))
+runs_alike (x ∷ xs) (y ∷ ys) n start h g l q =
+    grind (arith, quiet_sends_now, shorter, runs_alike xs ys (n + 1) start (x ∷ h) (y ∷ g))
 runs_alike xs ys n start h g l q = absurd (omega (arith, l))
 
 pub quiet_runs : (n : ℕ) (start : Start) (h g xs ys : List Timed) → Quiet start h g

@@ -1,22 +1,17 @@
 -- What sends a KEEPALIVE: time where it is due, and an event that says so.
-use Rattle.std.proofs.Common.{rules}
-use Rattle.std.proofs.Common.{◌≡◌, ℕ, ◌+◌, ◌<◌, ◌≤◌, ◌==◌, Bool, true, false, cond, not, ◌&&◌, suc, zero, List, [], ◌∷◌, drop, Option, refl, arith}
-use Rattle.std.proofs.lemmas.Bool.Decides.{nat_tests}
-use Rattle.std.proofs.lemmas.List.Folds.{list_any-append}
-use Rattle.authn_core.specs.State.{Event}
-use Rattle.authn_core.specs.Turn.{Start, Work, CoreState, waiting}
+use Rattle.std.proofs.Common.{rules, ◌≡◌, ℕ, ◌+◌, ◌<◌, ◌≤◌, ◌==◌, Bool, true, false, cond, not, ◌&&◌, suc, zero, List}
+use Rattle.std.proofs.Common.{[], ◌∷◌, drop, Option, refl, arith}
+use Rattle.std.proofs.lemmas.{Bool.Decides.nat_tests, List.Folds.list_any-append}
+use Rattle.authn_core.specs.{State.Event, Turn.Start, Turn.Work, Turn.CoreState, Turn.waiting}
 use Rattle.hid_assemble.specs.Assembly.{Message}
-use Rattle.hid_packet.specs.Commands.{KEEPALIVE}
+use Rattle.hid_packet.specs.{Commands.KEEPALIVE, Packet.command, Packet.is_initialization}
 use Rattle.hid_packet.specs.Message.{padded, initialization_packet, continuation_packet, continuation_packets, written}
-use Rattle.hid_packet.specs.Packet.{command, is_initialization}
 use Rattle.token_session.specs.Events.{event_packets, keepalive_due, keepalive_packets}
-use Rattle.token_session.specs.Inputs.{Judged, end}
+use Rattle.token_session.specs.{Inputs.Judged, Inputs.end, Machine.answer_keeps_alive, Machine.event_keeps_alive}
 use Rattle.token_session.specs.Messages.{Begun, open_at}
-use Rattle.token_session.specs.Law.{is_cut, keeps_alive}
-use Rattle.token_session.specs.History.{core, cut_packets, event_to, last_keepalive, service_packets, table_packets, time_packets}
-use Rattle.token_session.specs.Machine.{answer_keeps_alive, event_keeps_alive}
+use Rattle.token_session.specs.{Law.is_cut, Law.keeps_alive, History.time_packets, declared.input.Input.Input}
+use Rattle.token_session.specs.History.{core, cut_packets, event_to, last_keepalive, service_packets, table_packets}
 use Rattle.token_session.specs.Replies.{answer_packets, greeting, ping_packets, row_packets}
-use Rattle.token_session.specs.declared.input.Input.{Input}
 
 begins : (cid cmd len : ℕ) (part : List ℕ) → is_initialization (initialization_packet cid cmd len part) ≡ true
 unfolding is_initialization initialization_packet padded
@@ -35,7 +30,8 @@ none_among : (most cid number : ℕ) (bytes : List ℕ) → number + most ≤ 12
 unfolding continuation_packets
 none_among zero cid number bytes h = refl
 none_among (suc most) cid number [] h = refl
-none_among (suc most) cid number (b ∷ bytes) h = search (rules, arith, goes, none_among most cid (number + 1) (drop 59 (b ∷ bytes)))
+none_among (suc most) cid number (b ∷ bytes) h =
+    search (rules, arith, goes, none_among most cid (number + 1) (drop 59 (b ∷ bytes)))
 
 -- A message is a KEEPALIVE exactly where its command is.
 of_written : (cid cmd : ℕ) (bytes : List ℕ) → keeps_alive (written cid cmd bytes) ≡ (cmd == KEEPALIVE)
@@ -54,7 +50,8 @@ unfolding answer_packets answer_keeps_alive
 event_noted k t e = grind (arith, of_written)
 
 time_noted : (c : Bool) (o : Option Begun) (w : Option Work) (l t : ℕ)
-    → keeps_alive (cond c (cut_packets o) (cond (keepalive_due w l t) (keepalive_packets w) [])) ≡ (not c && keepalive_due w l t)
+    → keeps_alive (cond c (cut_packets o) (cond (keepalive_due w l t) (keepalive_packets w) []))
+    ≡ (not c && keepalive_due w l t)
 unfolding keepalive_due
 time_noted c o w l t = grind (arith, of_written)
 
@@ -62,6 +59,7 @@ time_noted c o w l t = grind (arith, of_written)
 pub last_noted : (start : Start) (e : Judged) (past : List Judged)
     → last_keepalive start (e ∷ past)
     ≡ cond (event_keeps_alive (core start past) e.at (event_to (core start past) e past)) e.at
-    (cond (not (is_cut (open_at past (end start past)) (open_at past e.at)) && keepalive_due (waiting (core start past)) (last_keepalive start past) e.at) e.at (last_keepalive start past))
+    (cond (not (is_cut (open_at past (end start past)) (open_at past e.at)) && keepalive_due (waiting (core start past))
+    (last_keepalive start past) e.at) e.at (last_keepalive start past))
 unfolding last_keepalive service_packets time_packets
 last_noted start e past = simp (list_any-append, table_silent, ping_silent, event_noted, time_noted) (grind arith)

@@ -1,8 +1,7 @@
 -- How the open message of a history goes on by one input, and as time passes.
-use Rattle.std.proofs.Common.{rules}
-use Rattle.std.proofs.Common.{◌≡◌, ℕ, ◌+◌, ◌≤◌, true, cond, ◌&&◌, List, [], ◌∷◌, ◌++◌, length, append-nil, Option, Some, None, refl, arith, nat_lt, if◌then◌else◌}
-use Rattle.std.proofs.lemmas.Bool.Decides.{nat_tests}
-use Rattle.std.proofs.lemmas.List.Elements.{filter-append}
+use Rattle.std.proofs.Common.{rules, ◌≡◌, ℕ, ◌+◌, ◌≤◌, true, cond, ◌&&◌, List, [], ◌∷◌, ◌++◌, length, append-nil}
+use Rattle.std.proofs.Common.{Option, Some, None, refl, arith, nat_lt, if◌then◌else◌}
+use Rattle.std.proofs.lemmas.{Bool.Decides.nat_tests, List.Elements.filter-append}
 use Rattle.hid_packet.specs.Packet.{channel, message_length}
 use Rattle.authn_core.specs.Turn.{Start}
 use Rattle.token_session.specs.Inputs.{Judged, end, is_own, own, packet}
@@ -68,7 +67,8 @@ open_is_admitted e L t h = grind arith
 unfoldable pub next : Judged → Begun → Option Begun
 next x b =
     if is_own (channel b.packet) x
-    then (if is_next (message_length b.packet) (length b.own) x then Some (record { packet = b.packet; at = b.at; own = b.own ++ x ∷ [] }) else None)
+    then (if is_next (message_length b.packet) (length b.own) x then Some
+    (record { packet = b.packet; at = b.at; own = b.own ++ x ∷ [] }) else None)
     else Some b
 
 abbrev pub then_next : Judged → Option Begun → Option Begun
@@ -87,7 +87,8 @@ unfolding own
 own_more c x L = grind (arith, filter-append, append-nil)
 
 open_more : (e x : Judged) (L : List Judged) → is_open e (L ++ x ∷ []) x.at
-    ≡ (is_open e L x.at && cond (is_own (channel (packet e.input)) x) (is_next (message_length (packet e.input)) (length (own (channel (packet e.input)) L)) x) true)
+    ≡ (is_open e L x.at && cond (is_own (channel (packet e.input)) x)
+    (is_next (message_length (packet e.input)) (length (own (channel (packet e.input)) L)) x) true)
 unfolding is_open
 open_more e x x2 = grind (arith, goes_on_more, own_more)
 
@@ -97,7 +98,8 @@ one_more : (h L : List Judged) (x : Judged) (start : Start) → Lawful start h �
 unfolding open_among open_at next
 one_more [] L x start l f le = refl
 one_more (e ∷ before) L x start l f le =
-    let ih = one_more before (e ∷ L) x start l.2 (l.0, from_earlier L (end start before) e.at l.0 f) (omega (arith, l.0)) in
+    let ih = one_more before (e ∷ L) x start l.2 (l.0, from_earlier L (end start before) e.at l.0 f)
+    (omega (arith, l.0)) in
     let none : e.admitted ≡ true → open_among (e ∷ (L ++ x ∷ [])) before x.at ≡ None
     = λ a. none_stays before [] (e ∷ (L ++ x ∷ [])) e.at x.at (omega arith, from_one L x e.at f le) le (l.1 a) in
     grind (arith, open_more e x L, own_more (channel (packet e.input)) x L, open_is_admitted e L x.at, ih, none)
@@ -105,9 +107,11 @@ one_more (e ∷ before) L x start l f le =
 -- What is open after one more input.
 pub open_next_is : (h : List Judged) (x : Judged) (start : Start) → Lawful start h → end start h ≤ x.at
     → open_at (x ∷ h) x.at
-    ≡ cond (x.admitted && is_long (packet x.input)) (Some (record { packet = packet x.input; at = x.at; own = [] })) (then_next x (open_at h x.at))
+    ≡ cond (x.admitted && is_long (packet x.input)) (Some (record { packet = packet x.input; at = x.at; own = [] }))
+    (then_next x (open_at h x.at))
 unfolding open_at open_among own is_open goes_on
-open_next_is h x start l le = let soon : nat_lt x.at (x.at + 500) ≡ true = grind (arith, nat_tests) in rw soon (grind (arith, one_more h [] x start l tt le))
+open_next_is h x start l le = let soon : nat_lt x.at (x.at + 500) ≡ true = grind (arith, nat_tests) in
+    rw soon (grind (arith, one_more h [] x start l tt le))
 
 -- ---- time
 
@@ -132,8 +136,10 @@ later_open : (h L : List Judged) (start : Start) (t u : ℕ) → Lawful start h 
 unfolding open_among open_at
 later_open [] L start t u l f le lu = refl
 later_open (e ∷ before) L start t u l f le lu =
-    let ih = later_open before (e ∷ L) start t u l.2 (l.0, from_earlier L (end start before) e.at l.0 f) (omega (arith, l.0)) lu in
-    let none : e.admitted ≡ true → open_among (e ∷ L) before u ≡ None = λ a. none_stays before [] (e ∷ L) e.at u (omega arith, f) (omega arith) (l.1 a) in
+    let ih = later_open before (e ∷ L) start t u l.2 (l.0, from_earlier L (end start before) e.at l.0 f)
+    (omega (arith, l.0)) lu in
+    let none : e.admitted ≡ true → open_among (e ∷ L) before u ≡ None =
+    λ a. none_stays before [] (e ∷ L) e.at u (omega arith, f) (omega arith) (l.1 a) in
     rw (open_still e L t u lu) (grind (arith, open_is_admitted e L t, ih, none))
 
 -- what is open at the end of a history, and still at a later moment

@@ -1,12 +1,9 @@
 -- Time passes: a message is given up, or the authenticator may send a KEEPALIVE.
-use Rattle.std.proofs.Common.{◌≡◌, ℕ, ◌+◌, ◌-◌, ◌≤◌, ◌<◌, true, false, cond, [], Option, Some, None, option_map, refl, List, nat_le, arith}
-use Rattle.std.proofs.lemmas.Bool.Decides.{nat_tests}
-use Rattle.hid_assemble.specs.Table.{Open}
-use Rattle.hid_assemble.specs.Assembly.{Assembly, is_overdue, still_open}
+use Rattle.std.proofs.Common.{◌≡◌, ℕ, ◌+◌, ◌-◌, ◌≤◌, ◌<◌, true, false, cond, [], Option, Some, None, option_map, refl}
+use Rattle.std.proofs.{Common.List, Common.nat_le, Common.arith, lemmas.Bool.Decides.nat_tests}
+use Rattle.hid_assemble.specs.{Table.Open, Assembly.Assembly, Assembly.is_overdue, Assembly.still_open}
 use Rattle.authn_core.specs.Turn.{CoreState, waiting}
-use Rattle.token_session.specs.Replies.{error}
-use Rattle.token_session.specs.declared.input.Meters.{Meters}
-use Rattle.token_session.specs.Meters.{SessionState}
+use Rattle.token_session.specs.{Replies.error, declared.input.Meters.Meters, Meters.SessionState}
 use Rattle.token_session.specs.Machine.{MachineState, time_passed}
 use Rattle.token_session.specs.Events.{keepalive_due, keepalive_packets}
 
@@ -35,7 +32,8 @@ pub record IsPassed (v : SessionState) (t : ℕ) (new : SessionState) (sent : Li
 abbrev dropped : Option Open → ℕ → Option ℕ
 dropped c t = cond (is_overdue c t) (option_map (λ m. m.cid) c) None
 
-module _ (n b t : ℕ) (a d : Assembly) (k : CoreState) (m : Meters) (v : SessionState) (sent : List (List ℕ)) (is : record { machine = whole n a k b; meters = m } ≡ v) (kept : d ≡ passed_to a t) where
+module _ (n b t : ℕ) (a d : Assembly) (k : CoreState) (m : Meters) (v : SessionState) (sent : List (List ℕ))
+    (is : record { machine = whole n a k b; meters = m } ≡ v) (kept : d ≡ passed_to a t) where
   pub late_passed : (x : ℕ) → Some x ≡ dropped a.current t → sent ≡ error x 5
       → IsPassed v t (record { machine = whole t d k b; meters = m }) sent
   unfolding time_passed is_overdue

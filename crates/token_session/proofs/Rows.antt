@@ -1,29 +1,30 @@
--- Worked histories, by computation: a reader's check that the definitions say what is meant. Code and definitions share the
+-- Worked histories, by computation: a reader's check that the definitions say what is meant. Code and definitions share
+-- the
 -- fields, the error codes, the greeting and the authenticator's turns, and only these rows look at them from outside.
 use Rattle.std.proofs.Common.{arith, inl, inr}
 use Prim.Native.String.{String}
-use Rattle.std.specs.Prelude.{◌≡◌, ℕ, ◌+◌, ◌-◌, ◌*◌, nat_lt, if◌then◌else◌, codes, List, [], ◌∷◌, ◌++◌, length, refl, replicate, reverse, true, zero, suc, Option, Some, None}
+use Rattle.std.specs.Prelude.{◌≡◌, ℕ, ◌+◌, ◌-◌, ◌*◌, nat_lt, if◌then◌else◌, codes, List, [], ◌∷◌, ◌++◌, length, refl}
+use Rattle.std.specs.Prelude.{replicate, reverse, true, zero, suc, Option, Some, None}
 use Rattle.cred_table.specs.declared.row.Row.{Row}
-use Rattle.authn_core.specs.State.{Selects, Waits}
-use Rattle.authn_core.specs.Turn.{Start}
+use Rattle.authn_core.specs.{State.Selects, State.Waits, Turn.Start}
 use Rattle.authn_core.specs.Turn as core_turn
-use Rattle.ctap_message.specs.Answers.{assertion_answer, info_answer}
-use Rattle.ctap_message.specs.Requests.{read_of}
+use Rattle.ctap_message.specs.{Answers.assertion_answer, Answers.info_answer, Requests.read_of}
 use Rattle.hid_assemble.specs.Assembly.{Message, accepted, is_overdue, message_after, open_after}
 use Rattle.hid_assemble.specs.Verdicts.{ruling_verdict, verdict}
 use Rattle.hid_assemble.specs.Table.{continuation_row, initialization_row, ruling_of}
 use Rattle.hid_packet.specs.Message.{continuation_packet, continuation_packets, initialization_packet, padded, written}
-use Rattle.hid_packet.specs.Packet.{channel, command, continuation_data, initialization_data, is_initialization, message_length, sequence}
+use Rattle.hid_packet.specs.Packet.{channel, command, continuation_data, initialization_data, is_initialization}
+use Rattle.hid_packet.specs.Packet.{message_length, sequence}
 use Rattle.token_session.specs.Arriving.{Arrives, arriving}
 use Rattle.token_session.specs.Inputs.{asks_channel, given, is_own, own}
-use Rattle.token_session.specs.Messages.{finished, finished_at, finished_long, goes_on, is_last, is_long, is_next, is_open, open_among, open_at, packets_of}
-use Rattle.token_session.specs.History.{admits, core, event, held, judge, judged, last_keepalive, packet_event, sent, sent_at, service_packets, table_packets, time_packets}
-use Rattle.token_session.specs.Law.{onto, run_sent}
+use Rattle.token_session.specs.Messages.{finished, finished_at, finished_long, goes_on, is_last, is_long, is_next}
+use Rattle.token_session.specs.Messages.{is_open, open_among, open_at, packets_of}
+use Rattle.token_session.specs.History.{admits, core, event, held, judge, judged, last_keepalive, packet_event, sent}
+use Rattle.token_session.specs.History.{sent_at, service_packets, table_packets, time_packets}
+use Rattle.token_session.specs.{Law.onto, Law.run_sent, Events.keepalive_due, declared.input.Timed.Timed}
 use Rattle.token_session.specs.Machine.{MachineState, answer_keeps_alive, machine, time_passed, start_state, turn}
-use Rattle.token_session.specs.Events.{keepalive_due}
 use Rattle.token_session.specs.Replies.{answer_packets, greeting, row_packets}
 use Rattle.token_session.specs.declared.input.Input.TheVariants.{Packet, Signature, Tick}
-use Rattle.token_session.specs.declared.input.Timed.{Timed}
 
 abbrev digit : ℕ → ℕ
 digit c = if nat_lt c 58 then c - 48 else c - 87
@@ -57,11 +58,17 @@ abbrev at_zero : Start
 at_zero = record { aaguid = replicate 16 0; moment = 0; capacity = 64; rows = [] }
 
 sent_by : List Timed → List (List ℕ)
-unfolding channel is_initialization command message_length initialization_data sequence continuation_data padded initialization_packet continuation_packet continuation_packets written read_of core_turn.turn initialization_row continuation_row ruling_of greeting row_packets table_packets answer_packets answer_keeps_alive is_overdue keepalive_due open_after message_after accepted ruling_verdict verdict time_passed turn start_state machine judged sent held asks_channel given is_own own is_next goes_on is_long is_open open_among open_at is_last finished_long finished packet_event event core admits judge last_keepalive time_packets service_packets sent_at
+unfolding channel is_initialization command message_length initialization_data sequence continuation_data padded
+    initialization_packet continuation_packet continuation_packets written read_of core_turn.turn initialization_row
+    continuation_row ruling_of greeting row_packets table_packets answer_packets answer_keeps_alive is_overdue
+    keepalive_due open_after message_after accepted ruling_verdict verdict time_passed turn start_state machine judged
+    sent held asks_channel given is_own own is_next goes_on is_long is_open open_among open_at is_last finished_long
+    finished packet_event event core admits judge last_keepalive time_packets service_packets sent_at
 sent_by xs = sent at_zero (judged at_zero (reverse xs))
 
 -- the first lines of the plainest log
-init_and_ping : sent_by (came 0 init_line ∷ came 5 (hex "00000001810003616263") ∷ []) ≡ greeted 1 ∷ pad (hex "00000001810003616263") ∷ []
+init_and_ping : sent_by (came 0 init_line ∷ came 5 (hex "00000001810003616263") ∷ []) ≡ greeted 1
+    ∷ pad (hex "00000001810003616263") ∷ []
 init_and_ping = unfold sent_by in refl
 
 -- Two channels are given at 0; what these inputs send is dropped.
@@ -94,15 +101,18 @@ two_hosts : sent_by (begun_with_two (came 0 ping_100 ∷ came 10 (two (hex "8100
     ≡ after_two (pad (two (hex "bf000106")) ∷ ping_100_back)
 two_hosts = unfold sent_by in refl
 
-wrong_sequence : sent_by (begun_with_two (came 0 ping_100 ∷ came 0 (two (hex "00")) ∷ came 0 (number 1) ∷ came 0 (number 0) ∷ []))
+wrong_sequence : sent_by (begun_with_two (came 0 ping_100 ∷ came 0 (two (hex "00")) ∷ came 0 (number 1)
+    ∷ came 0 (number 0) ∷ []))
     ≡ after_two (error_1 4 ∷ [])
 wrong_sequence = unfold sent_by error_1 in refl
 
-init_on_open : sent_by (begun_with_two (came 0 ping_100 ∷ came 0 (one (hex "860008" ++ replicate 8 8)) ∷ came 0 (number 0) ∷ []))
+init_on_open : sent_by (begun_with_two (came 0 ping_100 ∷ came 0 (one (hex "860008" ++ replicate 8 8))
+    ∷ came 0 (number 0) ∷ []))
     ≡ after_two (pad (one (hex "860011" ++ replicate 8 8 ++ hex "00000001020100000c")) ∷ [])
 init_on_open = unfold sent_by in refl
 
-init_of_seven : sent_by (begun_with_two (came 0 ping_100 ∷ came 0 (one (hex "860007" ++ replicate 7 8)) ∷ came 0 (number 0) ∷ []))
+init_of_seven : sent_by (begun_with_two (came 0 ping_100 ∷ came 0 (one (hex "860007" ++ replicate 7 8))
+    ∷ came 0 (number 0) ∷ []))
     ≡ after_two (error_1 3 ∷ [])
 init_of_seven = unfold sent_by error_1 in refl
 
@@ -113,13 +123,15 @@ init_elsewhere = unfold sent_by in refl
 in_time : sent_by (begun_with_two (came 1000 ping_100 ∷ came 1499 (number 0) ∷ [])) ≡ after_two ping_100_back
 in_time = unfold sent_by in refl
 
-late : sent_by (begun_with_two (came 2000 ping_100 ∷ tick 2300 ∷ came 2400 (one (hex "910000")) ∷ came 2500 (number 0) ∷ [])) ≡ after_two (error_1 5 ∷ [])
+late : sent_by (begun_with_two (came 2000 ping_100 ∷ tick 2300 ∷ came 2400 (one (hex "910000")) ∷ came 2500 (number 0)
+    ∷ [])) ≡ after_two (error_1 5 ∷ [])
 late = unfold sent_by error_1 in refl
 
 earlier : sent_by (begun_with_two (came 3000 ping_100 ∷ came 900 (number 0) ∷ [])) ≡ after_two ping_100_back
 earlier = unfold sent_by in refl
 
-broken_off : sent_by (begun_with_two (came 0 ping_100 ∷ came 10 (one (hex "910000")) ∷ came 20 (one (hex "810000")) ∷ came 30 (one (hex "810000")) ∷ []))
+broken_off : sent_by (begun_with_two (came 0 ping_100 ∷ came 10 (one (hex "910000")) ∷ came 20 (one (hex "810000"))
+    ∷ came 30 (one (hex "810000")) ∷ []))
     ≡ after_two (error_1 4 ∷ pad (one (hex "810000")) ∷ [])
 broken_off = unfold sent_by error_1 in refl
 
@@ -133,23 +145,28 @@ back_from zero k = []
 back_from (suc n) k = one (k ∷ replicate 59 2) ∷ back_from n (k + 1)
 
 -- 57 + 10 * 59 = 647 = 2 * 256 + 135
-ten : sent_by (begun_with_two (came 0 (one (hex "810287" ++ replicate 57 1)) ∷ numbers_from 10 0)) ≡ after_two (one (hex "810287" ++ replicate 57 1) ∷ back_from 10 0)
+ten : sent_by (begun_with_two (came 0 (one (hex "810287" ++ replicate 57 1)) ∷ numbers_from 10 0))
+    ≡ after_two (one (hex "810287" ++ replicate 57 1) ∷ back_from 10 0)
 ten = unfold sent_by in refl
 
-forty : sent_by (begun_with_two (came 0 (one (hex "810971" ++ replicate 57 1)) ∷ numbers_from 40 0)) ≡ after_two (one (hex "810971" ++ replicate 57 1) ∷ back_from 40 0)
+forty : sent_by (begun_with_two (came 0 (one (hex "810971" ++ replicate 57 1)) ∷ numbers_from 40 0))
+    ≡ after_two (one (hex "810971" ++ replicate 57 1) ∷ back_from 40 0)
 forty = unfold sent_by in refl
 
-longest : sent_by (begun_with_two (came 0 (one (hex "811db9" ++ replicate 57 1)) ∷ numbers_from 128 0)) ≡ after_two (one (hex "811db9" ++ replicate 57 1) ∷ back_from 128 0)
+longest : sent_by (begun_with_two (came 0 (one (hex "811db9" ++ replicate 57 1)) ∷ numbers_from 128 0))
+    ≡ after_two (one (hex "811db9" ++ replicate 57 1) ∷ back_from 128 0)
 longest = unfold sent_by in refl
 
-too_long : sent_by (begun_with_two (came 0 (one (hex "811dba" ++ replicate 57 1)) ∷ came 1 (number 0) ∷ [])) ≡ after_two (error_1 3 ∷ [])
+too_long : sent_by (begun_with_two (came 0 (one (hex "811dba" ++ replicate 57 1)) ∷ came 1 (number 0) ∷ []))
+    ≡ after_two (error_1 3 ∷ [])
 too_long = unfold sent_by error_1 in refl
 
 -- PING of 0, 57 and 58 bytes
 ping_0 : sent_by (begun_with_two (came 0 (one (hex "810000")) ∷ [])) ≡ after_two (pad (one (hex "810000")) ∷ [])
 ping_0 = unfold sent_by in refl
 
-ping_57 : sent_by (begun_with_two (came 0 (one (hex "810039" ++ replicate 57 7)) ∷ [])) ≡ after_two (one (hex "810039" ++ replicate 57 7) ∷ [])
+ping_57 : sent_by (begun_with_two (came 0 (one (hex "810039" ++ replicate 57 7)) ∷ []))
+    ≡ after_two (one (hex "810039" ++ replicate 57 7) ∷ [])
 ping_57 = unfold sent_by in refl
 
 ping_58 : sent_by (begun_with_two (came 0 (one (hex "81003a" ++ replicate 57 7)) ∷ came 0 (one (hex "0007")) ∷ []))
@@ -157,7 +174,8 @@ ping_58 : sent_by (begun_with_two (came 0 (one (hex "81003a" ++ replicate 57 7))
 ping_58 = unfold sent_by in refl
 
 -- commands that aren't served, a channel that wasn't given, a CBOR message without a byte and one that isn't served
-refusals : sent_by (begun_with_two (came 0 (one (hex "830000")) ∷ came 1 (hex "00000003810000") ∷ came 2 (one (hex "900000")) ∷ came 3 (one (hex "90000106")) ∷ []))
+refusals : sent_by (begun_with_two (came 0 (one (hex "830000")) ∷ came 1 (hex "00000003810000")
+    ∷ came 2 (one (hex "900000")) ∷ came 3 (one (hex "90000106")) ∷ []))
     ≡ after_two (error_1 1 ∷ pad (hex "00000003bf00010b") ∷ error_1 3 ∷ pad (one (hex "90000101")) ∷ [])
 refusals = unfold sent_by error_1 in refl
 
@@ -170,7 +188,8 @@ get_info : sent_by (begun_with_two (came 0 (one (hex "90000104")) ∷ [])) ≡ a
 get_info = unfold sent_by info_1 in refl
 
 -- a byte after its command
-get_info_refused : sent_by (begun_with_two (came 0 (one (hex "9000020400")) ∷ [])) ≡ after_two (pad (one (hex "90000103")) ∷ [])
+get_info_refused : sent_by (begun_with_two (came 0 (one (hex "9000020400")) ∷ []))
+    ≡ after_two (pad (one (hex "90000103")) ∷ [])
 get_info_refused = unfold sent_by in refl
 
 -- Work waits for the user's presence on channel 1 since the moment 0.
@@ -178,13 +197,20 @@ abbrev waiting : MachineState
 waiting = record { now = 0; given = 2; current = None; core = record { setup = record { aaguid = replicate 16 0; began = 0; capacity = 64 }; state = record { rows = []; pending = None; work = Some (record { cid = 1; task = Selects }) } }; keepalive_at = 0 }
 
 runs : MachineState → List Timed → List (ℕ × List ℕ)
-unfolding channel is_initialization command message_length initialization_data sequence continuation_data padded initialization_packet continuation_packet continuation_packets written read_of core_turn.turn initialization_row continuation_row ruling_of greeting row_packets table_packets answer_packets answer_keeps_alive is_overdue keepalive_due open_after message_after accepted ruling_verdict verdict time_passed turn start_state machine judged sent held asks_channel given is_own own is_next goes_on is_long is_open open_among open_at is_last finished_long finished packet_event event core admits judge last_keepalive time_packets service_packets sent_at
+unfolding channel is_initialization command message_length initialization_data sequence continuation_data padded
+    initialization_packet continuation_packet continuation_packets written read_of core_turn.turn initialization_row
+    continuation_row ruling_of greeting row_packets table_packets answer_packets answer_keeps_alive is_overdue
+    keepalive_due open_after message_after accepted ruling_verdict verdict time_passed turn start_state machine judged
+    sent held asks_channel given is_own own is_next goes_on is_long is_open open_among open_at is_last finished_long
+    finished packet_event event core admits judge last_keepalive time_packets service_packets sent_at
 runs s xs = run_sent 0 s xs
 
 -- busy, a new channel, KEEPALIVE at 100 and 200 but not at 150, an idle CANCEL and a real one
-waits : runs waiting (came 20 (two (hex "81000107")) ∷ came 25 (one (hex "81000107")) ∷ came 26 init_line ∷ tick 100 ∷ tick 150 ∷ tick 200
+waits : runs waiting (came 20 (two (hex "81000107")) ∷ came 25 (one (hex "81000107")) ∷ came 26 init_line ∷ tick 100
+    ∷ tick 150 ∷ tick 200
     ∷ came 210 (two (hex "910000")) ∷ came 220 (one (hex "910000")) ∷ came 230 (one (hex "910000")) ∷ tick 500 ∷ [])
-    ≡ (0, pad (two (hex "bf000106"))) ∷ (1, error_1 6) ∷ (2, greeted 3) ∷ (3, pad (one (hex "bb000102"))) ∷ (5, pad (one (hex "bb000102")))
+    ≡ (0, pad (two (hex "bf000106"))) ∷ (1, error_1 6) ∷ (2, greeted 3) ∷ (3, pad (one (hex "bb000102")))
+    ∷ (5, pad (one (hex "bb000102")))
     ∷ (7, pad (one (hex "9000012d"))) ∷ []
 waits = unfold runs error_1 in refl
 
@@ -194,27 +220,32 @@ drops : runs waiting (came 30 (one (hex "860008" ++ replicate 8 9)) ∷ tick 500
 drops = unfold runs in refl
 
 -- time first, service then
-cancel_in_time : runs waiting (came 100 (one (hex "910000")) ∷ []) ≡ (0, pad (one (hex "bb000102"))) ∷ (0, pad (one (hex "9000012d"))) ∷ []
+cancel_in_time : runs waiting (came 100 (one (hex "910000")) ∷ []) ≡ (0, pad (one (hex "bb000102")))
+    ∷ (0, pad (one (hex "9000012d"))) ∷ []
 cancel_in_time = unfold runs in refl
 
 -- A KEEPALIVE is sent as work begins and as its status changes, and not where it stays.
 keepalives : List (List (List ℕ))
 unfolding answer_packets written initialization_packet continuation_packets padded
-keepalives = answer_packets (Some 1) None (Waits 2) ∷ answer_packets (Some 1) (Some 2) (Waits 1) ∷ answer_packets (Some 1) (Some 2) (Waits 2) ∷ []
+keepalives = answer_packets (Some 1) None (Waits 2) ∷ answer_packets (Some 1) (Some 2) (Waits 1)
+    ∷ answer_packets (Some 1) (Some 2) (Waits 2) ∷ []
 
 begins_and_changes : keepalives ≡ (pad (one (hex "bb000102")) ∷ []) ∷ (pad (one (hex "bb000101")) ∷ []) ∷ [] ∷ []
 begins_and_changes = unfold keepalives in refl
 
 -- A KEEPALIVE is due at 100 ms and not at 99.
-due : runs waiting (tick 99 ∷ tick 100 ∷ tick 199 ∷ tick 200 ∷ []) ≡ (1, pad (one (hex "bb000102"))) ∷ (3, pad (one (hex "bb000102"))) ∷ []
+due : runs waiting (tick 99 ∷ tick 100 ∷ tick 199 ∷ tick 200 ∷ []) ≡ (1, pad (one (hex "bb000102")))
+    ∷ (3, pad (one (hex "bb000102"))) ∷ []
 due = unfold runs in refl
 
 -- all channels were given out
 abbrev full : MachineState
 full = record { now = 0; given = 4294967294; current = None; core = record { setup = record { aaguid = replicate 16 0; began = 0; capacity = 64 }; state = record { rows = []; pending = None; work = None } }; keepalive_at = 0 }
 
--- INIT asks for one more, and then for one in vain with a length of 7; CANCEL there isn't answered, a command that isn't served is refused for its channel
-none_left : runs full (came 0 init_line ∷ came 0 (hex "ffffffff860007") ∷ came 0 (hex "ffffffff91") ∷ came 0 (hex "ffffffff83") ∷ [])
+-- INIT asks for one more, and then for one in vain with a length of 7; CANCEL there isn't answered, a command that
+-- isn't served is refused for its channel
+none_left : runs full (came 0 init_line ∷ came 0 (hex "ffffffff860007") ∷ came 0 (hex "ffffffff91")
+    ∷ came 0 (hex "ffffffff83") ∷ [])
     ≡ (0, pad (hex "ffffffffbf00017f")) ∷ (1, pad (hex "ffffffffbf000103")) ∷ (3, pad (hex "ffffffffbf00010b")) ∷ []
 none_left = unfold runs in refl
 
@@ -227,30 +258,50 @@ pending = record { now = 0; given = 2; current = None; core = record { setup = r
 
 -- what the second of two inputs sends
 second_sends : Timed → Timed → List (List ℕ)
-unfolding channel is_initialization command message_length initialization_data sequence continuation_data read_of core_turn.turn initialization_row continuation_row ruling_of greeting row_packets table_packets answer_packets answer_keeps_alive is_overdue keepalive_due open_after message_after accepted ruling_verdict verdict time_passed turn start_state machine judged sent held asks_channel given is_own own is_next goes_on is_long is_open open_among open_at is_last finished_long finished packet_event event core admits judge last_keepalive time_packets service_packets sent_at pending credential
+unfolding channel is_initialization command message_length initialization_data sequence continuation_data read_of
+    core_turn.turn initialization_row continuation_row ruling_of greeting row_packets table_packets answer_packets
+    answer_keeps_alive is_overdue keepalive_due open_after message_after accepted ruling_verdict verdict time_passed
+    turn start_state machine judged sent held asks_channel given is_own own is_next goes_on is_long is_open open_among
+    open_at is_last finished_long finished packet_event event core admits judge last_keepalive time_packets
+    service_packets sent_at pending credential
 second_sends x y = (turn (turn pending x).state y).packets
 
 -- The next assertion is signed and answered on the channel that asked: the hash of the RP id, UP and the counter 5.
-signature_answered : second_sends (came 10 (one (hex "90000108"))) (record { at = 20; input = Signature (Some (0x30 ∷ [])) })
-    ≡ written 1 0x10 (assertion_answer (replicate 32 0xaa) (replicate 32 7 ++ 0x01 ∷ 0x00 ∷ 0x00 ∷ 0x00 ∷ 0x05 ∷ []) (0x30 ∷ []) (Some (1 ∷ [])) None)
+signature_answered : second_sends (came 10 (one (hex "90000108")))
+    (record { at = 20; input = Signature (Some (0x30 ∷ [])) })
+    ≡ written 1 0x10 (assertion_answer (replicate 32 0xaa) (replicate 32 7 ++ 0x01 ∷ 0x00 ∷ 0x00 ∷ 0x00 ∷ 0x05 ∷ [])
+    (0x30 ∷ []) (Some (1 ∷ [])) None)
 signature_answered = unfold second_sends in refl
 
 -- A PING of three packets at 0, 300 and 700, with another host's PING, a CANCEL of its own channel and a tick between.
 finishes_at : List Timed → List Timed → Timed → Option Message
-unfolding channel is_initialization command message_length initialization_data sequence continuation_data padded initialization_packet continuation_packet continuation_packets written read_of core_turn.turn initialization_row continuation_row ruling_of greeting row_packets table_packets answer_packets answer_keeps_alive is_overdue keepalive_due open_after message_after accepted ruling_verdict verdict time_passed turn start_state machine judged sent held asks_channel given is_own own is_next goes_on is_long is_open open_among open_at is_last finished_long finished packet_event event core admits judge last_keepalive time_packets service_packets sent_at
-finishes_at h between last = finished_at (judge at_zero last (judged at_zero (onto between h))) (judged at_zero (onto between h))
+unfolding channel is_initialization command message_length initialization_data sequence continuation_data padded
+    initialization_packet continuation_packet continuation_packets written read_of core_turn.turn initialization_row
+    continuation_row ruling_of greeting row_packets table_packets answer_packets answer_keeps_alive is_overdue
+    keepalive_due open_after message_after accepted ruling_verdict verdict time_passed turn start_state machine judged
+    sent held asks_channel given is_own own is_next goes_on is_long is_open open_among open_at is_last finished_long
+    finished packet_event event core admits judge last_keepalive time_packets service_packets sent_at
+finishes_at h between last = finished_at (judge at_zero last (judged at_zero (onto between h)))
+    (judged at_zero (onto between h))
 
 own_between : List Timed → List Timed → List (List ℕ)
-unfolding channel is_initialization command message_length initialization_data sequence continuation_data padded initialization_packet continuation_packet continuation_packets written read_of core_turn.turn initialization_row continuation_row ruling_of greeting row_packets table_packets answer_packets answer_keeps_alive is_overdue keepalive_due open_after message_after accepted ruling_verdict verdict time_passed turn start_state machine judged sent held asks_channel given is_own own is_next goes_on is_long is_open open_among open_at is_last finished_long finished packet_event event core admits judge last_keepalive time_packets service_packets sent_at
+unfolding channel is_initialization command message_length initialization_data sequence continuation_data padded
+    initialization_packet continuation_packet continuation_packets written read_of core_turn.turn initialization_row
+    continuation_row ruling_of greeting row_packets table_packets answer_packets answer_keeps_alive is_overdue
+    keepalive_due open_after message_after accepted ruling_verdict verdict time_passed turn start_state machine judged
+    sent held asks_channel given is_own own is_next goes_on is_long is_open open_among open_at is_last finished_long
+    finished packet_event event core admits judge last_keepalive time_packets service_packets sent_at
 own_between h between = packets_of (own 1 (arriving at_zero h between))
 
 abbrev first_of_three : List Timed
 first_of_three = came 0 (one (hex "81007e" ++ replicate 57 1)) ∷ came 0 init_line ∷ came 0 init_line ∷ []
 
 abbrev between_three : List Timed
-between_three = came 10 (two (hex "81000161")) ∷ came 300 (one (hex "00" ++ replicate 59 2)) ∷ came 400 (one (hex "910000")) ∷ tick 600 ∷ []
+between_three = came 10 (two (hex "81000161")) ∷ came 300 (one (hex "00" ++ replicate 59 2))
+    ∷ came 400 (one (hex "910000")) ∷ tick 600 ∷ []
 
-three_finish : finishes_at first_of_three between_three (came 700 (one (hex "01" ++ replicate 10 3))) ≡ Some (record { cid = 1; cmd = 1; bytes = replicate 57 1 ++ replicate 59 2 ++ replicate 10 3 })
+three_finish : finishes_at first_of_three between_three (came 700 (one (hex "01" ++ replicate 10 3)))
+    ≡ Some (record { cid = 1; cmd = 1; bytes = replicate 57 1 ++ replicate 59 2 ++ replicate 10 3 })
 three_finish = unfold finishes_at in refl
 
 -- only the middle one is the channel's own, and 500 ms later it is too late
@@ -261,9 +312,16 @@ too_late : finishes_at first_of_three between_three (came 800 (one (hex "01" ++ 
 too_late = unfold finishes_at in refl
 
 -- so the message arrives, by the law's own premises
-arrives : Arrives at_zero (came 0 init_line ∷ came 0 init_line ∷ []) (came 0 (one (hex "81007e" ++ replicate 57 1))) between_three (judge at_zero (came 700 (one (hex "01" ++ replicate 10 3))) (judged at_zero (onto between_three first_of_three))) 1 1
+arrives : Arrives at_zero (came 0 init_line ∷ came 0 init_line ∷ []) (came 0 (one (hex "81007e" ++ replicate 57 1)))
+    between_three (judge at_zero (came 700 (one (hex "01" ++ replicate 10 3)))
+    (judged at_zero (onto between_three first_of_three))) 1 1
     (replicate 57 1 ++ replicate 59 2 ++ replicate 10 3)
-unfolding channel is_initialization command message_length initialization_data sequence continuation_data padded initialization_packet continuation_packet continuation_packets written read_of core_turn.turn initialization_row continuation_row ruling_of greeting row_packets table_packets answer_packets answer_keeps_alive is_overdue keepalive_due open_after message_after accepted ruling_verdict verdict time_passed turn start_state machine judged sent held asks_channel given is_own own is_next goes_on is_long is_open open_among open_at is_last finished_long finished packet_event event core admits judge last_keepalive time_packets service_packets sent_at
+unfolding channel is_initialization command message_length initialization_data sequence continuation_data padded
+    initialization_packet continuation_packet continuation_packets written read_of core_turn.turn initialization_row
+    continuation_row ruling_of greeting row_packets table_packets answer_packets answer_keeps_alive is_overdue
+    keepalive_due open_after message_after accepted ruling_verdict verdict time_passed turn start_state machine judged
+    sent held asks_channel given is_own own is_next goes_on is_long is_open open_among open_at is_last finished_long
+    finished packet_event event core admits judge last_keepalive time_packets service_packets sent_at
 arrives = record {
   low = omega arith;
   high = omega arith;

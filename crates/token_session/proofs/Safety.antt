@@ -1,21 +1,16 @@
 -- After every input at most one message is open or waits, on a channel that was given.
-use Rattle.std.proofs.Common.{rules}
-use Rattle.std.proofs.Common.{◌≡◌, ℕ, ◌≤◌, List, Option, Some, None, subst, arith}
+use Rattle.std.proofs.Common.{rules, ◌≡◌, ℕ, ◌≤◌, List, Option, Some, None, subst, arith}
 use Rattle.std.proofs.lemmas.Bool.Decides.{nat_tests}
 use Rattle.authn_core.proofs.Facts.{IsGiven, work_stays_given}
-use Rattle.authn_core.specs.State.{Event, Request}
-use Rattle.authn_core.specs.Turn.{CoreState, working}
+use Rattle.authn_core.specs.{State.Event, State.Request, Turn.CoreState, Turn.working}
 use Rattle.hid_assemble.specs.Assembly.{Message}
 use Rattle.hid_packet.specs.Packet.{channel}
-use Rattle.token_session.specs.Inputs.{is_own, is_packet}
+use Rattle.token_session.specs.{Inputs.is_own, Inputs.is_packet, Events.event_core, Events.reply_in}
 use Rattle.token_session.specs.Messages.{Begun, finished, finished_long, is_last, is_long, is_next}
 use Rattle.token_session.specs.History.{admits, event, packet_event}
-use Rattle.token_session.specs.Events.{event_core, reply_in}
-use Rattle.token_session.specs.declared.input.Input.{Input}
-use Rattle.token_session.specs.declared.input.Input.TheVariants.{Packet}
+use Rattle.token_session.specs.declared.input.Input.{Input, TheVariants.Packet}
 use Rattle.hid_packet.specs.declared.packet.Packet.{Packet as Packet64}
-use Rattle.token_session.proofs.Opens.{next}
-use Rattle.token_session.proofs.Serve.{OpenGiven, Safe, never_admitted, new_open}
+use Rattle.token_session.proofs.{Opens.next, Serve.OpenGiven, Serve.Safe, Serve.never_admitted, Serve.new_open}
 
 -- a message is finished on a channel that was given out, where no work waits
 abbrev MessageGiven : ℕ → Option ℕ → Option Message → Type 0
@@ -89,7 +84,8 @@ input_alone g o k t (Packet x) b h e =
     (a.0, a.1, still_idle k t _ a.2 (packet_given 0 (working k) _ x.0 (rw a.3 tt)))
 input_alone g (Some c) k t other b h e =
     let same : c ≡ b = cc in
-    subst (λ v. OpenGiven g (Some v) (working (event_core k t (reply_in other)))) same (h.0, h.1, still_idle k t (reply_in other) h.2 tt)
+    subst (λ v. OpenGiven g (Some v) (working (event_core k t (reply_in other)))) same
+    (h.0, h.1, still_idle k t (reply_in other) h.2 tt)
 input_alone g None k t other b h e = cc
 
 -- After an input at most one message is open or waits.

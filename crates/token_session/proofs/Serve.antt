@@ -1,29 +1,29 @@
 -- What the reply table makes of a packet is what the history says: the channels, the open message, the finished one and
 -- the event. Each part is a proposition on the tests of the table, whatever their values.
-use Rattle.std.proofs.Common.{◌≡◌, ℕ, ◌+◌, ◌≤◌, Bool, true, false, cond, ◌&&◌, ◌||◌, not, ◌==◌, List, [], ◌∷◌, ◌++◌, length, append-nil, append_assoc, Option, Some, None, option_map, refl, sym, subst, arith, nat_lt, nat_le, min}
-use Rattle.std.proofs.lemmas.Bool.{cond_both}
-use Rattle.std.proofs.lemmas.Bool.Decides.{nat_tests}
-use Rattle.std.proofs.lemmas.Grind.{flat_map-append}
-use Rattle.std.proofs.lemmas.List.{map-append, length-append}
-use Rattle.authn_core.proofs.Facts.{IsGiven}
-use Rattle.authn_core.specs.State.{Cancel, Drop}
-use Rattle.hid_assemble.specs.Table.{Begins, Continues, LAST_CHANNEL, Ruling, Open, continuation_row, first_row, initialization_row, is_elsewhere, is_given, is_on, ruling_of}
-use Rattle.hid_assemble.specs.declared.table.ReplyRow.{ReplyRow}
-use Rattle.hid_assemble.specs.declared.table.ReplyRow.TheVariants.{BadLength, BrokenOff, BusyElsewhere, BusyHere, CancelsNothing, CancelsWork, InitAgain, InitFull, InitLength, InitNew, Long, NoSuchChannel, NoSuchCommand, Short}
+use Rattle.std.proofs.Common.{◌≡◌, ℕ, ◌+◌, ◌≤◌, Bool, true, false, cond, ◌&&◌, ◌||◌, not, ◌==◌, List, [], ◌∷◌, ◌++◌}
+use Rattle.std.proofs.Common.{length, append-nil, append_assoc, Option, Some, None, option_map, refl, sym, subst, arith}
+use Rattle.std.proofs.{Common.nat_lt, Common.nat_le, Common.min, lemmas.List.map-append, lemmas.List.length-append}
+use Rattle.std.proofs.lemmas.{Bool.cond_both, Bool.Decides.nat_tests, Grind.flat_map-append}
+use Rattle.authn_core.{proofs.Facts.IsGiven, specs.State.Cancel, specs.State.Drop}
+use Rattle.hid_assemble.specs.Table.{Begins, Continues, LAST_CHANNEL, Ruling, Open, continuation_row, first_row}
+use Rattle.hid_assemble.specs.Table.{initialization_row, is_elsewhere, is_given, is_on, ruling_of}
+use Rattle.hid_assemble.specs.declared.table.ReplyRow.{ReplyRow, TheVariants.NoSuchCommand, TheVariants.Short}
+use Rattle.hid_assemble.specs.declared.table.ReplyRow.TheVariants.{BadLength, BrokenOff, BusyElsewhere, BusyHere}
+use Rattle.hid_assemble.specs.declared.table.ReplyRow.TheVariants.{CancelsNothing, CancelsWork, InitAgain, InitFull}
+use Rattle.hid_assemble.specs.declared.table.ReplyRow.TheVariants.{InitLength, InitNew, Long, NoSuchChannel}
 use Rattle.hid_assemble.specs.Assembly.{Message, begun, bytes_of, given_after, grown, message_after, open_after}
 use Rattle.hid_assemble.specs.Verdicts.{ruling_verdict}
 use Rattle.hid_packet.specs.Commands.{BROADCAST, CANCEL, CBOR, INIT, PING}
-use Rattle.hid_packet.specs.Limits.{data_capacity}
-use Rattle.hid_packet.specs.Limits.{INITIALIZATION_DATA, LONGEST_MESSAGE}
-use Rattle.hid_packet.specs.Packet.{Fields, channel, channel_of, command, continuation, continuation_data, fields, initialization, initialization_data, is_initialization, message_length, sequence}
+use Rattle.hid_packet.specs.Limits.{data_capacity, INITIALIZATION_DATA, LONGEST_MESSAGE}
+use Rattle.hid_packet.specs.Packet.{Fields, channel, channel_of, command, continuation, continuation_data, fields}
+use Rattle.hid_packet.specs.Packet.{initialization, initialization_data, is_initialization, message_length, sequence}
 use Rattle.hid_packet.specs.declared.packet.Packet.{Packet as Packet64}
 use Rattle.token_session.specs.Inputs.{Judged, asks_channel, is_own, is_packet, packet}
 use Rattle.token_session.specs.Messages.{Begun, as_open, finished, finished_long, is_last, is_long, is_next, last_at}
 use Rattle.token_session.specs.History.{admits, packet_event, table_packets}
 use Rattle.token_session.specs.Effects.{verdict_event, verdict_packets}
 use Rattle.token_session.specs.Replies.{request_event, ping_packets, row_packets}
-use Rattle.token_session.specs.declared.input.Input.{Input}
-use Rattle.token_session.specs.declared.input.Input.TheVariants.{Packet}
+use Rattle.token_session.specs.declared.input.Input.{Input, TheVariants.Packet}
 use Rattle.token_session.proofs.Opens.{next, then_next}
 
 -- What an input that came at t makes of the open message.
@@ -34,16 +34,19 @@ new_open g o w t i =
 
 -- these packets and those of a finished PING are what is sent under the ruling
 abbrev SendsAs : ℕ → Option Open → Option ℕ → Fields → List (List ℕ) → Ruling → Type 0
-SendsAs g c w f ps r = ps ++ ping_packets (message_after c f r) ≡ verdict_packets (ruling_verdict g w f (message_after c f r) r) (bytes_of (message_after c f r))
+SendsAs g c w f ps r = ps ++ ping_packets (message_after c f r)
+    ≡ verdict_packets (ruling_verdict g w f (message_after c f r) r) (bytes_of (message_after c f r))
 
 -- The ruling does to each part what the history says.
-pub record Serves (g : ℕ) (o : Option Begun) (w : Option ℕ) (t : ℕ) (x : Packet64) (f : Fields) (r : Ruling) : Type 0 where
-  pub channels : cond (asks_channel x.0) (min (g + 1) LAST_CHANNEL) g ≡ given_after g r
-  pub current : option_map as_open (new_open g o w t (Packet x)) ≡ open_after (option_map as_open o) t f r
-  pub message : finished o (admits g o w x.0) (Packet x) ≡ message_after (option_map as_open o) f r
-  pub event : packet_event w (message_after (option_map as_open o) f r) x.0
-      ≡ verdict_event (ruling_verdict g w f (message_after (option_map as_open o) f r) r) (bytes_of (message_after (option_map as_open o) f r))
-  pub packets : SendsAs g (option_map as_open o) w f (table_packets g o w (Packet x)) r
+pub record Serves (g : ℕ) (o : Option Begun) (w : Option ℕ) (t : ℕ) (x : Packet64) (f : Fields) (r : Ruling) : Type 0
+  where
+    pub channels : cond (asks_channel x.0) (min (g + 1) LAST_CHANNEL) g ≡ given_after g r
+    pub current : option_map as_open (new_open g o w t (Packet x)) ≡ open_after (option_map as_open o) t f r
+    pub message : finished o (admits g o w x.0) (Packet x) ≡ message_after (option_map as_open o) f r
+    pub event : packet_event w (message_after (option_map as_open o) f r) x.0
+        ≡ verdict_event (ruling_verdict g w f (message_after (option_map as_open o) f r) r)
+        (bytes_of (message_after (option_map as_open o) f r))
+    pub packets : SendsAs g (option_map as_open o) w f (table_packets g o w (Packet x)) r
 
 -- ---- what is sent
 
@@ -54,7 +57,8 @@ row_sends g c w p cmd len r = grind (arith, append-nil)
 
 -- ---- a start, by the tests of the table's rows
 
--- What the rows test of an initialization packet: its channel (`on` which work waits, `known`, `here` a message is open,
+-- What the rows test of an initialization packet: its channel (`on` which work waits, `known`, `here` a message is
+-- open,
 -- `apart` from that one or from work), its command, and its length.
 pub record Tests : Type 0 where
   pub cancel : Bool
@@ -92,9 +96,12 @@ tests g current work p = record {
 -- the row of the table that they name
 abbrev row : Tests → ReplyRow
 row s = first_row
-    ((s.cancel && s.on, CancelsWork) ∷ (s.cancel, CancelsNothing) ∷ (not (s.known || (s.broadcast && s.init)), NoSuchChannel)
-    ∷ (s.init && not s.eight, InitLength) ∷ ((s.broadcast && s.init) && s.full, InitFull) ∷ (s.broadcast && s.init, InitNew)
-    ∷ (s.init, InitAgain) ∷ (s.apart, BusyElsewhere) ∷ (s.on, BusyHere) ∷ (s.here, BrokenOff) ∷ (not s.served, NoSuchCommand)
+    ((s.cancel && s.on, CancelsWork) ∷ (s.cancel, CancelsNothing)
+    ∷ (not (s.known || (s.broadcast && s.init)), NoSuchChannel)
+    ∷ (s.init && not s.eight, InitLength) ∷ ((s.broadcast && s.init) && s.full, InitFull)
+    ∷ (s.broadcast && s.init, InitNew)
+    ∷ (s.init, InitAgain) ∷ (s.apart, BusyElsewhere) ∷ (s.on, BusyHere) ∷ (s.here, BrokenOff)
+    ∷ (not s.served, NoSuchCommand)
     ∷ (s.over || s.empty, BadLength) ∷ (s.short, Short) ∷ []) Long
 
 -- what these tests say of one another
@@ -118,7 +125,8 @@ channels_row : (s : Tests) (g : ℕ) → Agree s → s.full ≡ (g == LAST_CHANN
 channels_row s g a full few = grind (arith, nat_tests)
 
 open_none : (s : Tests) (t : ℕ) (f : Fields) (b : Begun) → Agree s → s.here ≡ false → as_open b ≡ begun t f
-    → option_map as_open (cond (admitted s && (not s.short && not s.over)) (Some b) None) ≡ open_after None t f (Begins (row s))
+    → option_map as_open (cond (admitted s && (not s.short && not s.over)) (Some b) None)
+    ≡ open_after None t f (Begins (row s))
 unfolding open_after
 open_none s t f b a alone is = grind arith
 
@@ -138,7 +146,8 @@ event_row s w g o f m a on is = grind arith
 
 open_some : (s : Tests) (t : ℕ) (f : Fields) (b : Begun) → Agree s → s.apart ≡ not s.here → s.on ≡ false
     → (channel b.packet == channel_of f) ≡ s.here
-    → option_map as_open (cond (s.here && not s.cancel) None (Some b)) ≡ open_after (Some (as_open b)) t f (Begins (row s))
+    → option_map as_open (cond (s.here && not s.cancel) None (Some b))
+    ≡ open_after (Some (as_open b)) t f (Begins (row s))
 unfolding open_after
 open_some s t f b a apart idle here = grind arith
 
@@ -159,7 +168,8 @@ admits_none : (g : ℕ) (w : Option ℕ) (p : List ℕ) → is_initialization p 
 unfolding admits
 admits_none g w p st = rw st (grind (arith, nat_tests))
 
-long_is : (p : List ℕ) → is_long p ≡ (not (nat_le (message_length p) INITIALIZATION_DATA) && not (nat_lt LONGEST_MESSAGE (message_length p)))
+long_is : (p : List ℕ) → is_long p ≡ (not (nat_le (message_length p) INITIALIZATION_DATA) && not
+    (nat_lt LONGEST_MESSAGE (message_length p)))
 unfolding is_long
 long_is p = grind (arith, nat_tests)
 
@@ -168,15 +178,18 @@ small n h = grind (arith, nat_tests)
 
 start_none : (g : ℕ) (w : Option ℕ) (t : ℕ) (x : Packet64) → g ≤ LAST_CHANNEL → IsGiven g w
     → is_initialization x.0 ≡ true
-    → Serves g None w t x (starts x.0) (Begins (initialization_row g None w (channel x.0) (command x.0) (message_length x.0)))
+    → Serves g None w t x (starts x.0) (Begins (initialization_row g None w (channel x.0) (command x.0)
+    (message_length x.0)))
 unfolding asks_channel finished finished_long packet_event initialization_row message_after table_packets
 start_none g w t x few wg st =
     let s = tests g None w x.0 in
     let a = agree g None w x.0 few tt wg in
     record {
       channels = rw st (channels_row s g a refl few);
-      current = rw (admits_none g w x.0 st, long_is x.0) (open_none s t (starts x.0) _ a refl (rw (append-nil (initialization_data x.0)) refl));
-      message = rw (admits_none g w x.0 st) (message_none s (starts x.0) _ a refl (small (message_length x.0)) (rw (append-nil (initialization_data x.0)) refl));
+      current = rw (admits_none g w x.0 st, long_is x.0) (open_none s t (starts x.0) _ a refl
+          (rw (append-nil (initialization_data x.0)) refl));
+      message = rw (admits_none g w x.0 st) (message_none s (starts x.0) _ a refl (small (message_length x.0))
+          (rw (append-nil (initialization_data x.0)) refl));
       event = rw st (event_row s w g None (starts x.0) _ a refl refl);
       packets = rw st (row_sends g None w x.0 (command x.0) (message_length x.0) (row s));
     }
@@ -198,7 +211,8 @@ start_next b t x st = rw st (grind arith)
 
 start_some : (g : ℕ) (b : Begun) (t : ℕ) (x : Packet64) → g ≤ LAST_CHANNEL → IsGiven g (Some (channel b.packet))
     → is_initialization x.0 ≡ true
-    → Serves g (Some b) None t x (starts x.0) (Begins (initialization_row g (Some (channel b.packet)) None (channel x.0) (command x.0) (message_length x.0)))
+    → Serves g (Some b) None t x (starts x.0) (Begins (initialization_row g (Some (channel b.packet)) None (channel x.0)
+    (command x.0) (message_length x.0)))
 unfolding asks_channel finished finished_long is_last packet_event initialization_row table_packets
 start_some g b t x few og st =
     let s = tests g (Some (channel b.packet)) None x.0 in
@@ -219,18 +233,21 @@ last_at_more [] t e = refl
 last_at_more (x ∷ es) t e = last_at_more es x.at e
 
 grown_as : (b : Begun) (t : ℕ) (x : Packet64)
-    → as_open (record { packet = b.packet; at = b.at; own = b.own ++ now_came t x ∷ [] }) ≡ grown t (goes x.0) (as_open b)
+    → as_open (record { packet = b.packet; at = b.at; own = b.own ++ now_came t x ∷ [] })
+    ≡ grown t (goes x.0) (as_open b)
 grown_as b t x = simp (map-append, flat_map-append, append-nil, append_assoc, length-append, last_at_more)
 
 more_next : (b : Begun) (t : ℕ) (x : Packet64) → is_initialization x.0 ≡ false
     → next (now_came t x) b ≡ cond (channel b.packet == channel x.0)
-    (cond ((sequence x.0 == length b.own) && nat_lt (data_capacity (length b.own + 1)) (message_length b.packet)) (Some (record { packet = b.packet; at = b.at; own = b.own ++ now_came t x ∷ [] })) None) (Some b)
+    (cond ((sequence x.0 == length b.own) && nat_lt (data_capacity (length b.own + 1)) (message_length b.packet))
+    (Some (record { packet = b.packet; at = b.at; own = b.own ++ now_came t x ∷ [] })) None) (Some b)
 unfolding next is_own is_next
 more_next b t x st = rw st (grind arith)
 
 more_row : (g : ℕ) (o : Option Begun) (w : Option ℕ) (t : ℕ) (x : Packet64) → is_initialization x.0 ≡ false
     → Serves g o w t x (goes x.0) (Continues (continuation_row (option_map as_open o) (channel x.0) (sequence x.0)))
-unfolding asks_channel admits finished finished_long is_last packet_event continuation_row open_after message_after ruling_verdict table_packets
+unfolding asks_channel admits finished finished_long is_last packet_event continuation_row open_after message_after
+    ruling_verdict table_packets
 more_row g x1 w t x st = grind (arith, append-nil, append_assoc, flat_map-append, grown_as, more_next)
 
 -- ---- any packet
@@ -258,5 +275,6 @@ pub serves : (g : ℕ) (o : Option Begun) (w : Option ℕ) (t : ℕ) (x : Packet
     → Serves g o w t x (fields x.0) (ruling_of g (option_map as_open o) w (fields x.0))
 unfolding ruling_of
 serves g o w t x s =
-    cond_both (is_initialization x.0) (starts x.0) (goes x.0) (λ f. Serves g o w t x f (ruling_of g (option_map as_open o) w f))
+    cond_both (is_initialization x.0) (starts x.0) (goes x.0)
+    (λ f. Serves g o w t x f (ruling_of g (option_map as_open o) w f))
     (λ st. start_row g o w t x s st) (λ st. more_row g o w t x st)

@@ -1,32 +1,27 @@
 -- An input that is served by what the transport makes of it is the composed turn.
 use Rattle.std.proofs.lemmas.Bool.Decides.{nat_tests}
-use Rattle.std.proofs.Common.{rules}
-use Rattle.std.proofs.Common.{◌≡◌, ℕ, ◌≤◌, List, ◌++◌, max, Option, None, append_assoc, append-nil, cond, refl, sym, ◌∙◌, ap, arith, Some, IfSome, min}
-use Rattle.hid_assemble.specs.declared.verdict.Verdict.{Verdict}
-use Rattle.hid_assemble.specs.Assembly.{Assembly, accepted}
-use Rattle.hid_assemble.specs.Verdicts.{verdict}
-use Rattle.authn_core.specs.State.{Event, Answer}
+use Rattle.std.proofs.Common.{rules, ◌≡◌, ℕ, ◌≤◌, List, ◌++◌, max, Option, None, append_assoc, append-nil, cond, refl}
+use Rattle.std.proofs.Common.{sym, ◌∙◌, ap, arith, Some, IfSome, min}
+use Rattle.hid_assemble.specs.{declared.verdict.Verdict.Verdict, Verdicts.verdict, Assembly.Assembly, Assembly.accepted}
+use Rattle.authn_core.specs.{State.Event, State.Answer, Views.IsTurn, Views.steps_after}
 use Rattle.authn_core.specs.Turn.{CoreState, working, Held, Work, waiting, core_after, core_answer}
-use Rattle.token_session.specs.declared.input.Input.{Input}
-use Rattle.token_session.specs.declared.input.Input.TheVariants.{Packet}
-use Rattle.token_session.specs.declared.input.Timed.{Timed}
-use Rattle.token_session.specs.Machine.{MachineState, MachineTurn, event_keeps_alive, time_passed, turn, served, happens, answer_keeps_alive}
-use Rattle.token_session.specs.Events.{event_core, event_packets}
-use Rattle.token_session.specs.declared.input.Meters.{Meters}
-use Rattle.token_session.specs.Meters.{SessionState, counted}
+use Rattle.token_session.specs.declared.input.{Input.Input, Input.TheVariants.Packet, Timed.Timed, Meters.Meters}
+use Rattle.token_session.specs.Machine.{MachineState, MachineTurn, event_keeps_alive, time_passed, turn, served}
+use Rattle.token_session.{specs.Machine.happens, specs.Machine.answer_keeps_alive, proofs.Passing.whole}
+use Rattle.token_session.specs.{Events.event_core, Events.event_packets, Meters.SessionState, Meters.counted}
 use Rattle.token_session.specs.Effects.{assembly_after, input_event, input_verdict, request_in, verdict_packets}
-use Rattle.token_session.proofs.Passing.{whole}
 use Rattle.ctap_message.specs.Requests.{steps_of, LARGEST}
-use Rattle.authn_core.specs.Views.{IsTurn, steps_after}
 use Rattle.token_session.specs.Replies.{answer_packets, asker, status_of}
 
 -- An input was served: what is left after it, and what it sent.
-pub record IsServed (v : SessionState) (early : List (List ℕ)) (i : Input) (left : SessionState) (sent : List (List ℕ)) : Type 0 where
+pub record IsServed (v : SessionState) (early : List (List ℕ)) (i : Input) (left : SessionState) (sent : List (List ℕ))
+    : Type 0 where
   pub state : left.machine ≡ (served v.machine early i).state
   pub meters : left.meters ≡ counted v.meters (request_in (served v.machine early i).event)
   pub packets : sent ≡ (served v.machine early i).packets
 
-module _ (n b : ℕ) (a d : Assembly) (k : CoreState) (m : Meters) (v : SessionState) (early : List (List ℕ)) (w : Option ℕ)
+module _ (n b : ℕ) (a d : Assembly) (k : CoreState) (m : Meters) (v : SessionState) (early : List (List ℕ))
+    (w : Option ℕ)
     (is : record { machine = whole n a k b; meters = m } ≡ v) (ew : w ≡ working k)
     (i : Input) (ed : d ≡ assembly_after a n w i) (V : Verdict) (eV : V ≡ input_verdict a w i) where
   turned : (E : Option Event) → E ≡ input_event i V d.finished
@@ -35,34 +30,42 @@ module _ (n b : ℕ) (a d : Assembly) (k : CoreState) (m : Meters) (v : SessionS
   turned E eE = rw (← is, eE, eV) (input_turn i ed)
     where
       input_turn : (i : Input) → d ≡ assembly_after a n w i
-          → happens n d.given d.current k b early (verdict_packets (input_verdict a w i) d.finished) (input_event i (input_verdict a w i) d.finished)
+          → happens n d.given d.current k b early (verdict_packets (input_verdict a w i) d.finished)
+          (input_event i (input_verdict a w i) d.finished)
           ≡ served (whole n a k b) early i
       input_turn (Packet x) ed = rw (ed, ew) refl
       input_turn other ed = rw ed refl
 
   -- by an input that is no event
-  pub served_quietly : None ≡ input_event i V d.finished → (out : List (List ℕ)) → out ≡ early ++ verdict_packets V d.finished
+  pub served_quietly : None ≡ input_event i V d.finished → (out : List (List ℕ)) →
+      out ≡ early ++ verdict_packets V d.finished
       → IsServed v early i (record { machine = whole n d k b; meters = m }) out
   unfolding counted
   served_quietly eE out es =
       let turn = turned None eE in
       record {
         state = ap (λ (t : MachineTurn). t.state) turn;
-        meters = ap (λ (s : SessionState). s.meters) is ∙ ap (λ (t : MachineTurn). counted v.meters (request_in t.event)) turn;
-        packets = es ∙ ap (λ (ps : List (List ℕ)). early ++ ps) (sym (append-nil (verdict_packets V d.finished))) ∙ ap (λ (t : MachineTurn). t.packets) turn;
+        meters = ap (λ (s : SessionState). s.meters) is ∙ ap
+            (λ (t : MachineTurn). counted v.meters (request_in t.event)) turn;
+        packets = es ∙ ap (λ (ps : List (List ℕ)). early ++ ps) (sym (append-nil (verdict_packets V d.finished)))
+            ∙ ap (λ (t : MachineTurn). t.packets) turn;
       }
 
-  module _ (e : Event) (eE : Some e ≡ input_event i V d.finished) (old : List (List ℕ)) (eo : old ≡ early ++ verdict_packets V d.finished) where
+  module _ (e : Event) (eE : Some e ≡ input_event i V d.finished) (old : List (List ℕ))
+      (eo : old ≡ early ++ verdict_packets V d.finished) where
     -- by an event
     pub served_by : (k' : CoreState) (b' : ℕ) (m' : Meters) (out : List (List ℕ)) → k' ≡ event_core k n (Some e)
-        → b' ≡ cond (event_keeps_alive k n (Some e)) n b → m' ≡ counted m (request_in (Some e)) → out ≡ old ++ event_packets k n (Some e)
+        → b' ≡ cond (event_keeps_alive k n (Some e)) n b → m' ≡ counted m (request_in (Some e)) →
+        out ≡ old ++ event_packets k n (Some e)
         → IsServed v early i (record { machine = whole n d k' b'; meters = m' }) out
     served_by k' b' m' out ek eb em es =
         let turn = turned (Some e) eE in
         record {
           state = (λ j. whole n d (ek j) (eb j)) ∙ ap (λ (t : MachineTurn). t.state) turn;
-          meters = em ∙ ap (λ (s : SessionState). counted s.meters (request_in (Some e))) is ∙ ap (λ (t : MachineTurn). counted v.meters (request_in t.event)) turn;
-          packets = es ∙ ap (λ (ps : List (List ℕ)). ps ++ event_packets k n (Some e)) eo ∙ append_assoc early _ _ ∙ ap (λ (t : MachineTurn). t.packets) turn;
+          meters = em ∙ ap (λ (s : SessionState). counted s.meters (request_in (Some e))) is
+              ∙ ap (λ (t : MachineTurn). counted v.meters (request_in t.event)) turn;
+          packets = es ∙ ap (λ (ps : List (List ℕ)). ps ++ event_packets k n (Some e)) eo ∙ append_assoc early _ _
+              ∙ ap (λ (t : MachineTurn). t.packets) turn;
         }
 
 pub step_turn : (v mid : MachineState) (t : ℕ) (x : Timed) (early : List (List ℕ)) → t ≡ max v.now x.at
@@ -82,14 +85,16 @@ pub record IsTaken (old new : Held) (said : Answer) (now : ℕ) (e : Event) : Ty
 pub at_most : (a b : ℕ) → a ≡ b → a ≤ b
 at_most a b e = omega arith
 
-steps_taken : (n k : ℕ) (e : Event) → k ≡ steps_after n e → IfSome (request_in (Some e)) (λ m. k ≡ min (steps_of m) LARGEST)
+steps_taken : (n k : ℕ) (e : Event) → k ≡ steps_after n e → IfSome (request_in (Some e))
+    (λ m. k ≡ min (steps_of m) LARGEST)
 steps_taken n k other h = search (rules, arith)
 
 pub taken : (v w : Held) (a : Answer) (now : ℕ) (e : Event) → v.latest ≤ now → IsTurn v w a now e → IsTaken v w a now e
 taken v w a now e le h = grind (arith, nat_tests)
 
 -- What the answer of an event's turn sends is what the event sends.
-module _ (k : CoreState) (now : ℕ) (e : Event) (w : Option Work) (said : Answer) (ew : waiting k ≡ w) (es : said ≡ core_answer k now e) where
+module _ (k : CoreState) (now : ℕ) (e : Event) (w : Option Work) (said : Answer) (ew : waiting k ≡ w)
+    (es : said ≡ core_answer k now e) where
   pub taken_packets : answer_packets (asker w e) (status_of w) said ≡ event_packets k now (Some e)
   taken_packets = λ i. answer_packets (asker ((sym ew) i) e) (status_of ((sym ew) i)) (es i)
 

@@ -31,6 +31,8 @@ times k n few = from 0 (n * k) (256 * k) (mul-le-mul_right k few)
 
 -- a session of so few credentials, by the size of a row and of an id
 pub session_small : (n : ℕ) → n ≤ 256
-    → up 8 (7664 + up 8 (up 8 (up 8 (0 + up 8 (up 8 (up 8 (up 8 (40 + up 8 (up 8 (0 + up 8 (up 2 (up 2 (up 2 (up 2 (0 + n * 296) + 128) + 4) + 4) + 4)) + 8))
-    + up 8 (48 + up 8 (up 1 (up 8 (0 + up 1 (0 + n * 32)) + 8) + 0))) + 544) + up 8 (up 1 (up 8 (0 + up 1 (0 + n * 32)) + 8) + 0))) + 8) + 32)) < 2 ^ 63
+    → up 8 (7664 + up 8 (up 8 (up 8 (0 + up 8
+    (up 8 (up 8 (up 8 (40 + up 8 (up 8 (0 + up 8 (up 2 (up 2 (up 2 (up 2 (0 + n * 296) + 128) + 4) + 4) + 4)) + 8))
+    + up 8 (48 + up 8 (up 1 (up 8 (0 + up 1 (0 + n * 32)) + 8) + 0))) + 544)
+    + up 8 (up 1 (up 8 (0 + up 1 (0 + n * 32)) + 8) + 0))) + 8) + 32)) < 2 ^ 63
 session_small n few = grind (arith, nat_tests)

@@ -1,18 +1,15 @@
--- What a history of inputs sends, from what happened alone: no state of the authenticator is kept, and none of its turns
+-- What a history of inputs sends, from what happened alone: no state of the authenticator is kept, and none of its
+-- turns
 -- is looked at. Its events have the answers that what came before them names.
-use Rattle.std.specs.Prelude.{◌≡◌, ℕ, max, List, [], ◌∷◌, ◌++◌, ◌&&◌, Option, Some, None, option_map, is_some, is_none, if◌then◌else◌}
-use Rattle.std.specs.List.{list_any}
-use Rattle.hid_packet.specs.Commands.{KEEPALIVE}
-use Rattle.hid_packet.specs.Packet.{is_command}
-use Rattle.authn_core.specs.Answers.{answer_to, exchange}
+use Rattle.std.specs.Prelude.{◌≡◌, ℕ, max, List, [], ◌∷◌, ◌++◌, ◌&&◌, Option, Some, None, option_map, is_some, is_none}
+use Rattle.std.specs.{Prelude.if◌then◌else◌, List.list_any}
+use Rattle.hid_packet.specs.{Commands.KEEPALIVE, Packet.is_command}
+use Rattle.authn_core.specs.{Answers.answer_to, Answers.exchange, State.Event, Turn.Start, Turn.Work}
 use Rattle.authn_core.specs.Exchanges.{Exchange, rows_after, unanswered, waiting_in}
-use Rattle.authn_core.specs.State.{Event}
-use Rattle.authn_core.specs.Turn.{Start, Work}
-use Rattle.token_session.specs.declared.input.Timed.{Timed}
+use Rattle.token_session.specs.{declared.input.Timed.Timed, Events.keepalive_due, Events.keepalive_packets}
 use Rattle.token_session.specs.Inputs.{Judged, end, given, is_packet}
 use Rattle.token_session.specs.Messages.{open_at, finished, finished_at}
 use Rattle.token_session.specs.History.{judged, sent, core, admits, cut_packets, event, table_packets}
-use Rattle.token_session.specs.Events.{keepalive_due, keepalive_packets}
 use Rattle.token_session.specs.Replies.{asker, status_of, answer_packets, ping_packets}
 
 -- the channel of what waits

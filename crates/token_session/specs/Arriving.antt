@@ -1,13 +1,10 @@
 -- A message of several packets that comes among what other hosts send (CTAP 2.1, sections 11.2.4, 11.2.5.1 and
 -- 11.2.5.2).
 use Rattle.std.specs.Prelude.{◌≡◌, ℕ, ◌+◌, ◌≤◌, ◌<◌, ◌⊎◌, List, [], ◌∷◌, ◌++◌, length, None}
-use Rattle.hid_packet.specs.Carries.{CarriesMessage}
-use Rattle.hid_packet.specs.Commands.{PING, CBOR}
-use Rattle.hid_packet.specs.Limits.{MESSAGE_TIMEOUT}
+use Rattle.hid_packet.specs.{Carries.CarriesMessage, Limits.MESSAGE_TIMEOUT, Commands.PING, Commands.CBOR}
 use Rattle.authn_core.specs.Turn.{Start, working}
-use Rattle.token_session.specs.declared.input.Timed.{Timed}
+use Rattle.token_session.specs.{declared.input.Timed.Timed, Messages.open_at, Messages.packets_of}
 use Rattle.token_session.specs.Inputs.{Judged, given, own, packet}
-use Rattle.token_session.specs.Messages.{open_at, packets_of}
 use Rattle.token_session.specs.History.{core, judged_after, judged}
 
 -- the inputs of a list after a history, in order, as they are judged

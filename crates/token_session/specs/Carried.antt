@@ -1,12 +1,9 @@
 -- The packets that carried a message which an input finished (CTAP 2.1, section 11.2.4).
-use Rattle.std.specs.Prelude.{◌≡◌, ℕ, Bool, ◌&&◌, nat_le, List, [], ◌∷◌, ◌++◌, length, Option, Some, None, if◌then◌else◌}
-use Rattle.hid_packet.specs.Packet.{message_length}
-use Rattle.token_session.specs.declared.input.Input.{Input}
-use Rattle.token_session.specs.declared.input.Input.TheVariants.{Packet}
-use Rattle.token_session.specs.declared.input.Timed.{Timed}
-use Rattle.token_session.specs.Inputs.{Judged}
-use Rattle.token_session.specs.Messages.{Begun, open_at, is_last, packets_of}
-use Rattle.hid_packet.specs.Limits.{INITIALIZATION_DATA}
+use Rattle.std.specs.Prelude.{◌≡◌, ℕ, Bool, ◌&&◌, nat_le, List, [], ◌∷◌, ◌++◌, length, Option, Some, None}
+use Rattle.std.specs.Prelude.{if◌then◌else◌}
+use Rattle.hid_packet.specs.{Packet.message_length, Limits.INITIALIZATION_DATA}
+use Rattle.token_session.specs.declared.input.{Input.Input, Input.TheVariants.Packet, Timed.Timed}
+use Rattle.token_session.specs.{Inputs.Judged, Messages.Begun, Messages.open_at, Messages.is_last, Messages.packets_of}
 
 -- each packet has 64 bytes
 abbrev pub Are64 : List (List ℕ) → Type 0

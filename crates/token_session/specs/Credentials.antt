@@ -1,10 +1,7 @@
 -- A history's events, as the steps of its authenticator.
 use Rattle.std.specs.Prelude.{ℕ, List, [], ◌∷◌, ◌++◌, Option, Some, None}
-use Rattle.authn_core.specs.State.{Event}
-use Rattle.authn_core.specs.Turn.{Start}
-use Rattle.authn_core.specs.Marks.{Step}
-use Rattle.token_session.specs.Inputs.{Judged}
-use Rattle.token_session.specs.Law.{event_at}
+use Rattle.authn_core.specs.{State.Event, Turn.Start, Marks.Step}
+use Rattle.token_session.specs.{Inputs.Judged, Law.event_at}
 
 abbrev pub step_of : ℕ → Option Event → List Step
 step_of at None = []

@@ -1,13 +1,9 @@
 -- What a drive does: inputs stepped one after the other, and what they send with the number of the input.
 use Rattle.std.specs.Prelude.{◌≡◌, ℕ, ◌+◌, ◌<◌, ◌≤◌, ◌++◌, List, [], ◌∷◌, take, length, Result, Ok, Err}
-use Rattle.token_session.specs.declared.input.Timed.{Timed}
-use Rattle.token_session.specs.declared.input.Sent.{Sent}
-use Rattle.token_session.specs.declared.driving.DriveFault.{DriveFault}
-use Rattle.token_session.specs.declared.driving.DriveFault.TheVariants.{Full}
-use Rattle.token_session.specs.declared.driving.BothFault.{BothFault}
+use Rattle.token_session.specs.declared.{input.Timed.Timed, input.Sent.Sent, driving.BothFault.BothFault}
+use Rattle.token_session.specs.declared.driving.DriveFault.{DriveFault, TheVariants.Full}
 use Rattle.token_session.specs.declared.driving.BothFault.TheVariants.{Full as BothFull}
-use Rattle.token_session.specs.Law.{numbered}
-use Rattle.token_session.specs.Meters.{SessionState, stepped, sent_by}
+use Rattle.token_session.specs.{Law.numbered, Meters.SessionState, Meters.stepped, Meters.sent_by}
 use Rattle.hid_packet.specs.Limits.{OUTBOX_CAPACITY}
 
 -- a packet that was sent, with the number of its input

@@ -1,19 +1,12 @@
 -- What a verdict sends and hands to the authenticator, and the request that an event is (CTAP 2.1, section 11.2.9).
 use Rattle.std.specs.Prelude.{ℕ, ◌==◌, List, [], Option, Some, None, option_map, if◌then◌else◌}
-use Rattle.hid_packet.specs.Commands.{PING, CBOR}
-use Rattle.hid_packet.specs.Message.{written}
-use Rattle.hid_packet.specs.Packet.{fields}
-use Rattle.hid_assemble.specs.Assembly.{Assembly, accepted}
-use Rattle.hid_assemble.specs.Verdicts.{verdict}
-use Rattle.hid_assemble.specs.Codes.{code_number}
-use Rattle.hid_assemble.specs.declared.verdict.Verdict.{Verdict}
-use Rattle.hid_assemble.specs.declared.verdict.Verdict.TheVariants.{Ignored, Kept, Finished, Refuse, Greet, GreetAndDrop, CancelWork}
-use Rattle.authn_core.specs.State.{Event, Request, Cancel, Drop}
-use Rattle.authn_core.specs.Turn.{Work}
-use Rattle.token_session.specs.Replies.{error, greeting}
-use Rattle.token_session.specs.Events.{reply_in}
-use Rattle.token_session.specs.declared.input.Input.{Input}
-use Rattle.token_session.specs.declared.input.Input.TheVariants.{Packet}
+use Rattle.hid_packet.specs.{Commands.PING, Commands.CBOR, Message.written, Packet.fields}
+use Rattle.hid_assemble.specs.{Assembly.Assembly, Assembly.accepted, Verdicts.verdict, Codes.code_number}
+use Rattle.hid_assemble.specs.declared.verdict.Verdict.{Verdict, TheVariants.GreetAndDrop, TheVariants.CancelWork}
+use Rattle.hid_assemble.specs.declared.verdict.Verdict.TheVariants.{Ignored, Kept, Finished, Refuse, Greet}
+use Rattle.authn_core.specs.{State.Event, State.Request, State.Cancel, State.Drop, Turn.Work}
+use Rattle.token_session.specs.{Replies.error, Replies.greeting, Events.reply_in}
+use Rattle.token_session.specs.declared.input.Input.{Input, TheVariants.Packet}
 
 -- the packets of a verdict on a packet that finished these bytes, except for those of an event
 abbrev pub verdict_packets : Verdict → List ℕ → List (List ℕ)

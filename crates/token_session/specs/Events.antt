@@ -23,7 +23,8 @@ event_core core at (Some e) = record core { state = (turn core.setup core.state 
 -- what an event sends
 abbrev pub event_packets : CoreState → ℕ → Option Event → List (List ℕ)
 event_packets k at None = []
-event_packets k at (Some e) = answer_packets (asker (waiting k) e) (status_of (waiting k)) (turn k.setup k.state at e).answer
+event_packets k at (Some e) = answer_packets (asker (waiting k) e) (status_of (waiting k))
+    (turn k.setup k.state at e).answer
 
 -- KEEPALIVE_PERIOD after the last, while work waits (CTAP 2.1, section 11.2.9.1.7)
 unfoldable pub keepalive_due : Option Work → ℕ → ℕ → Bool

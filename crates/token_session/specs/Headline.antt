@@ -1,19 +1,13 @@
 -- What is promised of every start and every list of inputs (`drive_new`, in src/driving.rt).
 use Rattle.std.specs.Prelude.{◌≡◌, ℕ, ◌+◌, ◌-◌, ◌*◌, ◌≤◌, List, [], ◌∷◌, length, Some}
 use Rattle.std.specs.List.{AllByRecursion}
-use Rattle.hid_packet.specs.Carries.{CarriesMessage}
+use Rattle.hid_packet.specs.{Carries.CarriesMessage, Limits.LONGEST_MESSAGE}
 use Rattle.hid_assemble.specs.Assembly.{Message}
-use Rattle.cred_table.specs.declared.row.Row.{Row}
-use Rattle.cred_table.specs.Waiting.{pending_count}
+use Rattle.cred_table.specs.{declared.row.Row.Row, Waiting.pending_count}
 use Rattle.ctap_message.specs.Requests.{steps_of}
 use Rattle.authn_core.specs.Turn.{Start}
-use Rattle.token_session.specs.declared.input.Timed.{Timed}
-use Rattle.token_session.specs.Carried.{carriers_at}
-use Rattle.token_session.specs.Inputs.{Judged}
-use Rattle.token_session.specs.Messages.{finished_at}
-use Rattle.token_session.specs.History.{judged, sent, held, core}
-use Rattle.token_session.specs.Meters.{requests}
-use Rattle.hid_packet.specs.Limits.{LONGEST_MESSAGE}
+use Rattle.token_session.specs.{declared.input.Timed.Timed, Carried.carriers_at, Inputs.Judged, Messages.finished_at}
+use Rattle.token_session.specs.{History.judged, History.sent, History.held, History.core, Meters.requests}
 
 -- a session's start
 abbrev pub start_of : (aaguid : List ℕ) → (moment capacity : ℕ) → List Row → Start

@@ -1,18 +1,16 @@
 -- What a history says, by its inputs alone (CTAP 2.1, section 11.2.5). Each input is judged, the authenticator takes
 -- its turns over the events, and packets are sent. The transport's part are positions, filters and lists; the
 -- authenticator's is the state that its turns lead to.
-use Rattle.std.specs.Prelude.{ℕ, Bool, not, ◌&&◌, ◌||◌, ◌==◌, nat_le, List, [], ◌∷◌, ◌++◌, max, Option, Some, None, option_map, is_some, is_none, if◌then◌else◌, length, unwrap_or}
+use Rattle.std.specs.Prelude.{ℕ, Bool, not, ◌&&◌, ◌||◌, ◌==◌, nat_le, List, [], ◌∷◌, ◌++◌, max, Option, Some, None}
+use Rattle.std.specs.Prelude.{option_map, is_some, is_none, if◌then◌else◌, length, unwrap_or}
 use Rattle.std.specs.List.{list_any}
 use Rattle.hid_packet.specs.Commands.{PING, INIT, CBOR, CANCEL, KEEPALIVE}
 use Rattle.hid_packet.specs.Limits.{data_capacity}
 use Rattle.hid_packet.specs.Packet.{channel, is_initialization, command, message_length, sequence, is_command}
-use Rattle.hid_assemble.specs.Table.{is_given, is_on, initialization_row}
-use Rattle.hid_assemble.specs.Assembly.{Message}
+use Rattle.hid_assemble.specs.{Table.is_given, Table.is_on, Table.initialization_row, Assembly.Message}
 use Rattle.authn_core.specs.State.{Event, Cancel, Drop}
 use Rattle.authn_core.specs.Turn.{Start, CoreState, working, first_state, waiting}
-use Rattle.token_session.specs.declared.input.Input.{Input}
-use Rattle.token_session.specs.declared.input.Input.TheVariants.{Packet}
-use Rattle.token_session.specs.declared.input.Timed.{Timed}
+use Rattle.token_session.specs.declared.input.{Input.Input, Input.TheVariants.Packet, Timed.Timed}
 use Rattle.token_session.specs.Inputs.{Judged, end, is_packet, given}
 use Rattle.token_session.specs.Messages.{Begun, open_at, finished, finished_at}
 use Rattle.token_session.specs.Replies.{error, row_packets, ping_packets, request_event}

@@ -6,8 +6,7 @@ use Rattle.hid_packet.specs.Commands.{INIT, CANCEL, BROADCAST}
 use Rattle.hid_packet.specs.Packet.{channel, message_length, is_command}
 use Rattle.hid_assemble.specs.Table.{LAST_CHANNEL}
 use Rattle.authn_core.specs.Turn.{Start}
-use Rattle.token_session.specs.declared.input.Input.{Input}
-use Rattle.token_session.specs.declared.input.Input.TheVariants.{Packet}
+use Rattle.token_session.specs.declared.input.Input.{Input, TheVariants.Packet}
 
 -- An input, its moment, no earlier than any before, and whether it is `admitted`.
 pub record Judged : Type 0 where

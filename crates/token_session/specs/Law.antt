@@ -1,13 +1,10 @@
 -- What a history names of the composed turn's state, and what runs of it send.
-use Rattle.std.specs.Prelude.{◌≡◌, Bool, ◌&&◌, is_some, is_none, ℕ, ◌+◌, List, [], ◌∷◌, ◌++◌, option_map, Option, if◌then◌else◌}
-use Rattle.std.specs.List.{list_any}
-use Rattle.hid_packet.specs.Commands.{KEEPALIVE}
-use Rattle.hid_packet.specs.Packet.{is_command}
-use Rattle.authn_core.specs.State.{Event}
-use Rattle.authn_core.specs.Turn.{Start}
-use Rattle.token_session.specs.declared.input.Timed.{Timed}
+use Rattle.std.specs.Prelude.{◌≡◌, Bool, ◌&&◌, is_some, is_none, ℕ, ◌+◌, List, [], ◌∷◌, ◌++◌, option_map, Option}
+use Rattle.std.specs.{Prelude.if◌then◌else◌, List.list_any}
+use Rattle.hid_packet.specs.{Commands.KEEPALIVE, Packet.is_command}
+use Rattle.authn_core.specs.{State.Event, Turn.Start}
+use Rattle.token_session.specs.{declared.input.Timed.Timed, Inputs.Judged, Inputs.end, Inputs.given}
 use Rattle.token_session.specs.Machine.{MachineState, machine, turn}
-use Rattle.token_session.specs.Inputs.{Judged, end, given}
 use Rattle.token_session.specs.Messages.{begun_by, is_open, Begun, open_at, as_open}
 use Rattle.token_session.specs.History.{event_to, judged_after, judged, sent_at, core, last_keepalive}
 

@@ -1,15 +1,13 @@
 -- The composed turn: the transport and the authenticator together, as a state and what an input makes of it. It knows
 -- no history.
 use Rattle.std.specs.Prelude.{ℕ, Bool, false, not, ◌&&◌, List, [], ◌∷◌, ◌++◌, max, Option, Some, None, if◌then◌else◌}
-use Rattle.hid_assemble.specs.Table.{Open, is_on}
-use Rattle.hid_assemble.specs.Assembly.{Assembly, is_overdue, still_open}
+use Rattle.hid_assemble.specs.{Table.Open, Table.is_on, Assembly.Assembly, Assembly.is_overdue, Assembly.still_open}
 use Rattle.authn_core.specs.State.{Answer, Event, Waits}
 use Rattle.authn_core.specs.Turn.{Start, CoreState, core_answer, working, first_state, waiting}
 use Rattle.token_session.specs.Replies.{error, asker, status_of}
 use Rattle.token_session.specs.Effects.{assembly_after, input_event, input_verdict, verdict_packets}
 use Rattle.token_session.specs.Events.{event_core, event_packets, keepalive_due, keepalive_packets}
-use Rattle.token_session.specs.declared.input.Input.{Input}
-use Rattle.token_session.specs.declared.input.Timed.{Timed}
+use Rattle.token_session.specs.declared.input.{Input.Input, Timed.Timed}
 
 -- The latest moment, the channels given out, the open message, the authenticator, and the moment of the last KEEPALIVE.
 pub record MachineState : Type 0 where

@@ -1,15 +1,12 @@
 -- Which message is open after inputs, and which an input finishes, by their packets alone: there is no buffer
 -- (CTAP 2.1, sections 11.2.4 and 11.2.5). What came later is a list with the oldest input first.
-use Rattle.std.specs.Prelude.{ℕ, ◌+◌, Bool, not, ◌&&◌, ◌==◌, nat_le, nat_lt, List, [], ◌∷◌, ◌++◌, take, length, map, Option, Some, None, if◌then◌else◌}
+use Rattle.std.specs.Prelude.{ℕ, ◌+◌, Bool, not, ◌&&◌, ◌==◌, nat_le, nat_lt, List, [], ◌∷◌, ◌++◌, take, length, map}
+use Rattle.std.specs.Prelude.{Option, Some, None, if◌then◌else◌}
 use Rattle.hid_packet.specs.Carries.{joined}
-use Rattle.hid_packet.specs.Limits.{data_capacity}
+use Rattle.hid_packet.specs.Limits.{data_capacity, INITIALIZATION_DATA, LONGEST_MESSAGE, MESSAGE_TIMEOUT}
 use Rattle.hid_packet.specs.Packet.{channel, is_initialization, command, message_length, sequence}
-use Rattle.hid_packet.specs.Limits.{INITIALIZATION_DATA, LONGEST_MESSAGE}
-use Rattle.hid_assemble.specs.Assembly.{Message}
-use Rattle.hid_assemble.specs.Table.{Open}
-use Rattle.hid_packet.specs.Limits.{MESSAGE_TIMEOUT}
-use Rattle.token_session.specs.declared.input.Input.{Input}
-use Rattle.token_session.specs.declared.input.Input.TheVariants.{Packet}
+use Rattle.hid_assemble.specs.{Assembly.Message, Table.Open}
+use Rattle.token_session.specs.declared.input.Input.{Input, TheVariants.Packet}
 use Rattle.token_session.specs.Inputs.{Judged, packet, is_packet, own}
 
 -- continuation packet number m, and not the last
@@ -84,7 +81,8 @@ is_last b p =
 -- the open message, where this packet is its last
 unfoldable pub finished_long : Option Begun → List ℕ → Option Message
 finished_long None p = None
-finished_long (Some b) p = if is_last b p then Some (message b.packet (map (λ e. packet e.input) b.own ++ p ∷ [])) else None
+finished_long (Some b) p = if is_last b p then Some (message b.packet (map (λ e. packet e.input) b.own ++ p ∷ [])) else
+    None
 
 -- an admitted short message, or the open one
 unfoldable pub finished : Option Begun → Bool → Input → Option Message

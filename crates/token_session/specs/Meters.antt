@@ -5,13 +5,10 @@ use Rattle.hid_assemble.specs.Assembly.{held_bytes}
 use Rattle.authn_core.specs.Turn.{Start}
 use Rattle.cred_table.specs.Waiting.{pending_count}
 use Rattle.ctap_message.specs.Requests.{steps_of, LARGEST}
-use Rattle.token_session.specs.declared.input.Timed.{Timed}
-use Rattle.token_session.specs.declared.input.Meters.{Meters}
-use Rattle.token_session.specs.Effects.{request_in}
-use Rattle.token_session.specs.Inputs.{Judged}
+use Rattle.token_session.specs.declared.input.{Timed.Timed, Meters.Meters}
+use Rattle.token_session.specs.{Effects.request_in, Inputs.Judged, Law.named}
 use Rattle.token_session.specs.History.{judged, held, core, event_to}
 use Rattle.token_session.specs.Machine.{MachineState, MachineTurn, turn}
-use Rattle.token_session.specs.Law.{named}
 
 -- the messages of the requests that a history finished, the newest first
 unfoldable pub requests : Start → List Judged → List (List ℕ)
@@ -43,7 +40,8 @@ meters_of start h = record {
   steps = min (sum_by steps_of (requests start h)) LARGEST;
 }
 
--- The totals with a request that was finished, if one was: one more, its bytes after the command byte, and the steps that
+-- The totals with a request that was finished, if one was: one more, its bytes after the command byte, and the steps
+-- that
 -- reading it takes.
 unfoldable pub counted : Meters → Option (List ℕ) → Meters
 counted m None = m

@@ -1,19 +1,17 @@
 -- Noise: an input that changes nothing but that time passes to its moment, so that a tick would do in its place. It is
 -- judged when time has passed to its moment.
-use Rattle.std.specs.Prelude.{◌≡◌, ℕ, ◌+◌, ◌⊎◌, Bool, true, false, not, List, [], ◌∷◌, ◌++◌, max, Option, option_map, if◌then◌else◌}
+use Rattle.std.specs.Prelude.{◌≡◌, ℕ, ◌+◌, ◌⊎◌, Bool, true, false, not, List, [], ◌∷◌, ◌++◌, max, Option, option_map}
+use Rattle.std.specs.Prelude.{if◌then◌else◌}
 use Rattle.hid_packet.specs.Packet.{fields}
 use Rattle.hid_assemble.specs.Table as table
 use Rattle.hid_assemble.specs.Table.{Open, ruling_of}
 use Rattle.authn_core.specs.Turn.{Start, CoreState, working}
 use Rattle.authn_core.specs.Views.{wants_presence, wants_key, wants_signature}
-use Rattle.token_session.specs.declared.input.Input.{Input}
+use Rattle.token_session.specs.declared.input.{Input.Input, Timed.Timed}
 use Rattle.token_session.specs.declared.input.Input.TheVariants.{Packet, Tick, Presence, Key, Signature}
-use Rattle.token_session.specs.declared.input.Timed.{Timed}
-use Rattle.token_session.specs.Machine.{MachineState, time_passed}
-use Rattle.token_session.specs.Inputs.{Judged, given}
+use Rattle.token_session.specs.{Machine.MachineState, Machine.time_passed, Inputs.Judged, Inputs.given, Law.numbered}
 use Rattle.token_session.specs.Messages.{open_at, as_open}
 use Rattle.token_session.specs.History.{core, judged_after, judged, last_keepalive, sent_at, time_packets}
-use Rattle.token_session.specs.Law.{numbered}
 
 -- By the channels given out, the open message and the authenticator: a packet is noise by its row of the reply table, a
 -- reply of the caller where the waiting work doesn't need it, and a tick never is.
@@ -59,7 +57,8 @@ is_replaced i j = false
 
 -- what x sends after h, but only the packets of time where a tick replaces it
 abbrev pub quiet_packets : Start → List Judged → Judged → Input → List (List ℕ)
-quiet_packets start past e j = if is_replaced e.input j then time_packets start past (last_keepalive start past) e.at else sent_at start e past
+quiet_packets start past e j = if is_replaced e.input j then time_packets start past (last_keepalive start past) e.at
+    else sent_at start e past
 
 unfoldable pub quiet_now : Start → List Timed → (x y : Timed) → List (List ℕ)
 quiet_now start h x y = quiet_packets start (judged start h) (judged_after start h x) y.input

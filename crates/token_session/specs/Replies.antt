@@ -3,14 +3,12 @@
 use Rattle.std.specs.Prelude.{ℕ, ◌+◌, ◌==◌, List, [], ◌∷◌, ◌++◌, take, Option, Some, None, option_map, if◌then◌else◌}
 use Rattle.byteorder.specs.Endian.{big_bytes}
 use Rattle.hid_packet.specs.Commands.{PING, INIT, CBOR, KEEPALIVE, ERROR, BROADCAST}
-use Rattle.hid_packet.specs.Packet.{channel, initialization_data}
-use Rattle.hid_packet.specs.Message.{written}
-use Rattle.hid_assemble.specs.Table.{is_on}
-use Rattle.hid_assemble.specs.Assembly.{Message}
-use Rattle.hid_assemble.specs.declared.table.ReplyRow.{ReplyRow}
-use Rattle.hid_assemble.specs.declared.table.ReplyRow.TheVariants.{NoSuchChannel, InitLength, InitFull, InitNew, InitAgain, BusyElsewhere, BusyHere, BrokenOff, NoSuchCommand, BadLength}
-use Rattle.authn_core.specs.State.{Event, Request, Answer, Answered, Waits}
-use Rattle.authn_core.specs.Turn.{Work}
+use Rattle.hid_packet.specs.{Packet.channel, Packet.initialization_data, Message.written}
+use Rattle.hid_assemble.specs.{Table.is_on, Assembly.Message}
+use Rattle.hid_assemble.specs.declared.table.ReplyRow.{ReplyRow, TheVariants.NoSuchCommand, TheVariants.BadLength}
+use Rattle.hid_assemble.specs.declared.table.ReplyRow.TheVariants.{NoSuchChannel, InitLength, InitFull, InitNew}
+use Rattle.hid_assemble.specs.declared.table.ReplyRow.TheVariants.{InitAgain, BusyElsewhere, BusyHere, BrokenOff}
+use Rattle.authn_core.specs.{State.Event, State.Request, State.Answer, State.Answered, State.Waits, Turn.Work}
 
 -- The answer to INIT: nonce, channel, protocol 2, device 1.0.0, CBOR and NMSG (CTAP 2.1, section 11.2.9.1.3).
 unfoldable pub greeting : (on cid : ℕ) → (nonce : List ℕ) → List (List ℕ)

@@ -1,13 +1,8 @@
 -- What is sent for a signature (CTAP 2.1, sections 6.1.2 and 6.2.2; WebAuthn Level 2, sections 6.3.2 and 6.3.3).
 use Rattle.std.specs.Prelude.{◌≡◌, ℕ, List, Some}
-use Rattle.hid_packet.specs.Commands.{CBOR}
-use Rattle.hid_packet.specs.Message.{written}
-use Rattle.authn_core.specs.Signed.{Heard, heard, IsSigned}
-use Rattle.authn_core.specs.State.{Answered}
-use Rattle.authn_core.specs.Turn.{Start, working}
-use Rattle.token_session.specs.Credentials.{steps}
-use Rattle.token_session.specs.Inputs.{Judged}
-use Rattle.token_session.specs.History.{core, service_packets}
+use Rattle.hid_packet.specs.{Commands.CBOR, Message.written}
+use Rattle.authn_core.specs.{Signed.Heard, Signed.heard, Signed.IsSigned, State.Answered, Turn.Start, Turn.working}
+use Rattle.token_session.specs.{Credentials.steps, Inputs.Judged, History.core, History.service_packets}
 
 -- the newest request of a history, and the keys that were handed in
 abbrev pub came : Start → List Judged → Heard

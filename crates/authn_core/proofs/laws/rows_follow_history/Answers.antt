@@ -1,6 +1,5 @@
 use Rattle.std.proofs.Common.{[], sym, ◌∙◌}
-use Rattle.authn_core.proofs.Histories.{none_later, rows_left}
-use Rattle.authn_core.proofs.Readiness.{core_sound}
+use Rattle.authn_core.proofs.{Histories.none_later, Histories.rows_left, Readiness.core_sound}
 use Rattle.authn_core.proofs.laws.rows_follow_history.Goals as goal
 
 pub returns : goal.returns

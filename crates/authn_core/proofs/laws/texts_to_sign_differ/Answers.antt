@@ -9,6 +9,7 @@ returns c = record {
   rise = λ start h r l o. (history_tells start h r l o).rise;
   told = λ start h x t r l o e. unfold core_at texts Orderly in
       let k = core_at start h in
-      told (marks start h) k.state _ _ (texts start h) t (turn_adds _ k.setup k.state x.at x.event o.0 (core_sound start h r l).ready) e;
+      told (marks start h) k.state _ _ (texts start h) t (turn_adds _ k.setup k.state x.at x.event o.0
+      (core_sound start h r l).ready) e;
   newest = λ start h id none r l o e. (history_tells start h r l o).newest none id e;
 }

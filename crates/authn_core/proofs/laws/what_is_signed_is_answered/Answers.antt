@@ -1,9 +1,6 @@
 use Rattle.std.proofs.Common.{arith}
-use Rattle.authn_core.specs.Marks.{core_at}
-use Rattle.authn_core.specs.Signed.{heard}
-use Rattle.authn_core.specs.Turn.{first_state, turn}
-use Rattle.authn_core.proofs.Readiness.{core_sound}
-use Rattle.authn_core.proofs.Signed.{turn_signs, signs_at, work_answers}
+use Rattle.authn_core.specs.{Marks.core_at, Signed.heard, Turn.first_state, Turn.turn}
+use Rattle.authn_core.proofs.{Readiness.core_sound, Signed.turn_signs, Signed.signs_at, Signed.work_answers}
 use Rattle.authn_core.proofs.laws.what_is_signed_is_answered.Goals as goal
 
 pub returns : goal.returns

@@ -5,4 +5,5 @@ use Rattle.cred_table.proofs.saving.put_heads.Goals as goal
 
 pub returns-clause-appends : goal.returns-clause-appends
 returns-clause-appends c =
-    at_most (let k = head_short c.args.count in omega arith) (exactly (then c.map.ensures.appends (then (then c.uint.ensures.appends c.uint-2.ensures.appends) (then c.uint-3.ensures.appends c.array.ensures.appends))))
+    at_most (let k = head_short c.args.count in omega arith) (exactly (then c.map.ensures.appends (then (then
+    c.uint.ensures.appends c.uint-2.ensures.appends) (then c.uint-3.ensures.appends c.array.ensures.appends))))

@@ -1,5 +1,4 @@
-use Rattle.std.proofs.Common.{◌≤◌}
-use Rattle.std.specs.Vec.{vec_capacity}
+use Rattle.std.{proofs.Common.◌≤◌, specs.Vec.vec_capacity}
 use Rattle.cred_table.proofs.SavedRows.{Written}
 use Rattle.cred_table.proofs.saving.write_rows.Given as goal
 

@@ -1,8 +1,5 @@
 use Rattle.std.proofs.Common.{◌+◌, ◌-◌, ◌&&◌, refl, arith, ◌≡◌, subst}
-use Rattle.ctap_cbor.specs.Views.{part_of}
-use Rattle.ctap_cbor.specs.Reading.{Takes}
-use Rattle.ctap_cbor.specs.Collecting.{AddsAll}
-use Rattle.ctap_cbor.proofs.Skipping.{array_stops}
+use Rattle.ctap_cbor.{specs.Views.part_of, specs.Reading.Takes, specs.Collecting.AddsAll, proofs.Skipping.array_stops}
 use Rattle.ctap_cbor.proofs.Collecting.{all_none, all_more, array_read}
 use Rattle.ctap_cbor.proofs.collect.read_array.Goals as goal
 

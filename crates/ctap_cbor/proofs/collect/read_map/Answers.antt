@@ -1,10 +1,6 @@
 use Rattle.std.proofs.Common.{◌+◌, ◌-◌, ◌&&◌, refl, arith, ◌≡◌, subst}
-use Rattle.std.proofs.lemmas.Result.{err_from_is_err_and}
-use Rattle.std.specs.Option.{option_copied}
-use Rattle.ctap_cbor.specs.Views.{part_of}
-use Rattle.ctap_cbor.specs.Reading.{Takes}
-use Rattle.ctap_cbor.specs.Collecting.{AddsPairs}
-use Rattle.ctap_cbor.proofs.Skipping.{map_stops}
+use Rattle.std.{proofs.lemmas.Result.err_from_is_err_and, specs.Option.option_copied}
+use Rattle.ctap_cbor.{specs.Views.part_of, specs.Reading.Takes, specs.Collecting.AddsPairs, proofs.Skipping.map_stops}
 use Rattle.ctap_cbor.proofs.Collecting.{adds_none, adds_more, value_ends, map_read}
 use Rattle.ctap_cbor.proofs.collect.read_map.Goals as goal
 

@@ -1,7 +1,7 @@
-use Rattle.std.proofs.Common.{◌+◌, ◌-◌}
-use Rattle.std.specs.Option.{option_copied}
+use Rattle.std.{proofs.Common.◌+◌, proofs.Common.◌-◌, specs.Option.option_copied}
 use Rattle.ctap_cbor.specs.Collecting.{AddsPairs}
 use Rattle.ctap_cbor.proofs.collect.read_map.Given as goal
 
 abbrev pub invariant-loop-done : goal.invariant-loop-done
-invariant-loop-done g l = AddsPairs g.M.Members.Holds (5 - (l.level + 1)) l.done (option_copied l.previous) l.ok l.fn.members l.members l.initial.cursor l.cursor
+invariant-loop-done g l = AddsPairs g.M.Members.Holds (5 - (l.level + 1)) l.done (option_copied l.previous) l.ok
+    l.fn.members l.members l.initial.cursor l.cursor

@@ -1,10 +1,7 @@
 use Rattle.std.proofs.Common.{arith, ◌-◌, subst}
-use Rattle.std.proofs.lemmas.Result.{err_from_is_err_and}
-use Rattle.std.specs.Option.{option_copied}
-use Rattle.ctap_cbor.specs.Faults.{AnItem, AKey}
-use Rattle.ctap_cbor.specs.Views.{part_of}
+use Rattle.std.{proofs.lemmas.Result.err_from_is_err_and, specs.Option.option_copied}
+use Rattle.ctap_cbor.specs.{Faults.AnItem, Faults.AKey, Views.part_of, Reading.Takes}
 use Rattle.ctap_cbor.specs.Values.{tree_of, trees_of, pairs_of}
-use Rattle.ctap_cbor.specs.Reading.{Takes}
 use Rattle.ctap_cbor.proofs.Skipping.{array_stops, map_stops, item_stops, key_stops, value_stops, refused_halts}
 use Rattle.ctap_cbor.proofs.Valuing.{item_more, pair_more, scalar_passes, refuses_not_memory, told, told_by}
 use Rattle.ctap_cbor.proofs.decoding.+value.Goals as goal

@@ -7,10 +7,12 @@ pub returns-in_err-value-clause-err : goal.returns-in_err-value-clause-err
 returns-in_err-value-clause-err c =
     let p = err_from_is_err_and c.from_residual.result c.from_residual.ensures.1 in
     let f = c.in_err-value.field-0.0 in
-    rw (p.1, p.2) (told_by f _ _ (stopped_outcome c.args.bytes.now c.new-cursor.result c.read_value.new.cursor f c.new-cursor.ensures) c.in_err-value.ensures)
+    rw (p.1, p.2) (told_by f _ _ (stopped_outcome c.args.bytes.now c.new-cursor.result c.read_value.new.cursor f
+    c.new-cursor.ensures) c.in_err-value.ensures)
 
 pub returns-in_err-end-clause-err : goal.returns-in_err-end-clause-err
 returns-in_err-end-clause-err c =
     let p = err_from_is_err_and c.from_residual-in_err-end.result c.from_residual-in_err-end.ensures.1 in
     let f = c.in_err-end.field-0.0 in
-    rw (p.1, p.2) (longer_outcome c.args.bytes.now c.new-cursor.result c.read_value.new.cursor c.end.new.self f (tree_of c.in_ok-value.value) c.new-cursor.ensures c.in_ok-value.ensures c.in_err-end.ensures)
+    rw (p.1, p.2) (longer_outcome c.args.bytes.now c.new-cursor.result c.read_value.new.cursor c.end.new.self f
+    (tree_of c.in_ok-value.value) c.new-cursor.ensures c.in_ok-value.ensures c.in_err-end.ensures)

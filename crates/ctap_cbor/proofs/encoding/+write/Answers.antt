@@ -4,15 +4,15 @@ use Rattle.ctap_cbor.specs.declared.value.Value.TheFolds.{fold-roll-Value}
 use Rattle.ctap_cbor.specs.declared.value.Value.TheOpen as layer
 use Rattle.ctap_cbor.specs.declared.value.Value.TheVariants.{rolls-Map}
 use Rattle.ctap_cbor.specs.Tree as tree
-use Rattle.ctap_cbor.specs.Tree.{Tree}
+use Rattle.ctap_cbor.specs.{Tree.Tree, Head.head, Writes.last_text, Faults.AKey, Faults.is_above}
 use Rattle.std.proofs.lemmas.Result.{err_from_is_err_and, IfErr-weaker, MatchResult-weaker}
 use Rattle.std.specs.Prelude.{vec_capacity}
-use Rattle.ctap_cbor.specs.Head.{head}
 use Rattle.ctap_cbor.specs.Grammar.{text, texts, pair_texts}
-use Rattle.ctap_cbor.specs.Faults.{AKey, is_above}
 use Rattle.ctap_cbor.specs.Values.{tree_step, tree_of, trees_of, pairs_of}
-use Rattle.ctap_cbor.specs.Writes.{last_text}
-use Rattle.ctap_cbor.proofs.Written.{array_written, array_fails, map_written, map_fails, item_stops_here, key_stops_here, value_stops_here, pair_here, above_here, span_within, item_short_here, key_short_here, value_short_here, front_short, short_beyond, array_short, map_short, if_memory, items_done, pairs_done, start_within}
+use Rattle.ctap_cbor.proofs.Written.{array_written, array_fails, map_written, map_fails, item_stops_here}
+use Rattle.ctap_cbor.proofs.Written.{key_stops_here, value_stops_here, pair_here, above_here, span_within}
+use Rattle.ctap_cbor.proofs.Written.{item_short_here, key_short_here, value_short_here, front_short, short_beyond}
+use Rattle.ctap_cbor.proofs.Written.{array_short, map_short, if_memory, items_done, pairs_done, start_within}
 use Rattle.ctap_cbor.proofs.encoding.+write.Goals as goal
 
 -- ---- a value

@@ -1,8 +1,6 @@
 use Rattle.std.proofs.Common.{◌≤◌, length, drop}
-use Rattle.std.specs.Prelude.{vec_capacity}
-use Rattle.std.specs.Option.{ForSome}
-use Rattle.ctap_cbor.specs.Values.{trees_of, pairs_of}
-use Rattle.ctap_cbor.specs.Writes.{last_text}
+use Rattle.std.specs.{Prelude.vec_capacity, Option.ForSome}
+use Rattle.ctap_cbor.specs.{Values.trees_of, Values.pairs_of, Writes.last_text}
 use Rattle.ctap_cbor.proofs.Written.{ItemsLeft, PairsLeft}
 use Rattle.ctap_cbor.proofs.encoding.+write.Given as goal
 
@@ -16,5 +14,6 @@ abbrev pub invariant-write_pairs-loop-pair : goal.invariant-write_pairs-loop-pai
 invariant-write_pairs-loop-pair l = record {
   span : ForSome l.previous (λ s. (s.start ≤ s.end) × (s.end ≤ length l.out.items));
   grows : vec_capacity l.fn.out ≤ vec_capacity l.out;
-  left : PairsLeft l.levels (pairs_of l.pairs) (pairs_of (drop l.pair-index l.pairs)) (last_text l.out.items l.previous) l.fn.out.items l.out.items;
+  left : PairsLeft l.levels (pairs_of l.pairs) (pairs_of (drop l.pair-index l.pairs)) (last_text l.out.items l.previous)
+      l.fn.out.items l.out.items;
 }

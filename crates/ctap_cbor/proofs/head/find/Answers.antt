@@ -1,9 +1,6 @@
-use Rattle.std.proofs.Common.{refl, sym, arith}
-use Rattle.std.proofs.lemmas.List.{nil_from_length}
-use Rattle.ctap_cbor.specs.Parts.{read}
-use Rattle.ctap_cbor.specs.Views.{due_of}
+use Rattle.std.proofs.{Common.refl, Common.sym, Common.arith, lemmas.List.nil_from_length}
+use Rattle.ctap_cbor.specs.{Parts.read, Views.due_of, Faults.passed}
 use Rattle.ctap_cbor.proofs.Finding.{fault_first, info_known, passed_first, found_rest}
-use Rattle.ctap_cbor.specs.Faults.{passed}
 use Rattle.ctap_cbor.proofs.head.find.Goals as goal
 
 pub returns-in_default : goal.returns-in_default

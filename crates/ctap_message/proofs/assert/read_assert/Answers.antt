@@ -1,10 +1,10 @@
-use Rattle.ctap_message.specs.GetAssertion.{assertion_types}
+use Rattle.ctap_message.{specs.GetAssertion.assertion_types, proofs.Collecting.map_read, proofs.Growing.assert_begins}
 use Rattle.ctap_message.specs.CollectedRequests.{assertion_in, shown_assert}
-use Rattle.ctap_message.proofs.Collecting.{map_read}
-use Rattle.ctap_message.proofs.Growing.{assert_begins}
 use Rattle.ctap_message.proofs.assert.read_assert.Goals as goal
 
 pub returns : goal.returns
 returns c =
-    let h = map_read shown_assert assertion_types assertion_in 4 c.in_ok-read_map.field-0 c.unwrap_or-typed.result _ c.read_map.new.members c.args.cursor.now c.read_map.new.cursor c.unwrap_or-typed.ensures c.in_ok-read_map.ensures (assert_begins c.none.result c.none.ensures) in
+    let h = map_read shown_assert assertion_types assertion_in 4 c.in_ok-read_map.field-0 c.unwrap_or-typed.result _
+    c.read_map.new.members c.args.cursor.now c.read_map.new.cursor c.unwrap_or-typed.ensures
+    c.in_ok-read_map.ensures (assert_begins c.none.result c.none.ensures) in
     (c.read_map.new.cursor, h, c.in_ok-end.ensures)

@@ -1,10 +1,10 @@
-use Rattle.ctap_message.specs.MakeCredential.{make_types}
+use Rattle.ctap_message.{specs.MakeCredential.make_types, proofs.Collecting.map_read, proofs.Growing.make_begins}
 use Rattle.ctap_message.specs.CollectedRequests.{make_in, shown_make}
-use Rattle.ctap_message.proofs.Collecting.{map_read}
-use Rattle.ctap_message.proofs.Growing.{make_begins}
 use Rattle.ctap_message.proofs.make.read_make.Goals as goal
 
 pub returns : goal.returns
 returns c =
-    let h = map_read shown_make make_types make_in 4 c.in_ok-read_map.field-0 c.unwrap_or-typed.result _ c.read_map.new.members c.args.cursor.now c.read_map.new.cursor c.unwrap_or-typed.ensures c.in_ok-read_map.ensures (make_begins c.none.result c.none.ensures) in
+    let h = map_read shown_make make_types make_in 4 c.in_ok-read_map.field-0 c.unwrap_or-typed.result _
+    c.read_map.new.members c.args.cursor.now c.read_map.new.cursor c.unwrap_or-typed.ensures
+    c.in_ok-read_map.ensures (make_begins c.none.result c.none.ensures) in
     (c.read_map.new.cursor, h, c.in_ok-end.ensures)

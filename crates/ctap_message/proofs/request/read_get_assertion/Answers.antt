@@ -1,10 +1,8 @@
 use Rattle.std.proofs.Common.{arith, true, sym, ap, ◌∙◌}
 use Rattle.std.specs.Prelude.{Bool}
 use Rattle.ctap_cbor.specs.Tree.{Trees}
-use Rattle.ctap_message.specs.Members.{map_of}
-use Rattle.ctap_message.specs.Walks.{typed}
+use Rattle.ctap_message.specs.{Members.map_of, Walks.typed, Judged.AssertionParameters, Judged.assertion_judged}
 use Rattle.ctap_message.specs.GetAssertion.{assertion_types, assertion_request}
-use Rattle.ctap_message.specs.Judged.{AssertionParameters, assertion_judged}
 use Rattle.ctap_message.specs.CollectedRequests.{assertion_in, shown_assert}
 use Rattle.ctap_message.proofs.Asking.{accepted, never, told}
 use Rattle.ctap_message.proofs.request.read_get_assertion.Goals as goal

@@ -1,10 +1,8 @@
 use Rattle.std.proofs.Common.{arith, true, sym, ap, ◌∙◌}
 use Rattle.std.specs.Prelude.{Bool}
 use Rattle.ctap_cbor.specs.Tree.{Trees}
-use Rattle.ctap_message.specs.Members.{map_of}
-use Rattle.ctap_message.specs.Walks.{typed}
+use Rattle.ctap_message.specs.{Members.map_of, Walks.typed, Judged.MakeParameters, Judged.make_judged}
 use Rattle.ctap_message.specs.MakeCredential.{make_types, make_request}
-use Rattle.ctap_message.specs.Judged.{MakeParameters, make_judged}
 use Rattle.ctap_message.specs.CollectedRequests.{make_in, shown_make}
 use Rattle.ctap_message.proofs.Asking.{accepted, never, told}
 use Rattle.ctap_message.proofs.request.read_make_credential.Goals as goal

@@ -1,7 +1,6 @@
 use Rattle.std.proofs.Common.{codes}
 use Rattle.clap.specs.Matches.{found_of}
-use Rattle.hidlog.specs.CommandLine.{path_of}
-use Rattle.hidlog.proofs.CommandLine.{path_is}
+use Rattle.hidlog.{specs.CommandLine.path_of, proofs.CommandLine.path_is}
 use Rattle.hidlog.proofs.command_line.options_in.Goals as goal
 
 pub returns : goal.returns

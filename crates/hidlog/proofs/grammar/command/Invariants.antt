@@ -4,5 +4,6 @@ use Rattle.hidlog.specs.CommandLine.{command, rule_for, word_for, parameters_for
 use Rattle.hidlog.proofs.grammar.command.Given as goal
 
 abbrev pub invariant-loop-parameter : goal.invariant-loop-parameter
-invariant-loop-parameter l = (shape_of l.command ≡ command (word_for l.fn.name) (map rule_for (take l.parameter-index (parameters_for l.fn.name))))
+invariant-loop-parameter l = (shape_of l.command ≡ command (word_for l.fn.name)
+    (map rule_for (take l.parameter-index (parameters_for l.fn.name))))
     × ((fields_of l.command).has_globals ≡ false)

@@ -9,8 +9,10 @@ loop-name-init c = search rules
 
 pub loop-name-preserved : goal.loop-name-preserved
 loop-name-preserved c =
-    one_command_more c.loop-name.program c.in_ok-command.field-0 c.in_ok-program.program (Replay ∷ Live ∷ Check ∷ Quiet ∷ Show ∷ []) c.loop-name.name-index _
-    c.in_ok-program.ensures c.in_ok-command.ensures.local c.in_ok-command.ensures.shape c.loop-name-test.true c.loop-name.invariant
+    one_command_more c.loop-name.program c.in_ok-command.field-0 c.in_ok-program.program
+    (Replay ∷ Live ∷ Check ∷ Quiet ∷ Show ∷ []) c.loop-name.name-index _
+    c.in_ok-program.ensures c.in_ok-command.ensures.local c.in_ok-command.ensures.shape c.loop-name-test.true
+    c.loop-name.invariant
 
 pub returns : goal.returns
 returns c =

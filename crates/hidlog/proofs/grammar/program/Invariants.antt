@@ -1,5 +1,4 @@
-use Rattle.std.proofs.Common.{◌≡◌, take}
-use Rattle.std.specs.List.{fold}
+use Rattle.std.{proofs.Common.◌≡◌, proofs.Common.take, specs.List.fold}
 use Rattle.clap.specs.Words.{app_of}
 use Rattle.hidlog.proofs.CommandLine.{alone, with_name}
 use Rattle.hidlog.proofs.grammar.program.Given as goal

@@ -10,4 +10,5 @@ given taken failed target (Ok x) w = (w.0.0, inl (w.0.1, w.1))
 given taken failed target (Err e) w = (w.0.0 ++ 0 ∷ [], inr ((w.0.0, 0 ∷ [], refl, search rules, w.0.1), w.1))
 
 pub returns : goal.returns
-returns g c = given g.E.Target.taken g.E.Target.failed (c.args.faults.now, c.put_written.new.writer) c.put_written.result c.put_written.ensures
+returns g c = given g.E.Target.taken g.E.Target.failed (c.args.faults.now, c.put_written.new.writer)
+    c.put_written.result c.put_written.ensures

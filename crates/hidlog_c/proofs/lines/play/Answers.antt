@@ -1,7 +1,6 @@
 use Rattle.std.proofs.Common.{rules}
 use Rattle.session_log.specs.{Replay.Plays, Replay.Writes, Session.live_history, Session.live_machine}
-use Rattle.hidlog_c.specs.Lines.{HistoryDoes, LinesDo}
-use Rattle.hidlog_c.proofs.Written.{written}
+use Rattle.hidlog_c.{specs.Lines.HistoryDoes, specs.Lines.LinesDo, proofs.Written.written}
 use Rattle.hidlog_c.proofs.lines.play.Goals as goal
 
 pub returns-clause-does : goal.returns-clause-does

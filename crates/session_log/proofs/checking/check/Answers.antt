@@ -1,6 +1,5 @@
 use Rattle.std.proofs.Common.{refl, subst}
-use Rattle.session_log.specs.Check.{check_machine}
-use Rattle.session_log.specs.{Command.PlaysThrough, Ending.ending_of, Replay.Makes}
+use Rattle.session_log.specs.{Check.check_machine, Command.PlaysThrough, Ending.ending_of, Replay.Makes}
 use Rattle.session_log.proofs.{Compares.standing, Histories.checks_history, Whole.makes}
 use Rattle.session_log.proofs.checking.check.Goals as goal
 

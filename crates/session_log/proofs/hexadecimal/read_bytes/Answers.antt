@@ -10,7 +10,8 @@ returns-in-Ok g c =
     let zeros = drop (length used / 2) (replicate g.row.N 0) in
     sym (decode-without_zeros c.args.digits.now used found.0 g.row.N c.if-digits.false found.1
     ∙ ap (option_map (λ (bytes : List ℕ). bytes ++ zeros))
-    (wrote _ c.decode_to_slice.result c.decode_to_slice.new.out c.in-Ok.field-0 c.decode_to_slice.ensures.value c.in-Ok.is))
+    (wrote _ c.decode_to_slice.result c.decode_to_slice.new.out c.in-Ok.field-0 c.decode_to_slice.ensures.value
+    c.in-Ok.is))
 
 pub returns-in-Err : goal.returns-in-Err
 returns-in-Err g c =
@@ -19,4 +20,5 @@ returns-in-Err g c =
     let zeros = drop (length used / 2) (replicate g.row.N 0) in
     sym (decode-without_zeros c.args.digits.now used found.0 g.row.N c.if-digits.false found.1
     ∙ ap (option_map (λ (bytes : List ℕ). bytes ++ zeros))
-    (failed _ c.decode_to_slice.result c.decode_to_slice.new.out c.in-Err.field-0 c.decode_to_slice.ensures.value c.in-Err.is))
+    (failed _ c.decode_to_slice.result c.decode_to_slice.new.out c.in-Err.field-0 c.decode_to_slice.ensures.value
+    c.in-Err.is))

@@ -7,6 +7,7 @@ loop-front-preserved c =
     let split = c.in-Some.ensures.cases in (
       c.loop-front.invariant.0 + 1,
       c.loop-front.invariant.1
-          ∙ eight_more c.loop-front.used.now c.in-Some.front.now c.in-Some.last.now (length c.loop-front.used.now - 8) _ _
+          ∙ eight_more c.loop-front.used.now c.in-Some.front.now c.in-Some.last.now (length c.loop-front.used.now - 8) _
+          _
           split.0 split.1 (c.are_all.ensures c.if-are_all.true),
     )

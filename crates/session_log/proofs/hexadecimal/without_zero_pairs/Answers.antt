@@ -14,6 +14,7 @@ loop-used-preserved c =
     let zeros = encode_lower (replicate n 0) in (
       suc n,
       c.loop-used.invariant.1
-          ∙ ap (λ (t : List ℕ). t ++ zeros) (last_two_are used 48 48 c.in-len2-up.len_at_least c.if-high-eq48.true c.if-low-eq48.true)
+          ∙ ap (λ (t : List ℕ). t ++ zeros) (last_two_are used 48 48 c.in-len2-up.len_at_least c.if-high-eq48.true
+          c.if-low-eq48.true)
           ∙ append_assoc front (48 ∷ 48 ∷ []) zeros ∙ ap (λ (t : List ℕ). front ++ t) (zero_pair n),
     )

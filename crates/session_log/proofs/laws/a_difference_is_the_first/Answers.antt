@@ -1,5 +1,4 @@
-use Rattle.session_log.specs.{Lines.lines, Session.histories}
-use Rattle.session_log.proofs.Groups.{first_difference}
+use Rattle.session_log.{specs.Lines.lines, specs.Session.histories, proofs.Groups.first_difference}
 use Rattle.session_log.proofs.laws.a_difference_is_the_first.Goals as goal
 
 pub returns : goal.returns

@@ -1,6 +1,7 @@
 use Rattle.std.proofs.{Common.arith, lemmas.Bool.eqb-true, lemmas.Bool.eqb-false}
 use Rattle.session_log.proofs.Digits.{moment_read, no_empty_moment, no_padded_moment}
-use Rattle.session_log.proofs.line.read_moment.Goals.{then-is_empty-via-then-is_empty, then-is_empty-via-else-is_empty+then-is_padded}
+use Rattle.session_log.proofs.line.read_moment.Goals.{then-is_empty-via-then-is_empty}
+use Rattle.session_log.proofs.line.read_moment.Goals.{then-is_empty-via-else-is_empty+then-is_padded}
 use Rattle.session_log.proofs.line.read_moment.Goals as goal
 
 pub returns-then-is_empty : goal.returns-then-is_empty

@@ -1,5 +1,4 @@
-use Rattle.session_log.specs.{Ending.ending_of}
-use Rattle.session_log.proofs.Histories.{lines_history}
+use Rattle.session_log.{specs.Ending.ending_of, proofs.Histories.lines_history}
 use Rattle.session_log.proofs.living.live_lines.Goals as goal
 
 pub returns : goal.returns

@@ -10,7 +10,8 @@ play_line-played-requires g c =
     let text = c.split_at.result.0.now in
     let line = c.split_at-2.result.0.now in
     let front = c.split_at.ensures.front in
-    let cut = cut_twice w c.as_slice.result.now text line end c.as_slice.ensures.value front c.split_at-2.ensures.front in
+    let cut = cut_twice w c.as_slice.result.now text line end c.as_slice.ensures.value front c.split_at-2.ensures.front
+    in
     let short = short_front w line end cut.1 c.requires.within c.requires.short in
     let whole = cut.0 ∙ c.requires.whole ∙ ap ended (sym cut.1) in
     (assumption c.well_formed, (c.requires.write, (short, (whole, (c.requires.few, c.requires.ready)))))
@@ -22,7 +23,8 @@ returns g c =
     let text = c.split_at.result.0.now in
     let line = c.split_at-2.result.0.now in
     let front = c.split_at.ensures.front in
-    let cut = cut_twice w c.as_slice.result.now text line end c.as_slice.ensures.value front c.split_at-2.ensures.front in
+    let cut = cut_twice w c.as_slice.result.now text line end c.as_slice.ensures.value front c.split_at-2.ensures.front
+    in
     let state = g.P.Player.state in
     let new = c.play_line-played.new in
     let says = c.play_line-played.ensures in

@@ -1,10 +1,11 @@
-use Rattle.std.proofs.Common.{◌≡◌, ◌<◌, ◌+◌, ◌-◌, ◌^◌, ℕ, List, sym, subst, [], ◌++◌, length, take, Err, refl, ap, ◌∙◌, arith}
+use Rattle.std.proofs.Common.{◌≡◌, ◌<◌, ◌+◌, ◌-◌, ◌^◌, ℕ, List, sym, subst, [], ◌++◌, length, take, Err, refl, ap, ◌∙◌}
+use Rattle.std.proofs.{Common.arith, lemmas.List.nil_from_length, lemmas.Result.err_from_is_err_and}
 use Rattle.std.proofs.KnownBytes.{Consumes-nil, Appends-nil}
-use Rattle.std.proofs.lemmas.{List.nil_from_length, Result.err_from_is_err_and}
 use Rattle.session_log.specs.{Ending.ended_by, Ending.ending_of, Replay.PlaysLine, Streams.IsAllRead}
-use Rattle.session_log.proofs.{Cutting.ends_in_feed, Cutting.last_text, Through.through_none, Through.played_none, Whole.stops, Gathering.in_count}
+use Rattle.session_log.proofs.{Cutting.ends_in_feed, Cutting.last_text, Through.through_none, Through.played_none}
+use Rattle.session_log.proofs.{Whole.stops, Gathering.in_count, Failures.stops_unwritten}
 use Rattle.session_log.proofs.Exits.{read_on, goes_on, stops_reading, stops_in_front, ends, some_left}
-use Rattle.session_log.proofs.Failures.{on_any, on_err, on_ok, counts_none, counts_on, plays_counts, plays_unread, stops_unwritten}
+use Rattle.session_log.proofs.Failures.{on_any, on_err, on_ok, counts_none, counts_on, plays_counts, plays_unread}
 use Rattle.session_log.proofs.Lasts.{faulty_in_front, faulty_last, none_bad}
 use Rattle.session_log.proofs.playing.play_lines.Goals as goal
 
@@ -20,7 +21,8 @@ lines-preserved g c =
     let w = c.next_line.new.window in
     let i = g.S.Source.left c.args.reader.now in
     let k = g.S.Source.left c.next_line.new.reader in
-    let read = read_on i (g.S.Source.left c.lines.reader) k before.0 c.lines.window w before.2 c.in_ok-end.ensures.bytes in
+    let read = read_on i (g.S.Source.left c.lines.reader) k before.0 c.lines.window w before.2 c.in_ok-end.ensures.bytes
+    in
     record {
       reads = ◌∙◌ {b = g.S.Source.failed c.lines.reader} c.in_ok-end.ensures.reads c.lines.invariant.reads;
       writes = played.3.1 ∙ c.lines.invariant.writes;
@@ -45,7 +47,8 @@ returns-in_err-end g c =
     let i = g.S.Source.left c.args.reader.now in
     let k = g.S.Source.left c.next_line.new.reader in
     let first = g.T.Target.taken c.args.writer.now in
-    let read = read_on i (g.S.Source.left c.lines.reader) k before.0 c.lines.window w before.2 c.in_err-end.ensures.bytes in
+    let read = read_on i (g.S.Source.left c.lines.reader) k before.0 c.lines.window w before.2
+    c.in_err-end.ensures.bytes in
     let all = IsAllRead g.S.Source.left g.S.Source.ended c.next_line.new.reader in
     record {
       played =
@@ -80,10 +83,13 @@ returns-in_err-play_first g c =
     let i = g.S.Source.left c.args.reader.now in
     let k = g.S.Source.left c.next_line.new.reader in
     let first = taken c.args.writer.now in
-    let read = read_on i (g.S.Source.left c.lines.reader) k before.0 c.lines.window w before.2 c.in_ok-end.ensures.bytes in
+    let read = read_on i (g.S.Source.left c.lines.reader) k before.0 c.lines.window w before.2 c.in_ok-end.ensures.bytes
+    in
     let all = IsAllRead g.S.Source.left g.S.Source.ended c.next_line.new.reader in
-    let unread = plays_unread world taken failed c.lines.number s t line (c.lines.writer, new.writer) (ended_by e) played in
-    let counts = plays_counts world taken failed c.lines.number s t line (c.lines.writer, new.writer) (ended_by e) played in
+    let unread = plays_unread world taken failed c.lines.number s t line (c.lines.writer, new.writer) (ended_by e)
+    played in
+    let counts = plays_counts world taken failed c.lines.number s t line (c.lines.writer, new.writer) (ended_by e)
+    played in
     let reads = ◌∙◌ {b = g.S.Source.failed c.lines.reader} c.in_ok-end.ensures.reads c.lines.invariant.reads in
     record {
       played =
@@ -133,17 +139,22 @@ returns g c =
     let i = g.S.Source.left c.args.reader.now in
     let k = g.S.Source.left c.next_line.new.reader in
     let from = taken c.args.writer.now in
-    let read = read_on i (g.S.Source.left c.lines.reader) k before.0 c.lines.window w before.2 c.in_ok-end.ensures.bytes in
-    let played = subst (λ (l : List ℕ). PlaysLine world taken failed c.lines.number s t l (c.lines.writer, new.writer) (ending_of r)) last.0
+    let read = read_on i (g.S.Source.left c.lines.reader) k before.0 c.lines.window w before.2 c.in_ok-end.ensures.bytes
+    in
+    let played = subst (λ (l : List ℕ). PlaysLine world taken failed c.lines.number s t l (c.lines.writer, new.writer)
+    (ending_of r)) last.0
     c.play_first-2.ensures.played in
-    let unread = plays_unread world taken failed c.lines.number s t w (c.lines.writer, new.writer) (ending_of r) played in
-    let counts = plays_counts world taken failed c.lines.number s t w (c.lines.writer, new.writer) (ending_of r) played in
+    let unread = plays_unread world taken failed c.lines.number s t w (c.lines.writer, new.writer) (ending_of r) played
+    in
+    let counts = plays_counts world taken failed c.lines.number s t w (c.lines.writer, new.writer) (ending_of r) played
+    in
     let reads = ◌∙◌ {b = g.S.Source.failed c.lines.reader} c.in_ok-end.ensures.reads c.lines.invariant.reads in
     record {
       played = (
         ends before.4 i k from w read taken failed (c.lines.writer, new.writer) t before.3 r at.0 some played,
         faulty_last before.4 i k w read
-            (IsAllRead g.S.Source.left g.S.Source.ended c.next_line.new.reader) r c.play_first-2.ensures.own (omega (arith, at.0.short)) at.1,
+            (IsAllRead g.S.Source.left g.S.Source.ended c.next_line.new.reader) r c.play_first-2.ensures.own
+            (omega (arith, at.0.short)) at.1,
         (
           counts_none _ _ _ unread reads,
           counts_on _ _ _ _ c.lines.invariant.writes counts,

@@ -1,5 +1,4 @@
-use Rattle.std.proofs.Common.{◌≡◌, ℕ, List}
-use Rattle.std.specs.Io.KnownBytes.{Appends}
+use Rattle.std.{proofs.Common.◌≡◌, proofs.Common.ℕ, proofs.Common.List, specs.Io.KnownBytes.Appends}
 use Rattle.session_show.proofs.putting.put_parts.Given as goal
 
 -- the parts so far were appended, and no call failed

@@ -11,7 +11,8 @@ invariant-lines g l =
       reads : g.S.Source.failed l.reader ≡ g.S.Source.failed l.fn.reader;
       writes : g.T.Target.failed l.writer ≡ g.T.Target.failed l.fn.writer;
       counted : l.number ≤ 2 ^ 32;
-      done : (read : List ℕ) × (shown : List ℕ) × Consumes (g.S.Source.left l.fn.reader) (g.S.Source.left l.reader) (read ++ l.window)
+      done : (read : List ℕ) × (shown : List ℕ) × Consumes (g.S.Source.left l.fn.reader) (g.S.Source.left l.reader)
+          (read ++ l.window)
           × Through reading tt read shown tt l.number
           × ((text : List ℕ) × Appends (g.T.Target.taken l.fn.writer) (g.T.Target.taken l.writer) text
           × ((t : IsShownText g.L.Telling.shows shown text) × (l.number ≡ length t.told + 1)));

@@ -1,8 +1,8 @@
 use Rattle.std.proofs.Common.{◌≡◌, ◌++◌, length, take, map, ◌∙◌, ap, refl, sym, append-nil, arith, below_more}
 use Rattle.std.proofs.lemmas.List.{length-map}
 use Rattle.arrayvec.specs.ArrayVec.{array_vec_len}
-use Rattle.token_session.specs.Drive.{as_pair}
-use Rattle.token_session.proofs.Drives.{driven_more, whole_more, sends_more, capacity_here, driven_stands, driven_follows}
+use Rattle.token_session.{specs.Drive.as_pair, proofs.Drives.driven_follows}
+use Rattle.token_session.proofs.Drives.{driven_more, whole_more, sends_more, capacity_here, driven_stands}
 use Rattle.token_session.proofs.driving.drive.Goals as goal
 
 pub returns-then-remaining_capacity-lt-OUTBOX_CAPACITY : goal.returns-then-remaining_capacity-lt-OUTBOX_CAPACITY
@@ -12,7 +12,8 @@ returns-then-remaining_capacity-lt-OUTBOX_CAPACITY g c = record {
   whole = c.loop-i.invariant.whole;
   full = (c.loop-i-test.true, omega (arith, c.if-remaining_capacity-lt-OUTBOX_CAPACITY.true, c.remaining_capacity.ensures));
   after = λ start h b. c.loop-i.invariant.state ∙ driven_stands (take c.loop-i.i c.args.inputs.now) _ start h b;
-  sent = λ start h b. c.loop-i.invariant.packets ∙ ap (λ q. map as_pair c.args.sent.now.items ++ q) (driven_follows (take c.loop-i.i c.args.inputs.now) _ start 0 h b);
+  sent = λ start h b. c.loop-i.invariant.packets ∙ ap (λ q. map as_pair c.args.sent.now.items ++ q)
+      (driven_follows (take c.loop-i.i c.args.inputs.now) _ start 0 h b);
 }
 
 pub returns : goal.returns
@@ -23,18 +24,24 @@ returns g c =
       meters = c.meters.ensures.value;
       whole = rw (← e) c.loop-i.invariant.whole;
       full = tt;
-      after = λ start h b. rw (← e) (c.loop-i.invariant.state ∙ driven_stands (take c.loop-i.i c.args.inputs.now) _ start h b);
+      after = λ start h b. rw (← e) (c.loop-i.invariant.state
+          ∙ driven_stands (take c.loop-i.i c.args.inputs.now) _ start h b);
       sent = λ start h b. rw (← e) (c.loop-i.invariant.packets
-          ∙ ap (λ q. map as_pair c.args.sent.now.items ++ q) (driven_follows (take c.loop-i.i c.args.inputs.now) _ start 0 h b));
+          ∙ ap (λ q. map as_pair c.args.sent.now.items ++ q)
+          (driven_follows (take c.loop-i.i c.args.inputs.now) _ start 0 h b));
     }
 
 pub loop-i-preserved : goal.loop-i-preserved
 loop-i-preserved g c = record {
-  state = driven_more c.args.inputs.now c.loop-i.i _ _ _ c.index-inputs-i.result _ c.loop-i-test.true c.index-inputs-i.is c.step.ensures.state c.loop-i.invariant.state;
-  packets = sends_more c.args.inputs.now c.loop-i.i _ _ _ _ _ _ c.index-inputs-i.result _ c.loop-i-test.true c.index-inputs-i.is
+  state = driven_more c.args.inputs.now c.loop-i.i _ _ _ c.index-inputs-i.result _ c.loop-i-test.true
+      c.index-inputs-i.is c.step.ensures.state c.loop-i.invariant.state;
+  packets = sends_more c.args.inputs.now c.loop-i.i _ _ _ _ _ _ c.index-inputs-i.result _ c.loop-i-test.true
+      c.index-inputs-i.is
       c.take_all.ensures.sent c.step.ensures.packets c.loop-i.invariant.state c.loop-i.invariant.packets;
-  whole = whole_more c.args.inputs.now c.loop-i.i c.index-inputs-i.result _ c.loop-i-test.true c.index-inputs-i.is c.loop-i.invariant.whole c.known_input.ensures;
-  capacity = below_more _ _ c.loop-i.invariant.capacity (capacity_here (map as_pair c.loop-i.sent.items) _ g.row.N c.loop-i.invariant.packets
+  whole = whole_more c.args.inputs.now c.loop-i.i c.index-inputs-i.result _ c.loop-i-test.true c.index-inputs-i.is
+      c.loop-i.invariant.whole c.known_input.ensures;
+  capacity = below_more _ _ c.loop-i.invariant.capacity (capacity_here (map as_pair c.loop-i.sent.items) _ g.row.N
+      c.loop-i.invariant.packets
       (let n : length (map as_pair c.loop-i.sent.items) ≡ array_vec_len c.loop-i.sent = simp length-map in
       omega (arith, c.if-remaining_capacity-lt-OUTBOX_CAPACITY.false, c.remaining_capacity.ensures)));
   empty = c.take_all.ensures.empty;

@@ -1,6 +1,5 @@
 use Rattle.std.proofs.Common.{◌≡◌, ◌++◌, [], map, take}
-use Rattle.token_session.specs.Carried.{ArriveWhole}
-use Rattle.token_session.specs.Drive.{as_pair, driven, driven_sends, HadCapacity}
+use Rattle.token_session.specs.{Carried.ArriveWhole, Drive.as_pair, Drive.driven, Drive.driven_sends, Drive.HadCapacity}
 use Rattle.token_session.proofs.driving.drive.Given as goal
 
 abbrev pub invariant-loop-i : goal.invariant-loop-i

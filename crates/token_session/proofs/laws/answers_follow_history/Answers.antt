@@ -1,9 +1,7 @@
 use Rattle.std.proofs.Common.{ap, ◌∙◌}
-use Rattle.token_session.specs.Answered.{sent_told}
+use Rattle.token_session.specs.{Answered.sent_told, Credentials.steps, History.judge, History.judged}
 use Rattle.cred_table.specs.Rows.{Lawful}
 use Rattle.authn_core.specs.Turn.{Start}
-use Rattle.token_session.specs.Credentials.{steps}
-use Rattle.token_session.specs.History.{judge, judged}
 use Rattle.token_session.proofs.Credentials.{core_is, orderly}
 use Rattle.token_session.proofs.Answered.{Law, judged_told_so, happened_steps, waits_told, sent_told_so}
 use Rattle.token_session.proofs.laws.answers_follow_history.Goals as goal

@@ -6,7 +6,8 @@ use Rattle.token_session.proofs.laws.credentials_follow_history.Goals as goal
 pub returns : goal.returns
 returns c = record {
   rows = λ start h. rw (core_is start (judged start h)) (c.rows_follow_history.ensures.rows _ _ (orderly start h));
-  lawful = λ start h l. rw (core_is start (judged start h)) (c.rows_follow_history.ensures.lawful _ _ (first_ready start) l);
+  lawful = λ start h l. rw (core_is start (judged start h)) (c.rows_follow_history.ensures.lawful _ _
+      (first_ready start) l);
   texts = λ start h l. c.texts_to_sign_differ.ensures.differ _ _ (first_ready start) l (orderly start h);
   rise = λ start h l. c.texts_to_sign_differ.ensures.rise _ _ (first_ready start) l (orderly start h);
   newest = λ start h id l e.

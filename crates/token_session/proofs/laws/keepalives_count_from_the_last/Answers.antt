@@ -1,6 +1,5 @@
 use Rattle.std.proofs.Common.{refl}
-use Rattle.token_session.specs.History.{judged, last_keepalive, sent_at}
-use Rattle.token_session.specs.Law.{sent_now}
+use Rattle.token_session.specs.{History.judged, History.last_keepalive, History.sent_at, Law.sent_now}
 use Rattle.token_session.proofs.laws.keepalives_count_from_the_last.Goals as goal
 
 pub returns : goal.returns

@@ -1,8 +1,6 @@
 use Rattle.std.proofs.Common.{[]}
-use Rattle.token_session.specs.Messages.{open_at}
-use Rattle.token_session.specs.History.{judged}
-use Rattle.token_session.proofs.Bounds.{one_open, held_few}
-use Rattle.token_session.proofs.Follows.{good_judged}
+use Rattle.token_session.specs.{Messages.open_at, History.judged}
+use Rattle.token_session.proofs.{Bounds.one_open, Bounds.held_few, Follows.good_judged}
 use Rattle.token_session.proofs.laws.one_message_is_open.Goals as goal
 
 pub returns : goal.returns

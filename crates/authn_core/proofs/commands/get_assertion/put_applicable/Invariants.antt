@@ -8,5 +8,6 @@ invariant-walk g l = record {
   next : (goal.iterator-walk g).can_next l.allow;
   finite : (goal.iterator-walk g).is_finite l.allow;
   none : l.found.items ≡ [];
-  same : find_named l.rp (g.T.Table.rows l.table) (ids_of (left_of l.fn.allow)) ≡ find_named l.rp (g.T.Table.rows l.table) (ids_of (left_of l.allow));
+  same : find_named l.rp (g.T.Table.rows l.table) (ids_of (left_of l.fn.allow))
+      ≡ find_named l.rp (g.T.Table.rows l.table) (ids_of (left_of l.allow));
 }

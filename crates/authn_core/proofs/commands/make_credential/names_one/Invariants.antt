@@ -7,5 +7,6 @@ abbrev pub invariant-walk : goal.invariant-walk
 invariant-walk g l = record {
   next : (goal.iterator-walk g).can_next l.ids;
   finite : (goal.iterator-walk g).is_finite l.ids;
-  same : names_one l.rp (g.T.Table.rows l.table) (ids_of (left_of l.fn.ids)) ≡ names_one l.rp (g.T.Table.rows l.table) (ids_of (left_of l.ids));
+  same : names_one l.rp (g.T.Table.rows l.table) (ids_of (left_of l.fn.ids))
+      ≡ names_one l.rp (g.T.Table.rows l.table) (ids_of (left_of l.ids));
 }

@@ -1,12 +1,7 @@
 use Rattle.std.proofs.Common.{◌≡◌, ℕ, List, Bor, option_map, refl, ◌∙◌, ap, rules}
 use Rattle.std.specs.List.{find}
-use Rattle.std.proofs.lemmas.Iterator.Consumers.{YieldsList-from_first}
-use Rattle.std.proofs.lemmas.Iterator.Search.{find_from_yields_List}
-use Rattle.cred_table.specs.declared.row.Row.{Row}
-use Rattle.cred_table.specs.declared.slot.Slot.{Slot}
-use Rattle.cred_table.specs.Rows.{has_id}
-use Rattle.cred_table.specs.Slots.{bucket}
-use Rattle.cred_table.specs.Linked.{id_slots}
+use Rattle.std.proofs.lemmas.Iterator.{Consumers.YieldsList-from_first, Search.find_from_yields_List}
+use Rattle.cred_table.specs.{declared.row.Row.Row, declared.slot.Slot.Slot, Rows.has_id, Slots.bucket, Linked.id_slots}
 use Rattle.cred_table.proofs.Found.{seen, found_row, found_alike}
 use Rattle.cred_table.proofs.chained.ChainedTable.find.Goals as goal
 

@@ -1,5 +1,4 @@
-use Rattle.std.proofs.Common.{arith}
-use Rattle.std.proofs.lemmas.Simd.{map-map}
+use Rattle.std.proofs.{Common.arith, lemmas.Simd.map-map}
 use Rattle.cred_table.proofs.chained.ChainedTable.iter.Goals as goal
 
 pub returns : goal.returns

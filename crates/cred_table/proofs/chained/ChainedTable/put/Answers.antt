@@ -1,8 +1,6 @@
-use Rattle.std.proofs.lemmas.Grind.{common_steps}
-use Rattle.std.proofs.Common.{arith}
-use Rattle.cred_table.specs.Linked.{rows_in}
+use Rattle.std.proofs.{lemmas.Grind.common_steps, Common.arith}
+use Rattle.cred_table.{specs.Linked.rows_in, proofs.Places.Lawful-put}
 use Rattle.cred_table.proofs.Stored.{none_replaced, stored_last}
-use Rattle.cred_table.proofs.Places.{Lawful-put}
 use Rattle.cred_table.proofs.chained.ChainedTable.put.Goals as goal
 
 pub invariant_of-self : goal.invariant_of-self

@@ -1,8 +1,6 @@
-use Rattle.std.proofs.lemmas.Grind.{common_steps}
-use Rattle.std.proofs.Common.{◌-◌, arith}
+use Rattle.std.proofs.{lemmas.Grind.common_steps, Common.◌-◌, Common.arith}
 use Rattle.cred_table.specs.Linked.{age, rows_in}
-use Rattle.cred_table.proofs.Raised.{Lawful-raised}
-use Rattle.cred_table.proofs.Found.{raised_is, counter_slot}
+use Rattle.cred_table.proofs.{Raised.Lawful-raised, Found.raised_is, Found.counter_slot}
 use Rattle.cred_table.proofs.chained.ChainedTable.raise.Goals as goal
 
 pub raise-requires : goal.raise-requires

@@ -1,10 +1,8 @@
 use Rattle.std.proofs.Common.{option_map, ℕ, List, Option, ◌∙◌, ap}
 use Rattle.std.specs.List.{find}
-use Rattle.cred_table.specs.declared.slot.Slot.{Slot}
+use Rattle.cred_table.specs.{declared.slot.Slot.Slot, Linked.id_slots, Linked.row_at}
 use Rattle.cred_table.specs.Slots.{leads_to, numbered, bucket}
-use Rattle.cred_table.specs.Linked.{id_slots, row_at}
-use Rattle.cred_table.proofs.Unlinked.{before_is}
-use Rattle.cred_table.proofs.Chain.{slot_read}
+use Rattle.cred_table.proofs.{Unlinked.before_is, Chain.slot_read}
 use Rattle.cred_table.proofs.chains.Chains.before.Goals as goal
 
 pub returns : goal.returns
@@ -16,4 +14,5 @@ returns g c =
     let leader : List (ℕ × Slot) → Option ℕ = λ ls. option_map (λ (found : ℕ × Slot). found.0) (find (leads_to k) ls) in
     c.leader.ensures
     ∙ (ap leader c.like.ensures
-    ∙ (ap (λ (s : Slot). leader (numbered chains.slots (id_slots (bucket s.row.id) chains))) read ∙ before_is chains (bucket (row_at chains.slots k).id) k c.requires.linked))
+    ∙ (ap (λ (s : Slot). leader (numbered chains.slots (id_slots (bucket s.row.id) chains))) read
+    ∙ before_is chains (bucket (row_at chains.slots k).id) k c.requires.linked))

@@ -5,7 +5,9 @@ pub raise-requires : goal.raise-requires
 raise-requires g c = record { there = c.requires.linked.inside c.args.number c.requires.held; below = c.requires.below }
 
 pub returns-clause-linked : goal.returns-clause-linked
-returns-clause-linked g c = (raise c.args.self.now c.args.number c.raise.new.slots c.requires.linked c.requires.held c.raise.ensures.slots).0
+returns-clause-linked g c = (raise c.args.self.now c.args.number c.raise.new.slots c.requires.linked c.requires.held
+    c.raise.ensures.slots).0
 
 pub returns-clause-rows : goal.returns-clause-rows
-returns-clause-rows g c = (raise c.args.self.now c.args.number c.raise.new.slots c.requires.linked c.requires.held c.raise.ensures.slots).1
+returns-clause-rows g c = (raise c.args.self.now c.args.number c.raise.new.slots c.requires.linked c.requires.held
+    c.raise.ensures.slots).1

@@ -1,8 +1,6 @@
 use Rattle.std.proofs.Common.{arith, sym, subst, List}
-use Rattle.cred_table.specs.declared.row.Row.{Row}
-use Rattle.cred_table.specs.Rows.{Lawful}
-use Rattle.cred_table.proofs.Stored.{none_replaced, stored_last}
-use Rattle.cred_table.proofs.Places.{Lawful-put}
+use Rattle.cred_table.specs.{declared.row.Row.Row, Rows.Lawful}
+use Rattle.cred_table.proofs.{Stored.none_replaced, Stored.stored_last, Places.Lawful-put}
 use Rattle.cred_table.proofs.listed.ListedTable.put.Goals as goal
 
 pub invariant_of-self : goal.invariant_of-self

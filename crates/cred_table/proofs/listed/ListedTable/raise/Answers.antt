@@ -1,8 +1,6 @@
 use Rattle.std.proofs.Common.{sym, subst, List, arith}
-use Rattle.cred_table.specs.declared.row.Row.{Row}
-use Rattle.cred_table.specs.Rows.{Lawful}
-use Rattle.cred_table.proofs.Places.{written_is, counter_is}
-use Rattle.cred_table.proofs.Raised.{Lawful-raised}
+use Rattle.cred_table.specs.{declared.row.Row.Row, Rows.Lawful}
+use Rattle.cred_table.proofs.{Places.written_is, Places.counter_is, Raised.Lawful-raised}
 use Rattle.cred_table.proofs.listed.ListedTable.raise.Goals as goal
 
 pub overflow_add-row : goal.overflow_add-row

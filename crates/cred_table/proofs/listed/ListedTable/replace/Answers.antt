@@ -1,6 +1,5 @@
 use Rattle.std.proofs.Common.{arith, sym, ◌∙◌, subst, List}
-use Rattle.cred_table.specs.declared.row.Row.{Row}
-use Rattle.cred_table.specs.Rows.{is_user, Lawful}
+use Rattle.cred_table.specs.{declared.row.Row.Row, Rows.is_user, Rows.Lawful}
 use Rattle.cred_table.proofs.Places.{replaced_rows, id_found, replaced_is, Lawful-replace}
 use Rattle.cred_table.proofs.listed.ListedTable.replace.Goals as goal
 

@@ -8,7 +8,8 @@ push-requires g c =
     let table = c.args.self.now in
     let listed = sym c.is_listed.ensures ∙ c.if-is_listed.true in (
       search rules,
-      capacity_left c.args.rp.now table.list.items (iter_rest c.loop-row.row-iterator.iter) (iter_rest c.next.new.self.iter)
+      capacity_left c.args.rp.now table.list.items (iter_rest c.loop-row.row-iterator.iter)
+          (iter_rest c.next.new.self.iter)
           c.in-Some.row.now c.loop-row.out.items g.row.C c.in-Some.ensures.steps listed c.loop-row.invariant
           table.lawful.few,
     )

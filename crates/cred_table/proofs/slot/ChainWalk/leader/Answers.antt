@@ -1,8 +1,6 @@
 use Rattle.std.proofs.Common.{◌≡◌, option_map, ℕ, List, Option, Some, None, Bor, refl, sym, ◌∙◌, ap, rules}
-use Rattle.std.proofs.lemmas.Iterator.Consumers.{YieldsList-from_first}
-use Rattle.std.proofs.lemmas.Iterator.Search.{find_from_yields_List}
-use Rattle.cred_table.specs.declared.slot.Slot.{Slot}
-use Rattle.cred_table.specs.Slots.{leads_to}
+use Rattle.std.proofs.lemmas.Iterator.{Consumers.YieldsList-from_first, Search.find_from_yields_List}
+use Rattle.cred_table.specs.{declared.slot.Slot.Slot, Slots.leads_to}
 use Rattle.cred_table.proofs.slot.ChainWalk.leader.Goals as goal
 
 -- an item as clauses see it

@@ -1,10 +1,8 @@
-use Rattle.std.proofs.Common.{arith, ◌-◌}
-use Rattle.std.proofs.lemmas.Result.{MatchResult-weaker}
+use Rattle.std.proofs.{Common.arith, Common.◌-◌, lemmas.Result.MatchResult-weaker}
 use Rattle.std.specs.Option.{option_copied}
 use Rattle.ctap_cbor.specs.Views.{part_of}
-use Rattle.ctap_cbor.proofs.Moves.{passes_none, passes_more, pairs_none}
+use Rattle.ctap_cbor.proofs.{Moves.passes_none, Moves.passes_more, Moves.pairs_none, Only.only_halts, Only.only_matches}
 use Rattle.ctap_cbor.proofs.Skipping.{array_whole, array_stops, map_whole, map_stops, plain_passes, given_more}
-use Rattle.ctap_cbor.proofs.Only.{only_halts, only_matches}
 use Rattle.ctap_cbor.proofs.cursor.Cursor.+skip.Goals as goal
 
 -- ---- an item

@@ -1,7 +1,5 @@
-use Rattle.std.proofs.Common.{◌+◌, ◌-◌, ◌*◌}
-use Rattle.std.specs.Option.{option_copied}
-use Rattle.ctap_cbor.specs.Tree.{Trees, Pairs}
-use Rattle.ctap_cbor.specs.Reading.{PassesAll, PassesPairs}
+use Rattle.std.{proofs.Common.◌+◌, proofs.Common.◌-◌, proofs.Common.◌*◌, specs.Option.option_copied}
+use Rattle.ctap_cbor.specs.{Tree.Trees, Tree.Pairs, Reading.PassesAll, Reading.PassesPairs}
 use Rattle.ctap_cbor.proofs.cursor.Cursor.+skip.Given as goal
 
 abbrev pub decreases-skip : goal.decreases-skip
@@ -20,4 +18,5 @@ abbrev pub invariant-skip_items-loop-done : goal.invariant-skip_items-loop-done
 invariant-skip_items-loop-done l = (ts : Trees) × PassesAll (5 - l.level) l.done ts l.fn.self l.self
 
 abbrev pub invariant-skip_pairs-loop-done : goal.invariant-skip_pairs-loop-done
-invariant-skip_pairs-loop-done l = (ps : Pairs) × PassesPairs (5 - l.level) l.done ps (option_copied l.previous) l.fn.self l.self
+invariant-skip_pairs-loop-done l = (ps : Pairs) × PassesPairs (5 - l.level) l.done ps (option_copied l.previous)
+    l.fn.self l.self

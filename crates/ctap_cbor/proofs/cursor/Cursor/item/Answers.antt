@@ -1,9 +1,6 @@
 use Rattle.std.proofs.Common.{◌-◌, ◌≡◌, ap, subst, Err}
-use Rattle.ctap_cbor.specs.Views.{part_of}
-use Rattle.ctap_cbor.specs.Faults.{AnItem}
-use Rattle.ctap_cbor.specs.Parts.{read}
-use Rattle.ctap_cbor.proofs.Taking.{item_taken, item_refused, read_taken}
-use Rattle.ctap_cbor.proofs.Only.{item_only, item_never}
+use Rattle.ctap_cbor.specs.{Views.part_of, Faults.AnItem, Parts.read}
+use Rattle.ctap_cbor.proofs.{Taking.item_taken, Taking.item_refused, Taking.read_taken, Only.item_only, Only.item_never}
 use Rattle.ctap_cbor.proofs.cursor.Cursor.item.Goals as goal
 
 pub returns-in-Ok : goal.returns-in-Ok

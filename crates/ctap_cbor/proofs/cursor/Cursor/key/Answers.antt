@@ -1,8 +1,6 @@
 use Rattle.std.proofs.Common.{arith, sym, ap, ◌∙◌}
-use Rattle.std.proofs.lemmas.List.{length-take-le}
-use Rattle.std.specs.Option.{option_copied}
-use Rattle.ctap_cbor.specs.Views.{part_of}
-use Rattle.ctap_cbor.specs.Reading.{compared}
+use Rattle.std.{proofs.lemmas.List.length-take-le, specs.Option.option_copied}
+use Rattle.ctap_cbor.specs.{Views.part_of, Reading.compared}
 use Rattle.ctap_cbor.proofs.Keys.{key_taken, key_below, key_refused, key_given, key_not_given}
 use Rattle.ctap_cbor.proofs.cursor.Cursor.key.Goals as goal
 

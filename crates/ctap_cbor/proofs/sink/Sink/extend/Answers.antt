@@ -3,4 +3,5 @@ use Rattle.ctap_cbor.proofs.Appending.{spliced}
 use Rattle.ctap_cbor.proofs.sink.Sink.extend.Goals as goal
 
 pub returns-clause-appends : goal.returns-clause-appends
-returns-clause-appends c = spliced c.args.self.now _ c.args.bytes.now c.copy_from_slice.new.self _ c.copy_from_slice.ensures.after (omega arith) refl refl c.requires
+returns-clause-appends c = spliced c.args.self.now _ c.args.bytes.now c.copy_from_slice.new.self _
+    c.copy_from_slice.ensures.after (omega arith) refl refl c.requires

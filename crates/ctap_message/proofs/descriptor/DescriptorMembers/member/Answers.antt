@@ -1,9 +1,7 @@
 use Rattle.std.proofs.Common.{arith, ◌-◌}
 use Rattle.ctap_cbor.specs.Views.{part_of, head_of}
-use Rattle.ctap_message.specs.Descriptors.{descriptor_types}
-use Rattle.ctap_message.specs.Fields.{descriptor_in}
+use Rattle.ctap_message.{specs.Descriptors.descriptor_types, specs.Fields.descriptor_in, proofs.Collecting.adds_head}
 use Rattle.ctap_message.specs.Collected.{shown_descriptor, descriptor_next}
-use Rattle.ctap_message.proofs.Collecting.{adds_head}
 use Rattle.ctap_message.proofs.Growing.{descriptor_grows, descriptor_heads, transports_arm}
 use Rattle.ctap_message.proofs.descriptor.DescriptorMembers.member.Goals as goal
 

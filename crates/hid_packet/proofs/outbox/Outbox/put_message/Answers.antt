@@ -1,9 +1,8 @@
-use Rattle.std.proofs.Common.{◌≡◌, ◌+◌, ◌≤◌, ◌++◌, ◌∷◌, [], List, ℕ, length, ap, ap₂, sym, ◌∙◌, refl, rules, arith, length-append}
+use Rattle.std.proofs.Common.{◌≡◌, ◌+◌, ◌≤◌, ◌++◌, ◌∷◌, [], List, ℕ, length, ap, ap₂, sym, ◌∙◌, refl, rules, arith}
+use Rattle.std.proofs.Common.{length-append}
 use Rattle.hid_packet.specs.Message.{written, initialization_packet}
-use Rattle.hid_packet.proofs.Writing.{filled}
-use Rattle.hid_packet.specs.Queue.{waiting}
-use Rattle.hid_packet.specs.declared.entry.Queued.TheVariants.{Part}
-use Rattle.hid_packet.specs.declared.fragments.NextPacket.TheVariants.{Initialization}
+use Rattle.hid_packet.{proofs.Writing.filled, specs.Queue.waiting}
+use Rattle.hid_packet.specs.declared.{entry.Queued.TheVariants.Part, fragments.NextPacket.TheVariants.Initialization}
 use Rattle.hid_packet.proofs.Queueing.{first_written, short_written, queued-push, space, waiting-push, entry_fills}
 use Rattle.hid_packet.proofs.outbox.Outbox.put_message.Goals as goal
 
@@ -13,35 +12,48 @@ put_packet-requires c = omega (arith, c.requires.space, first_written c.args.cid
 pub returns-then-bytes-le-INITIALIZATION_DATA : goal.returns-then-bytes-le-INITIALIZATION_DATA
 unfolding initialization_packet
 returns-then-bytes-le-INITIALIZATION_DATA c =
-    let made : c.put_initialization.new.out ≡ initialization_packet c.args.cid c.args.cmd (length c.args.bytes.now) c.args.bytes.now =
+    let made : c.put_initialization.new.out ≡ initialization_packet c.args.cid c.args.cmd (length c.args.bytes.now)
+    c.args.bytes.now =
     c.put_initialization.ensures ∙ filled _ (7 + length c.args.bytes.now) (simp length-append (omega arith)) in
     c.put_packet.ensures
     ∙ ap (λ packet. c.args.self.now ++ packet ∷ []) made
-    ∙ ap (λ (packets : List (List ℕ)). c.args.self.now ++ packets) (sym (short_written c.args.cid c.args.cmd c.args.bytes.now c.if-bytes-le-INITIALIZATION_DATA.true))
+    ∙ ap (λ (packets : List (List ℕ)). c.args.self.now ++ packets)
+    (sym (short_written c.args.cid c.args.cmd c.args.bytes.now c.if-bytes-le-INITIALIZATION_DATA.true))
 
 pub push-requires : goal.push-requires
 push-requires c =
     let n = length (written c.args.cid c.args.cmd c.args.bytes.now) in
-    let r = space c.self.inside.entries.items c.self.inside.ring c.self.inside.len n c.self.invariant (first_written c.args.cid c.args.cmd c.args.bytes.now) (omega (arith, c.requires.space, c.self.invariant.counted, ap length c.self.view_is)) in
+    let r = space c.self.inside.entries.items c.self.inside.ring c.self.inside.len n c.self.invariant
+    (first_written c.args.cid c.args.cmd c.args.bytes.now)
+    (omega (arith, c.requires.space, c.self.invariant.counted, ap length c.self.view_is)) in
     (search rules, r.entry)
 
 pub put-requires : goal.put-requires
 put-requires c =
     let n = length (written c.args.cid c.args.cmd c.args.bytes.now) in
-    let r = space c.self.inside.entries.items c.self.inside.ring c.self.inside.len n c.self.invariant (first_written c.args.cid c.args.cmd c.args.bytes.now) (omega (arith, c.requires.space, c.self.invariant.counted, ap length c.self.view_is)) in
-    let e = entry_fills (Part (record { cid = c.args.cid; due = Initialization c.args.cmd; left = length c.args.bytes.now })) c.args.bytes.now (c.requires.command, c.requires.short) refl in
+    let r = space c.self.inside.entries.items c.self.inside.ring c.self.inside.len n c.self.invariant
+    (first_written c.args.cid c.args.cmd c.args.bytes.now)
+    (omega (arith, c.requires.space, c.self.invariant.counted, ap length c.self.view_is)) in
+    let e = entry_fills (Part
+    (record { cid = c.args.cid; due = Initialization c.args.cmd; left = length c.args.bytes.now })) c.args.bytes.now
+    (c.requires.command, c.requires.short) refl in
     omega (arith, r.bytes_left, e.enough)
 
 pub invariant_of-self : goal.invariant_of-self
 invariant_of-self c =
     let count = c.packets_for.ensures.written c.args.cid c.args.cmd c.args.bytes.now refl in
-    let few : c.self.inside.len + c.from.result ≤ 130 = omega (arith, c.requires.space, c.self.invariant.counted, ap length c.self.view_is, count, c.from.ensures) in
+    let few : c.self.inside.len + c.from.result ≤ 130 = omega
+    (arith, c.requires.space, c.self.invariant.counted, ap length c.self.view_is, count, c.from.ensures) in
     rw (c.push.ensures.items, c.put.ensures)
-    (queued-push c.self.inside.entries.items c.self.inside.ring c.args.bytes.now (Part (record { cid = c.args.cid; due = Initialization c.args.cmd; left = length c.args.bytes.now }))
-    c.self.inside.len c.from.result c.self.invariant (c.requires.command, c.requires.short) refl (c.from.ensures ∙ sym count) few)
+    (queued-push c.self.inside.entries.items c.self.inside.ring c.args.bytes.now
+    (Part (record { cid = c.args.cid; due = Initialization c.args.cmd; left = length c.args.bytes.now }))
+    c.self.inside.len c.from.result c.self.invariant (c.requires.command, c.requires.short) refl
+    (c.from.ensures ∙ sym count) few)
 
 pub returns : goal.returns
 returns c =
     ap₂ waiting c.push.ensures.items c.put.ensures
-    ∙ waiting-push c.self.inside.entries.items c.self.inside.ring c.args.bytes.now (Part (record { cid = c.args.cid; due = Initialization c.args.cmd; left = length c.args.bytes.now })) c.self.invariant.held.sum refl
+    ∙ waiting-push c.self.inside.entries.items c.self.inside.ring c.args.bytes.now
+    (Part (record { cid = c.args.cid; due = Initialization c.args.cmd; left = length c.args.bytes.now }))
+    c.self.invariant.held.sum refl
     ∙ ap (λ (ps : List (List ℕ)). ps ++ written c.args.cid c.args.cmd c.args.bytes.now) c.self.view_is

@@ -4,7 +4,8 @@ use Rattle.hid_packet.proofs.outbox.OutboxIterator.next.Goals as goal
 
 pub returns-in-empty-clause-steps : goal.returns-in-empty-clause-steps
 returns-in-empty-clause-steps c =
-    let none = none_wait c.self.inside.entries.items c.self.inside.ring _ c.self.view_is (no_entry c.self.inside.entries.items c.as_slice.result.now c.as_slice.ensures.value c.in-empty.len_below) in
+    let none = none_wait c.self.inside.entries.items c.self.inside.ring _ c.self.view_is
+    (no_entry c.self.inside.entries.items c.as_slice.result.now c.as_slice.ensures.value c.in-empty.len_below) in
     (none, none)
 
 pub overflow_sub-self : goal.overflow_sub-self

@@ -6,11 +6,16 @@ use Rattle.hid_packet.proofs.ring.Ring.put.Goals as goal
 pub returns-then-bytes-straight : goal.returns-then-bytes-straight
 returns-then-bytes-straight c =
     let ring = c.self.inside in
-    put_around 8320 ring.first ring.len (length c.args.bytes.now) c.wrapped-end.result ring.bytes c.args.bytes.now _ _ c.self.invariant.0 c.self.invariant.1 c.self.invariant.2 c.self.view_is c.requires c.wrapped-end.ensures (omega arith)
+    put_around 8320 ring.first ring.len (length c.args.bytes.now) c.wrapped-end.result ring.bytes c.args.bytes.now _ _
+    c.self.invariant.0 c.self.invariant.1 c.self.invariant.2 c.self.view_is c.requires c.wrapped-end.ensures
+    (omega arith)
     (straight_put c.wrapped-end.result c.args.bytes.now ring.bytes _ c.put_at.ensures)
 
 pub returns : goal.returns
 returns c =
     let ring = c.self.inside in
-    put_around 8320 ring.first ring.len (8320 - c.wrapped-end.result) c.wrapped-end.result ring.bytes c.args.bytes.now _ _ c.self.invariant.0 c.self.invariant.1 c.self.invariant.2 c.self.view_is c.requires c.wrapped-end.ensures (omega arith)
-    (round_put c.wrapped-end.result _ _ ring.bytes _ _ c.put_at-2.ensures c.put_at-3.ensures ∙ ap₂ (λ front back. overwritten c.wrapped-end.result front back ring.bytes) c.split_at.ensures.front c.split_at.ensures.back)
+    put_around 8320 ring.first ring.len (8320 - c.wrapped-end.result) c.wrapped-end.result ring.bytes c.args.bytes.now _
+    _ c.self.invariant.0 c.self.invariant.1 c.self.invariant.2 c.self.view_is c.requires c.wrapped-end.ensures
+    (omega arith)
+    (round_put c.wrapped-end.result _ _ ring.bytes _ _ c.put_at-2.ensures c.put_at-3.ensures ∙ ap₂ (λ front back.
+    overwritten c.wrapped-end.result front back ring.bytes) c.split_at.ensures.front c.split_at.ensures.back)

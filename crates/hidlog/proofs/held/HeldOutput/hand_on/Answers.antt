@@ -11,5 +11,6 @@ waiting-preserved g c =
     record {
       same = c.in_ok-self.ensures.counted ∙ c.waiting.invariant.same;
       kept = handed _ (taken old.inner) (taken c.put.new.self) old.at n old.bytes.items c.waiting.invariant.kept
-          (subst (λ l. Appends (taken old.inner) (taken c.put.new.self) (take n l)) (c.split_at.ensures.back ∙ ap (drop old.at) c.as_slice.ensures.value) c.in_ok-self.ensures.bytes);
+          (subst (λ l. Appends (taken old.inner) (taken c.put.new.self) (take n l))
+          (c.split_at.ensures.back ∙ ap (drop old.at) c.as_slice.ensures.value) c.in_ok-self.ensures.bytes);
     }

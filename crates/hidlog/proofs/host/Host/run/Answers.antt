@@ -6,7 +6,8 @@ use Rattle.hidlog.proofs.host.Host.run.Goals as goal
 
 pub returns-in-Err-clause-answered : goal.returns-in-Err-clause-answered
 returns-in-Err-clause-answered g c =
-    rw c.of.ensures (unasked _ (texts_of c.args.words.now) (kind_of c.in-Err.error) c.in-Err.ensures.answer c.answer_words.ensures.explains
+    rw c.of.ensures (unasked _ (texts_of c.args.words.now) (kind_of c.in-Err.error) c.in-Err.ensures.answer
+    c.answer_words.ensures.explains
     (kind_of c.in-Err.error, c.in-Err.ensures.answer, c.answer_words.ensures.explains))
 
 pub returns-in-Play-clause-answered : goal.returns-in-Play-clause-answered

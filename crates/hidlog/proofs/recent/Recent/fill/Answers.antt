@@ -9,5 +9,6 @@ returns-clause-bytes g c =
 pub returns-clause-end : goal.returns-clause-end
 returns-clause-end g c = rw c.forget.ensures.at λ none.
     let held = c.read_behind.new.held in
-    let fits : c.forget.new.self.end + c.in_ok-n.n ≤ length held.items = omega (arith, held.ok.0, c.in_ok-n.ensures.bound) in
+    let fits : c.forget.new.self.end + c.in_ok-n.n ≤ length held.items =
+    omega (arith, held.ok.0, c.in_ok-n.ensures.bound) in
     c.in_ok-n.ensures.end (none_read c.forget.new.self.end c.in_ok-n.n held.items fits none) (search rules)

@@ -9,7 +9,8 @@ pub returns-in-Some : goal.returns-in-Some
 returns-in-Some g c =
     let o = c.args.self.now in
     let f = Differs o.input (o.found + 1) in
-    closes_at check_machine g.T.Target.taken g.T.Target.failed (standing o c.args._session.now) c.args.writer.now o.input
+    closes_at check_machine g.T.Target.taken g.T.Target.failed (standing o c.args._session.now) c.args.writer.now
+    o.input
     (o.found + 1) c.difference.result (ap (λ (a : Option Packet). missing_of (due_packets a o.outbox) f) c.in-Some.is)
     c.difference.ensures (λ s. refl)
 

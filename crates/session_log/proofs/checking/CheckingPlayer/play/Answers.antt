@@ -3,8 +3,8 @@ use Rattle.hid_packet.specs.declared.packet.Packet.{Packet}
 use Rattle.session_log.specs.Check.{check_machine, compared, due_packets, missing_of, moves_compared}
 use Rattle.session_log.specs.{Session.sessions, declared.fault.LogFault.TheVariants.Differs}
 use Rattle.session_log.specs.declared.line.Line.TheVariants.{Input, Sent}
-use Rattle.session_log.proofs.Compares.{begins, is_due, is_next, is_other, is_silent, not_full, passes, rises, standing, stays}
-use Rattle.session_log.proofs.Puts.{differs_for, writes_none}
+use Rattle.session_log.proofs.Compares.{begins, is_due, is_next, is_other, is_silent, not_full, passes, rises, standing}
+use Rattle.session_log.proofs.{Compares.stays, Puts.differs_for, Puts.writes_none}
 use Rattle.session_log.proofs.checking.CheckingPlayer.play.Goals as goal
 
 pub returns-then-ne : goal.returns-then-ne

@@ -1,6 +1,5 @@
 use Rattle.std.proofs.Common.{arith}
-use Rattle.session_log.specs.Session.{history, live_history}
-use Rattle.session_log.proofs.Commands.{plays_unmetered}
+use Rattle.session_log.{specs.Session.history, specs.Session.live_history, proofs.Commands.plays_unmetered}
 use Rattle.session_log.proofs.command.LogCommand.play.Goals as goal
 
 pub returns-in-Replay : goal.returns-in-Replay

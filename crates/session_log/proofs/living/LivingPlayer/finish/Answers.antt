@@ -1,11 +1,11 @@
 use Rattle.std.proofs.Common.{refl, ap}
-use Rattle.session_log.specs.{Session.live_machine, Text.meters_line}
-use Rattle.session_log.proofs.Puts.{closes_by}
+use Rattle.session_log.{specs.Session.live_machine, specs.Text.meters_line, proofs.Puts.closes_by}
 use Rattle.session_log.proofs.living.LivingPlayer.finish.Goals as goal
 
 pub returns : goal.returns
 returns g c =
-    closes_by live_machine g.T.Target.taken g.T.Target.failed c.args.session.now (c.args.writer.now, c.put_meters.new.writer)
+    closes_by live_machine g.T.Target.taken g.T.Target.failed c.args.session.now
+    (c.args.writer.now, c.put_meters.new.writer)
     c.put_meters.result _ refl (ap meters_line c.meters.ensures.value) c.put_meters.ensures.puts (λ s. refl)
 
 pub put_meters-requires : goal.put_meters-requires

@@ -1,6 +1,5 @@
 use Rattle.std.proofs.Common.{refl, ap}
-use Rattle.session_log.specs.{Session.machine, Text.meters_line}
-use Rattle.session_log.proofs.Puts.{closes_by}
+use Rattle.session_log.{specs.Session.machine, specs.Text.meters_line, proofs.Puts.closes_by}
 use Rattle.session_log.proofs.replaying.ReplayingPlayer.finish.Goals as goal
 
 pub returns : goal.returns

@@ -27,7 +27,8 @@ returns-in-Comment g c =
 pub returns-in-Sent : goal.returns-in-Sent
 returns-in-Sent g c =
     drops machine g.T.Target.taken g.T.Target.failed c.args._number c.args.session.now c.args._line.now c.args.meaning
-    c.args.writer.now c.in-Sent.is c.requires.means (λ x. (refl, refl, tt, refl)) (refl, refl, tt, refl) c.requires.ready
+    c.args.writer.now c.in-Sent.is c.requires.means (λ x. (refl, refl, tt, refl)) (refl, refl, tt, refl)
+    c.requires.ready
 
 pub step-requires : goal.step-requires
 step-requires g c = (assumption c.well_formed, c.requires.ready)

@@ -3,4 +3,5 @@ use Rattle.session_show.proofs.Lines.{broken_line}
 use Rattle.session_show.proofs.showing.Showing.put.Goals as goal
 
 pub returns-in-Err-clause-shown : goal.returns-in-Err-clause-shown
-returns-in-Err-clause-shown g c = broken_line c.args.number c.args.line.now _ _ c.in-Some.said (sym c.read_line.ensures ∙ c.in-Some.is) c.in-Err.ensures.1
+returns-in-Err-clause-shown g c = broken_line c.args.number c.args.line.now _ _ c.in-Some.said
+    (sym c.read_line.ensures ∙ c.in-Some.is) c.in-Err.ensures.1

@@ -1,15 +1,13 @@
 use Rattle.std.proofs.Common.{◌≡◌, Some, None, refl, append-nil, arith}
 use Rattle.authn_core.specs.Views.{event_of}
-use Rattle.token_session.specs.Replies.{answer_packets}
-use Rattle.token_session.specs.Machine.{answer_keeps_alive}
-use Rattle.token_session.specs.Meters.{AreBounded, counted}
-use Rattle.token_session.specs.Effects.{request_in}
-use Rattle.token_session.proofs.Metering.{counted_bounded}
+use Rattle.token_session.specs.{Replies.answer_packets, Machine.answer_keeps_alive, Effects.request_in}
+use Rattle.token_session.{specs.Meters.AreBounded, specs.Meters.counted, proofs.Metering.counted_bounded}
 use Rattle.token_session.proofs.service.Keeper.take.Goals as goal
 
 pub returns-in-Request-clause-bounded : goal.returns-in-Request-clause-bounded
 returns-in-Request-clause-bounded g c =
-    let bounded : AreBounded c.count.new.self = rw c.count.ensures (counted_bounded c.steps_are_bounded.ensures _ _ c.requires.bounded) in
+    let bounded : AreBounded c.count.new.self = rw c.count.ensures
+    (counted_bounded c.steps_are_bounded.ensures _ _ c.requires.bounded) in
     rw c.send.ensures.others bounded
 
 pub returns-in-Some-clause-meters : goal.returns-in-Some-clause-meters

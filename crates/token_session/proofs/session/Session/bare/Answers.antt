@@ -11,4 +11,5 @@ returns g c =
     c.first_meters.ensures (ap (λ (h : Held). length h.core.state.rows) (sym c.empty_core.ensures))
 
 pub invariant_of-result : goal.invariant_of-result
-invariant_of-result g c = (at_most _ _ (ap (λ (h : Held). h.latest) c.empty_core.ensures), bounded_first _ _ c.first_meters.ensures)
+invariant_of-result g c =
+    (at_most _ _ (ap (λ (h : Held). h.latest) c.empty_core.ensures), bounded_first _ _ c.first_meters.ensures)

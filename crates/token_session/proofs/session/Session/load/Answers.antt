@@ -1,5 +1,4 @@
-use Rattle.token_session.specs.Machine.{start_state}
-use Rattle.token_session.proofs.{Metering.begins, Passing.whole}
+use Rattle.token_session.{specs.Machine.start_state, proofs.Metering.begins, proofs.Passing.whole}
 use Rattle.token_session.proofs.session.Session.load.Goals as goal
 
 pub returns : goal.returns

@@ -8,7 +8,9 @@ pub returns : goal.returns
 unfolding start_state
 returns g c =
     begins _ _ _ _ (λ i. whole c.args.start (c.new.ensures.value i) (c.new-2.ensures i).core 0)
-    c.first_meters.ensures (c.len-credentials.ensures ∙ ap (λ (h : Held). length h.core.state.rows) (sym c.new-2.ensures))
+    c.first_meters.ensures (c.len-credentials.ensures ∙ ap (λ (h : Held). length h.core.state.rows)
+    (sym c.new-2.ensures))
 
 pub invariant_of-result : goal.invariant_of-result
-invariant_of-result g c = (at_most _ _ (ap (λ (h : Held). h.latest) c.new-2.ensures), bounded_first _ _ c.first_meters.ensures)
+invariant_of-result g c =
+    (at_most _ _ (ap (λ (h : Held). h.latest) c.new-2.ensures), bounded_first _ _ c.first_meters.ensures)

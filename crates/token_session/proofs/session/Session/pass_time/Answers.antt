@@ -5,26 +5,32 @@ use Rattle.token_session.proofs.session.Session.pass_time.Goals as goal
 
 pub returns-in-Some : goal.returns-in-Some
 returns-in-Some g c =
-    let p = late_passed _ _ c.args.at _ c.pass.new.self _ _ _ _ c.self.view_is c.pass.ensures.state _ c.in-Some.ensures.dropped (rw (c.put_message.ensures, c.requires.sent, c.number.ensures) refl) in
+    let p = late_passed _ _ c.args.at _ c.pass.new.self _ _ _ _ c.self.view_is c.pass.ensures.state _
+    c.in-Some.ensures.dropped (rw (c.put_message.ensures, c.requires.sent, c.number.ensures) refl) in
     record { state = p.state; meters = p.meters; packets = p.packets }
 
 pub returns-in_default-work : goal.returns-in_default-work
 unfolding keepalive_due
 returns-in_default-work g c =
-    let p = quiet_passed _ _ c.args.at _ c.pass.new.self _ _ _ _ c.self.view_is c.pass.ensures.state c.in_default.ensures.dropped (rw c.in_default-work.ensures refl) c.requires.sent in
+    let p = quiet_passed _ _ c.args.at _ c.pass.new.self _ _ _ _ c.self.view_is c.pass.ensures.state
+    c.in_default.ensures.dropped (rw c.in_default-work.ensures refl) c.requires.sent in
     record { state = p.state; meters = p.meters; packets = p.packets }
 
 pub returns-then-saturating_sub-ge-KEEPALIVE_PERIOD : goal.returns-then-saturating_sub-ge-KEEPALIVE_PERIOD
 unfolding keepalive_due
 returns-then-saturating_sub-ge-KEEPALIVE_PERIOD g c =
-    let is = due c.args.at c.self.inside.keeper.keepalive_at _ c.saturating_sub.ensures c.if-saturating_sub-ge-KEEPALIVE_PERIOD.true in
-    let p = due_passed _ _ c.args.at _ c.pass.new.self _ _ _ _ c.self.view_is c.pass.ensures.state c.in_default.ensures.dropped (rw (c.in-Some-work.ensures, is) refl)
+    let is = due c.args.at c.self.inside.keeper.keepalive_at _ c.saturating_sub.ensures
+    c.if-saturating_sub-ge-KEEPALIVE_PERIOD.true in
+    let p = due_passed _ _ c.args.at _ c.pass.new.self _ _ _ _ c.self.view_is c.pass.ensures.state
+    c.in_default.ensures.dropped (rw (c.in-Some-work.ensures, is) refl)
     (rw (c.put_message-then-saturating_sub-ge-KEEPALIVE_PERIOD.ensures, c.requires.sent, c.in-Some-work.ensures, c.number-then-saturating_sub-ge-KEEPALIVE_PERIOD.ensures) refl) in
     record { state = p.state; meters = p.meters; packets = p.packets }
 
 pub returns-else-saturating_sub-ge-KEEPALIVE_PERIOD : goal.returns-else-saturating_sub-ge-KEEPALIVE_PERIOD
 unfolding keepalive_due
 returns-else-saturating_sub-ge-KEEPALIVE_PERIOD g c =
-    let is = early c.args.at c.self.inside.keeper.keepalive_at _ c.saturating_sub.ensures c.if-saturating_sub-ge-KEEPALIVE_PERIOD.false in
-    let p = quiet_passed _ _ c.args.at _ c.pass.new.self _ _ _ _ c.self.view_is c.pass.ensures.state c.in_default.ensures.dropped (rw (c.in-Some-work.ensures, is) refl) c.requires.sent in
+    let is = early c.args.at c.self.inside.keeper.keepalive_at _ c.saturating_sub.ensures
+    c.if-saturating_sub-ge-KEEPALIVE_PERIOD.false in
+    let p = quiet_passed _ _ c.args.at _ c.pass.new.self _ _ _ _ c.self.view_is c.pass.ensures.state
+    c.in_default.ensures.dropped (rw (c.in-Some-work.ensures, is) refl) c.requires.sent in
     record { state = p.state; meters = p.meters; packets = p.packets }

@@ -19,12 +19,14 @@ take-requires-in-Key g c =
 
 pub take-requires-in-Signature : goal.take-requires-in-Signature
 take-requires-in-Signature g c =
-    let few = event_few c.self.inside.keeper.core.core c.self.inside.latest (Some (SignatureIs c.in-Signature.signature)) in
+    let few = event_few c.self.inside.keeper.core.core c.self.inside.latest
+    (Some (SignatureIs c.in-Signature.signature)) in
     (search rules, (c.self.invariant.0, (c.self.invariant.1, omega (arith, c.requires, few))))
 
 pub take-requires-in-GreetAndDrop : goal.take-requires-in-GreetAndDrop
 take-requires-in-GreetAndDrop g c =
-    let few = verdict_few c.self.inside.keeper.core.core c.self.inside.latest (GreetAndDrop c.in-GreetAndDrop.on c.in-GreetAndDrop.channel c.in-GreetAndDrop.nonce) [] in
+    let few = verdict_few c.self.inside.keeper.core.core c.self.inside.latest
+    (GreetAndDrop c.in-GreetAndDrop.on c.in-GreetAndDrop.channel c.in-GreetAndDrop.nonce) [] in
     let both = simp length-append at few in
     (search rules, (c.self.invariant.0, (c.self.invariant.1, rw c.greet-in-GreetAndDrop.ensures (simp length-append (omega (arith, c.requires, both))))))
 
@@ -35,7 +37,8 @@ take-requires-in-CancelWork g c =
 
 pub take-requires-then-cmd-eq-CBOR : goal.take-requires-then-cmd-eq-CBOR
 take-requires-then-cmd-eq-CBOR g c =
-    let few = event_few c.self.inside.keeper.core.core c.self.inside.latest (Some (Request c.in-Finished.cid c.message-message.result.now)) in
+    let few = event_few c.self.inside.keeper.core.core c.self.inside.latest
+    (Some (Request c.in-Finished.cid c.message-message.result.now)) in
     (search rules, (c.self.invariant.0, (c.self.invariant.1, omega (arith, c.requires, few))))
 
 pub returns-in-Tick-clause-meters : goal.returns-in-Tick-clause-meters
@@ -44,67 +47,108 @@ returns-in-Tick-clause-meters g c = rw c.in-Tick.is refl
 
 pub returns-in-Ignored : goal.returns-in-Ignored
 returns-in-Ignored g c =
-    let working_is : c.map-working.result ≡ working c.self.inside.keeper.core.core = grind (arith, c.work.ensures, c.map-working.ensures.cases) in
-    let s = served_quietly c.self.inside.latest c.self.inside.keeper.keepalive_at c.self.inside.assembler c.accept.new.self c.self.inside.keeper.core.core c.self.inside.keeper.meters c.args.self.now c.args.outbox.now c.map-working.result
+    let working_is : c.map-working.result ≡ working c.self.inside.keeper.core.core =
+    grind (arith, c.work.ensures, c.map-working.ensures.cases) in
+    let s = served_quietly c.self.inside.latest c.self.inside.keeper.keepalive_at c.self.inside.assembler
+    c.accept.new.self c.self.inside.keeper.core.core c.self.inside.keeper.meters c.args.self.now c.args.outbox.now
+    c.map-working.result
     c.self.view_is working_is c.args.input (rw c.in-Packet.is c.accept.ensures.state)
-    (c.accept.result) (rw c.in-Packet.is c.accept.ensures.verdict) (rw c.in-Packet.is (grind (arith, c.in-Ignored.is))) _ (grind (arith, c.in-Ignored.is, append-nil)) in
+    (c.accept.result) (rw c.in-Packet.is c.accept.ensures.verdict) (rw c.in-Packet.is (grind (arith, c.in-Ignored.is)))
+    _ (grind (arith, c.in-Ignored.is, append-nil)) in
     record { state = s.state; meters = s.meters; packets = s.packets }
 
 pub returns-in-Refuse : goal.returns-in-Refuse
 returns-in-Refuse g c =
-    let working_is : c.map-working.result ≡ working c.self.inside.keeper.core.core = grind (arith, c.work.ensures, c.map-working.ensures.cases) in
-    let s = served_quietly c.self.inside.latest c.self.inside.keeper.keepalive_at c.self.inside.assembler c.accept.new.self c.self.inside.keeper.core.core c.self.inside.keeper.meters c.args.self.now c.args.outbox.now c.map-working.result
+    let working_is : c.map-working.result ≡ working c.self.inside.keeper.core.core =
+    grind (arith, c.work.ensures, c.map-working.ensures.cases) in
+    let s = served_quietly c.self.inside.latest c.self.inside.keeper.keepalive_at c.self.inside.assembler
+    c.accept.new.self c.self.inside.keeper.core.core c.self.inside.keeper.meters c.args.self.now c.args.outbox.now
+    c.map-working.result
     c.self.view_is working_is c.args.input (rw c.in-Packet.is c.accept.ensures.state)
-    (Refuse c.in-Refuse.cid c.in-Refuse.code) (rw c.in-Packet.is (sym c.in-Refuse.is ∙ c.accept.ensures.verdict)) (rw c.in-Packet.is refl) _ (rw (c.put_message.ensures, c.number.ensures) refl) in
+    (Refuse c.in-Refuse.cid c.in-Refuse.code) (rw c.in-Packet.is (sym c.in-Refuse.is ∙ c.accept.ensures.verdict))
+    (rw c.in-Packet.is refl) _ (rw (c.put_message.ensures, c.number.ensures) refl) in
     record { state = s.state; meters = s.meters; packets = s.packets }
 
 pub returns-in-Greet : goal.returns-in-Greet
 returns-in-Greet g c =
-    let working_is : c.map-working.result ≡ working c.self.inside.keeper.core.core = grind (arith, c.work.ensures, c.map-working.ensures.cases) in
-    let s = served_quietly c.self.inside.latest c.self.inside.keeper.keepalive_at c.self.inside.assembler c.accept.new.self c.self.inside.keeper.core.core c.self.inside.keeper.meters c.args.self.now c.args.outbox.now c.map-working.result
+    let working_is : c.map-working.result ≡ working c.self.inside.keeper.core.core =
+    grind (arith, c.work.ensures, c.map-working.ensures.cases) in
+    let s = served_quietly c.self.inside.latest c.self.inside.keeper.keepalive_at c.self.inside.assembler
+    c.accept.new.self c.self.inside.keeper.core.core c.self.inside.keeper.meters c.args.self.now c.args.outbox.now
+    c.map-working.result
     c.self.view_is working_is c.args.input (rw c.in-Packet.is c.accept.ensures.state)
-    (Greet c.in-Greet.on c.in-Greet.channel c.in-Greet.nonce) (rw c.in-Packet.is (sym c.in-Greet.is ∙ c.accept.ensures.verdict)) (rw c.in-Packet.is refl) _ (c.greet.ensures) in
+    (Greet c.in-Greet.on c.in-Greet.channel c.in-Greet.nonce) (rw c.in-Packet.is
+    (sym c.in-Greet.is ∙ c.accept.ensures.verdict)) (rw c.in-Packet.is refl) _ (c.greet.ensures) in
     record { state = s.state; meters = s.meters; packets = s.packets }
 
 pub returns-in-GreetAndDrop : goal.returns-in-GreetAndDrop
 returns-in-GreetAndDrop g c =
-    let working_is : c.map-working.result ≡ working c.self.inside.keeper.core.core = grind (arith, c.work.ensures, c.map-working.ensures.cases) in
-    let s = served_by c.self.inside.latest c.self.inside.keeper.keepalive_at c.self.inside.assembler c.accept.new.self c.self.inside.keeper.core.core c.self.inside.keeper.meters c.args.self.now c.args.outbox.now c.map-working.result
+    let working_is : c.map-working.result ≡ working c.self.inside.keeper.core.core =
+    grind (arith, c.work.ensures, c.map-working.ensures.cases) in
+    let s = served_by c.self.inside.latest c.self.inside.keeper.keepalive_at c.self.inside.assembler c.accept.new.self
+    c.self.inside.keeper.core.core c.self.inside.keeper.meters c.args.self.now c.args.outbox.now
+    c.map-working.result
     c.self.view_is working_is c.args.input (rw c.in-Packet.is c.accept.ensures.state)
-    (GreetAndDrop c.in-GreetAndDrop.on c.in-GreetAndDrop.channel c.in-GreetAndDrop.nonce) (rw c.in-Packet.is (sym c.in-GreetAndDrop.is ∙ c.accept.ensures.verdict)) (Drop) (rw c.in-Packet.is refl) _ (c.greet-in-GreetAndDrop.ensures)
-    _ _ _ _ c.take-in-GreetAndDrop.ensures.core c.take-in-GreetAndDrop.ensures.keepalive c.take-in-GreetAndDrop.ensures.meters c.take-in-GreetAndDrop.ensures.packets in
+    (GreetAndDrop c.in-GreetAndDrop.on c.in-GreetAndDrop.channel c.in-GreetAndDrop.nonce)
+    (rw c.in-Packet.is (sym c.in-GreetAndDrop.is ∙ c.accept.ensures.verdict)) (Drop) (rw c.in-Packet.is refl) _
+    (c.greet-in-GreetAndDrop.ensures)
+    _ _ _ _ c.take-in-GreetAndDrop.ensures.core c.take-in-GreetAndDrop.ensures.keepalive
+    c.take-in-GreetAndDrop.ensures.meters c.take-in-GreetAndDrop.ensures.packets in
     record { state = s.state; meters = s.meters; packets = s.packets }
 
 pub returns-in-CancelWork : goal.returns-in-CancelWork
 returns-in-CancelWork g c =
-    let working_is : c.map-working.result ≡ working c.self.inside.keeper.core.core = grind (arith, c.work.ensures, c.map-working.ensures.cases) in
-    let s = served_by c.self.inside.latest c.self.inside.keeper.keepalive_at c.self.inside.assembler c.accept.new.self c.self.inside.keeper.core.core c.self.inside.keeper.meters c.args.self.now c.args.outbox.now c.map-working.result
+    let working_is : c.map-working.result ≡ working c.self.inside.keeper.core.core =
+    grind (arith, c.work.ensures, c.map-working.ensures.cases) in
+    let s = served_by c.self.inside.latest c.self.inside.keeper.keepalive_at c.self.inside.assembler c.accept.new.self
+    c.self.inside.keeper.core.core c.self.inside.keeper.meters c.args.self.now c.args.outbox.now
+    c.map-working.result
     c.self.view_is working_is c.args.input (rw c.in-Packet.is c.accept.ensures.state)
-    (CancelWork) (rw c.in-Packet.is (sym c.in-CancelWork.is ∙ c.accept.ensures.verdict)) (Cancel) (rw c.in-Packet.is refl) _ (sym (append-nil c.args.outbox.now))
-    _ _ _ _ c.take-in-CancelWork.ensures.core c.take-in-CancelWork.ensures.keepalive c.take-in-CancelWork.ensures.meters c.take-in-CancelWork.ensures.packets in
+    (CancelWork) (rw c.in-Packet.is (sym c.in-CancelWork.is ∙ c.accept.ensures.verdict)) (Cancel)
+    (rw c.in-Packet.is refl) _ (sym (append-nil c.args.outbox.now))
+    _ _ _ _ c.take-in-CancelWork.ensures.core c.take-in-CancelWork.ensures.keepalive c.take-in-CancelWork.ensures.meters
+    c.take-in-CancelWork.ensures.packets in
     record { state = s.state; meters = s.meters; packets = s.packets }
 
 pub returns-then-cmd-eq-PING : goal.returns-then-cmd-eq-PING
 returns-then-cmd-eq-PING g c =
-    let working_is : c.map-working.result ≡ working c.self.inside.keeper.core.core = grind (arith, c.work.ensures, c.map-working.ensures.cases) in
-    let s = served_quietly c.self.inside.latest c.self.inside.keeper.keepalive_at c.self.inside.assembler c.accept.new.self c.self.inside.keeper.core.core c.self.inside.keeper.meters c.args.self.now c.args.outbox.now c.map-working.result
+    let working_is : c.map-working.result ≡ working c.self.inside.keeper.core.core =
+    grind (arith, c.work.ensures, c.map-working.ensures.cases) in
+    let s = served_quietly c.self.inside.latest c.self.inside.keeper.keepalive_at c.self.inside.assembler
+    c.accept.new.self c.self.inside.keeper.core.core c.self.inside.keeper.meters c.args.self.now c.args.outbox.now
+    c.map-working.result
     c.self.view_is working_is c.args.input (rw c.in-Packet.is c.accept.ensures.state)
-    (Finished c.in-Finished.cid c.in-Finished.cmd) (rw c.in-Packet.is (sym c.in-Finished.is ∙ c.accept.ensures.verdict)) (rw c.in-Packet.is (grind (arith, nat_tests, c.if-cmd-eq-PING.true))) _ (rw c.put_message-then-cmd-eq-PING.ensures (grind (arith, nat_tests, c.if-cmd-eq-PING.true, c.message-message.ensures.bytes))) in
+    (Finished c.in-Finished.cid c.in-Finished.cmd) (rw c.in-Packet.is (sym c.in-Finished.is ∙ c.accept.ensures.verdict))
+    (rw c.in-Packet.is (grind (arith, nat_tests, c.if-cmd-eq-PING.true))) _
+    (rw c.put_message-then-cmd-eq-PING.ensures
+    (grind (arith, nat_tests, c.if-cmd-eq-PING.true, c.message-message.ensures.bytes))) in
     record { state = s.state; meters = s.meters; packets = s.packets }
 
 pub returns-then-cmd-eq-CBOR : goal.returns-then-cmd-eq-CBOR
 returns-then-cmd-eq-CBOR g c =
-    let working_is : c.map-working.result ≡ working c.self.inside.keeper.core.core = grind (arith, c.work.ensures, c.map-working.ensures.cases) in
-    let s = served_by c.self.inside.latest c.self.inside.keeper.keepalive_at c.self.inside.assembler c.accept.new.self c.self.inside.keeper.core.core c.self.inside.keeper.meters c.args.self.now c.args.outbox.now c.map-working.result
+    let working_is : c.map-working.result ≡ working c.self.inside.keeper.core.core =
+    grind (arith, c.work.ensures, c.map-working.ensures.cases) in
+    let s = served_by c.self.inside.latest c.self.inside.keeper.keepalive_at c.self.inside.assembler c.accept.new.self
+    c.self.inside.keeper.core.core c.self.inside.keeper.meters c.args.self.now c.args.outbox.now
+    c.map-working.result
     c.self.view_is working_is c.args.input (rw c.in-Packet.is c.accept.ensures.state)
-    (Finished c.in-Finished.cid c.in-Finished.cmd) (rw c.in-Packet.is (sym c.in-Finished.is ∙ c.accept.ensures.verdict)) (Request c.in-Finished.cid c.message-message.result.now) (rw (c.in-Packet.is, c.message-message.ensures.bytes) (grind (arith, nat_tests, c.if-cmd-eq-CBOR.true))) _ (grind (arith, nat_tests, append-nil, c.if-cmd-eq-PING.false))
-    _ _ _ _ c.take-then-cmd-eq-CBOR.ensures.core c.take-then-cmd-eq-CBOR.ensures.keepalive c.take-then-cmd-eq-CBOR.ensures.meters c.take-then-cmd-eq-CBOR.ensures.packets in
+    (Finished c.in-Finished.cid c.in-Finished.cmd) (rw c.in-Packet.is (sym c.in-Finished.is ∙ c.accept.ensures.verdict))
+    (Request c.in-Finished.cid c.message-message.result.now)
+    (rw (c.in-Packet.is, c.message-message.ensures.bytes) (grind (arith, nat_tests, c.if-cmd-eq-CBOR.true))) _
+    (grind (arith, nat_tests, append-nil, c.if-cmd-eq-PING.false))
+    _ _ _ _ c.take-then-cmd-eq-CBOR.ensures.core c.take-then-cmd-eq-CBOR.ensures.keepalive
+    c.take-then-cmd-eq-CBOR.ensures.meters c.take-then-cmd-eq-CBOR.ensures.packets in
     record { state = s.state; meters = s.meters; packets = s.packets }
 
 pub returns-else-cmd-eq-CBOR : goal.returns-else-cmd-eq-CBOR
 returns-else-cmd-eq-CBOR g c =
-    let working_is : c.map-working.result ≡ working c.self.inside.keeper.core.core = grind (arith, c.work.ensures, c.map-working.ensures.cases) in
-    let s = served_quietly c.self.inside.latest c.self.inside.keeper.keepalive_at c.self.inside.assembler c.accept.new.self c.self.inside.keeper.core.core c.self.inside.keeper.meters c.args.self.now c.args.outbox.now c.map-working.result
+    let working_is : c.map-working.result ≡ working c.self.inside.keeper.core.core =
+    grind (arith, c.work.ensures, c.map-working.ensures.cases) in
+    let s = served_quietly c.self.inside.latest c.self.inside.keeper.keepalive_at c.self.inside.assembler
+    c.accept.new.self c.self.inside.keeper.core.core c.self.inside.keeper.meters c.args.self.now c.args.outbox.now
+    c.map-working.result
     c.self.view_is working_is c.args.input (rw c.in-Packet.is c.accept.ensures.state)
-    (Finished c.in-Finished.cid c.in-Finished.cmd) (rw c.in-Packet.is (sym c.in-Finished.is ∙ c.accept.ensures.verdict)) (rw c.in-Packet.is (grind (arith, nat_tests, c.if-cmd-eq-CBOR.false))) _ (grind (arith, nat_tests, append-nil, c.if-cmd-eq-PING.false)) in
+    (Finished c.in-Finished.cid c.in-Finished.cmd) (rw c.in-Packet.is (sym c.in-Finished.is ∙ c.accept.ensures.verdict))
+    (rw c.in-Packet.is (grind (arith, nat_tests, c.if-cmd-eq-CBOR.false))) _
+    (grind (arith, nat_tests, append-nil, c.if-cmd-eq-PING.false)) in
     record { state = s.state; meters = s.meters; packets = s.packets }

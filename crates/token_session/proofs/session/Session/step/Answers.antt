@@ -12,31 +12,41 @@ serve-requires g c =
 pub returns-clause-state : goal.returns-clause-state
 returns-clause-state g c =
     let x : Timed = record { at = c.args.at; input = c.args.input } in
-    let at : c.max-now.result ≡ max (c.args.self.now).machine.now c.args.at = c.max-now.ensures ∙ ap (λ (s : SessionState). max s.machine.now c.args.at) c.self.view_is in
-    let turned = step_turn (c.args.self.now).machine _ c.max-now.result x _ at c.pass_time.ensures.state c.pass_time.ensures.packets in
+    let at : c.max-now.result ≡ max (c.args.self.now).machine.now c.args.at =
+    c.max-now.ensures ∙ ap (λ (s : SessionState). max s.machine.now c.args.at) c.self.view_is in
+    let turned = step_turn (c.args.self.now).machine _ c.max-now.result x _ at c.pass_time.ensures.state
+    c.pass_time.ensures.packets in
     stepped_is (c.args.self.now).machine _ (c.args.self.now).meters _ c.args.self.now x _ _ _ refl
-    (ap (λ (s : SessionState). s.machine) c.self-2.view_is ∙ c.serve.ensures.state ∙ ap (λ (t : MachineTurn). t.state) turned)
-    (ap (λ (s : SessionState). s.meters) c.self-2.view_is ∙ c.serve.ensures.meters ∙ (λ i. counted (c.pass_time.ensures.meters i) (request_in (turned i).event)))
-    (c.max-self-inside.ensures ∙ ap (max _) c.held.ensures.bytes) (c.max-self-inside-2.ensures ∙ ap (max _) c.credentials.ensures.value) (c.max-self-inside-3.ensures ∙ ap (max _) c.pending.ensures.value)
+    (ap (λ (s : SessionState). s.machine) c.self-2.view_is ∙ c.serve.ensures.state
+    ∙ ap (λ (t : MachineTurn). t.state) turned)
+    (ap (λ (s : SessionState). s.meters) c.self-2.view_is ∙ c.serve.ensures.meters
+    ∙ (λ i. counted (c.pass_time.ensures.meters i) (request_in (turned i).event)))
+    (c.max-self-inside.ensures ∙ ap (max _) c.held.ensures.bytes) (c.max-self-inside-2.ensures
+    ∙ ap (max _) c.credentials.ensures.value) (c.max-self-inside-3.ensures ∙ ap (max _) c.pending.ensures.value)
 
 pub returns-clause-packets : goal.returns-clause-packets
 returns-clause-packets g c =
     let x : Timed = record { at = c.args.at; input = c.args.input } in
-    let at : c.max-now.result ≡ max (c.args.self.now).machine.now c.args.at = c.max-now.ensures ∙ ap (λ (s : SessionState). max s.machine.now c.args.at) c.self.view_is in
+    let at : c.max-now.result ≡ max (c.args.self.now).machine.now c.args.at =
+    c.max-now.ensures ∙ ap (λ (s : SessionState). max s.machine.now c.args.at) c.self.view_is in
     c.serve.ensures.packets
-    ∙ ap (λ (t : MachineTurn). t.packets) (step_turn (c.args.self.now).machine _ c.max-now.result x _ at c.pass_time.ensures.state c.pass_time.ensures.packets)
+    ∙ ap (λ (t : MachineTurn). t.packets) (step_turn (c.args.self.now).machine _ c.max-now.result x _ at
+    c.pass_time.ensures.state c.pass_time.ensures.packets)
 
 pub returns-clause-few : goal.returns-clause-few
 returns-clause-few g c =
-    rw (returns-clause-packets g c) (turn_few (c.args.self.now).machine (record { at = c.args.at; input = c.args.input }))
+    rw (returns-clause-packets g c) (turn_few (c.args.self.now).machine
+    (record { at = c.args.at; input = c.args.input }))
 
 pub returns-clause-after : goal.returns-clause-after
-returns-clause-after g c = λ start h b. returns-clause-state g c ∙ stands_longer c.args.self.now start h (record { at = c.args.at; input = c.args.input }) b
+returns-clause-after g c = λ start h b. returns-clause-state g c
+    ∙ stands_longer c.args.self.now start h (record { at = c.args.at; input = c.args.input }) b
 
 pub returns-clause-sent : goal.returns-clause-sent
 returns-clause-sent g c = λ start h b.
     returns-clause-packets g c
-    ∙ step_sends (c.args.self.now).machine start h (record { at = c.args.at; input = c.args.input }) (machine_after _ start h b)
+    ∙ step_sends (c.args.self.now).machine start h (record { at = c.args.at; input = c.args.input })
+    (machine_after _ start h b)
 
 later : (latest at now to : ℕ) → latest ≡ now → to ≡ max latest at → now ≤ to
 later latest at now to e m = omega arith
