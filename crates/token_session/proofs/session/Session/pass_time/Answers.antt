@@ -1,7 +1,12 @@
-use Rattle.std.proofs.Common.{refl}
+use Rattle.std.proofs.Common.{◌≡◌, ◌≤◌, ℕ, [], ◌∷◌, ap, arith, length, refl}
+use Rattle.hid_packet.proofs.Carrying.{few_written}
+use Rattle.token_session.specs.Meters.{SessionState}
 use Rattle.token_session.specs.Events.{keepalive_due}
 use Rattle.token_session.proofs.Passing.{due, early, due_passed, late_passed, quiet_passed}
 use Rattle.token_session.proofs.session.Session.pass_time.Goals as goal
+
+later : (latest at : ℕ) (inside view : SessionState) → latest ≤ inside.machine.now → inside ≡ view → view.machine.now ≤ at → latest ≤ at
+later latest at inside view h is to = omega (arith, ap (λ (v : SessionState). v.machine.now) is)
 
 pub returns-in-Some : goal.returns-in-Some
 returns-in-Some g c =
@@ -34,3 +39,23 @@ returns-else-saturating_sub-ge-KEEPALIVE_PERIOD g c =
     let p = quiet_passed _ _ c.args.at _ c.pass.new.self _ _ _ _ c.self.view_is c.pass.ensures.state
     c.in_default.ensures.dropped (rw (c.in-Some-work.ensures, is) refl) c.requires.sent in
     record { state = p.state; meters = p.meters; packets = p.packets }
+
+pub put_message-requires-clause-space : goal.put_message-requires-clause-space
+put_message-requires-clause-space g c =
+    omega (arith, ap length c.requires.sent, few_written c.in-Some.cid 63 (c.number.result ∷ []))
+
+pub put_message-requires-then-saturating_sub-ge-KEEPALIVE_PERIOD-clause-space : goal.put_message-requires-then-saturating_sub-ge-KEEPALIVE_PERIOD-clause-space
+put_message-requires-then-saturating_sub-ge-KEEPALIVE_PERIOD-clause-space g c =
+    omega (arith, ap length c.requires.sent, few_written c.in-Some-work.work.cid 59 (c.number-then-saturating_sub-ge-KEEPALIVE_PERIOD.result ∷ []))
+
+pub invariant_of-self : goal.invariant_of-self
+invariant_of-self g c = (later _ _ _ _ c.self.invariant.0 c.self.view_is c.requires.later, c.self.invariant.1)
+
+pub invariant_of-self-in_default-work : goal.invariant_of-self-in_default-work
+invariant_of-self-in_default-work g c = (later _ _ _ _ c.self.invariant.0 c.self.view_is c.requires.later, c.self.invariant.1)
+
+pub invariant_of-self-then-saturating_sub-ge-KEEPALIVE_PERIOD : goal.invariant_of-self-then-saturating_sub-ge-KEEPALIVE_PERIOD
+invariant_of-self-then-saturating_sub-ge-KEEPALIVE_PERIOD g c = (later _ _ _ _ c.self.invariant.0 c.self.view_is c.requires.later, c.self.invariant.1)
+
+pub invariant_of-self-else-saturating_sub-ge-KEEPALIVE_PERIOD : goal.invariant_of-self-else-saturating_sub-ge-KEEPALIVE_PERIOD
+invariant_of-self-else-saturating_sub-ge-KEEPALIVE_PERIOD g c = (later _ _ _ _ c.self.invariant.0 c.self.view_is c.requires.later, c.self.invariant.1)
