@@ -2,6 +2,7 @@ use Rattle.std.proofs.Common.{◌≡◌, Some, None, refl, append-nil, arith}
 use Rattle.authn_core.specs.Views.{event_of}
 use Rattle.token_session.specs.{Replies.answer_packets, Machine.answer_keeps_alive, Effects.request_in}
 use Rattle.token_session.{specs.Meters.AreBounded, specs.Meters.counted, proofs.Metering.counted_bounded}
+use Rattle.token_session.proofs.Sizes.{core_held, table_held}
 use Rattle.token_session.proofs.service.Keeper.take.Goals as goal
 
 pub returns-in-Request-clause-bounded : goal.returns-in-Request-clause-bounded
@@ -29,3 +30,18 @@ returns-in_default-clause-meters g c =
 pub returns-in_default-clause-packets : goal.returns-in_default-clause-packets
 unfolding answer_packets
 returns-in_default-clause-packets g c = grind (arith, c.in-Presence.is, c.work-before.ensures, append-nil)
+
+pub work-before-requires-room-T-Table : goal.work-before-requires-room-T-Table
+work-before-requires-room-T-Table g c κs = search table_held
+
+pub work-before-requires : goal.work-before-requires
+work-before-requires g c = search core_held
+
+pub take-turn-requires-room-T-Table : goal.take-turn-requires-room-T-Table
+take-turn-requires-room-T-Table g c κs = search table_held
+
+pub last_steps-requires-room-T-Table : goal.last_steps-requires-room-T-Table
+last_steps-requires-room-T-Table g c κs = search table_held
+
+pub last_steps-requires : goal.last_steps-requires
+last_steps-requires g c = search core_held

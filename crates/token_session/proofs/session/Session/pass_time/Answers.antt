@@ -3,6 +3,7 @@ use Rattle.hid_packet.proofs.Carrying.{few_written}
 use Rattle.token_session.specs.Meters.{SessionState}
 use Rattle.token_session.specs.Events.{keepalive_due}
 use Rattle.token_session.proofs.Passing.{due, early, due_passed, late_passed, quiet_passed}
+use Rattle.token_session.proofs.Sizes.{core_within, table_within}
 use Rattle.token_session.proofs.session.Session.pass_time.Goals as goal
 
 later : (latest at : ℕ) (inside view : SessionState) → latest ≤ inside.machine.now → inside ≡ view → view.machine.now ≤ at → latest ≤ at
@@ -59,3 +60,9 @@ invariant_of-self-then-saturating_sub-ge-KEEPALIVE_PERIOD g c = (later _ _ _ _ c
 
 pub invariant_of-self-else-saturating_sub-ge-KEEPALIVE_PERIOD : goal.invariant_of-self-else-saturating_sub-ge-KEEPALIVE_PERIOD
 invariant_of-self-else-saturating_sub-ge-KEEPALIVE_PERIOD g c = (later _ _ _ _ c.self.invariant.0 c.self.view_is c.requires.later, c.self.invariant.1)
+
+pub work-requires-room-T-Table : goal.work-requires-room-T-Table
+work-requires-room-T-Table g c κs = search table_within
+
+pub work-requires : goal.work-requires
+work-requires g c = search core_within

@@ -5,41 +5,42 @@ use Rattle.authn_core.specs.Turn.{working}
 use Rattle.hid_assemble.specs.declared.verdict.Verdict.TheVariants.{Finished, Refuse, Greet, GreetAndDrop, CancelWork}
 use Rattle.token_session.specs.Meters.{counted}
 use Rattle.token_session.proofs.{Few.event_few, Few.verdict_few, Serving.served_quietly, Serving.served_by}
+use Rattle.token_session.proofs.Sizes.{core_within, keeper_within, table_within}
 use Rattle.token_session.proofs.session.Session.serve.Goals as goal
 
 pub take-requires : goal.take-requires
 take-requires g c =
     let few = event_few c.self.inside.keeper.core.core c.self.inside.latest (Some (PresenceIs c.in-Presence.reply)) in
-    (search rules, (c.self.invariant.0, (c.self.invariant.1, omega (arith, c.requires, few))))
+    (search keeper_within, (c.self.invariant.0, (c.self.invariant.1, omega (arith, c.requires, few))))
 
 pub take-requires-in-Key : goal.take-requires-in-Key
 take-requires-in-Key g c =
     let few = event_few c.self.inside.keeper.core.core c.self.inside.latest (Some (KeyIs c.in-Key.key)) in
-    (search rules, (c.self.invariant.0, (c.self.invariant.1, omega (arith, c.requires, few))))
+    (search keeper_within, (c.self.invariant.0, (c.self.invariant.1, omega (arith, c.requires, few))))
 
 pub take-requires-in-Signature : goal.take-requires-in-Signature
 take-requires-in-Signature g c =
     let few = event_few c.self.inside.keeper.core.core c.self.inside.latest
     (Some (SignatureIs c.in-Signature.signature)) in
-    (search rules, (c.self.invariant.0, (c.self.invariant.1, omega (arith, c.requires, few))))
+    (search keeper_within, (c.self.invariant.0, (c.self.invariant.1, omega (arith, c.requires, few))))
 
 pub take-requires-in-GreetAndDrop : goal.take-requires-in-GreetAndDrop
 take-requires-in-GreetAndDrop g c =
     let few = verdict_few c.self.inside.keeper.core.core c.self.inside.latest
     (GreetAndDrop c.in-GreetAndDrop.on c.in-GreetAndDrop.channel c.in-GreetAndDrop.nonce) [] in
     let both = simp length-append at few in
-    (search rules, (c.self.invariant.0, (c.self.invariant.1, rw c.greet-in-GreetAndDrop.ensures (simp length-append (omega (arith, c.requires, both))))))
+    (search keeper_within, (c.self.invariant.0, (c.self.invariant.1, rw c.greet-in-GreetAndDrop.ensures (simp length-append (omega (arith, c.requires, both))))))
 
 pub take-requires-in-CancelWork : goal.take-requires-in-CancelWork
 take-requires-in-CancelWork g c =
     let few = event_few c.self.inside.keeper.core.core c.self.inside.latest (Some Cancel) in
-    (search rules, (c.self.invariant.0, (c.self.invariant.1, omega (arith, c.requires, few))))
+    (search keeper_within, (c.self.invariant.0, (c.self.invariant.1, omega (arith, c.requires, few))))
 
 pub take-requires-then-cmd-eq-CBOR : goal.take-requires-then-cmd-eq-CBOR
 take-requires-then-cmd-eq-CBOR g c =
     let few = event_few c.self.inside.keeper.core.core c.self.inside.latest
     (Some (Request c.in-Finished.cid c.message-message.result.now)) in
-    (search rules, (c.self.invariant.0, (c.self.invariant.1, omega (arith, c.requires, few))))
+    (search keeper_within, (c.self.invariant.0, (c.self.invariant.1, omega (arith, c.requires, few))))
 
 pub returns-in-Tick-clause-meters : goal.returns-in-Tick-clause-meters
 unfolding counted
@@ -152,3 +153,9 @@ returns-else-cmd-eq-CBOR g c =
     (rw c.in-Packet.is (grind (arith, nat_tests, c.if-cmd-eq-CBOR.false))) _
     (grind (arith, nat_tests, append-nil, c.if-cmd-eq-PING.false)) in
     record { state = s.state; meters = s.meters; packets = s.packets }
+
+pub work-requires-room-T-Table : goal.work-requires-room-T-Table
+work-requires-room-T-Table g c κs = search table_within
+
+pub work-requires : goal.work-requires
+work-requires g c = search core_within

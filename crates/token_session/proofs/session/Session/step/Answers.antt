@@ -3,6 +3,7 @@ use Rattle.token_session.proofs.{Few.time_few, Few.turn_few, Follows.step_sends,
 use Rattle.token_session.proofs.Metering.{stepped_is, stands_longer, machine_after}
 use Rattle.token_session.specs.{declared.input.Timed.Timed, Effects.request_in, Machine.MachineTurn}
 use Rattle.token_session.specs.Meters.{SessionState, counted}
+use Rattle.token_session.proofs.Sizes.{core_within, table_within}
 use Rattle.token_session.proofs.session.Session.step.Goals as goal
 
 pub serve-requires : goal.serve-requires
@@ -53,3 +54,15 @@ later latest at now to e m = omega arith
 
 pub pass_time-requires : goal.pass_time-requires
 pass_time-requires g c = (search, (c.requires, later _ c.args.at _ _ (ap (λ (v : SessionState). v.machine.now) c.self.view_is) c.max-now.ensures))
+
+pub credentials-requires-room-T-Table : goal.credentials-requires-room-T-Table
+credentials-requires-room-T-Table g c κs = search table_within
+
+pub credentials-requires : goal.credentials-requires
+credentials-requires g c = search core_within
+
+pub pending-requires-room-T-Table : goal.pending-requires-room-T-Table
+pending-requires-room-T-Table g c κs = search table_within
+
+pub pending-requires : goal.pending-requires
+pending-requires g c = search core_within
