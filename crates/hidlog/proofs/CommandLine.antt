@@ -1,8 +1,8 @@
 -- What follows from the rules of `clap` for the words of the program.
 use Rattle.std.proofs.Common.{◌≡◌, ℕ, Bool, true, false, not, ◌&&◌, List, [], ◌∷◌, ◌++◌, ◌+◌, ◌<◌, ap₂, length, take}
 use Rattle.std.proofs.Common.{get_or, map, Option, Some, None, is_some, codes, option_and_then, option_map, unwrap_or}
-use Rattle.std.proofs.Common.{refl, sym, ◌∙◌, ap, subst, cond, if◌then◌else◌, ◌||◌}
-use Rattle.std.specs.{List.fold, List.slice_index_or, Str.bytes_eq}
+use Rattle.std.proofs.Common.{refl, sym, ◌∙◌, ap, subst, cond, if◌then◌else◌, ◌||◌, ◌≤◌, arith}
+use Rattle.std.specs.{Borrow.Bor, List.fold, List.slice_index_or, Str.bytes_eq}
 use Rattle.std.proofs.lemmas.{Slice.Eq.bytes_eq-Decides, List.map-append, List.take_more, List.Sums.fold-append}
 use Rattle.clap.proofs.{OnLiterals.clap_on_literals, WalkLemmas.first_value-rows, WalkLemmas.raw_values-rows}
 use Rattle.clap.specs.{Built.AddsArg, Built.AddsSubcommand, declared.builder.arg.Arg.Arg, Simple.with_subcommand}
@@ -23,7 +23,7 @@ use Rattle.hidlog.specs.declared.command_line.{CommandOptions.CommandOptions, Fo
 use Rattle.hidlog.specs.declared.command_line.Manner.{Manner, TheVariants.ByTerminal}
 use Rattle.hidlog.specs.declared.grammar.{CommandName.CommandName, CommandParameter.CommandParameter}
 use Rattle.hidlog.specs.CommandLine.{AreFound, Ask, command, command_for, rule_for, ask_of, asked_by, grammar}
-use Rattle.hidlog.specs.CommandLine.{answers_to, logs_of, manner_of, play, check, show, task_by, task_for}
+use Rattle.hidlog.specs.CommandLine.{answers_to, logs_of, manner_of, play, check, show, task_by, task_for, texts_of}
 use Rattle.clap.specs.declared.error.kind.ErrorKind.TheVariants as kind
 use Rattle.session_log.specs.declared.command.LogCommand.TheVariants as playing
 
@@ -339,7 +339,7 @@ plain_options = record
     { load = None; save = None; log = None; all = false; json = false; wide = false; form = Lines; manner = ByTerminal }
 
 -- What a word after the program's name asks for, is what the two words ask for.
-pub plain_asks : (program name : Text) (ask : Ask) → task_for name plain_options [] ≡ Some ask →
+plain_asks : (program name : Text) (ask : Ask) → task_for name plain_options [] ≡ Some ask →
     asked_by (program ∷ name ∷ []) ≡ Some (ask, ByTerminal)
 plain_asks program name ask is =
     go (bytes_eq name (codes "replay")) (bytes_eq name (codes "live")) (bytes_eq name (codes "check"))
@@ -366,6 +366,14 @@ plain_asks program name ask is =
     go false false false true e is_a is_b is_c is_d is_e so = named (codes "quiet") _ is_d (plain_quiet program) so
     go false false false false true is_a is_b is_c is_d is_e so = named (codes "show") _ is_e (plain_show program) so
     go false false false false false is_a is_b is_c is_d is_e so = cc
+
+-- The same of a list of two words.
+pub alone_asks : (words : List (Bor (List ℕ))) (d : Bor (List ℕ)) (ask : Ask) → 2 ≤ length words → length words < 3
+    → task_for (get_or words 1 d).now plain_options [] ≡ Some ask → asked_by (texts_of words) ≡ Some (ask, ByTerminal)
+alone_asks [] d ask two below is = absurd (omega (arith, two))
+alone_asks (program ∷ []) d ask two below is = absurd (omega (arith, two))
+alone_asks (program ∷ name ∷ []) d ask two below is = plain_asks program.now name.now ask is
+alone_asks (program ∷ name ∷ third ∷ words) d ask two below is = absurd (omega (arith, below))
 
 -- Options that were found ask for what the rows ask for.
 pub found_asks : (name : Text) (options : CommandOptions) (found : List Row) → AreFound options found →

@@ -1,5 +1,5 @@
 //! What the program is asked to do, by its command line.
-ghost use Rattle.std.specs.Prelude.{◌≡◌, ◌∷◌, [], List, ℕ, Some, IfOk, IfErr, IfSome, option_map, option_and_then};
+ghost use Rattle.std.specs.Prelude.{◌≡◌, List, ℕ, Some, IfOk, IfErr, IfSome, option_map, option_and_then};
 ghost use Rattle.hidlog.specs.declared.command_line.ProgramTask.TheVariants.{Play as play_task};
 ghost use Rattle.clap.specs.Words.{HasKind, app_of, subcommand_rows_of};
 ghost use Rattle.hidlog.specs.CommandLine.{AreFound, answers_to, ask_of, asked_as, asked_by, asks, explains, form_of, grammar, is_set as is_found, logs_of, manner_of, task_for, texts_of};
@@ -212,10 +212,14 @@ fn task_in<'a>(
     }
 }
 
-/// Returns what a word after the program's name asks for, where it is a command.
-fn plain_invocation<'a>(alloc: Global, program: &str, name: &str) -> Option<Invocation<'a>>
-    ensures { IfSome result (λ asked. asked_by (program.now ∷ name.now ∷ []) ≡ Some (asked_as asked)) }
+/// Returns what the words ask for where they are a command alone. Clap isn't asked: it takes a fifth of the
+/// instructions to the first line.
+fn alone<'a>(alloc: Global, words: &[&str]) -> Option<Invocation<'a>>
+    ensures { IfSome result (λ asked. asked_by (texts_of words.now) ≡ Some (asked_as asked)) }
 {
+    let [_, name] = words else {
+        return None;
+    };
     let options = CommandOptions {
         load: None,
         save: None,
@@ -233,17 +237,6 @@ fn plain_invocation<'a>(alloc: Global, program: &str, name: &str) -> Option<Invo
             manner: options.manner,
         }),
         None => None,
-    }
-}
-
-/// Returns what the words ask for where they are a command alone. Clap isn't asked: it takes a fifth of the
-/// instructions to the first line.
-fn alone<'a>(alloc: Global, words: &[&str]) -> Option<Invocation<'a>>
-    ensures { IfSome result (λ asked. asked_by (texts_of words.now) ≡ Some (asked_as asked)) }
-{
-    match words {
-        [program, name] => plain_invocation(alloc, program, name),
-        _ => None,
     }
 }
 

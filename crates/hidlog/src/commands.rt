@@ -109,9 +109,15 @@ impl<D: Files, L: Logs, O: Output, E: Target> Host<D, L, O, E> {
         ensures { RunsCommand ⟦<Self as Modeled>⟧.model play.now.command (path_of play.now.load) (path_of play.now.save)
             (path_of play.now.log) (came_of result) self.old self.new }
     {
-        open_log(&mut self.input, play.log)?;
-        load(session, &self.files, play.load)?;
-        look(&self.files, play.looked_at(), path_in(play.log))?;
+        if let Err(fault) = open_log(&mut self.input, play.log) {
+            return Err(fault);
+        }
+        if let Err(fault) = load(session, &self.files, play.load) {
+            return Err(fault);
+        }
+        if let Err(fault) = look(&self.files, play.looked_at(), path_in(play.log)) {
+            return Err(fault);
+        }
         self.output.hold(play.held_back());
         let answer = play
             .command
@@ -120,7 +126,9 @@ impl<D: Files, L: Logs, O: Output, E: Target> Host<D, L, O, E> {
             return Err(ProgramFault::Log(fault));
         }
         let (files, log) = (&mut self.files, path_in(play.log));
-        save_rows(files, self.alloc, play.save, log, session)?;
-        Ok(ComparisonEnd::of(session))
+        match save_rows(files, self.alloc, play.save, log, session) {
+            Ok(()) => Ok(ComparisonEnd::of(session)),
+            Err(fault) => Err(fault),
+        }
     }
 }

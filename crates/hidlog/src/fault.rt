@@ -2,7 +2,7 @@
 ghost use Rattle.std.specs.Prelude.{◌≡◌, ◌⊎◌};
 
 use crate::files::{COPY, Unwritten};
-use crate::texts::{write_about, write_error};
+use crate::texts::{write_about, write_shown};
 use cred_table::SnapshotFault;
 use session_log::{CAPACITY, LogFault};
 use session_show::{Pen, Written, write_escaped};
@@ -82,48 +82,50 @@ fn write_path_of_copy(pen: &mut Pen, path: &str) {
 
 /// Writes why a snapshot of these bytes is refused.
 fn write_refusal(pen: &mut Pen, fault: SnapshotFault, bytes: &[u8]) {
-    match (fault, bytes) {
-        (SnapshotFault::TooMany, _) => {
+    match fault {
+        SnapshotFault::TooMany => {
             pen.text("it has more than ");
             pen.decimal(CAPACITY as u64);
             pen.text(" credentials");
         }
-        (SnapshotFault::RowBroken(place), _) => {
+        SnapshotFault::RowBroken(place) => {
             pen.text("credential ");
             pen.decimal(place.saturating_add(1) as u64);
             pen.text(" is broken, or is there twice");
         }
-        (_, []) => pen.text("it is empty"),
-        (_, [0xA2, 0x01, 0x01 | 0x02, ..]) => {
-            pen.text("it begins as a snapshot, and is cut off or changed");
-        }
-        (_, [0xA2, 0x01, version @ 0x03..=0x17, ..]) => {
-            pen.text("it is of version ");
-            pen.decimal(u64::from(*version));
-            pen.text(", and 1 and 2 are read");
-        }
-        _ => pen.text("it is no snapshot"),
+        SnapshotFault::NotSnapshot | SnapshotFault::Memory => match bytes {
+            [] => pen.text("it is empty"),
+            [0xA2, 0x01, 0x01 | 0x02, ..] => {
+                pen.text("it begins as a snapshot, and is cut off or changed");
+            }
+            [0xA2, 0x01, version @ 0x03..=0x17, ..] => {
+                pen.text("it is of version ");
+                pen.decimal(u64::from(*version));
+                pen.text(", and 1 and 2 are read");
+            }
+            _ => pen.text("it is no snapshot"),
+        },
     }
 }
 
 /// Writes why a snapshot wasn't saved at a path, and what is left there.
 fn write_unwritten(pen: &mut Pen, path: &str, unwritten: &Unwritten) {
     match unwritten {
-        Unwritten::Kept(error) => write_error(pen, error),
+        Unwritten::Kept(error) => write_shown(pen, error),
         Unwritten::Copied(error) => {
-            write_error(pen, error);
+            write_shown(pen, error);
             pen.text("; it may be broken now, and the new snapshot is whole in ");
             write_path_of_copy(pen, path);
         }
         Unwritten::Broken(error) => {
-            write_error(pen, error);
+            write_shown(pen, error);
             pen.text("; it may be broken now");
         }
         Unwritten::Left(error) => {
             pen.text("it is saved, but its copy ");
             write_path_of_copy(pen, path);
             pen.text(" couldn't be removed: ");
-            write_error(pen, error);
+            write_shown(pen, error);
         }
     }
 }
@@ -134,7 +136,7 @@ impl Written for FaultReason<'_> {
         match self.fault {
             ProgramFault::Memory | ProgramFault::Log(_) => {}
             ProgramFault::UnreadLog(_, error) | ProgramFault::UnreadSnapshot(_, error) => {
-                write_error(pen, error);
+                write_shown(pen, error);
             }
             ProgramFault::RefusedSnapshot(_, fault, bytes) => write_refusal(pen, *fault, bytes),
             ProgramFault::UnsavedSnapshot(_, unwritten) => {

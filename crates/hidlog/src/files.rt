@@ -205,23 +205,19 @@ impl<D: Disk> Files for HostFiles<D> {
     }
 
     fn write(&mut self, path: &str, bytes: &[u8], log: Option<&str>) -> Result<(), Unwritten> {
-        let found = match self.0.look(path, log) {
-            Ok(found) => found,
-            Err(error) => return Err(Unwritten::Kept(error)),
-        };
-        let written = match found {
-            Found::Nothing => match write_beside(&self.0, path, path, bytes) {
+        match self.0.look(path, log) {
+            Ok(Found::Nothing) => match write_beside(&self.0, path, path, bytes) {
                 Ok(_) => Ok(()),
-                Err(error) => Err(error),
+                Err(error) => Err(Unwritten::Kept(error)),
             },
-            Found::File => match replace(&self.0, path, bytes) {
+            Ok(Found::File) => match replace(&self.0, path, bytes) {
                 Ok(_) => Ok(()),
-                Err(unwritten) => return Err(unwritten),
+                Err(unwritten) => Err(unwritten),
             },
-            Found::Pipe | Found::Other => self.0.hand(path, bytes, found),
-        };
-        match written {
-            Ok(()) => Ok(()),
+            Ok(found) => match self.0.hand(path, bytes, found) {
+                Ok(()) => Ok(()),
+                Err(error) => Err(Unwritten::Kept(error)),
+            },
             Err(error) => Err(Unwritten::Kept(error)),
         }
     }

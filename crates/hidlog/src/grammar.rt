@@ -116,6 +116,15 @@ enum CommandName {
     Show,
 }
 
+/// The commands, in the order in which help has them.
+const COMMANDS: &[CommandName] = &[
+    CommandName::Replay,
+    CommandName::Live,
+    CommandName::Check,
+    CommandName::Quiet,
+    CommandName::Show,
+];
+
 impl CommandName {
     /// Returns the command's word.
     fn word<'a>(self) -> &'a str
@@ -212,14 +221,8 @@ pub fn program<'a>(alloc: Global) -> Result<Command<'a>, AllocError>
         .version(VERSION)
         .about(ABOUT)
         .subcommand_required(true);
-    for name in [
-        CommandName::Replay,
-        CommandName::Live,
-        CommandName::Check,
-        CommandName::Quiet,
-        CommandName::Show,
-    ] {
-        program = program.subcommand(command(alloc, name)?)?;
+    for name in COMMANDS {
+        program = program.subcommand(command(alloc, *name)?)?;
     }
     Ok(program)
 }

@@ -245,28 +245,10 @@ impl<'a, S: Opens> HostLog<'a, S> {
             }
             self.look(size_of_input(self.rt));
         }
-        let n = self.recent.fill(&mut self.stream)?;
-        self.seen.take(self.recent.unread());
+        self.recent.fill(&mut self.stream)?;
+        self.seen.take(self.rt, self.recent.unread());
         self.last = LastLines::of(self.recent.unread());
-        self.say_read(n);
         Ok(())
-    }
-}
-
-impl<S: Opens> HostLog<'_, S> {
-    /// Says how much was read, after so many bytes more.
-    fn say_read(&mut self, more: usize)
-        ensures counted { self.new.failures ≡ self.old.failures }
-        ensures ends { self.new.ended ≡ self.old.ended }
-        ensures stream { self.new.stream ≡ self.old.stream }
-        ensures recent { self.new.recent ≡ self.old.recent }
-    {
-        let (rt, len) = (self.rt, self.seen.len);
-        if more == 0 {
-            self.seen.progress.end(rt);
-        } else {
-            self.seen.progress.pass(rt, len);
-        }
     }
 }
 

@@ -1,5 +1,5 @@
 //! Why a line isn't a log line.
-use crate::pieces::{after, count_in_front, is_line_feed};
+use crate::pieces::{Pieces, after, count_in_front};
 use session_log::read_line;
 use session_show::{Pen, Written};
 
@@ -88,8 +88,8 @@ fn fitting_len(line: &[u8]) -> usize {
         [b'>' | b't' | b'p' | b'k' | b's', b' ', fields @ ..] => {
             let digits = moment_len(fields);
             let len = digits.saturating_add(2);
-            match fields.split_at_checked(digits) {
-                Some((_, [b' ', fields @ ..])) if line[0] != b't' && digits > 0 => {
+            match after(fields, digits) {
+                [b' ', fields @ ..] if line[0] != b't' && digits > 0 => {
                     fields_len(line[0], fields)
                         .saturating_add(len)
                         .saturating_add(1)
@@ -111,40 +111,37 @@ pub struct Misfit<'a> {
 
 impl Written for Misfit<'_> {
     fn write(&self, pen: &mut Pen) {
-        let Some(byte) = self.line.get(self.place) else {
+        let rest = after(self.line, self.place);
+        if rest.is_empty() {
             pen.text("  it ends after byte ");
             pen.decimal(self.place as u64);
-            pen.text(", too early\n");
-            return;
-        };
-        pen.text("  byte ");
-        pen.decimal(self.place.saturating_add(1) as u64);
-        if self.place == 0 && self.line.starts_with(b"\xEF\xBB\xBF") {
-            pen.text(" begins a byte order mark: a log has none\n");
-            return;
+        } else {
+            pen.text("  byte ");
+            pen.decimal(self.place.saturating_add(1) as u64);
         }
-        match *byte {
-            b'\r' => {
-                pen.text(CARRIAGE_RETURN);
-                return;
+        match rest {
+            [] => pen.text(", too early\n"),
+            [0xEF, 0xBB, 0xBF, ..] if self.place == 0 => {
+                pen.text(" begins a byte order mark: a log has none\n");
             }
-            b' '..=b'~' => {
+            [b'\r', ..] => pen.text(CARRIAGE_RETURN),
+            [byte @ b' '..=b'~', ..] => {
                 pen.text(" is '");
                 pen.bytes(&[*byte]);
-                pen.text("'");
+                pen.text("', which fits no log line here\n");
             }
-            _ => {
+            [byte, ..] => {
                 pen.text(" is 0x");
                 pen.hex(&[*byte]);
+                pen.text(", which fits no log line here\n");
             }
         }
-        pen.text(", which fits no log line here\n");
     }
 }
 
 /// Returns why the first line that is none of a log isn't one, if there is such a line.
 pub fn first_misfit(lines: &[u8]) -> Option<Misfit<'_>> {
-    for line in lines.split(is_line_feed) {
+    for line in Pieces::of(lines, b'\n') {
         if line.len() < 256 && read_line(line).is_none() {
             let place = fitting_len(line);
             return Some(Misfit { line, place });

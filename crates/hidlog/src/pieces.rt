@@ -1,13 +1,54 @@
 //! Pieces of texts: their lines, and what is in front of one.
+ghost use Rattle.std.specs.Prelude.{◌≤◌, ◌+◌, length};
+ghost use Rattle.std.specs.Iterator.{at_most};
+ghost use Rattle.std.specs.Option.{option_map_or};
 
-/// Returns whether a byte ends a line.
-pub fn is_line_feed(byte: &u8) -> bool {
-    *byte == b'\n'
+/// The pieces of a text, with bytes of one kind between them: its lines, or its words.
+#[derive(Clone, Copy)]
+pub struct Pieces<'a> {
+    /// What comes after the pieces so far and the byte behind them; none after the last one.
+    rest: Option<&'a [u8]>,
+    between: u8,
 }
 
-/// Returns whether a byte is a space.
-pub fn is_space(byte: &u8) -> bool {
-    *byte == b' '
+impl<'a> Pieces<'a> {
+    /// Returns those of a text.
+    pub fn of(text: &'a [u8], between: u8) -> Self {
+        Pieces {
+            rest: Some(text),
+            between,
+        }
+    }
+}
+
+impl<'a> Iterator for Pieces<'a> {
+    type Item = &'a [u8];
+
+    ghost remaining = { λ s. at_most (option_map_or (λ rest. length rest.now + 1) s.rest 0) };
+
+    fn next(&mut self) -> Option<&'a [u8]> {
+        let Some(text) = self.rest else {
+            return None;
+        };
+        let (piece, rest) = text.split_at(len_before(text, self.between));
+        self.rest = match rest {
+            [_, rest @ ..] => Some(rest),
+            [] => None,
+        };
+        Some(piece)
+    }
+}
+
+/// Returns how many bytes of a text are in front of the first one of a kind; all of them, where it has none.
+pub fn len_before(text: &[u8], wanted: u8) -> usize
+    ensures { result ≤ length text.now }
+{
+    for (place, byte) in text.iter().enumerate() {
+        if *byte == wanted {
+            return place;
+        }
+    }
+    text.len()
 }
 
 /// Returns how many of these bytes a text begins with.

@@ -154,7 +154,7 @@ impl<D: Files, L: Logs, O: Output, E: Target> Host<D, L, O, E> {
         ensures explains { Explains ⟦<Self as Modeled>⟧.model (kind_of error.now) result self.old self.new }
     {
         let text = match error.to_string(self.alloc) {
-            Ok(text) if error.kind() != ErrorKind::OutOfMemory => text,
+            Ok(text) if !matches!(error.kind(), ErrorKind::OutOfMemory) => text,
             _ => return Err(no_memory(&mut self.faults)),
         };
         if error.use_stderr() {

@@ -3,7 +3,7 @@ ghost use Rattle.std.specs.Prelude.{◌≡◌, ◌<◌, ◌≤◌, ◌+◌, ◌�
 ghost use Rattle.std.specs.Io.KnownBytes.{Consumes, Keeps, IsAtEnd, prepend_known};
 ghost use Rattle.hidlog.specs.Streams.{unread};
 
-use crate::pieces::is_line_feed;
+use crate::pieces::len_before;
 use session_log::Failed;
 use std::alloc::{AllocError, Global};
 use std::io::Read;
@@ -82,8 +82,8 @@ impl Recent {
         self.unread().is_empty()
     }
 
-    /// Reads once, where all were handed on, after what was read before. Returns how many bytes came.
-    pub fn fill<R: Read>(&mut self, stream: &mut R) -> Result<usize, Failed>
+    /// Reads once, where all were handed on, after what was read before.
+    pub fn fill<R: Read>(&mut self, stream: &mut R) -> Result<(), Failed>
         requires { unread self.old.held.items self.old.at self.old.end ≡ [] }
         ensures bytes { Keeps (R.remaining stream.old)
             (prepend_known (unread self.new.held.items self.new.at self.new.end) (R.remaining stream.new)) }
@@ -92,7 +92,7 @@ impl Recent {
         self.forget();
         let n = read_behind(stream, &mut self.held, self.end)?;
         self.end += n;
-        Ok(n)
+        Ok(())
     }
 
     /// Moves the front of those that weren't handed on to `out`, so many at most. Returns how many.
@@ -112,12 +112,10 @@ impl Recent {
     /// Returns the lines of those that are held, without the front of one that is remembered in part.
     pub fn lines(&self) -> &[u8] {
         let read = self.held.as_slice().split_at(self.end).0;
-        if !self.forgot {
-            return read;
-        }
-        match read.iter().position(is_line_feed) {
-            Some(end) => read.split_at(end).1,
-            None => &[],
+        if self.forgot {
+            read.split_at(len_before(read, b'\n')).1
+        } else {
+            read
         }
     }
 

@@ -2,7 +2,7 @@
 ghost use Rattle.std.specs.Prelude.{◌≡◌, ◌<◌, ◌-◌, ◌^◌, None, is_none, if◌then◌else◌};
 ghost use Rattle.session_show.specs.Written.{Writes};
 
-use crate::pieces::{after, digits_in, has_part, is_line_feed};
+use crate::pieces::{Pieces, after, digits_in, has_part};
 use session_log::{Failed, Target, put_all};
 use session_show::{Pen, Wording, Written, put_written};
 use std::alloc::Global;
@@ -76,7 +76,7 @@ pub struct CutLines<'a> {
 
 impl Written for CutLines<'_> {
     fn write(&self, pen: &mut Pen) {
-        for line in self.text.split(is_line_feed) {
+        for line in Pieces::of(self.text, b'\n') {
             if !line.is_empty() {
                 write_cut(pen, line, self.width);
                 pen.text("\n");
@@ -142,7 +142,7 @@ struct StyledLines<'a> {
 impl Written for StyledLines<'_> {
     fn write(&self, pen: &mut Pen) {
         let lines = self.text.strip_suffix(b"\n").unwrap_or(self.text);
-        for line in lines.split(is_line_feed) {
+        for line in Pieces::of(lines, b'\n') {
             self.style.write_line(pen, line);
         }
     }

@@ -41,13 +41,16 @@ impl Seen {
         }
     }
 
-    /// Takes the bytes that come next; none at the log's end.
-    pub fn take(&mut self, bytes: &[u8]) {
+    /// Takes the bytes that come next, and says how much was read; there are none at the log's end.
+    pub fn take(&mut self, rt: &HostRuntime, bytes: &[u8]) {
+        let [.., last] = bytes else {
+            self.progress.end(rt);
+            return;
+        };
         self.has_input = self.has_input || has_input(self.ends_line, bytes);
-        if let Some(last) = bytes.last() {
-            self.ends_line = *last == b'\n';
-        }
+        self.ends_line = *last == b'\n';
         self.len = self.len.saturating_add(bytes.len() as u64);
+        self.progress.pass(rt, self.len);
         let Some(kept) = &mut self.kept else {
             return;
         };

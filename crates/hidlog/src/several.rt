@@ -16,7 +16,7 @@ use crate::host::{Host, Modeled};
 use crate::logs::Logs;
 use crate::misfit::first_misfit;
 use crate::objects::ProgramFaultObject;
-use crate::pieces::is_space;
+use crate::pieces::Pieces;
 use crate::process::{WRITING_FAILED, say, tell};
 use crate::remarks::{ComparisonEnd, note};
 use crate::snapshots::load;
@@ -41,7 +41,7 @@ impl Written for SameLog<'_> {
             return;
         }
         self.wish.begin_object(pen, "same");
-        let mut words = self.text.split(is_space);
+        let mut words = Pieces::of(self.text, b' ');
         let _ = words.next();
         pen.text(",\"inputs\":");
         pen.bytes(words.next().unwrap_or(b"0"));
@@ -152,8 +152,12 @@ impl<D: Files, L: Logs, O: Output, E: Target> Host<D, L, O, E> {
             (self.old.input, self.new.input)) }
     {
         begin_with(&mut self.input, path);
-        open_log(&mut self.input, Some(path))?;
-        load(session, &self.files, wish.load)?;
+        if let Err(fault) = open_log(&mut self.input, Some(path)) {
+            return Err(fault);
+        }
+        if let Err(fault) = load(session, &self.files, wish.load) {
+            return Err(fault);
+        }
         let mut writer = ToWrite::new(&mut *same);
         match LogCommand::Check.play(session, &mut self.input, &mut writer) {
             Ok(()) => Ok(ComparisonEnd::of(session)),

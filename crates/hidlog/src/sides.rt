@@ -1,5 +1,5 @@
 //! Two packets beside one another, in `show`'s words.
-use crate::pieces::{after, count_in_front, digits_in, is_line_feed};
+use crate::pieces::{Pieces, after, count_in_front, digits_in};
 use hid_packet::command::CBOR;
 use hid_packet::{Packet, View};
 use session_show::{Difference, Pen};
@@ -23,9 +23,9 @@ fn without_number(line: &[u8]) -> &[u8] {
 
 /// Writes the lines of one side which the other one hasn't at their place, and always that of the packet.
 fn write_side(pen: &mut Pen, own: &[u8], other: &[u8]) {
-    let mut others = other.split(is_line_feed);
+    let mut others = Pieces::of(other, b'\n');
     let mut is_packet = true;
-    for line in own.split(is_line_feed) {
+    for line in Pieces::of(own, b'\n') {
         let is_shared = match others.next() {
             Some(other) => line == other,
             None => false,
@@ -102,7 +102,8 @@ fn place_of(packet: &Packet, at: usize) -> &'static str {
 /// Writes some bytes of a packet.
 fn write_row(pen: &mut Pen, name: &str, packet: &Packet, from: usize) {
     pen.text(name);
-    for byte in after(&packet.0, from).iter().take(ROW) {
+    let part = after(&packet.0, from);
+    for byte in part.get(..ROW).unwrap_or(part) {
         pen.text(" ");
         pen.hex(&[*byte]);
     }
@@ -146,8 +147,8 @@ fn name_in(line: &[u8]) -> &[u8] {
 pub fn members_of<'a>(logged: &'a [u8], sent: &[u8]) -> [&'a [u8]; LEVELS] {
     let mut names: [&[u8]; LEVELS] = [b""; LEVELS];
     let mut depth = 0;
-    let mut others = sent.split(is_line_feed);
-    for line in logged.split(is_line_feed) {
+    let mut others = Pieces::of(sent, b'\n');
+    for line in Pieces::of(logged, b'\n') {
         let Some(other) = others.next() else {
             break;
         };
@@ -170,7 +171,8 @@ pub fn members_of<'a>(logged: &'a [u8], sent: &[u8]) -> [&'a [u8]; LEVELS] {
 fn write_path(pen: &mut Pen, names: &[&[u8]]) {
     let mut front: &[u8] = b"  the messages differ first in ";
     let mut end: &[u8] = b"";
-    for name in names.iter().rev() {
+    for place in 0..names.len() {
+        let name = names[names.len() - 1 - place];
         if !name.is_empty() {
             pen.bytes(front);
             pen.bytes(name);

@@ -1,7 +1,7 @@
 //! Texts of other people and of the system, among words of ours.
-use crate::pieces::is_line_feed;
+use crate::pieces::Pieces;
 use session_show::{Pen, Written, write_escaped};
-use std::fmt::Write;
+use std::fmt::{Display, Write};
 use std::io::Error;
 
 /// Lines, with what can't be seen in them escaped, and their line feeds as they are.
@@ -11,7 +11,7 @@ pub struct EscapedLines<'a>(pub &'a str);
 impl Written for EscapedLines<'_> {
     fn write(&self, pen: &mut Pen) {
         let mut front: &[u8] = b"";
-        for line in self.0.as_bytes().split(is_line_feed) {
+        for line in Pieces::of(self.0.as_bytes(), b'\n') {
             pen.bytes(front);
             write_escaped(pen, line);
             front = b"\n";
@@ -19,9 +19,9 @@ impl Written for EscapedLines<'_> {
     }
 }
 
-/// Writes the text of an error of the system.
-pub fn write_error(pen: &mut Pen, error: &Error) {
-    let _ = write!(pen, "{error}");
+/// Writes what has a text of its own.
+pub fn write_shown<T: Display>(pen: &mut Pen, what: &T) {
+    let _ = write!(pen, "{what}");
 }
 
 /// Begins the line that says why there is a fault, with what that is about.
@@ -44,7 +44,7 @@ impl Written for StreamFailure<'_> {
             Some(name) => write_about(pen, name),
             None => pen.text("  "),
         }
-        write_error(pen, self.error);
+        write_shown(pen, self.error);
         pen.text("\n");
     }
 }

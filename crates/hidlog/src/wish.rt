@@ -1,10 +1,10 @@
 //! How what is found in a log is said.
 ghost use Rattle.std.specs.Prelude.{◌≡◌};
 
+use crate::texts::write_shown;
 use session_log::LogFault;
 use session_show::{Pen, write_escaped, write_string};
 use std::alloc::Global;
-use std::fmt::Write;
 
 /// How what is found in a log is said.
 #[derive(Clone, Copy)]
@@ -64,7 +64,8 @@ impl<'a> Wish<'a> {
     /// Writes the line of a log's fault.
     pub fn write_fault(&self, pen: &mut Pen, fault: &LogFault) {
         self.begin_line(pen);
-        let _ = writeln!(pen, "{fault}");
+        write_shown(pen, fault);
+        pen.text("\n");
     }
 
     /// Begins an object of JSON (RFC 8259), with the log's path where several are compared.
