@@ -17,8 +17,8 @@ use token_session::{Session, Timed};
 /// More than the most lines of a log.
 const LINES: u64 = 1 << 33;
 
-/// The most packets of a message.
-const PACKETS: usize = 129;
+/// More than the most packets of a message.
+const PACKETS: usize = 130;
 
 /// A packet that differs, is missing or is one too many.
 #[derive(Clone, Copy)]
@@ -59,15 +59,6 @@ impl Difference {
             }
         }
         None
-    }
-
-    /// Returns the packet that the session sends, or else the log's.
-    fn packet(&self) -> Option<Packet> {
-        if self.sent.is_some() {
-            self.sent
-        } else {
-            self.logged
-        }
     }
 }
 
@@ -159,10 +150,7 @@ impl PlayedLog {
         timed: &Timed,
         session: &mut Session<C>,
     ) -> Option<Difference> {
-        if self.has_differed {
-            self.has_differed = false;
-            self.outbox = Outbox::new();
-        }
+        self.has_differed = false;
         if let Some(sent) = self.outbox.pop() {
             return Some(self.differ(number, None, Some(sent)));
         }
@@ -175,8 +163,12 @@ impl PlayedLog {
         None
     }
 
-    /// Lets the walk take the packet that differed.
+    /// Goes on after a difference: drops the packets that the session sent after it, and lets the walk take the one that
+    /// differed.
     fn pass_last(&mut self) {
+        if self.has_differed {
+            self.outbox = Outbox::new();
+        }
         if let Some((number, packet)) = self.last.take() {
             self.walk.take(number, &Line::Sent(packet));
         }
@@ -278,12 +270,13 @@ impl Comparison {
             };
             let difference = self.played.take(number, line, &said, session);
             // The line of an input before which a packet is missing is taken by the next call.
-            if !matches!(&difference, Some(missing) if missing.logged.is_none()) {
-                self.drop_line(end);
-            }
-            if difference.is_some() {
+            if let Some(found) = &difference {
+                if found.logged.is_some() {
+                    self.drop_line(end);
+                }
                 return Ok(difference);
             }
+            self.drop_line(end);
         }
         Ok(None)
     }
@@ -310,7 +303,7 @@ impl Comparison {
     /// Returns the transaction that the packet belongs to; of one that belongs to none, the one that holds its channel or
     /// was answered last there.
     pub fn transaction(&mut self, difference: &Difference) -> Option<Transaction> {
-        let Some(packet) = difference.packet() else {
+        let Some(packet) = difference.sent.or(difference.logged) else {
             return None;
         };
         self.aside.copy_from(&self.played.walk);
@@ -367,67 +360,56 @@ impl Comparison {
         logged: &mut T,
         sent: &mut T,
     ) -> Result<(), Failed> {
-        match self.put_sent(difference, sent) {
-            Ok(()) => self.put_logged(difference, reader, logged),
-            Err(failed) => Err(failed),
-        }
-    }
-
-    /// Writes the packet that the session sends, and its message.
-    fn put_sent<T: Target>(
-        &mut self,
-        difference: &Difference,
-        writer: &mut T,
-    ) -> Result<(), Failed> {
-        let Some(packet) = &difference.sent else {
-            return Ok(());
-        };
-        self.aside.copy_from(&self.played.walk);
-        let mut next = Some(*packet);
-        for _ in 0..=PACKETS {
-            let Some(part) = next else {
-                break;
+        let line = difference.line;
+        if let Some(packet) = &difference.sent {
+            self.follow_sent(line, packet);
+            let side = Side {
+                walk: &self.aside,
+                packet,
+                line,
             };
-            if !goes_on_after(&mut self.aside, difference.line, &part) {
-                break;
-            }
-            next = self.played.outbox.pop();
+            put_counted(sent, &mut self.pen, &side)?;
         }
-        let side = Side {
-            walk: &self.aside,
-            packet,
-            line: difference.line,
-        };
-        put_counted(writer, &mut self.pen, &side)
-    }
-
-    /// Writes the packet that the log has, and its message.
-    fn put_logged<S: Source, T: Target>(
-        &mut self,
-        difference: &Difference,
-        reader: &mut S,
-        writer: &mut T,
-    ) -> Result<(), Failed> {
         let Some(packet) = &difference.logged else {
             return Ok(());
         };
-        self.played.last = None;
-        let mut next = Some(*packet);
-        for _ in 0..=PACKETS {
-            let Some(part) = next else {
-                break;
-            };
-            if !goes_on_after(&mut self.played.walk, difference.line, &part) {
-                break;
-            }
-            next = self.next_logged(reader);
-        }
+        self.follow_logged(line, packet, reader);
         let side = Side {
             walk: &self.played.walk,
             packet,
-            line: difference.line,
+            line,
         };
-        put_counted(writer, &mut self.pen, &side)
+        put_counted(logged, &mut self.pen, &side)
+    }
+
+    /// Goes on aside with the packet that the session sends, and those that complete its message.
+    fn follow_sent(&mut self, line: u64, packet: &Packet) {
+        self.aside.copy_from(&self.played.walk);
+        let mut next = Some(*packet);
+        for _ in 0..PACKETS {
+            let Some(part) = next else {
+                return;
+            };
+            if !goes_on_after(&mut self.aside, line, &part) {
+                return;
+            }
+            next = self.played.outbox.pop();
+        }
+    }
+
+    /// Goes on with the packet that the log has, and those that complete its message.
+    fn follow_logged<S: Source>(&mut self, line: u64, packet: &Packet, reader: &mut S) {
+        self.played.last = None;
+        let mut next = Some(*packet);
+        for _ in 0..PACKETS {
+            let Some(part) = next else {
+                return;
+            };
+            if !goes_on_after(&mut self.played.walk, line, &part) {
+                return;
+            }
+            next = self.next_logged(reader);
+        }
     }
 
     /// Returns the packet that the log has next, before any further input.

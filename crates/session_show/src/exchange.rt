@@ -62,8 +62,7 @@ impl Written for Transaction {
         pen.hex(&[self.command.unwrap_or(self.message)]);
         pen.text(" on channel ");
         pen.hex(&self.channel.to_be_bytes());
-        pen.text(", from line ");
-        pen.decimal(self.line);
+        pen.number_after(", from line ", self.line);
     }
 }
 
