@@ -128,7 +128,10 @@ impl Channel {
                 message: INIT,
                 command: None,
             },
-            extent: Extent::begun(greeting.length),
+            extent: Extent {
+                length: greeting.length,
+                continuations: 0,
+            },
             at: greeting.at,
             ..Followed::default()
         }
@@ -152,6 +155,18 @@ impl Channel {
             open.add(asked, End::Open);
         }
         open
+    }
+
+    /// Ends all that is open, since the channel isn't followed any longer.
+    // Apart from its caller, which is called for each packet and would pay for the list each time.
+    pub fn forget(&self, ends: &mut EndedTransactions) {
+        for open in self.open().0.as_slice() {
+            let end = match open.end {
+                End::Open => End::Forgotten,
+                end => end,
+            };
+            ends.add(open.exchange, end);
+        }
     }
 
     // ---- packets of hosts
@@ -308,7 +323,9 @@ impl Channel {
             ends.add(exchange, End::Cut(self.told.extent));
         }
         let line = self.told.line;
-        self.told = Told::default();
+        self.told.line = 0;
+        self.told.extent = Extent::default();
+        self.told.exchange = None;
         line
     }
 }

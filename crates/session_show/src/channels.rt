@@ -2,7 +2,7 @@
 ghost use Rattle.std.specs.Prelude.{◌<◌, IfSome};
 
 use crate::channel::Channel;
-use crate::exchange::{End, Ended, EndedTransactions, Followed};
+use crate::exchange::{Ended, EndedTransactions, Followed};
 
 /// How many channels are followed at once.
 const CHANNELS: usize = 6;
@@ -48,13 +48,7 @@ impl Channels {
             return place;
         }
         let place = self.oldest();
-        for open in self.list[place].open().0.as_slice() {
-            let end = match open.end {
-                End::Open => End::Forgotten,
-                end => end,
-            };
-            ends.add(open.exchange, end);
-        }
+        self.list[place].forget(ends);
         self.list[place] = Channel {
             number,
             used: line,

@@ -102,8 +102,10 @@ impl Channel {
             self.settle(ends);
         }
         let is_late = self.leave_out(doubtful);
-        let is_open = matches!(&self.held, Some(held) if !held.extent.is_whole());
-        if is_open && let Some(held) = self.free(ends) {
+        if let Some(held) = &self.held
+            && !held.extent.is_whole()
+            && let Some(held) = self.free(ends)
+        {
             ends.add(held, End::Refused(code));
             return (Some(held.transaction), is_late);
         }
@@ -133,10 +135,10 @@ impl Channel {
         } else {
             (INVALID_SEQUENCE, End::Replaced(refused.line))
         };
-        let is_ended = matches!(&self.held, Some(held)
-            if !held.extent.is_whole() && held.transaction.line < refused.line);
-        if is_ended
-            && code == cause
+        if code == cause
+            && let Some(held) = &self.held
+            && !held.extent.is_whole()
+            && held.transaction.line < refused.line
             && let Some(held) = self.free(ends)
         {
             ends.add(held, by);
@@ -244,9 +246,9 @@ impl Channel {
             return None;
         };
         let line = exchange.transaction.line;
-        let is_before = matches!(&self.held, Some(held) if held.transaction.line < line);
         if self.number != BROADCAST
-            && is_before
+            && let Some(held) = &self.held
+            && held.transaction.line < line
             && let Some(held) = self.free(ends)
         {
             ends.add(held, End::Dropped(line));

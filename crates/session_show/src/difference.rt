@@ -12,7 +12,7 @@ use crate::walk::LogWalk;
 use crate::wording::Wording;
 use hid_packet::{Outbox, Packet};
 use session_log::{Failed, Line, LogFault, Source, Target, Window, next_line, read_line};
-use token_session::{Session, Timed};
+use token_session::Session;
 
 /// More than the most lines of a log.
 const LINES: u64 = 1 << 33;
@@ -102,8 +102,9 @@ impl PlayedLog {
         }
     }
 
-    /// Takes the next line, with its number, and returns the difference that it shows. Where that is a packet that is
-    /// missing, the line isn't taken; where it is the line's packet, the walk has yet to take it.
+    /// Takes the next line, with its number, and returns the difference that it shows. An input steps the session, unless
+    /// the log lacks a packet of the input before: then the line isn't taken. Where the line's packet differs, the walk has
+    /// yet to take it.
     fn take<const C: usize>(
         &mut self,
         number: u64,
@@ -111,19 +112,30 @@ impl PlayedLog {
         said: &Line,
         session: &mut Session<C>,
     ) -> Option<Difference> {
-        let difference = match said {
-            Line::Sent(packet) => self.compare(number, packet),
-            Line::Input(timed) => self.play(number, timed, session),
-            Line::Comment => {
-                self.signed.take(number, line, &session.need());
-                None
+        match said {
+            Line::Sent(packet) => {
+                let difference = self.compare(number, packet);
+                if difference.is_some() {
+                    return difference;
+                }
             }
-            Line::Count => None,
-        };
-        if difference.is_none() {
-            self.walk.take(number, said);
+            Line::Input(timed) => {
+                self.has_differed = false;
+                if let Some(sent) = self.outbox.pop() {
+                    return Some(self.differ(number, None, Some(sent)));
+                }
+                session.step(timed.at, timed.input, &mut self.outbox);
+                self.awaited = Awaited::of(&session.need());
+                self.reply = Awaited::in_input(&timed.input);
+                self.signed.len = 0;
+                self.input = number;
+                self.compared = 0;
+            }
+            Line::Comment => self.signed.take(number, line, &session.need()),
+            Line::Count => {}
         }
-        difference
+        self.walk.take(number, said);
+        None
     }
 
     /// Compares a packet of the log with the one that the session sent.
@@ -141,26 +153,6 @@ impl PlayedLog {
         }
         self.last = Some((number, *packet));
         Some(self.differ(number, Some(*packet), sent))
-    }
-
-    /// Steps the session, unless the log lacks a packet of the input before.
-    fn play<const C: usize>(
-        &mut self,
-        number: u64,
-        timed: &Timed,
-        session: &mut Session<C>,
-    ) -> Option<Difference> {
-        self.has_differed = false;
-        if let Some(sent) = self.outbox.pop() {
-            return Some(self.differ(number, None, Some(sent)));
-        }
-        session.step(timed.at, timed.input, &mut self.outbox);
-        self.awaited = Awaited::of(&session.need());
-        self.reply = Awaited::in_input(&timed.input);
-        self.signed.len = 0;
-        self.input = number;
-        self.compared = 0;
-        None
     }
 
     /// Goes on after a difference: drops the packets that the session sent after it, and lets the walk take the one that

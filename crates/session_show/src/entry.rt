@@ -39,17 +39,15 @@ pub struct CborMessage<'a> {
 }
 
 impl<'a> CborMessage<'a> {
-    /// Returns the map that its item is, by its first byte.
-    pub fn map(&self, first: u8) -> Option<Map> {
+    /// Returns the map that its item is, by its first byte. That of an answer to what isn't known has no names: no command
+    /// is 0.
+    pub fn map(&self, first: u8) -> Map {
         if let MessageKind::Request = self.kind {
-            return Some(Map::Request(first));
+            return Map::Request(first);
         }
-        if let Some(exchange) = self.exchange
-            && let Some(command) = exchange.transaction.command
-        {
-            Some(Map::Answer(command))
-        } else {
-            None
+        match self.exchange {
+            Some(exchange) => Map::Answer(exchange.transaction.command.unwrap_or(0)),
+            None => Map::Answer(0),
         }
     }
 }
@@ -161,15 +159,15 @@ fn write_item(pen: &mut Pen, item: &[u8], checked: &Result<(), Fault>) {
 
 /// Writes a line for each member of a message, and which credential a refusal excludes.
 fn write_more(pen: &mut Pen, number: u64, message: &CborMessage<'_>, first: u8, item: &[u8]) {
-    let Some(map) = message.map(first) else {
-        return;
-    };
+    let map = message.map(first);
     let Some(exchange) = message.exchange else {
         write_members(pen, number, map, item, b"");
         return;
     };
     write_members(pen, number, map, item, exchange.rp_id.bytes());
-    if let (EXCLUDED, Some(excluded)) = (first, &exchange.excluded) {
+    if first == EXCLUDED
+        && let Some(excluded) = &exchange.excluded
+    {
         pen.decimal(number);
         pen.text("   ");
         excluded.write(pen);

@@ -85,14 +85,6 @@ pub struct Extent {
 }
 
 impl Extent {
-    /// Returns that of a message of so many bytes after its initialization packet.
-    pub fn begun(length: u16) -> Self {
-        Extent {
-            length,
-            continuations: 0,
-        }
-    }
-
     /// Returns how many bytes its packets carried.
     pub fn came(&self) -> usize {
         let most = INITIALIZATION_DATA + CONTINUATION_DATA * usize::from(self.continuations);

@@ -68,15 +68,9 @@ fn first_number(bytes: &[u8]) -> Option<(&[u8], &[u8])> {
     let Some((number, rest)) = split(rest, usize::from(*len)) else {
         return None;
     };
-    let is_shortest = match number {
-        [] => false,
-        [0, second, ..] => *second >= 128,
-        [first, ..] => *first < 128,
-    };
-    if is_shortest {
-        Some((number, rest))
-    } else {
-        None
+    match number {
+        [0] | [1..=127, ..] | [0, 128..=255, ..] => Some((number, rest)),
+        _ => None,
     }
 }
 

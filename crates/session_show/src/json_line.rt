@@ -126,11 +126,7 @@ fn write_message(pen: &mut Pen, own: &Own<'_>, channel: u32, message: &CborMessa
             }
         }
     }
-    let names = match message.map(*first) {
-        Some(map) => map.names(),
-        None => &[],
-    };
-    write_data(pen, item, &checked, names);
+    write_data(pen, item, &checked, message.map(*first).names());
     pen.text("}\n");
 }
 

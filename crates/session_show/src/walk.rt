@@ -279,7 +279,10 @@ impl LogWalk {
     fn begin(&mut self, place: usize, transaction: Transaction, length: u16, part: &[u8])
         requires { place < 6 }
     {
-        let extent = Extent::begun(length);
+        let extent = Extent {
+            length,
+            continuations: 0,
+        };
         let begun = Followed {
             transaction,
             extent,
@@ -381,7 +384,10 @@ impl LogWalk {
                 let answer = AnswerStart {
                     line: number,
                     command: cmd,
-                    extent: Extent::begun(len),
+                    extent: Extent {
+                        length: len,
+                        continuations: 0,
+                    },
                     part,
                 };
                 self.take_start(place, &answer);
