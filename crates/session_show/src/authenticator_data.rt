@@ -37,11 +37,11 @@ pub fn write_authenticator_data(pen: &mut Pen, number: u64, bytes: &[u8], rp_id:
     write_front(pen, number, "flags ");
     write_flags(pen, *flags, FLAGS);
     pen.text("\n");
-    let [first, second, third, fourth, rest @ ..] = rest else {
+    let Some((count, rest)) = rest.split_first_chunk::<4>() else {
         return;
     };
     write_front(pen, number, "signCount ");
-    pen.decimal(u64::from(u32::from_be_bytes([*first, *second, *third, *fourth])));
+    pen.decimal(u64::from(u32::from_be_bytes(*count)));
     pen.text("\n");
     if flags & CREDENTIAL == 0 {
         write_item(pen, number, "extensions ", rest);
@@ -68,10 +68,10 @@ fn write_credential(pen: &mut Pen, number: u64, bytes: &[u8]) {
         return;
     };
     write_bytes(pen, number, "aaguid ", aaguid);
-    let [high, low, rest @ ..] = rest else {
+    let Some((length, rest)) = rest.split_first_chunk::<2>() else {
         return;
     };
-    let length = usize::from(u16::from_be_bytes([*high, *low]));
+    let length = usize::from(u16::from_be_bytes(*length));
     let Some((id, rest)) = split(rest, length) else {
         return;
     };

@@ -21,18 +21,6 @@ pub struct Greeting {
     pub nonce: u64,
 }
 
-impl Greeting {
-    /// Returns that of a packet on a line, at a moment, of a message of so many bytes.
-    pub fn of(line: u64, at: u64, length: u16, part: &[u8]) -> Self {
-        Greeting {
-            line,
-            at,
-            length,
-            nonce: nonce_in(part),
-        }
-    }
-}
-
 /// Returns the nonce of an INIT or of its answer, with what its first packet carries.
 pub fn nonce_in(part: &[u8]) -> u64 {
     match part {
@@ -42,9 +30,9 @@ pub fn nonce_in(part: &[u8]) -> u64 {
 }
 
 /// A message of the device.
-#[derive(Clone, Copy)]
+#[derive(Clone, Copy, Default)]
 pub struct Told {
-    /// The line that it began at.
+    /// The line that it began at, 0 where there is none.
     pub line: u64,
     pub extent: Extent,
     /// The status of a CBOR answer.
@@ -93,7 +81,7 @@ pub struct Channel {
     /// How many KEEPALIVEs came after the last packet of what is asked.
     pub since: u64,
     /// The device's last message.
-    pub told: Option<Told>,
+    pub told: Told,
     /// The RP id of the last authenticatorGetAssertion that was answered.
     pub asserted: RpId,
 }
@@ -120,17 +108,14 @@ impl Channel {
 
     /// Returns whether the device's last message has further packets.
     pub fn is_answering(&self) -> bool {
-        matches!(&self.told, Some(told) if !told.extent.is_whole())
+        !self.told.extent.is_whole()
     }
 
     /// Returns the transaction that holds it, or else the one that was answered last.
     pub fn last(&self) -> Option<Transaction> {
-        if let Some(held) = &self.held {
-            return Some(held.transaction);
-        }
-        match &self.told {
-            Some(told) => told.of(),
-            None => None,
+        match &self.held {
+            Some(held) => Some(held.transaction),
+            None => self.told.of(),
         }
     }
 
@@ -143,7 +128,10 @@ impl Channel {
                 message: INIT,
                 command: None,
             },
-            extent: Extent::begun(greeting.length),
+            extent: Extent {
+                length: greeting.length,
+                continuations: 0,
+            },
             at: greeting.at,
             ..Followed::default()
         }
@@ -152,11 +140,10 @@ impl Channel {
     /// Returns what is open, each as it ends where nothing more comes.
     pub fn open(&self) -> EndedTransactions {
         let mut open = EndedTransactions::default();
-        if let Some(told) = &self.told
-            && !told.extent.is_whole()
-            && let Some(exchange) = told.exchange
+        if self.is_answering()
+            && let Some(exchange) = self.told.exchange
         {
-            open.add(exchange, End::Cut(told.extent));
+            open.add(exchange, End::Cut(self.told.extent));
         }
         for greeting in self.greetings.as_slice() {
             open.add(self.greeting(greeting), End::Open);
@@ -171,6 +158,7 @@ impl Channel {
     }
 
     /// Ends all that is open, since the channel isn't followed any longer.
+    // Apart from its caller, which is called for each packet and would pay for the list each time.
     pub fn forget(&self, ends: &mut EndedTransactions) {
         for open in self.open().0.as_slice() {
             let end = match open.end {
@@ -327,17 +315,18 @@ impl Channel {
     }
 
     /// Ends the transaction of the device's last message, if packets of that are missing. Returns the line that the
-    /// message began at.
-    pub fn cut(&mut self, ends: &mut EndedTransactions) -> Option<u64> {
-        let Some(told) = self.told.take() else {
-            return None;
-        };
-        if !told.extent.is_whole()
-            && let Some(exchange) = told.exchange
+    /// message began at, 0 where there was none.
+    pub fn cut(&mut self, ends: &mut EndedTransactions) -> u64 {
+        if self.is_answering()
+            && let Some(exchange) = self.told.exchange
         {
-            ends.add(exchange, End::Cut(told.extent));
+            ends.add(exchange, End::Cut(self.told.extent));
         }
-        Some(told.line)
+        let line = self.told.line;
+        self.told.line = 0;
+        self.told.extent = Extent::default();
+        self.told.exchange = None;
+        line
     }
 }
 

@@ -88,18 +88,17 @@ impl Channels {
 
     /// Returns a channel that is in use.
     pub fn on(&self, number: u32) -> Option<&Channel> {
-        let place = self.find(number)?;
-        Some(&self.list[place])
+        match self.find(number) {
+            Some(place) => Some(&self.list[place]),
+            None => None,
+        }
     }
 
     /// Returns what the last message of the device on the channel at a place answers.
     pub fn answered(&self, place: usize) -> Option<&Followed> {
-        if let Some(channel) = self.list.get(place)
-            && let Some(told) = &channel.told
-        {
-            told.exchange.as_ref()
-        } else {
-            None
+        match self.list.get(place) {
+            Some(channel) => channel.told.exchange.as_ref(),
+            None => None,
         }
     }
 
@@ -134,10 +133,15 @@ impl Channels {
     /// Returns a message that holds another channel than this one, or else the one that holds it.
     pub fn held_beside(&self, number: u32) -> Option<&Followed> {
         for channel in self.list.as_slice() {
-            if channel.number != number && channel.held.is_some() {
-                return channel.held.as_ref();
+            if channel.number != number
+                && let Some(held) = &channel.held
+            {
+                return Some(held);
             }
         }
-        self.on(number)?.held.as_ref()
+        match self.on(number) {
+            Some(channel) => channel.held.as_ref(),
+            None => None,
+        }
     }
 }

@@ -2,11 +2,11 @@
 
 use crate::entry::{EXCLUDED, Entry};
 use crate::exchange::{End, Ended};
-use crate::json::{begin_member, write_number};
+use crate::json::{begin_member, write_integer};
 use crate::json_line::write_code;
 use crate::pen::Pen;
 use crate::walk::Role;
-use crate::words::{ERRORS, Names, STATUSES, name_in};
+use crate::words::{ERRORS, Names, STATUSES, write_named};
 
 /// What is counted by its number.
 #[derive(Clone, Copy)]
@@ -71,9 +71,7 @@ impl Tally {
             let times = self.times[usize::from(number)];
             if times > 0 {
                 pen.text("  ");
-                pen.text(name_in(kind.names, i128::from(number)).unwrap_or(kind.unnamed));
-                pen.text(" ");
-                pen.hex(&[number]);
+                write_named(pen, kind.names, number, kind.unnamed);
                 write_count(pen, ":", times);
             }
         }
@@ -81,14 +79,13 @@ impl Tally {
 
     /// Writes a member with how many came, and an array with an object for each number that did.
     fn write_json(&self, pen: &mut Pen, kind: &TallyKind) {
-        write_number(pen, kind.all, Some(self.sum));
+        write_integer(pen, kind.all, self.sum);
         begin_member(pen, kind.list);
         let mut front = "[{\"times\":";
         for number in 0..=255_u8 {
             let times = self.times[usize::from(number)];
             if times > 0 {
-                pen.text(front);
-                pen.decimal(times);
+                pen.number_after(front, times);
                 write_code(pen, kind.number, kind.name, number, kind.names);
                 front = "},{\"times\":";
             }
@@ -100,8 +97,7 @@ impl Tally {
 /// Writes a line of a count.
 fn write_count(pen: &mut Pen, title: &str, count: u64) {
     pen.text(title);
-    pen.text(" ");
-    pen.decimal(count);
+    pen.number_after(" ", count);
     pen.text("\n");
 }
 
@@ -201,14 +197,14 @@ impl Counts {
     /// Writes an object of JSON with all counts.
     pub fn write_json(&self, pen: &mut Pen) {
         pen.text("{\"kind\":\"summary\"");
-        write_number(pen, "credentialsMade", Some(self.made));
-        write_number(pen, "credentialsUsed", Some(self.used));
-        write_number(pen, "credentialsExcluded", Some(self.excluded));
+        write_integer(pen, "credentialsMade", self.made);
+        write_integer(pen, "credentialsUsed", self.used);
+        write_integer(pen, "credentialsExcluded", self.excluded);
         self.refused.write_json(pen, REQUESTS);
         self.errors.write_json(pen, MESSAGES);
-        write_number(pen, "strayContinuations", Some(self.continuations));
-        write_number(pen, "strayCancels", Some(self.cancels));
-        write_number(pen, "strayReplies", Some(self.replies));
+        write_integer(pen, "strayContinuations", self.continuations);
+        write_integer(pen, "strayCancels", self.cancels);
+        write_integer(pen, "strayReplies", self.replies);
         pen.text("}\n");
     }
 }

@@ -34,10 +34,8 @@ pub struct Excluded {
 impl Written for Excluded {
     /// Writes a line.
     fn write(&self, pen: &mut Pen) {
-        pen.text("excludeList[");
-        pen.decimal(self.place);
-        pen.text("] is the credential of line ");
-        pen.decimal(self.line);
+        pen.number_after("excludeList[", self.place);
+        pen.number_after("] is the credential of line ", self.line);
         pen.text("\n");
     }
 }
@@ -65,8 +63,20 @@ impl Credentials {
 
     /// Keeps the credential that an answer made, which ends at a line: its item follows the status.
     pub fn add(&mut self, line: u64, item: &[u8]) {
-        if let Some(Item::Bytes(data)) = item_at(item, Item::Int(2))
-            && let Some((relying_party, id)) = credential_in(data)
+        let Some(Item::Bytes(data)) = item_at(item, Item::Int(2)) else {
+            return;
+        };
+        // The hash of the relying party is in front (WebAuthn, section 6.1).
+        let Some((relying_party, [flags, rest @ ..])) = split(data, 32) else {
+            return;
+        };
+        // The counter and the AAGUID have 20 bytes.
+        let Some((_, [high, low, rest @ ..])) = split(rest, 20) else {
+            return;
+        };
+        let length = usize::from(u16::from_be_bytes([*high, *low]));
+        if let Some((id, _)) = split(rest, length)
+            && flags & CREDENTIAL != 0
         {
             let name = name_of(relying_party, id);
             self.made[self.count % CREDENTIALS] = Made { line, name };
@@ -109,22 +119,6 @@ impl Credentials {
             }
         }
         line
-    }
-}
-
-/// Returns the hash of the relying party and the id in authenticator data (WebAuthn, section 6.1).
-fn credential_in(data: &[u8]) -> Option<(&[u8], &[u8])> {
-    let Some((relying_party, [flags, rest @ ..])) = split(data, 32) else {
-        return None;
-    };
-    // The counter and the AAGUID have 20 bytes.
-    let Some((_, [high, low, rest @ ..])) = split(rest, 20) else {
-        return None;
-    };
-    let length = usize::from(u16::from_be_bytes([*high, *low]));
-    match split(rest, length) {
-        Some((id, _)) if flags & CREDENTIAL != 0 => Some((relying_party, id)),
-        _ => None,
     }
 }
 

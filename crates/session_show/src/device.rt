@@ -38,6 +38,22 @@ pub struct AnswerStart<'a> {
     pub part: &'a [u8],
 }
 
+impl AnswerStart<'_> {
+    /// Returns the status of a CBOR answer.
+    fn status(&self) -> Option<u8> {
+        match self.part {
+            [status, ..] if self.command == CBOR && self.extent.length > 0 => Some(*status),
+            _ => None,
+        }
+    }
+
+    /// Returns whether it can be that of a message: of a whole one with its command.
+    fn is_of(&self, message: &Option<Followed>) -> bool {
+        matches!(message, Some(message)
+            if message.extent.is_whole() && message.transaction.message == self.command)
+    }
+}
+
 /// An answer that a packet goes on with.
 #[derive(Clone, Copy)]
 pub struct Answered {
@@ -56,15 +72,14 @@ impl Channel {
         if is_asked && !is_held {
             self.settle(ends);
         }
-        let Some(held) = &mut self.held else {
-            return None;
-        };
-        if !held.is_served() {
-            return None;
+        match &mut self.held {
+            Some(held) if held.is_served() => {
+                held.keepalives = held.keepalives.saturating_add(1);
+                self.since = self.since.saturating_add(1);
+                Some(held.transaction)
+            }
+            _ => None,
         }
-        held.keepalives = held.keepalives.saturating_add(1);
-        self.since = self.since.saturating_add(1);
-        Some(held.transaction)
     }
 
     /// Takes an ERROR with this code, and returns the transaction that it is for, and whether it shows that the packet
@@ -78,40 +93,39 @@ impl Channel {
         if code != TIMED_OUT {
             return (self.refuse_one(code, ends), false);
         }
-        if self.is_asked_open() {
+        // It may be that of the message that was asked, so that this has the channel.
+        if let Some(asked) = &self.asked
+            && let Some(held) = &self.held
+            && !asked.extent.is_whole()
+            && (held.extent.is_whole() || asked.after < NO_TIME_OUT)
+        {
             self.settle(ends);
         }
         let is_late = self.leave_out(doubtful);
-        let is_open = matches!(&self.held, Some(held) if !held.extent.is_whole());
-        if is_open && let Some(held) = self.free(ends) {
+        if let Some(held) = &self.held
+            && !held.extent.is_whole()
+            && let Some(held) = self.free(ends)
+        {
             ends.add(held, End::Refused(code));
             return (Some(held.transaction), is_late);
         }
         (self.refuse_one(code, ends), is_late)
     }
 
-    /// Returns whether a time-out is that of the message that was asked, so that it has the channel.
-    fn is_asked_open(&self) -> bool {
-        match (&self.held, &self.asked) {
-            (Some(held), Some(asked)) => !asked.extent.is_whole()
-                && (held.extent.is_whole() || asked.after < NO_TIME_OUT),
-            _ => false,
-        }
-    }
-
     /// Leaves out of the open message the packet that may have come too late for it. Returns whether there is one.
     fn leave_out(&mut self, doubtful: Option<&Doubtful>) -> bool {
-        let (Some(held), Some(doubtful)) = (&mut self.held, doubtful) else {
-            return false;
-        };
-        if held.transaction.line != doubtful.of.line {
-            return false;
+        if let Some(doubtful) = doubtful
+            && let Some(held) = &mut self.held
+            && held.transaction.line == doubtful.of.line
+        {
+            if doubtful.is_next {
+                let came = held.extent.continuations;
+                held.extent.continuations = came.saturating_sub(1);
+            }
+            true
+        } else {
+            false
         }
-        if doubtful.is_next {
-            let came = held.extent.continuations;
-            held.extent.continuations = came.saturating_sub(1);
-        }
-        true
     }
 
     /// Ends the unfinished message that began before one that is refused with this code, where that ends it too.
@@ -121,10 +135,10 @@ impl Channel {
         } else {
             (INVALID_SEQUENCE, End::Replaced(refused.line))
         };
-        let is_ended = matches!(&self.held, Some(held)
-            if !held.extent.is_whole() && held.transaction.line < refused.line);
-        if is_ended
-            && code == cause
+        if code == cause
+            && let Some(held) = &self.held
+            && !held.extent.is_whole()
+            && held.transaction.line < refused.line
             && let Some(held) = self.free(ends)
         {
             ends.add(held, by);
@@ -203,15 +217,14 @@ impl Channel {
         {
             self.asserted = exchange.rp_id;
         }
-        let told = Told {
+        self.told = Told {
             line: answer.line,
             extent: answer.extent,
-            status: status_in(answer),
+            status: answer.status(),
             exchange,
         };
-        self.told = Some(told);
         self.end_told(ends);
-        told.of()
+        self.told.of()
     }
 
     /// Takes the INIT with the nonce of an answer. On a channel of its own it drops what began before it (section
@@ -233,9 +246,9 @@ impl Channel {
             return None;
         };
         let line = exchange.transaction.line;
-        let is_before = matches!(&self.held, Some(held) if held.transaction.line < line);
         if self.number != BROADCAST
-            && is_before
+            && let Some(held) = &self.held
+            && held.transaction.line < line
             && let Some(held) = self.free(ends)
         {
             ends.add(held, End::Dropped(line));
@@ -249,13 +262,13 @@ impl Channel {
         answer: &AnswerStart<'_>,
         ends: &mut EndedTransactions,
     ) -> Option<Followed> {
-        let is_of_asked = is_answered(&self.asked, answer);
-        let is_of_cancelled = matches!(status_in(answer), Some(CANCELLED))
-            && matches!(&self.held, Some(held) if held.waits() && held.cancelled.is_some());
-        if is_of_asked && !is_of_cancelled {
+        let is_of_cancelled = matches!(&self.held, Some(held)
+            if held.waits() && held.cancelled.is_some())
+            && matches!(answer.status(), Some(CANCELLED));
+        if !is_of_cancelled && answer.is_of(&self.asked) {
             self.settle(ends);
         }
-        if is_answered(&self.held, answer) {
+        if answer.is_of(&self.held) {
             self.free(ends)
         } else {
             None
@@ -264,47 +277,28 @@ impl Channel {
 
     /// Takes a continuation packet of the device's last message, if it is the next one.
     pub fn answer_on(&mut self, number: u8, ends: &mut EndedTransactions) -> Option<Answered> {
-        let Some(told) = &mut self.told else {
-            return None;
-        };
-        if told.extent.is_whole() || told.extent.continuations != number {
+        if !self.is_answering() || self.told.extent.continuations != number {
             return None;
         }
-        told.extent.continuations = number.saturating_add(1);
-        let answered = Answered {
-            line: told.line,
-            of: told.of(),
-            is_whole: told.extent.is_whole(),
-        };
+        self.told.extent.continuations = number.saturating_add(1);
         self.end_told(ends);
-        Some(answered)
+        Some(Answered {
+            line: self.told.line,
+            of: self.told.of(),
+            is_whole: !self.is_answering(),
+        })
     }
 
     /// Ends the transaction of the device's last message, if that is whole now.
     fn end_told(&mut self, ends: &mut EndedTransactions) {
-        if let Some(told) = &self.told
-            && told.extent.is_whole()
-            && let Some(exchange) = told.exchange
+        if !self.is_answering()
+            && let Some(exchange) = self.told.exchange
         {
-            let end = match told.status {
+            let end = match self.told.status {
                 Some(status) => End::Status(status),
                 None => End::Answered,
             };
             ends.add(exchange, end);
         }
-    }
-}
-
-/// Returns whether an answer can be that of a message: of a whole one with its command.
-fn is_answered(place: &Option<Followed>, answer: &AnswerStart<'_>) -> bool {
-    matches!(place, Some(exchange)
-        if exchange.extent.is_whole() && exchange.transaction.message == answer.command)
-}
-
-/// Returns the status of a CBOR answer.
-fn status_in(answer: &AnswerStart<'_>) -> Option<u8> {
-    match answer.part {
-        [status, ..] if answer.command == CBOR && answer.extent.length > 0 => Some(*status),
-        _ => None,
     }
 }

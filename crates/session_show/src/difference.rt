@@ -12,13 +12,13 @@ use crate::walk::LogWalk;
 use crate::wording::Wording;
 use hid_packet::{Outbox, Packet};
 use session_log::{Failed, Line, LogFault, Source, Target, Window, next_line, read_line};
-use token_session::{Session, Timed};
+use token_session::Session;
 
 /// More than the most lines of a log.
 const LINES: u64 = 1 << 33;
 
-/// The most packets of a message.
-const PACKETS: usize = 129;
+/// More than the most packets of a message.
+const PACKETS: usize = 130;
 
 /// A packet that differs, is missing or is one too many.
 #[derive(Clone, Copy)]
@@ -59,15 +59,6 @@ impl Difference {
             }
         }
         None
-    }
-
-    /// Returns the packet that the session sends, or else the log's.
-    fn packet(&self) -> Option<Packet> {
-        if self.sent.is_some() {
-            self.sent
-        } else {
-            self.logged
-        }
     }
 }
 
@@ -111,8 +102,9 @@ impl PlayedLog {
         }
     }
 
-    /// Takes the next line, with its number, and returns the difference that it shows. Where that is a packet that is
-    /// missing, the line isn't taken; where it is the line's packet, the walk has yet to take it.
+    /// Takes the next line, with its number, and returns the difference that it shows. An input steps the session, unless
+    /// the log lacks a packet of the input before: then the line isn't taken. Where the line's packet differs, the walk has
+    /// yet to take it.
     fn take<const C: usize>(
         &mut self,
         number: u64,
@@ -120,19 +112,30 @@ impl PlayedLog {
         said: &Line,
         session: &mut Session<C>,
     ) -> Option<Difference> {
-        let difference = match said {
-            Line::Sent(packet) => self.compare(number, packet),
-            Line::Input(timed) => self.play(number, timed, session),
-            Line::Comment => {
-                self.signed.take(number, line, &session.need());
-                None
+        match said {
+            Line::Sent(packet) => {
+                let difference = self.compare(number, packet);
+                if difference.is_some() {
+                    return difference;
+                }
             }
-            Line::Count => None,
-        };
-        if difference.is_none() {
-            self.walk.take(number, said);
+            Line::Input(timed) => {
+                self.has_differed = false;
+                if let Some(sent) = self.outbox.pop() {
+                    return Some(self.differ(number, None, Some(sent)));
+                }
+                session.step(timed.at, timed.input, &mut self.outbox);
+                self.awaited = Awaited::of(&session.need());
+                self.reply = Awaited::in_input(&timed.input);
+                self.signed.len = 0;
+                self.input = number;
+                self.compared = 0;
+            }
+            Line::Comment => self.signed.take(number, line, &session.need()),
+            Line::Count => {}
         }
-        difference
+        self.walk.take(number, said);
+        None
     }
 
     /// Compares a packet of the log with the one that the session sent.
@@ -152,31 +155,12 @@ impl PlayedLog {
         Some(self.differ(number, Some(*packet), sent))
     }
 
-    /// Steps the session, unless the log lacks a packet of the input before.
-    fn play<const C: usize>(
-        &mut self,
-        number: u64,
-        timed: &Timed,
-        session: &mut Session<C>,
-    ) -> Option<Difference> {
+    /// Goes on after a difference: drops the packets that the session sent after it, and lets the walk take the one that
+    /// differed.
+    fn pass_last(&mut self) {
         if self.has_differed {
-            self.has_differed = false;
             self.outbox = Outbox::new();
         }
-        if let Some(sent) = self.outbox.pop() {
-            return Some(self.differ(number, None, Some(sent)));
-        }
-        session.step(timed.at, timed.input, &mut self.outbox);
-        self.awaited = Awaited::of(&session.need());
-        self.reply = Awaited::in_input(&timed.input);
-        self.signed.len = 0;
-        self.input = number;
-        self.compared = 0;
-        None
-    }
-
-    /// Lets the walk take the packet that differed.
-    fn pass_last(&mut self) {
         if let Some((number, packet)) = self.last.take() {
             self.walk.take(number, &Line::Sent(packet));
         }
@@ -278,12 +262,13 @@ impl Comparison {
             };
             let difference = self.played.take(number, line, &said, session);
             // The line of an input before which a packet is missing is taken by the next call.
-            if !matches!(&difference, Some(missing) if missing.logged.is_none()) {
-                self.drop_line(end);
-            }
-            if difference.is_some() {
+            if let Some(found) = &difference {
+                if found.logged.is_some() {
+                    self.drop_line(end);
+                }
                 return Ok(difference);
             }
+            self.drop_line(end);
         }
         Ok(None)
     }
@@ -310,7 +295,7 @@ impl Comparison {
     /// Returns the transaction that the packet belongs to; of one that belongs to none, the one that holds its channel or
     /// was answered last there.
     pub fn transaction(&mut self, difference: &Difference) -> Option<Transaction> {
-        let Some(packet) = difference.packet() else {
+        let Some(packet) = difference.sent.or(difference.logged) else {
             return None;
         };
         self.aside.copy_from(&self.played.walk);
@@ -367,67 +352,56 @@ impl Comparison {
         logged: &mut T,
         sent: &mut T,
     ) -> Result<(), Failed> {
-        match self.put_sent(difference, sent) {
-            Ok(()) => self.put_logged(difference, reader, logged),
-            Err(failed) => Err(failed),
-        }
-    }
-
-    /// Writes the packet that the session sends, and its message.
-    fn put_sent<T: Target>(
-        &mut self,
-        difference: &Difference,
-        writer: &mut T,
-    ) -> Result<(), Failed> {
-        let Some(packet) = &difference.sent else {
-            return Ok(());
-        };
-        self.aside.copy_from(&self.played.walk);
-        let mut next = Some(*packet);
-        for _ in 0..=PACKETS {
-            let Some(part) = next else {
-                break;
+        let line = difference.line;
+        if let Some(packet) = &difference.sent {
+            self.follow_sent(line, packet);
+            let side = Side {
+                walk: &self.aside,
+                packet,
+                line,
             };
-            if !goes_on_after(&mut self.aside, difference.line, &part) {
-                break;
-            }
-            next = self.played.outbox.pop();
+            put_counted(sent, &mut self.pen, &side)?;
         }
-        let side = Side {
-            walk: &self.aside,
-            packet,
-            line: difference.line,
-        };
-        put_counted(writer, &mut self.pen, &side)
-    }
-
-    /// Writes the packet that the log has, and its message.
-    fn put_logged<S: Source, T: Target>(
-        &mut self,
-        difference: &Difference,
-        reader: &mut S,
-        writer: &mut T,
-    ) -> Result<(), Failed> {
         let Some(packet) = &difference.logged else {
             return Ok(());
         };
-        self.played.last = None;
-        let mut next = Some(*packet);
-        for _ in 0..=PACKETS {
-            let Some(part) = next else {
-                break;
-            };
-            if !goes_on_after(&mut self.played.walk, difference.line, &part) {
-                break;
-            }
-            next = self.next_logged(reader);
-        }
+        self.follow_logged(line, packet, reader);
         let side = Side {
             walk: &self.played.walk,
             packet,
-            line: difference.line,
+            line,
         };
-        put_counted(writer, &mut self.pen, &side)
+        put_counted(logged, &mut self.pen, &side)
+    }
+
+    /// Goes on aside with the packet that the session sends, and those that complete its message.
+    fn follow_sent(&mut self, line: u64, packet: &Packet) {
+        self.aside.copy_from(&self.played.walk);
+        let mut next = Some(*packet);
+        for _ in 0..PACKETS {
+            let Some(part) = next else {
+                return;
+            };
+            if !goes_on_after(&mut self.aside, line, &part) {
+                return;
+            }
+            next = self.played.outbox.pop();
+        }
+    }
+
+    /// Goes on with the packet that the log has, and those that complete its message.
+    fn follow_logged<S: Source>(&mut self, line: u64, packet: &Packet, reader: &mut S) {
+        self.played.last = None;
+        let mut next = Some(*packet);
+        for _ in 0..PACKETS {
+            let Some(part) = next else {
+                return;
+            };
+            if !goes_on_after(&mut self.played.walk, line, &part) {
+                return;
+            }
+            next = self.next_logged(reader);
+        }
     }
 
     /// Returns the packet that the log has next, before any further input.

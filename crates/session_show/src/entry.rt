@@ -1,4 +1,5 @@
 //! The text for a line of a log.
+ghost use Rattle.session_show.specs.declared.wording.Wording.TheVariants.{Explained as explained};
 
 use crate::escape::write_escaped;
 use crate::exchange::{End, Ended, Extent, Followed, Transaction};
@@ -9,6 +10,7 @@ use crate::packet_line::write_packet;
 use crate::pen::Pen;
 use crate::putting::Written;
 use crate::walk::{LogWalk, Role};
+use crate::wording::Wording;
 use crate::words::{COMMANDS, STATUSES, fault_name, name_in, presence_word, write_name};
 use ctap_cbor::{Fault, check};
 use session_log::Line;
@@ -37,11 +39,15 @@ pub struct CborMessage<'a> {
 }
 
 impl<'a> CborMessage<'a> {
-    /// Returns the map that its item is, by its first byte.
-    pub fn map(&self, first: u8) -> Option<Map> {
-        match self.kind {
-            MessageKind::Request => Some(Map::Request(first)),
-            MessageKind::Answer => Some(Map::Answer(self.exchange?.transaction.command?)),
+    /// Returns the map that its item is, by its first byte. That of an answer to what isn't known has no names: no command
+    /// is 0.
+    pub fn map(&self, first: u8) -> Map {
+        if let MessageKind::Request = self.kind {
+            return Map::Request(first);
+        }
+        match self.exchange {
+            Some(exchange) => Map::Answer(exchange.transaction.command.unwrap_or(0)),
+            None => Map::Answer(0),
         }
     }
 }
@@ -76,11 +82,26 @@ pub struct Entry<'a> {
 
 /// What follows the lines of a log.
 pub trait Follows {
+    ghost use Rattle.std.specs.Prelude.{◌≡◌};
+    ghost use Rattle.session_show.specs.declared.wording.Wording.{Wording};
+
+    /// How its lines are worded.
+    ghost wording: { Wording };
+
+    fn wording() -> Wording
+        ensures { result ≡ wording };
+
     /// Takes the next line, which has this number and says this, and returns what is shown for it.
     fn next_entry<'a>(&'a mut self, number: u64, line: &'a [u8], said: &'a Line) -> Entry<'a>;
 }
 
 impl Follows for LogWalk {
+    ghost wording = { explained };
+
+    fn wording() -> Wording {
+        Wording::Explained
+    }
+
     fn next_entry<'a>(&'a mut self, number: u64, line: &'a [u8], said: &'a Line) -> Entry<'a> {
         self.take(number, said);
         self.entry(number, line, said)
@@ -138,15 +159,15 @@ fn write_item(pen: &mut Pen, item: &[u8], checked: &Result<(), Fault>) {
 
 /// Writes a line for each member of a message, and which credential a refusal excludes.
 fn write_more(pen: &mut Pen, number: u64, message: &CborMessage<'_>, first: u8, item: &[u8]) {
-    let Some(map) = message.map(first) else {
-        return;
-    };
+    let map = message.map(first);
     let Some(exchange) = message.exchange else {
         write_members(pen, number, map, item, b"");
         return;
     };
     write_members(pen, number, map, item, exchange.rp_id.bytes());
-    if let (EXCLUDED, Some(excluded)) = (first, &exchange.excluded) {
+    if first == EXCLUDED
+        && let Some(excluded) = &exchange.excluded
+    {
         pen.decimal(number);
         pen.text("   ");
         excluded.write(pen);
@@ -184,38 +205,25 @@ impl Written for Entry<'_> {
 fn write_input(pen: &mut Pen, timed: &Timed) {
     match &timed.input {
         Input::Packet(packet) => {
-            write_moment(pen, "> ", timed.at, " ");
+            pen.number_after("> ", timed.at);
+            pen.text(" ");
             write_packet(pen, packet);
         }
-        Input::Tick => write_moment(pen, "t ", timed.at, ""),
+        Input::Tick => pen.number_after("t ", timed.at),
         Input::Presence(presence) => {
-            write_moment(pen, "p ", timed.at, " ");
+            pen.number_after("p ", timed.at);
+            pen.text(" ");
             pen.text(presence_word(*presence));
         }
         Input::Key(key) => {
-            write_moment(
-                pen,
-                "k ",
-                timed.at,
-                if key.is_some() { " yes" } else { " no" },
-            );
+            pen.number_after("k ", timed.at);
+            pen.text(if key.is_some() { " yes" } else { " no" });
         }
         Input::Signature(signature) => {
-            write_moment(
-                pen,
-                "s ",
-                timed.at,
-                if signature.is_some() { " yes" } else { " no" },
-            );
+            pen.number_after("s ", timed.at);
+            pen.text(if signature.is_some() { " yes" } else { " no" });
         }
     }
-}
-
-/// Writes a letter, a moment and what comes after it.
-fn write_moment(pen: &mut Pen, letter: &str, moment: u64, after: &str) {
-    pen.text(letter);
-    pen.decimal(moment);
-    pen.text(after);
 }
 
 /// Writes a line for a transaction that ended, where that isn't by an answer or an ERROR to a whole message: those say it
@@ -232,8 +240,7 @@ fn write_ended(pen: &mut Pen, number: u64, ended: &Ended) {
         End::Forgotten => " not followed any longer, since too many channels are in use",
     };
     pen.decimal(number);
-    pen.text("   line ");
-    pen.decimal(exchange.transaction.line);
+    pen.number_after("   line ", exchange.transaction.line);
     pen.text(":");
     if !is_whole {
         write_extent(pen, &exchange.extent, " bytes came");
@@ -253,9 +260,7 @@ fn write_ended(pen: &mut Pen, number: u64, ended: &Ended) {
 
 /// Writes how much of a message came.
 pub fn write_extent(pen: &mut Pen, extent: &Extent, what: &str) {
-    pen.text(" ");
-    pen.decimal(extent.came() as u64);
-    pen.text(" of ");
-    pen.decimal(u64::from(extent.length));
+    pen.number_after(" ", extent.came() as u64);
+    pen.number_after(" of ", u64::from(extent.length));
     pen.text(what);
 }

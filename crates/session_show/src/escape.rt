@@ -43,20 +43,18 @@ pub fn write_char(pen: &mut Pen, c: char, is_json: bool) {
         pen.text(c.encode_utf8(&mut [0; 4]));
         return;
     }
-    match (c as u32).to_be_bytes() {
-        [_, 0, high, low] => pen.escape(high, low),
-        _ if is_json => {
-            let mut units = [0_u16; 2];
-            for unit in c.encode_utf16(&mut units) {
-                let [high, low] = unit.to_be_bytes();
-                pen.escape(high, low);
-            }
+    let [_, plane, high, low] = (c as u32).to_be_bytes();
+    if plane == 0 {
+        pen.escape(high, low);
+    } else if is_json {
+        for unit in c.encode_utf16(&mut [0; 2]) {
+            let [high, low] = unit.to_be_bytes();
+            pen.escape(high, low);
         }
-        [_, plane, high, low] => {
-            pen.text("\\u{");
-            pen.hex(&[plane, high, low]);
-            pen.text("}");
-        }
+    } else {
+        pen.text("\\u{");
+        pen.hex(&[plane, high, low]);
+        pen.text("}");
     }
 }
 

@@ -62,8 +62,7 @@ impl Written for Transaction {
         pen.hex(&[self.command.unwrap_or(self.message)]);
         pen.text(" on channel ");
         pen.hex(&self.channel.to_be_bytes());
-        pen.text(", from line ");
-        pen.decimal(self.line);
+        pen.number_after(", from line ", self.line);
     }
 }
 
@@ -86,14 +85,6 @@ pub struct Extent {
 }
 
 impl Extent {
-    /// Returns that of a message of so many bytes after its initialization packet.
-    pub fn begun(length: u16) -> Self {
-        Extent {
-            length,
-            continuations: 0,
-        }
-    }
-
     /// Returns how many bytes its packets carried.
     pub fn came(&self) -> usize {
         let most = INITIALIZATION_DATA + CONTINUATION_DATA * usize::from(self.continuations);

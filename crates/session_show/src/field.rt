@@ -68,38 +68,23 @@ fn first_number(bytes: &[u8]) -> Option<(&[u8], &[u8])> {
     let Some((number, rest)) = split(rest, usize::from(*len)) else {
         return None;
     };
-    let is_shortest = match number {
-        [] => false,
-        [0, second, ..] => *second >= 128,
-        [first, ..] => *first < 128,
-    };
-    if is_shortest {
-        Some((number, rest))
-    } else {
-        None
-    }
-}
-
-/// Returns the bytes of a signature's two numbers, where it is well formed.
-fn numbers_of(signature: &[u8]) -> Option<(&[u8], &[u8])> {
-    let [0x30, len, rest @ ..] = signature else {
-        return None;
-    };
-    if usize::from(*len) != rest.len() {
-        return None;
-    }
-    let Some((r, rest)) = first_number(rest) else {
-        return None;
-    };
-    match first_number(rest) {
-        Some((s, [])) => Some((r, s)),
+    match number {
+        [0] | [1..=127, ..] | [0, 128..=255, ..] => Some((number, rest)),
         _ => None,
     }
 }
 
 /// Writes a line for each of a signature's two numbers, where it is well formed.
 pub fn write_signature(pen: &mut Pen, number: u64, signature: &[u8]) {
-    if let Some((r, s)) = numbers_of(signature) {
+    let [0x30, len, rest @ ..] = signature else {
+        return;
+    };
+    if usize::from(*len) != rest.len() {
+        return;
+    }
+    if let Some((r, rest)) = first_number(rest)
+        && let Some((s, [])) = first_number(rest)
+    {
         write_bytes(pen, number, "r ", r);
         write_bytes(pen, number, "s ", s);
     }

@@ -51,10 +51,8 @@ pub fn write_checked(pen: &mut Pen, item: &[u8], checked: &Result<(), Fault>) {
     match checked {
         Ok(()) => write_value(pen, &mut Cursor::new(item), 1, DIAGNOSTIC, &[]),
         Err(fault) => {
-            pen.text("fault ");
-            pen.decimal(u64::from(fault.kind.number()));
-            pen.text(" at ");
-            pen.decimal(fault.at as u64);
+            pen.number_after("fault ", u64::from(fault.kind.number()));
+            pen.number_after(" at ", fault.at as u64);
         }
     }
 }
@@ -162,28 +160,23 @@ pub fn write_scalar(pen: &mut Pen, item: Item<'_>, notation: &Notation) {
     }
 }
 
-/// Writes a text of other people, between quotation marks.
+/// Writes a text of other people, between quotation marks, with a backslash before `"` and `\`.
 pub fn write_text(pen: &mut Pen, text: &str, is_json: bool) {
     pen.text("\"");
     if is_plain(text.as_bytes()) {
         pen.bytes(text.as_bytes());
     } else {
-        write_characters(pen, text, is_json);
+        for c in text.chars() {
+            // What comes after a whole part is dropped.
+            if pen.is_full() {
+                break;
+            }
+            match c {
+                '"' => pen.text("\\\""),
+                '\\' => pen.text("\\\\"),
+                _ => write_char(pen, c, is_json),
+            }
+        }
     }
     pen.text("\"");
-}
-
-/// Writes the characters of a text one by one, with a backslash before `"` and `\`.
-fn write_characters(pen: &mut Pen, text: &str, is_json: bool) {
-    for c in text.chars() {
-        // What comes after a whole part is dropped.
-        if pen.is_full() {
-            break;
-        }
-        match c {
-            '"' => pen.text("\\\""),
-            '\\' => pen.text("\\\\"),
-            _ => write_char(pen, c, is_json),
-        }
-    }
 }

@@ -8,8 +8,7 @@ use ctap_cbor::Cursor;
 
 /// Begins the object of this kind for a line.
 pub fn begin_object(pen: &mut Pen, number: u64, kind: &str) {
-    pen.text("{\"line\":");
-    pen.decimal(number);
+    pen.number_after("{\"line\":", number);
     pen.text(",\"kind\":\"");
     pen.text(kind);
     pen.text("\"");
@@ -23,10 +22,15 @@ pub fn begin_member(pen: &mut Pen, name: &str) {
 }
 
 /// Writes a member that is a number.
+pub fn write_integer(pen: &mut Pen, name: &str, number: u64) {
+    begin_member(pen, name);
+    pen.decimal(number);
+}
+
+/// Writes a member that is a number, where there is one.
 pub fn write_number(pen: &mut Pen, name: &str, number: Option<u64>) {
     if let Some(number) = number {
-        begin_member(pen, name);
-        pen.decimal(number);
+        write_integer(pen, name, number);
     }
 }
 

@@ -3,8 +3,8 @@
 use crate::entry::{CborMessage, MessageKind, Own};
 use crate::exchange::{End, Ended, Extent};
 use crate::json::{
-    begin_object, write_diagnostic, write_flag, write_hex, write_item, write_number, write_string,
-    write_word,
+    begin_object, write_diagnostic, write_flag, write_hex, write_integer, write_item, write_number,
+    write_string, write_word,
 };
 use crate::packet_line::{channel_of, codes_of};
 use crate::pen::Pen;
@@ -15,7 +15,7 @@ use hid_packet::{Packet, View};
 use session_log::Line;
 use token_session::{Input, Timed};
 
-/// Writes the objects of a line.
+/// Writes the objects of a line. A comment that isn't UTF-8 is written in hexadecimal digits.
 pub fn write_line(pen: &mut Pen, own: &Own<'_>) {
     match own.said {
         Line::Input(timed) => match &timed.input {
@@ -23,53 +23,43 @@ pub fn write_line(pen: &mut Pen, own: &Own<'_>) {
             _ => write_reply(pen, own, timed),
         },
         Line::Sent(packet) => write_packet(pen, own, "key", None, packet),
-        Line::Comment if !own.line.is_empty() => write_comment(pen, own),
+        Line::Comment if !own.line.is_empty() => {
+            begin_object(pen, own.number, "comment");
+            match std::str::from_utf8(own.line) {
+                Ok(text) => write_string(pen, "text", Some(text)),
+                Err(_) => write_hex(pen, "bytes", own.line),
+            }
+            pen.text("}\n");
+        }
         Line::Comment | Line::Count => {}
     }
-}
-
-/// Writes the object of a comment. One that isn't UTF-8 is written in hexadecimal digits.
-fn write_comment(pen: &mut Pen, own: &Own<'_>) {
-    begin_object(pen, own.number, "comment");
-    match std::str::from_utf8(own.line) {
-        Ok(text) => write_string(pen, "text", Some(text)),
-        Err(_) => write_hex(pen, "bytes", own.line),
-    }
-    pen.text("}\n");
 }
 
 /// Writes the line that the transaction of a line began at.
 fn write_began(pen: &mut Pen, own: &Own<'_>) {
     if let Some(transaction) = &own.of {
-        write_number(pen, "transaction", Some(transaction.line));
+        write_integer(pen, "transaction", transaction.line);
     }
 }
 
 /// Writes the object of a tick or a reply.
 fn write_reply(pen: &mut Pen, own: &Own<'_>, timed: &Timed) {
+    let kind = match &timed.input {
+        Input::Presence(_) => "presence",
+        Input::Key(_) => "key",
+        Input::Signature(_) => "signature",
+        Input::Packet(_) | Input::Tick => "tick",
+    };
+    begin_object(pen, own.number, kind);
+    write_integer(pen, "moment", timed.at);
+    write_began(pen, own);
     match &timed.input {
-        Input::Presence(presence) => {
-            begin_reply(pen, own, "presence", timed.at);
-            write_word(pen, "reply", Some(presence_word(*presence)));
-        }
-        Input::Key(key) => {
-            begin_reply(pen, own, "key", timed.at);
-            write_flag(pen, "had", key.is_some());
-        }
-        Input::Signature(signature) => {
-            begin_reply(pen, own, "signature", timed.at);
-            write_flag(pen, "had", signature.is_some());
-        }
-        Input::Packet(_) | Input::Tick => begin_reply(pen, own, "tick", timed.at),
+        Input::Presence(presence) => write_word(pen, "reply", Some(presence_word(*presence))),
+        Input::Key(key) => write_flag(pen, "had", key.is_some()),
+        Input::Signature(signature) => write_flag(pen, "had", signature.is_some()),
+        Input::Packet(_) | Input::Tick => {}
     }
     pen.text("}\n");
-}
-
-/// Begins the object of a tick or a reply.
-fn begin_reply(pen: &mut Pen, own: &Own<'_>, kind: &str, moment: u64) {
-    begin_object(pen, own.number, kind);
-    write_number(pen, "moment", Some(moment));
-    write_began(pen, own);
 }
 
 /// Writes the object of a packet, which came from there at a moment, and that of the message that it ends.
@@ -81,9 +71,20 @@ fn write_packet(pen: &mut Pen, own: &Own<'_>, from: &str, moment: Option<u64>, p
     write_began(pen, own);
     write_hex(pen, "channel", &channel.to_be_bytes());
     match packet.view() {
-        View::Start { cmd, len, part, .. } => write_start(pen, cmd, len, part),
+        View::Start { cmd, len, part, .. } => {
+            write_integer(pen, "command", u64::from(cmd));
+            write_word(pen, "name", name_in(MESSAGES, i128::from(cmd)));
+            write_integer(pen, "length", u64::from(len));
+            if let Some(names) = codes_of(cmd)
+                && let [code, ..] = part
+            {
+                write_code(pen, "code", "codeName", *code, names);
+            }
+            let carried = part.len().min(usize::from(len));
+            write_hex(pen, "data", part.split_at(carried).0);
+        }
         View::More { seq, part, .. } => {
-            write_number(pen, "sequence", Some(u64::from(seq)));
+            write_integer(pen, "sequence", u64::from(seq));
             write_hex(pen, "data", part);
         }
     }
@@ -91,18 +92,6 @@ fn write_packet(pen: &mut Pen, own: &Own<'_>, from: &str, moment: Option<u64>, p
     if let Some(message) = &own.message {
         write_message(pen, own, channel, message);
     }
-}
-
-/// Writes what an initialization packet says.
-fn write_start(pen: &mut Pen, command: u8, len: u16, part: &[u8]) {
-    write_number(pen, "command", Some(u64::from(command)));
-    write_word(pen, "name", name_in(MESSAGES, i128::from(command)));
-    write_number(pen, "length", Some(u64::from(len)));
-    if let (Some(names), [code, ..]) = (codes_of(command), part) {
-        write_code(pen, "code", "codeName", *code, names);
-    }
-    let carried = part.len().min(usize::from(len));
-    write_hex(pen, "data", part.split_at(carried).0);
 }
 
 /// Writes the object of a message.
@@ -137,17 +126,13 @@ fn write_message(pen: &mut Pen, own: &Own<'_>, channel: u32, message: &CborMessa
             }
         }
     }
-    let names = match message.map(*first) {
-        Some(map) => map.names(),
-        None => &[],
-    };
-    write_data(pen, item, &checked, names);
+    write_data(pen, item, &checked, message.map(*first).names());
     pen.text("}\n");
 }
 
 /// Writes a number and its name, as two members.
 pub fn write_code(pen: &mut Pen, number_is: &str, name_is: &str, number: u8, names: Names) {
-    write_number(pen, number_is, Some(u64::from(number)));
+    write_integer(pen, number_is, u64::from(number));
     write_word(pen, name_is, name_in(names, i128::from(number)));
 }
 
@@ -168,8 +153,8 @@ fn write_data(pen: &mut Pen, item: &[u8], checked: &Result<(), Fault>, names: Na
             write_item(pen, "value", item, names);
         }
         Err(fault) => {
-            write_number(pen, "fault", Some(u64::from(fault.kind.number())));
-            write_number(pen, "at", Some(fault.at as u64));
+            write_integer(pen, "fault", u64::from(fault.kind.number()));
+            write_integer(pen, "at", fault.at as u64);
         }
     }
     write_hex(pen, "bytes", item);
@@ -179,7 +164,7 @@ fn write_data(pen: &mut Pen, item: &[u8], checked: &Result<(), Fault>, names: Na
 pub fn write_transaction(pen: &mut Pen, number: u64, ended: &Ended) {
     let exchange = &ended.exchange;
     begin_object(pen, number, "transaction");
-    write_number(pen, "transaction", Some(exchange.transaction.line));
+    write_integer(pen, "transaction", exchange.transaction.line);
     write_hex(pen, "channel", &exchange.transaction.channel.to_be_bytes());
     write_word(pen, "name", Some(exchange.transaction.name()));
     write_string(pen, "rpId", exchange.rp_id.text());
@@ -189,14 +174,14 @@ pub fn write_transaction(pen: &mut Pen, number: u64, ended: &Ended) {
     }
     write_number(pen, "cancelled", exchange.cancelled);
     write_number(pen, "userTook", exchange.took);
-    write_number(pen, "keepalives", Some(exchange.keepalives));
+    write_integer(pen, "keepalives", exchange.keepalives);
     pen.text("}\n");
 }
 
 /// Writes how much of a message came, and how long it is.
 fn write_extent(pen: &mut Pen, came_is: &str, length_is: &str, extent: &Extent) {
-    write_number(pen, came_is, Some(extent.came() as u64));
-    write_number(pen, length_is, Some(u64::from(extent.length)));
+    write_integer(pen, came_is, extent.came() as u64);
+    write_integer(pen, length_is, u64::from(extent.length));
 }
 
 /// Writes how a transaction ended.
@@ -216,7 +201,7 @@ fn write_end(pen: &mut Pen, end: &End) {
         End::Status(status) => write_code(pen, "status", "statusName", *status, STATUSES),
         End::Refused(code) => write_code(pen, "code", "codeName", *code, ERRORS),
         End::Cut(extent) => write_extent(pen, "answerCame", "answerLength", extent),
-        End::Dropped(line) | End::Replaced(line) => write_number(pen, "by", Some(*line)),
+        End::Dropped(line) | End::Replaced(line) => write_integer(pen, "by", *line),
         End::Answered | End::Forgotten | End::Open => {}
     }
 }

@@ -10,7 +10,7 @@ use crate::channels::OPEN;
 use crate::counts::Counts;
 use crate::entry::Entry;
 use crate::exchange::Ended;
-use crate::json::{write_number, write_word};
+use crate::json::{write_integer, write_word};
 use crate::json_line::{write_line, write_transaction};
 use crate::pen::Pen;
 use crate::putting::{Written, put_written};
@@ -21,7 +21,7 @@ use crate::wording::Wording;
 use session_log::{Failed, LogFault, Source, Target, read_line};
 
 /// What is written of a log.
-#[derive(Clone, Copy, PartialEq, Eq)]
+#[derive(Clone, Copy)]
 pub enum LogForm {
     /// As a table of transactions, and lines of counts.
     Table,
@@ -77,7 +77,7 @@ impl LogWriter {
 
 /// Writes a transaction, in a table after its head where it is the first one.
 fn write_ended(pen: &mut Pen, form: LogForm, number: u64, ended: &Ended, has_head: bool) {
-    if form != LogForm::Table {
+    if !matches!(form, LogForm::Table) {
         write_transaction(pen, number, ended);
         return;
     }
@@ -102,7 +102,7 @@ struct LogEnd<'a> {
 impl Written for LogEnd<'_> {
     fn write(&self, pen: &mut Pen) {
         if let Some(late) = &self.walk.late()
-            && self.form == LogForm::Objects
+            && matches!(self.form, LogForm::Objects)
         {
             write_line(pen, late);
         }
@@ -134,7 +134,7 @@ struct Lines<'a> {
 impl Written for Lines<'_> {
     fn write(&self, pen: &mut Pen) {
         let entry = &self.entry;
-        if self.form == LogForm::Objects {
+        if matches!(self.form, LogForm::Objects) {
             if let Some(late) = &entry.late {
                 write_line(pen, late);
             }
@@ -217,20 +217,29 @@ struct FaultObject<'a>(&'a LogFault);
 
 impl Written for FaultObject<'_> {
     fn write(&self, pen: &mut Pen) {
-        let (reason, line, packet) = match *self.0 {
-            LogFault::BadLine(line) => ("not a log line", Some(line), None),
-            LogFault::TooLong(line) => ("longer than 255 bytes", Some(line), None),
-            LogFault::Differs { line, packet } => ("differs", Some(line), Some(packet)),
-            LogFault::Read(line) => ("reading failed", Some(line), None),
-            LogFault::Write => ("writing failed", None, None),
-            LogFault::TooManyLines => ("too many lines", None, None),
-            LogFault::Memory(line) => ("no memory", Some(line), None),
+        let reason = match self.0 {
+            LogFault::BadLine(_) => "not a log line",
+            LogFault::TooLong(_) => "longer than 255 bytes",
+            LogFault::Differs { .. } => "differs",
+            LogFault::Read(_) => "reading failed",
+            LogFault::Write => "writing failed",
+            LogFault::TooManyLines => "too many lines",
+            LogFault::Memory(_) => "no memory",
         };
         pen.text("{\"kind\":\"fault\"");
-        write_number(pen, "number", Some(u64::from(self.0.number())));
+        write_integer(pen, "number", u64::from(self.0.number()));
         write_word(pen, "reason", Some(reason));
-        write_number(pen, "line", line);
-        write_number(pen, "packet", packet);
+        match *self.0 {
+            LogFault::BadLine(line)
+            | LogFault::TooLong(line)
+            | LogFault::Read(line)
+            | LogFault::Memory(line) => write_integer(pen, "line", line),
+            LogFault::Differs { line, packet } => {
+                write_integer(pen, "line", line);
+                write_integer(pen, "packet", packet);
+            }
+            LogFault::Write | LogFault::TooManyLines => {}
+        }
         pen.text("}\n");
     }
 }

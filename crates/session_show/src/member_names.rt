@@ -19,14 +19,19 @@ impl Map {
     /// Returns the names of its members.
     pub fn names(self) -> Names {
         match self {
-            Map::Request(0x01) => MAKE_CREDENTIAL,
-            Map::Request(0x02) => GET_ASSERTION,
-            Map::Request(0x06) => CLIENT_PIN,
-            Map::Answer(0x01) => CREATED,
-            Map::Answer(0x02 | 0x08) => ASSERTED,
-            Map::Answer(0x04) => INFO,
-            Map::Answer(0x06) => PIN,
-            Map::Request(_) | Map::Answer(_) => &[],
+            Map::Request(command) => match command {
+                0x01 => MAKE_CREDENTIAL,
+                0x02 => GET_ASSERTION,
+                0x06 => CLIENT_PIN,
+                _ => &[],
+            },
+            Map::Answer(command) => match command {
+                0x01 => CREATED,
+                0x02 | 0x08 => ASSERTED,
+                0x04 => INFO,
+                0x06 => PIN,
+                _ => &[],
+            },
             Map::Key => KEY,
             Map::RsaKey => RSA_KEY,
         }
@@ -34,10 +39,13 @@ impl Map {
 
     /// Returns the name of a value of the member with this key.
     pub fn name_of(self, key: i128, value: i128) -> Option<&'static str> {
-        match (self, key) {
-            (Map::Key | Map::RsaKey, 1) => name_in(KEY_TYPES, value),
-            (Map::Key | Map::RsaKey, 3) => name_in(ALGORITHMS, value),
-            (Map::Key | Map::RsaKey, -1) => name_in(CURVES, value),
+        if !matches!(self, Map::Key | Map::RsaKey) {
+            return None;
+        }
+        match key {
+            1 => name_in(KEY_TYPES, value),
+            3 => name_in(ALGORITHMS, value),
+            -1 => name_in(CURVES, value),
             _ => None,
         }
     }

@@ -6,20 +6,16 @@ use hid_packet::{LONGEST_MESSAGE, Packet, View, command};
 /// The longest message, in bytes.
 const LONGEST: usize = LONGEST_MESSAGE as usize;
 
-/// A message whose last packet has yet to come.
-#[derive(Clone, Copy)]
-struct Unfinished {
+/// The CBOR message of one direction that began last.
+#[derive(Drop, Default)]
+pub struct Collector {
     cid: u32,
+    /// How many bytes the message has, 0 where none is under way.
     len: u16,
     /// The sequence number of the next packet.
     next: u8,
-}
-
-/// The CBOR message of one direction that began last: its bytes so far, at most 7609.
-#[derive(Drop, Default)]
-pub struct Collector {
+    /// Its bytes so far, at most 7609.
     bytes: ArrayVec<u8, LONGEST>,
-    unfinished: Option<Unfinished>,
 }
 
 impl Collector {
@@ -28,42 +24,39 @@ impl Collector {
     /// An initialization packet begins anew. The continuation packet that comes next on the message's channel
     /// is kept, and every other one is passed over. A message of more than 7609 bytes isn't collected.
     pub fn add(&mut self, packet: &Packet) -> Option<&[u8]> {
-        let (unfinished, part) = match packet.view() {
+        let part = match packet.view() {
             View::Start {
                 cid,
                 cmd,
                 len,
                 part,
             } => {
-                self.unfinished = None;
+                let is_kept = cmd == command::CBOR && len <= LONGEST_MESSAGE;
+                self.cid = cid;
+                self.len = if is_kept { len } else { 0 };
+                self.next = 0;
                 self.bytes.clear();
-                if cmd != command::CBOR || len == 0 || len > LONGEST_MESSAGE {
-                    return None;
-                }
-                (Unfinished { cid, len, next: 0 }, part)
+                part
             }
             View::More { cid, seq, part } => {
-                let unfinished = self.unfinished?;
-                if cid != unfinished.cid || seq != unfinished.next {
+                if cid != self.cid || seq != self.next {
                     return None;
                 }
-                let next = seq.saturating_add(1);
-                (Unfinished { next, ..unfinished }, part)
+                self.next = seq.saturating_add(1);
+                part
             }
         };
-        self.keep(unfinished, part)
-    }
-
-    /// Keeps what a packet carries of a message, and returns the message if it is whole.
-    fn keep(&mut self, unfinished: Unfinished, part: &[u8]) -> Option<&[u8]> {
-        let missing = usize::from(unfinished.len).saturating_sub(self.bytes.len());
-        let more = part.split_at(missing.min(part.len())).0;
-        let _ = self.bytes.try_extend_from_slice(more);
-        if self.bytes.len() < usize::from(unfinished.len) {
-            self.unfinished = Some(unfinished);
+        if self.len == 0 {
             return None;
         }
-        self.unfinished = None;
+        let len = usize::from(self.len);
+        let missing = len.saturating_sub(self.bytes.len());
+        let more = part.split_at(missing.min(part.len())).0;
+        let _ = self.bytes.try_extend_from_slice(more);
+        if self.bytes.len() < len {
+            return None;
+        }
+        self.len = 0;
         Some(self.bytes.as_slice())
     }
 }

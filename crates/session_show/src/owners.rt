@@ -28,13 +28,11 @@ impl Written for Owned<'_> {
             None => 0,
         };
         pen.decimal(transaction);
-        pen.text(" ");
-        pen.decimal(walk.message_line);
+        pen.number_after(" ", walk.message_line);
         if let Some(late) = walk.late()
             && late.of.is_none()
         {
-            pen.text(" l");
-            pen.decimal(late.number);
+            pen.number_after(" l", late.number);
         }
         for ended in walk.ends.0.as_slice() {
             write_end(pen, ended);
@@ -45,22 +43,23 @@ impl Written for Owned<'_> {
 
 /// Writes how a transaction ended: a letter, the line that it began at, and the status, code or line that ended it.
 fn write_end(pen: &mut Pen, ended: &Ended) {
-    let (letter, number) = match ended.end {
-        End::Status(status) => (" s", Some(u64::from(status))),
-        End::Answered => (" a", None),
-        End::Cut(_) => (" c", None),
-        End::Refused(code) => (" e", Some(u64::from(code))),
-        End::Dropped(line) => (" d", Some(line)),
-        End::Replaced(line) => (" r", Some(line)),
-        End::Forgotten => (" f", None),
+    let letter = match ended.end {
+        End::Status(_) => " s",
+        End::Answered => " a",
+        End::Cut(_) => " c",
+        End::Refused(_) => " e",
+        End::Dropped(_) => " d",
+        End::Replaced(_) => " r",
+        End::Forgotten => " f",
         End::Open => return,
     };
-    pen.text(letter);
-    pen.decimal(ended.exchange.transaction.line);
-    if let Some(number) = number {
-        pen.text(":");
-        pen.decimal(number);
-    }
+    pen.number_after(letter, ended.exchange.transaction.line);
+    let number = match ended.end {
+        End::Status(number) | End::Refused(number) => u64::from(number),
+        End::Dropped(line) | End::Replaced(line) => line,
+        End::Answered | End::Cut(_) | End::Forgotten | End::Open => return,
+    };
+    pen.number_after(":", number);
 }
 
 /// What is kept from line to line.

@@ -15,15 +15,34 @@ pub fn channel_of(packet: &Packet) -> u32 {
     }
 }
 
-/// Writes a packet's channel, and then its command and the length of its message, or its sequence number.
+/// Writes a packet's channel, and then its sequence number; or its command, `0x` and two digits where it has no name, and
+/// the length of its message. Of ERROR and KEEPALIVE the first data byte follows. Explained, then comes what the data says,
+/// in words.
 pub fn write_packet(pen: &mut Pen, packet: &Packet) {
     pen.hex(&channel_of(packet).to_be_bytes());
     match packet.view() {
-        View::Start { cmd, len, part, .. } => write_start(pen, cmd, len, part),
-        View::More { seq, .. } => {
-            pen.text(" +");
-            pen.decimal(u64::from(seq));
+        View::Start { cmd, len, part, .. } => {
+            pen.text(" ");
+            match name_in(MESSAGES, i128::from(cmd)) {
+                Some(name) => pen.text(name),
+                None => {
+                    pen.text("0x");
+                    pen.hex(&[cmd]);
+                }
+            }
+            pen.number_after(" ", u64::from(len));
+            if let Some(names) = codes_of(cmd)
+                && let [code, ..] = part
+            {
+                pen.text(" ");
+                pen.hex(&[*code]);
+                write_name(pen, name_in(names, i128::from(*code)));
+            }
+            if cmd == INIT && pen.explains {
+                write_init(pen, len, part);
+            }
         }
+        View::More { seq, .. } => pen.number_after(" +", u64::from(seq)),
     }
 }
 
@@ -33,29 +52,6 @@ pub fn codes_of(command: u8) -> Option<Names> {
         ERROR => Some(ERRORS),
         KEEPALIVE => Some(KEEPALIVES),
         _ => None,
-    }
-}
-
-/// Writes an initialization packet's command, `0x` and two digits where it has no name, and the length of its message.
-/// Of ERROR and KEEPALIVE the first data byte follows. Explained, then comes what the data says, in words.
-fn write_start(pen: &mut Pen, command: u8, len: u16, part: &[u8]) {
-    pen.text(" ");
-    match name_in(MESSAGES, i128::from(command)) {
-        Some(name) => pen.text(name),
-        None => {
-            pen.text("0x");
-            pen.hex(&[command]);
-        }
-    }
-    pen.text(" ");
-    pen.decimal(u64::from(len));
-    if let (Some(names), [code, ..]) = (codes_of(command), part) {
-        pen.text(" ");
-        pen.hex(&[*code]);
-        write_name(pen, name_in(names, i128::from(*code)));
-    }
-    if command == INIT && pen.explains {
-        write_init(pen, len, part);
     }
 }
 
@@ -78,14 +74,10 @@ fn write_init(pen: &mut Pen, len: u16, part: &[u8]) {
     };
     pen.text(" channel ");
     pen.hex(channel);
-    pen.text(" version ");
-    pen.decimal(u64::from(*version));
-    pen.text(" device ");
-    pen.decimal(u64::from(*major));
-    pen.text(".");
-    pen.decimal(u64::from(*minor));
-    pen.text(".");
-    pen.decimal(u64::from(*build));
+    pen.number_after(" version ", u64::from(*version));
+    pen.number_after(" device ", u64::from(*major));
+    pen.number_after(".", u64::from(*minor));
+    pen.number_after(".", u64::from(*build));
     pen.text(" capabilities ");
     write_flags(pen, *capabilities, CAPABILITIES);
 }

@@ -129,6 +129,12 @@ impl Pen {
         self.text(buffer.format(number));
     }
 
+    /// Writes a text, and a number in decimal digits after it.
+    pub fn number_after(&mut self, text: &str, number: u64) {
+        self.text(text);
+        self.decimal(number);
+    }
+
     /// Writes an integer in decimal digits, with a sign below zero.
     pub fn integer(&mut self, number: i128) {
         // Most are small, and those are written in fewer steps.

@@ -97,7 +97,9 @@ impl Pool {
 
     /// Returns the bytes of a message, where it is kept.
     pub fn bytes(&self, line: u64) -> Option<&[u8]> {
-        let place = self.place(line)?;
-        Some(self.kept[place].bytes.as_slice())
+        match self.place(line) {
+            Some(place) => Some(self.kept[place].bytes.as_slice()),
+            None => None,
+        }
     }
 }

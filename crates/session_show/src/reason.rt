@@ -2,7 +2,6 @@
 
 use crate::difference::Difference;
 use crate::entry::{EXCLUDED, write_extent};
-use crate::exchange::Followed;
 use crate::packet_line::channel_of;
 use crate::pen::Pen;
 use crate::putting::Written;
@@ -16,7 +15,7 @@ use token_session::Input;
 const CHANNEL_BUSY: u8 = 0x06;
 
 /// What a key waits for.
-#[derive(Clone, Copy, PartialEq, Eq)]
+#[derive(Clone, Copy)]
 pub enum Awaited {
     Presence,
     Key,
@@ -64,10 +63,10 @@ pub struct Reason<'a> {
 impl Written for Reason<'_> {
     /// Writes a line, or nothing.
     fn write(&self, pen: &mut Pen) {
-        match (&self.difference.logged, &self.difference.sent) {
-            (Some(logged), None) => self.write_waiting(pen, channel_of(logged)),
-            (_, Some(sent)) => self.write_refusal(pen, sent),
-            _ => {}
+        if let Some(sent) = &self.difference.sent {
+            self.write_refusal(pen, sent);
+        } else if let Some(logged) = &self.difference.logged {
+            self.write_waiting(pen, channel_of(logged));
         }
     }
 }
@@ -80,15 +79,23 @@ impl Reason<'_> {
             && let Some(open) = &found.held
             && !open.extent.is_whole()
         {
-            write_missing(pen, open);
+            pen.number_after(
+                "  it still waits for packet +",
+                u64::from(open.extent.continuations),
+            );
+            pen.number_after(" of the message from line ", open.transaction.line);
+            pen.text(":");
+            write_extent(pen, &open.extent, " bytes came\n");
         } else if let Some(awaited) = self.difference.awaited {
             self.write_awaited(pen, awaited);
         } else if let Some(found) = found
-            && let Some(told) = &found.told
-            && told.extent.is_whole()
+            && found.told.line > 0
+            && !found.is_answering()
         {
-            pen.text("  nothing waits: its last answer on this channel is that of line ");
-            pen.decimal(told.line);
+            pen.number_after(
+                "  nothing waits: its last answer on this channel is that of line ",
+                found.told.line,
+            );
             pen.text("\n");
         }
     }
@@ -100,8 +107,7 @@ impl Reason<'_> {
         if let Some(reply) = self.difference.reply
             && reply as u8 != awaited as u8
         {
-            pen.text("; line ");
-            pen.decimal(self.difference.input);
+            pen.number_after("; line ", self.difference.input);
             pen.text(" is ");
             pen.text(reply.name());
         }
@@ -137,14 +143,4 @@ impl Reason<'_> {
             excluded.write(pen);
         }
     }
-}
-
-/// Writes which packet of a message is missing.
-fn write_missing(pen: &mut Pen, open: &Followed) {
-    pen.text("  it still waits for packet +");
-    pen.decimal(u64::from(open.extent.continuations));
-    pen.text(" of the message from line ");
-    pen.decimal(open.transaction.line);
-    pen.text(":");
-    write_extent(pen, &open.extent, " bytes came\n");
 }

@@ -4,7 +4,7 @@ use crate::entry::write_extent;
 use crate::escape::write_escaped;
 use crate::exchange::{End, Ended};
 use crate::pen::Pen;
-use crate::words::{ERRORS, Names, STATUSES, name_in};
+use crate::words::{ERRORS, STATUSES, write_named};
 
 /// The head of the table.
 pub const HEAD: &str =
@@ -42,21 +42,15 @@ pub fn write_row(pen: &mut Pen, ended: &Ended) {
 fn write_end(pen: &mut Pen, ended: &Ended) {
     let exchange = &ended.exchange;
     match ended.end {
-        End::Status(status) => write_code(pen, STATUSES, status, "status"),
-        End::Refused(code) => write_code(pen, ERRORS, code, "ERROR"),
+        End::Status(status) => write_named(pen, STATUSES, status, "status"),
+        End::Refused(code) => write_named(pen, ERRORS, code, "ERROR"),
         End::Answered => pen.text("answered"),
         End::Cut(extent) => {
             pen.text("answer not whole,");
             write_extent(pen, &extent, "");
         }
-        End::Dropped(line) => {
-            pen.text("dropped by line ");
-            pen.decimal(line);
-        }
-        End::Replaced(line) => {
-            pen.text("replaced by line ");
-            pen.decimal(line);
-        }
+        End::Dropped(line) => pen.number_after("dropped by line ", line),
+        End::Replaced(line) => pen.number_after("replaced by line ", line),
         End::Forgotten => pen.text("not followed any longer"),
         End::Open if exchange.extent.is_whole() => pen.text("no answer"),
         End::Open => {
@@ -64,11 +58,4 @@ fn write_end(pen: &mut Pen, ended: &Ended) {
             write_extent(pen, &exchange.extent, "");
         }
     }
-}
-
-/// Writes a number's name, or what it is, and the number.
-fn write_code(pen: &mut Pen, names: Names, code: u8, kind: &str) {
-    pen.text(name_in(names, i128::from(code)).unwrap_or(kind));
-    pen.text(" ");
-    pen.hex(&[code]);
 }

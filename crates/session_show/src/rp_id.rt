@@ -24,11 +24,19 @@ impl Default for RpId {
 }
 
 impl RpId {
-    /// Returns that of a request to this command, which follows the command byte.
+    /// Returns that of a request to this command, which follows the command byte: the `id` in the member `rp` of
+    /// authenticatorMakeCredential, and the member `rpId` of authenticatorGetAssertion.
     pub fn of_request(command: u8, item: &[u8]) -> Self {
+        let (map, key) = match command {
+            0x01 => (value_at(item, Item::Int(2)), Item::Text("id")),
+            0x02 => (Some(item), Item::Int(1)),
+            _ => (None, Item::Null),
+        };
         let mut rp_id = RpId::default();
-        let text = rp_in(command, item);
-        if text.len() <= LONGEST {
+        if let Some(map) = map
+            && let Some(Item::Text(text)) = item_at(map, key)
+            && text.len() <= LONGEST
+        {
             rp_id.bytes[..text.len()].copy_from_slice(text.as_bytes());
             rp_id.len = text.len();
         }
@@ -46,22 +54,5 @@ impl RpId {
             Ok(text) if !text.is_empty() => Some(text),
             _ => None,
         }
-    }
-}
-
-/// Returns the RP id in a request: the `id` in the member `rp` of authenticatorMakeCredential, and the member `rpId` of
-/// authenticatorGetAssertion.
-fn rp_in(command: u8, item: &[u8]) -> &str {
-    let (map, key) = match command {
-        0x01 => (value_at(item, Item::Int(2)), Item::Text("id")),
-        0x02 => (Some(item), Item::Int(1)),
-        _ => (None, Item::Null),
-    };
-    if let Some(map) = map
-        && let Some(Item::Text(text)) = item_at(map, key)
-    {
-        text
-    } else {
-        ""
     }
 }

@@ -12,7 +12,6 @@ use crate::putting::{Numbered, put_numbered};
 use crate::telling::{Telling, tell_all};
 use crate::transcript::Transcript;
 use crate::walk::LogWalk;
-use crate::wording::Wording;
 use session_log::{LogFault, Source, Target, read_line};
 
 /// What is kept from line to line.
@@ -24,73 +23,35 @@ struct Showing<F> {
 }
 
 impl<F: Follows> Showing<F> {
-    fn new(followed: F, wording: Wording) -> Self {
+    fn new(followed: F) -> Self {
         Showing {
             followed,
-            pen: Pen::new(wording),
+            pen: Pen::new(F::wording()),
             numbered: Numbered::default(),
         }
     }
+}
 
-    /// Writes what is shown for the next line.
-    fn put<T: Target>(
+impl<F: Follows> Telling for Showing<F> {
+    ghost shows = { IsLineText F.wording };
+
+    fn tell<T: Target>(
         &mut self,
-        wording: Wording,
         number: u64,
         line: &[u8],
         writer: &mut T,
-    ) -> Result<(), LogFault>
-        requires { T.failed writer.old < 2 ^ 64 - 1 }
-        ensures shown { ShowsLine number line.now (T.failed writer.old, T.failed writer.new) (ending_of result) }
-        ensures own { IfErr result (IsOfLine number) }
-        ensures text { TellsLine (IsLineText wording) number line.now (T.taken writer.old, T.taken writer.new)
-            (ending_of result) }
-    {
+    ) -> Result<(), LogFault> {
         let Some(said) = read_line(line) else {
             return Err(LogFault::BadLine(number));
         };
         let entry = self.followed.next_entry(number, line, &said);
-        if !wording.has_text(line, &said) {
+        if !F::wording().has_text(line, &said) {
             return Ok(());
         }
         match put_numbered(writer, &mut self.pen, &mut self.numbered, number, &entry) {
             Ok(()) => Ok(()),
             Err(_) => Err(LogFault::Write),
         }
-    }
-}
-
-/// The fixed text.
-#[derive(Drop)]
-struct Fixed(Showing<Transcript>);
-
-impl Telling for Fixed {
-    ghost shows = { IsLineText fixed };
-
-    fn tell<T: Target>(
-        &mut self,
-        number: u64,
-        line: &[u8],
-        writer: &mut T,
-    ) -> Result<(), LogFault> {
-        self.0.put(Wording::Fixed, number, line, writer)
-    }
-}
-
-/// The text for people.
-#[derive(Drop)]
-struct Explained(Showing<LogWalk>);
-
-impl Telling for Explained {
-    ghost shows = { IsLineText explained };
-
-    fn tell<T: Target>(
-        &mut self,
-        number: u64,
-        line: &[u8],
-        writer: &mut T,
-    ) -> Result<(), LogFault> {
-        self.0.put(Wording::Explained, number, line, writer)
     }
 }
 
@@ -121,11 +82,7 @@ pub fn show<S: Source, T: Target>(reader: &mut S, writer: &mut T) -> Result<(), 
     ensures reads { Counts S.failed (reader.old, reader.new) (read_fails (ending_of result)) }
     ensures writes { Counts T.failed (writer.old, writer.new) (write_fails (ending_of result)) }
 {
-    tell_all(
-        &mut Fixed(Showing::new(Transcript::default(), Wording::Fixed)),
-        reader,
-        writer,
-    )
+    tell_all(&mut Showing::new(Transcript::default()), reader, writer)
 }
 
 /// Explains a log to a person (docs/use/EXPLAINED.md): writes what [`show`] writes with the standard's names behind its
@@ -141,9 +98,5 @@ pub fn explain<S: Source, T: Target>(reader: &mut S, writer: &mut T) -> Result<(
     ensures reads { Counts S.failed (reader.old, reader.new) (read_fails (ending_of result)) }
     ensures writes { Counts T.failed (writer.old, writer.new) (write_fails (ending_of result)) }
 {
-    tell_all(
-        &mut Explained(Showing::new(LogWalk::new(), Wording::Explained)),
-        reader,
-        writer,
-    )
+    tell_all(&mut Showing::new(LogWalk::new()), reader, writer)
 }

@@ -47,10 +47,13 @@ impl Signed {
             b""
         };
         for byte in bytes.iter() {
-            let is_same = matches!(asked.get(self.len), Some(own) if own == byte);
-            if self.otherwise.is_none() && !is_same {
-                let what = part_of(asked.len(), self.len);
-                self.otherwise = Some(SignedOtherwise { line: number, what });
+            match asked.get(self.len) {
+                Some(own) if *own == *byte => {}
+                _ if self.otherwise.is_none() => {
+                    let what = part_of(asked.len(), self.len);
+                    self.otherwise = Some(SignedOtherwise { line: number, what });
+                }
+                _ => {}
             }
             self.len = self.len.saturating_add(1);
         }

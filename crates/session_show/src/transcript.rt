@@ -1,8 +1,10 @@
 //! The messages of the fixed text: one is collected in each direction, whatever channel it is on.
+ghost use Rattle.session_show.specs.declared.wording.Wording.TheVariants.{Fixed as fixed};
 
 use crate::entry::{CborMessage, Entry, Follows, MessageKind, Own};
 use crate::message::Collector;
 use crate::walk::Role;
+use crate::wording::Wording;
 use session_log::Line;
 use token_session::Input;
 
@@ -14,6 +16,12 @@ pub struct Transcript {
 }
 
 impl Follows for Transcript {
+    ghost wording = { fixed };
+
+    fn wording() -> Wording {
+        Wording::Fixed
+    }
+
     fn next_entry<'a>(&'a mut self, number: u64, line: &'a [u8], said: &'a Line) -> Entry<'a> {
         let (kind, bytes) = match said {
             Line::Input(timed) => match &timed.input {

@@ -1,7 +1,7 @@
 //! One walk over a log: which transaction each line belongs to, which message ends at it, and which transactions end.
 ghost use Rattle.std.specs.Prelude.{◌<◌};
 
-use crate::channel::Greeting;
+use crate::channel::{Greeting, nonce_in};
 use crate::channels::Channels;
 use crate::credentials::Credentials;
 use crate::device::{AnswerStart, NO_TIME_OUT, TIMED_OUT};
@@ -218,19 +218,19 @@ impl LogWalk {
 
     // ---- inputs
 
+    /// Takes an input. A reply is of the one request that waits for its answer, if exactly one does.
     fn take_input(&mut self, number: u64, timed: &Timed) {
         self.believe();
         self.now = self.now.max(timed.at);
-        match &timed.input {
-            Input::Packet(packet) => self.take_packet(number, timed, packet),
-            Input::Tick => {}
-            Input::Presence(_) => self.take_reply(Some(self.now)),
-            Input::Key(_) | Input::Signature(_) => self.take_reply(None),
-        }
-    }
-
-    /// Takes a reply: of the one request that waits for its answer, if exactly one does.
-    fn take_reply(&mut self, presence: Option<u64>) {
+        let presence = match &timed.input {
+            Input::Packet(packet) => {
+                self.take_packet(number, timed, packet);
+                return;
+            }
+            Input::Tick => return,
+            Input::Presence(_) => Some(self.now),
+            Input::Key(_) | Input::Signature(_) => None,
+        };
         if let Some(place) = self.channels.waiting() {
             self.of = self.channels.list[place].reply(presence);
         }
@@ -250,8 +250,22 @@ impl LogWalk {
                 len,
                 part,
             } => match cmd {
-                CANCEL => self.cancel(place, number),
-                INIT => self.greet(place, number, len, part),
+                CANCEL => {
+                    self.of = self.channels.list[place].cancel(number);
+                    if self.of.is_none() {
+                        self.part = Role::Cancel;
+                    }
+                }
+                INIT => {
+                    self.message_line = number;
+                    let greeting = Greeting {
+                        line: number,
+                        at: self.now,
+                        length: len,
+                        nonce: nonce_in(part),
+                    };
+                    self.of = Some(self.channels.list[place].greet(greeting, &mut self.ends));
+                }
                 _ => {
                     let transaction = Transaction::of(number, cid, cmd, (len, part));
                     self.begin(place, transaction, len, part);
@@ -261,30 +275,14 @@ impl LogWalk {
         }
     }
 
-    /// Takes a CANCEL.
-    fn cancel(&mut self, place: usize, number: u64)
-        requires { place < 6 }
-    {
-        self.of = self.channels.list[place].cancel(number);
-        if self.of.is_none() {
-            self.part = Role::Cancel;
-        }
-    }
-
-    /// Takes an INIT.
-    fn greet(&mut self, place: usize, number: u64, length: u16, part: &[u8])
-        requires { place < 6 }
-    {
-        self.message_line = number;
-        let greeting = Greeting::of(number, self.now, length, part);
-        self.of = Some(self.channels.list[place].greet(greeting, &mut self.ends));
-    }
-
     /// Takes the first packet of a host's message.
     fn begin(&mut self, place: usize, transaction: Transaction, length: u16, part: &[u8])
         requires { place < 6 }
     {
-        let extent = Extent::begun(length);
+        let extent = Extent {
+            length,
+            continuations: 0,
+        };
         let begun = Followed {
             transaction,
             extent,
@@ -330,37 +328,25 @@ impl LogWalk {
         }
     }
 
-    /// Keeps what a whole request names, and returns the request as one that is shown.
+    /// Keeps what a whole request names, if its item is canonical, and returns the request as one that is shown.
+    /// authenticatorGetNextAssertion asks for what authenticatorGetAssertion did.
     fn complete(&mut self, place: usize, of: &Transaction) -> Option<Shown>
         requires { place < 6 }
     {
-        let rp_id = self.rp_id_of(place, of);
+        let mut rp_id = RpId::default();
         let mut excluded = None;
-        if let Some(MAKE) = of.command
-            && let Some([_, item @ ..]) = self.pool.bytes(of.line)
-            && !rp_id.bytes().is_empty()
-        {
-            excluded = self.credentials.excluded_in(&rp_id, item);
+        match (of.command, self.pool.bytes(of.line)) {
+            (Some(NEXT), _) => rp_id = self.channels.list[place].asserted,
+            (Some(command), Some([_, item @ ..])) if check(item).result.is_ok() => {
+                rp_id = RpId::of_request(command, item);
+                if command == MAKE && !rp_id.bytes().is_empty() {
+                    excluded = self.credentials.excluded_in(&rp_id, item);
+                }
+            }
+            _ => {}
         }
         self.channels.list[place].name(of.line, &rp_id, excluded);
         Some(Shown::Request(of.line))
-    }
-
-    /// Returns the RP id that a whole request is about, if its item is canonical: authenticatorGetNextAssertion asks for
-    /// what authenticatorGetAssertion did.
-    fn rp_id_of(&self, place: usize, of: &Transaction) -> RpId
-        requires { place < 6 }
-    {
-        if let Some(NEXT) = of.command {
-            return self.channels.list[place].asserted;
-        }
-        if let Some(command) = of.command
-            && let Some([_, item @ ..]) = self.pool.bytes(of.line)
-            && check(item).result.is_ok()
-        {
-            return RpId::of_request(command, item);
-        }
-        RpId::default()
     }
 
     /// Decides that a doubtful packet, where there is one, came in time.
@@ -398,7 +384,10 @@ impl LogWalk {
                 let answer = AnswerStart {
                     line: number,
                     command: cmd,
-                    extent: Extent::begun(len),
+                    extent: Extent {
+                        length: len,
+                        continuations: 0,
+                    },
                     part,
                 };
                 self.take_start(place, &answer);
@@ -423,15 +412,24 @@ impl LogWalk {
         }
         self.message_line = answer.line;
         // Of the device's last message no further packet comes.
-        if let Some(line) = self.channels.list[place].cut(&mut self.ends) {
-            self.pool.release(line);
-        }
+        let cut = self.channels.list[place].cut(&mut self.ends);
+        self.pool.release(cut);
         if let Some(code) = code {
             self.take_error(place, code);
-        } else if answer.command == KEEPALIVE {
+            return;
+        }
+        if answer.command == KEEPALIVE {
             self.of = self.channels.list[place].keep_alive(&mut self.ends);
-        } else {
-            self.take_answer(place, answer);
+            return;
+        }
+        self.of = self.channels.list[place].answer(answer, &mut self.ends);
+        let length = answer.extent.length;
+        if answer.command == CBOR && length > 0 && length <= LONGEST_MESSAGE {
+            self.pool.begin(answer.line, length, answer.part);
+            if answer.extent.is_whole() {
+                self.learn(answer.line, answer.line);
+                self.shown = Some(Shown::Answer(answer.line, place));
+            }
         }
     }
 
@@ -448,20 +446,6 @@ impl LogWalk {
         self.of = of;
         if of.is_none() {
             self.part = Role::Error(code);
-        }
-    }
-
-    fn take_answer(&mut self, place: usize, answer: &AnswerStart<'_>)
-        requires { place < 6 }
-    {
-        self.of = self.channels.list[place].answer(answer, &mut self.ends);
-        let length = answer.extent.length;
-        if answer.command == CBOR && length > 0 && length <= LONGEST_MESSAGE {
-            self.pool.begin(answer.line, length, answer.part);
-            if answer.extent.is_whole() {
-                self.learn(answer.line, answer.line);
-                self.shown = Some(Shown::Answer(answer.line, place));
-            }
         }
     }
 

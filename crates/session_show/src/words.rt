@@ -17,6 +17,13 @@ pub fn name_in(names: Names, number: i128) -> Option<&'static str> {
     None
 }
 
+/// Writes a number's name, or what it is where it has none, and the number.
+pub fn write_named(pen: &mut Pen, names: Names, code: u8, kind: &str) {
+    pen.text(name_in(names, i128::from(code)).unwrap_or(kind));
+    pen.text(" ");
+    pen.hex(&[code]);
+}
+
 /// Writes two spaces and a name, where there is one and the text is explained.
 pub fn write_name(pen: &mut Pen, name: Option<&str>) {
     if let Some(name) = name
