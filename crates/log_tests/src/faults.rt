@@ -5,7 +5,7 @@ use std::io::Write;
 use std::process::Abort;
 use token_session::Session;
 
-/// Asserts what is told of the fault that ends a replay.
+/// Asserts what is said of the fault that ends a replay.
 fn assert_told(rt: &impl Abort, log: &[u8], told: &[u8]) {
     let (mut out, mut said) = ([0; 64], [0; 64]);
     let mut faults = SliceOut::new(&mut said);
