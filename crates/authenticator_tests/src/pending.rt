@@ -8,12 +8,20 @@ fn is_filled_anew(rt: HostRuntime) {
     pending.fill(7, &[0x22; 32], true, 1000, &[[1; 32], [2; 32]]);
     pending.fill(8, &[0x33; 32], false, 2000, &[[3; 32]]);
     pending.stamp(2500);
-    assert!(rt; pending.len() > 0);
-    let asked = (pending.cid(), pending.hash(), pending.presence());
-    let left = (pending.moment(), pending.len(), pending.next());
-    let emptied = pending.next();
+    assert!(rt; pending.len() == 1);
+    let asked = (pending.cid(), pending.presence(), pending.moment());
+    let is_hash = pending.hash() == [0x33; 32];
+    let is_first = pending.next() == Some([3; 32]);
+    let is_left = pending.next().is_some();
+    assert!(rt; asked == (8, false, 2500) && is_hash && is_first && !is_left);
+}
+
+#[test]
+fn is_cleared(rt: HostRuntime) {
+    let mut pending = Pending::<2>::new();
+    pending.fill(8, &[0x33; 32], false, 2000, &[[3; 32]]);
+    let is_taken = pending.next().is_some();
     pending.fill(7, &[0x22; 32], true, 1000, &[[1; 32]]);
     pending.clear();
-    assert!(rt; asked == (8, [0x33; 32], false) && left == (2500, 1, Some([3; 32])));
-    assert!(rt; emptied == None && pending.next() == None);
+    assert!(rt; is_taken && pending.next().is_none());
 }

@@ -5,32 +5,22 @@
 
 use crate::tables::made;
 use cred_table::*;
-use std::alloc::Global;
-use std::process::Abort;
-use std::test::Fail;
 
-/// Saves after one byte, once more where memory was refused.
-fn saved(rt: &impl Abort, alloc: Global, table: &Store<2>) -> Result<Vec<u8>, Fail> {
-    let mut out = Vec::new(alloc);
-    if out.push(0xEE).is_err() {
-        out.push(0xEE)?;
-    }
-    let first = save(table, &mut out);
-    if first.is_err() {
-        assert!(rt; first == Err(SnapshotFault::Memory) && out.as_slice() == b"\xee".as_slice());
-        save(table, &mut out)?;
-    }
-    out.remove(0);
-    Ok(out)
+/// Saves after one byte, once more where memory was refused and the vector unchanged.
+fn saved(table: &Store<2>, out: &mut Vec<u8>) -> bool {
+    let is_begun = out.push(0xEE).is_ok() || out.push(0xEE).is_ok();
+    let first = save(table, out);
+    let is_refused = first == Err(SnapshotFault::Memory) && out.as_slice() == b"\xee".as_slice();
+    is_begun && (first.is_ok() || is_refused && save(table, out).is_ok())
 }
 
 #[test]
-fn saves_after_refused_memory(rt: HostRuntime) -> Result<(), Fail> {
+fn saves_after_refused_memory(rt: HostRuntime) {
     let mut table = Store::new();
     table.put(made([0xAA; 32]));
-    let snapshot = saved(&rt, rt.alloc(), &table)?;
+    let mut out = Vec::new(rt.alloc());
+    let is_saved = saved(&table, &mut out);
     let mut copy = Listed::<2>::new();
-    let loaded = load(snapshot.as_slice(), &mut copy);
-    assert!(rt; loaded.is_ok() && copy.len() == 1 && copy.find(&[0xAA; 32]).is_some());
-    Ok(())
+    let loaded = load(out.as_slice().get(1..).unwrap_or(b""), &mut copy);
+    assert!(rt; is_saved && loaded.is_ok() && copy.len() == 1 && copy.find(&[0xAA; 32]).is_some());
 }

@@ -23,28 +23,39 @@ pub(crate) fn made(id: [u8; 32]) -> Row {
     row
 }
 
-/// Checks that a row is put, its counter is raised, and another row of the user takes its place.
-fn each_call<T: Table<2>>(rt: &impl Abort, table: &mut T) {
+/// Puts a row into an empty table, and raises its counter.
+fn put_and_raise<T: Table<2>>(rt: &impl Abort, table: &mut T) {
     table.clear();
     table.put(made(A));
     let counter = table.find(&A).map(|row| row.counter);
     assert!(rt; counter == Some(0));
-    let raised = table.raise(&A);
-    let row = made(B);
-    let taken = table.find(&row.id).is_some();
-    assert!(rt; !taken);
+    assert!(rt; table.raise(&A) == 1);
+}
+
+/// Has a new row of the same user take the row's place.
+fn replace<T: Table<2>>(rt: &impl Abort, table: &mut T, row: Row) {
+    assert!(rt; table.find(&row.id).is_none());
     assert!(rt; table.same_user(&row.rp, row.user.as_slice()) == Some(A));
     table.replace(&A, row);
-    assert!(rt; table.len() == 1);
+}
+
+/// Asserts that the new row is the only one.
+fn assert_replaced<T: Table<2>>(rt: &impl Abort, table: &T) {
     let mut listed = ArrayVec::new();
     table.rows_of(&RP, &mut listed);
-    let named = table.named(&RP, &B).map(|row| row.name.as_str());
-    assert!(rt;
-        raised == 1
-            && listed.as_slice() == [B].as_slice()
-            && named == Some("Zoë")
-            && table.row(0).id == B
-    );
+    let is_named = match table.named(&RP, &B) {
+        Some(row) => row.name.as_str() == "Zoë",
+        None => false,
+    };
+    assert!(rt; table.len() == 1);
+    assert!(rt; is_named && listed.as_slice() == [B].as_slice() && table.row(0).id == B);
+}
+
+/// Checks that a row is put, its counter is raised, and another row of the user takes its place.
+fn each_call<T: Table<2>>(rt: &impl Abort, table: &mut T) {
+    put_and_raise(rt, table);
+    replace(rt, table, made(B));
+    assert_replaced(rt, table);
 }
 
 #[test]

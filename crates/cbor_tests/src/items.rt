@@ -2,14 +2,14 @@
 //! docs/use/PROFILE.md.
 
 use ctap_cbor::*;
+use std::alloc::AllocError;
 use std::process::Abort;
-use std::test::Fail;
 
 /// A text, the place and the kind of its fault where it has one, and the steps of reading it.
 type Row<'a> = (&'a [u8], Option<(usize, Kind)>, u64);
 
 /// Texts with what a check answers.
-const ROWS: [Row<'static>; 29] = [
+const ROWS: [Row<'static>; 49] = [
     (b"", Some((0, Kind::Truncated)), 1),
     (b"\x00\x00", Some((1, Kind::Trailing)), 1),
     (b"\x18\x05", Some((0, Kind::NotShortest)), 2),
@@ -47,10 +47,7 @@ const ROWS: [Row<'static>; 29] = [
     (b"\xa2\x00\x00\x61\xc3\x00", Some((3, Kind::NotUtf8)), 5),
     (b"\xa2\xf5\x00\x18\x05\x00", Some((1, Kind::KeyType)), 2),
     (b"\xa2\x00\x00\x18\x05\x00", Some((3, Kind::NotShortest)), 5),
-];
-
-/// The heads' borders, from RFC 8949's appendix A, and one below each.
-const SHORTEST_HEADS: [Row<'static>; 10] = [
+    // The heads' borders, from RFC 8949's appendix A, and one below each.
     (b"\x17", None, 2),
     (b"\x18\x17", Some((0, Kind::NotShortest)), 2),
     (b"\x18\x18", None, 3),
@@ -69,10 +66,7 @@ const SHORTEST_HEADS: [Row<'static>; 10] = [
         Some((0, Kind::Truncated)),
         9,
     ),
-];
-
-/// The edges of UTF-8: RFC 3629, section 4.
-const UTF8: [Row<'static>; 10] = [
+    // The edges of UTF-8: RFC 3629, section 4.
     (b"\x62\xc2\x80", None, 4),
     (b"\x62\xc1\xbf", Some((0, Kind::NotUtf8)), 3),
     (b"\x63\xe0\xa0\x80", None, 5),
@@ -85,30 +79,25 @@ const UTF8: [Row<'static>; 10] = [
     (b"\x64\xf4\x90\x80\x80", Some((0, Kind::NotUtf8)), 5),
 ];
 
-/// Returns the place and the kind of the fault, if there is one.
-fn fault_of(outcome: Result<(), Fault>) -> Option<(usize, Kind)> {
-    match outcome {
-        Ok(()) => None,
-        Err(fault) => Some((fault.at, fault.kind)),
-    }
+/// Returns whether a check of a text answers this.
+fn answers(bytes: &[u8], fault: Option<(usize, Kind)>, steps: u64) -> bool {
+    let result = match fault {
+        Some((at, kind)) => Err(Fault { at, kind }),
+        None => Ok(()),
+    };
+    check(bytes) == Checked { result, steps }
 }
 
 /// Asserts what a check of each text answers.
 fn assert_checks(rt: &impl Abort, rows: &[Row<'_>]) {
-    for (bytes, fault, steps) in rows.iter() {
-        let found = check(bytes);
-        assert!(rt;
-            (fault_of(found.result), found.steps) == (*fault, *steps),
-            "{bytes:?}"
-        );
+    for &(bytes, fault, steps) in rows {
+        assert!(rt; answers(bytes, fault, steps), "{bytes:?}");
     }
 }
 
 #[test]
 fn checks_rows(rt: HostRuntime) {
-    for rows in [ROWS.as_slice(), SHORTEST_HEADS.as_slice(), UTF8.as_slice()] {
-        assert_checks(&rt, rows);
-    }
+    assert_checks(&rt, &ROWS);
 }
 
 /// Checks an array of 6,999 items and a byte string as the 7,000th, and one byte more. Without that one they fill the
@@ -120,19 +109,18 @@ pub(crate) fn long_text() -> [u8; 7609] {
     bytes
 }
 
-/// So many bytes of it, with what a check answers.
-const CUTS: [(usize, Option<(usize, Kind)>, u64); 3] = [
-    (7608, None, 7609),
-    (7607, Some((7002, Kind::Truncated)), 7608),
-    (7609, Some((7608, Kind::Trailing)), 7608),
-];
-
 #[test]
 fn checks_long_text(rt: HostRuntime) {
     let bytes = long_text();
-    for (len, fault, steps) in CUTS.iter() {
-        assert_checks(&rt, &[(&bytes[..(*len).min(7609)], *fault, *steps)]);
-    }
+    let (longest, shorter) = (
+        &bytes[..bytes.len().min(7608)],
+        &bytes[..bytes.len().min(7607)],
+    );
+    assert!(rt;
+        answers(longest, None, 7609)
+            && answers(shorter, Some((7002, Kind::Truncated)), 7608)
+            && answers(&bytes, Some((7608, Kind::Trailing)), 7608)
+    );
 }
 
 /// Checks that of `[[1], true]` and a byte after it the item is passed whole, and nothing else may follow.
@@ -141,9 +129,10 @@ fn a_cursor_tells(rt: HostRuntime) {
     let mut cursor = Cursor::new(b"\x82\x81\x01\xf5\x00");
     let is_passed = cursor.whole(1).is_ok() && cursor.since(0) == b"\x82\x81\x01\xf5".as_slice();
     cursor.rewind();
-    let trailing = fault_of(read_whole(&mut cursor));
-    let told = (is_passed, trailing, cursor.place(), cursor.steps());
-    assert!(rt; told == (true, Some((4, Kind::Trailing)), 4, 8));
+    let kind = Kind::Trailing;
+    let is_refused = read_whole(&mut cursor) == Err(Fault { at: 4, kind });
+    let told = (is_passed, is_refused, cursor.place(), cursor.steps());
+    assert!(rt; told == (true, true, 4, 8));
 }
 
 /// `{-1: 65536, "ä": [h'07', true, null, -2^64]}`, each sort of item once, and a byte that was there before.
@@ -165,16 +154,14 @@ fn writes_shortest(rt: HostRuntime) {
     sink.null();
     sink.int(-18446744073709551616);
     let len = sink.len();
-    assert!(rt; (is_empty, len, buffer) == (true, 24, *SAMPLE));
-    assert_checks(&rt, &[(&SAMPLE[..24], None, 28)]);
+    let is_text = answers(&SAMPLE[..24], None, 28);
+    assert!(rt; (is_empty, is_text, len, buffer) == (true, true, 24, *SAMPLE));
 }
 
 #[test]
-fn shows_faults(rt: HostRuntime) -> Result<(), Fail> {
-    let fault = Fault {
-        at: 4,
-        kind: Kind::TooDeep,
-    };
-    assert!(rt; fault.to_string(rt.alloc())?.as_str() == "more than four levels deep at byte 4");
+fn shows_faults(rt: HostRuntime) -> Result<(), AllocError> {
+    let kind = Kind::TooDeep;
+    let shown = Fault { at: 4, kind }.to_string(rt.alloc())?;
+    assert!(rt; shown.as_str() == "more than four levels deep at byte 4");
     Ok(())
 }

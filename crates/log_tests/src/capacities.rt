@@ -2,7 +2,7 @@
 ghost use Rattle.std.specs.Prelude.{◌≤◌};
 
 use crate::cases::texts;
-use session_log::{LogCommand, SliceIn, ToWrite};
+use session_log::{LogCommand, LogFault, SliceIn, ToWrite};
 use std::alloc::{AllocError, Global};
 use std::process::Abort;
 use token_session::Session;
@@ -155,6 +155,23 @@ const GREETING: &str = "\
 |< 00000001810003616263..
 |= held 0 rows 0 pending 0 requests 0 bytes 0 steps 0";
 
+/// Plays a log by a command, on a new session.
+fn played<const C: usize>(
+    command: LogCommand,
+    log: &[u8],
+    written: &mut Vec<u8>,
+) -> Result<(), LogFault>
+    requires some { 1 ≤ C }
+    requires few { C ≤ 256 }
+{
+    let mut session = Session::<C>::bare([0; 16], 0);
+    command.play(
+        &mut session,
+        &mut SliceIn::new(log),
+        &mut ToWrite::new(written),
+    )
+}
+
 /// Checks that a session writes the log again, and that its packets are those of the log.
 fn assert_worked<const C: usize>(
     rt: &impl Abort,
@@ -164,16 +181,12 @@ fn assert_worked<const C: usize>(
     requires some { 1 ≤ C }
     requires few { C ≤ 256 }
 {
-    let (log, _) = texts(alloc, lines)?;
+    let log = texts(alloc, lines)?.0;
     let mut written = Vec::new(alloc);
-    for command in [LogCommand::Replay, LogCommand::Check] {
-        written.clear();
-        let mut session = Session::<C>::bare([0; 16], 0);
-        let reader = &mut SliceIn::new(log.as_bytes());
-        let answer = command.play(&mut session, reader, &mut ToWrite::new(&mut written));
-        let is_same = written.as_slice() == log.as_bytes() || command == LogCommand::Check;
-        assert!(rt; answer.is_ok() && is_same, "{C}");
-    }
+    let is_played = played::<C>(LogCommand::Replay, log.as_bytes(), &mut written).is_ok();
+    let is_same = is_played && written.as_slice() == log.as_bytes();
+    let is_checked = played::<C>(LogCommand::Check, log.as_bytes(), &mut written).is_ok();
+    assert!(rt; is_same && is_checked, "{C}");
     Ok(())
 }
 

@@ -10,6 +10,18 @@ use session_show::{LogForm, LogWriter, show, write_log};
 use std::alloc::{AllocError, Global};
 use token_session::Session;
 
+/// What a log is played by: a command on a session, or one that shows what is in it.
+#[derive(Clone, Copy, Debug)]
+pub enum Command {
+    Replay,
+    Live,
+    Check,
+    Quiet,
+    Table,
+    Objects,
+    Show,
+}
+
 /// Writes a log in a form, also one with a fault.
 fn written<S: Source, T: Target>(
     form: LogForm,
@@ -29,37 +41,39 @@ fn written<S: Source, T: Target>(
     }
 }
 
-/// Plays a log by a command, on a new session.
+/// Plays a log by a command, on a new session, and returns the fault that ended it.
 pub fn play<S: Source, T: Target>(
-    command: &str,
+    command: Command,
     reader: &mut S,
     writer: &mut T,
-) -> Result<(), LogFault>
+) -> Option<LogFault>
     requires read { S.failed reader.old < 2 ^ 64 - 1 }
     requires write { T.failed writer.old < 2 ^ 64 - 1 }
 {
     let mut session = Session::<4>::bare([0; 16], 0);
     match command {
-        "replay" => replay(reader, writer, &mut session).map(|_| ()),
-        "live" => live(reader, writer, &mut session).map(|_| ()),
-        "check" => check(reader, writer, &mut session),
-        "quiet" => quiet(reader, writer, &mut session),
-        "summary" => written(LogForm::Table, reader, writer),
-        "json" => written(LogForm::Objects, reader, writer),
-        _ => show(reader, writer),
+        Command::Replay => replay(reader, writer, &mut session).err(),
+        Command::Live => live(reader, writer, &mut session).err(),
+        Command::Check => check(reader, writer, &mut session).err(),
+        Command::Quiet => quiet(reader, writer, &mut session).err(),
+        Command::Table => written(LogForm::Table, reader, writer).err(),
+        Command::Objects => written(LogForm::Objects, reader, writer).err(),
+        Command::Show => show(reader, writer).err(),
     }
 }
+
+/// So many zeros as a packet has digits.
+const ZEROS: &str = "0000000000000000000000000000000000000000000000000000000000000000\
+    0000000000000000000000000000000000000000000000000000000000000000";
 
 /// Appends a line of a case.
 fn push_line(text: &mut String, line: &str) -> Result<(), AllocError> {
     match line.split_once("..") {
         None => text.push_str(line)?,
         Some((front, _)) => {
-            text.push_str(front)?;
             let digits = front.rsplit(' ').next().unwrap_or("").len();
-            for _ in digits..128 {
-                text.push('0')?;
-            }
+            text.push_str(front)?;
+            text.push_str(ZEROS.get(digits..).unwrap_or(""))?;
         }
     }
     text.push('\n')
@@ -69,12 +83,11 @@ fn push_line(text: &mut String, line: &str) -> Result<(), AllocError> {
 pub fn texts(alloc: Global, lines: &str) -> Result<(String, String), AllocError> {
     let (mut log, mut text) = (String::new(alloc), String::new(alloc));
     for marked in lines.split('\n') {
-        if let Some(line) = marked.strip_prefix('|') {
+        let (mark, line) = (marked.get(..1), marked.get(1..).unwrap_or(""));
+        if mark != Some("+") {
             push_line(&mut log, line)?;
-            push_line(&mut text, line)?;
-        } else if let Some(line) = marked.strip_prefix('-') {
-            push_line(&mut log, line)?;
-        } else if let Some(line) = marked.strip_prefix('+') {
+        }
+        if mark != Some("-") {
             push_line(&mut text, line)?;
         }
     }

@@ -1,11 +1,9 @@
 //! A log shown from a reader that fails, and an item alone.
-use crate::cases::texts;
+use crate::cases::{Command, texts};
 use crate::streams::{Drip, assert_written};
-use arrayvec::ArrayVec;
 use session_log::{FromRead, LogFault, SliceOut};
 use session_show::{show, show_item};
 use std::alloc::AllocError;
-use std::io::Write;
 use std::process::Abort;
 
 /// An authenticatorGetInfo, after an INIT, and its answer in two packets.
@@ -34,33 +32,42 @@ fn an_item_as_text(rt: HostRuntime) {
     assert!(rt; answer.is_ok() && target.written() == b"[\"a\", {\"b\": \"c\"}]".as_slice());
 }
 
-/// Checks that what was written is the text of the lines before this one.
-fn assert_stops_before<R: Abort>(rt: &R, text: &[u8], written: &[u8], line: u64) {
-    let mut front = ArrayVec::<u8, 32>::new();
-    let _ = write!(front, "{line} ");
-    let rest = text.get(written.len()..).unwrap_or(b"");
-    let stops = !front.is_empty() && rest.starts_with(front.as_slice());
-    assert!(rt; stops && text.starts_with(written));
+/// Returns the line that a reader fails in which yields so many bytes of the log, and how the text of that line begins.
+fn line_at(given: usize) -> (u64, &'static [u8]) {
+    match given {
+        0..=132 => (1, b"1 "),
+        133..=263 => (2, b"2 "),
+        264..=396 => (3, b"3 "),
+        397..=527 => (4, b"4 "),
+        _ => (5, b"5 "),
+    }
+}
+
+/// Checks that of a log whose reader fails after so many bytes the lines before that are shown.
+fn assert_shown_before(rt: &impl Abort, log: &[u8], text: &[u8], given: usize) {
+    let mut space = [0; 1024];
+    let mut target = SliceOut::new(&mut space);
+    let mut source = FromRead::new(Drip {
+        rest: log.get(..given).unwrap_or(b""),
+        step: 1,
+        fails: true,
+    });
+    let (line, front) = line_at(given);
+    let fails = show(&mut source, &mut target) == Err(LogFault::Read(line));
+    let shown = target.written();
+    let rest = text.get(shown.len()..).unwrap_or(b"");
+    assert!(rt;
+        fails && text.starts_with(shown) && rest.starts_with(front),
+        "{given}"
+    );
 }
 
 #[test]
 fn streams_fail(rt: HostRuntime) -> Result<(), AllocError> {
-    let alloc = rt.alloc();
-    assert_written(&rt, alloc, "show", INFO)?;
-    let (log, text) = texts(alloc, INFO)?;
-    let starts = [0, 133, 264, 397, 528, 659];
-    for given in 0..659usize {
-        let mut space = [0; 1024];
-        let mut target = SliceOut::new(&mut space);
-        let mut source = FromRead::new(Drip {
-            rest: log.as_bytes().get(..given).unwrap_or(b""),
-            step: 1,
-            fails: true,
-        });
-        let answer = show(&mut source, &mut target);
-        let line = starts.iter().filter(|start| **start <= given).count() as u64;
-        assert_eq!(rt; answer, Err(LogFault::Read(line)));
-        assert_stops_before(&rt, text.as_bytes(), target.written(), line);
+    assert_written(&rt, rt.alloc(), Command::Show, INFO)?;
+    let (log, text) = texts(rt.alloc(), INFO)?;
+    for given in 0..659 {
+        assert_shown_before(&rt, log.as_bytes(), text.as_bytes(), given);
     }
     Ok(())
 }

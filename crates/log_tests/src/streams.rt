@@ -1,5 +1,5 @@
 //! Readers and writers that fail in mid-stream, and when a log is read and written.
-use crate::cases::{play, texts};
+use crate::cases::{Command, play, texts};
 use arrayvec::ArrayVec;
 use session_log::{FromRead, LogFault, SliceIn, SliceOut, Source, Target, ToWrite};
 use std::alloc::{AllocError, Global};
@@ -17,6 +17,14 @@ const REPLAYED: &str = "\
 +< ffffffff860011000102030405060700000001020100000c..
 |> 5 00000001810003616263..
 +< 00000001810003616263..
++= held 0 rows 0 pending 0 requests 0 bytes 0 steps 0";
+
+/// Two ticks on a session that needs nothing.
+const LIVED: &str = "\
+|t 5
++# need nothing
+|t 7
++# need nothing
 += held 0 rows 0 pending 0 requests 0 bytes 0 steps 0";
 
 /// The summary of a PING.
@@ -150,68 +158,73 @@ impl Write for Watched<'_> {
     }
 }
 
-/// Checks that of a log whose first so many bytes come one by one this is answered, and this much of the text written.
-fn assert_read<R: Abort>(
-    rt: &R,
-    alloc: Global,
-    command: &str,
-    given: usize,
-    fails: bool,
-    wanted: (Result<(), LogFault>, usize),
-) -> Result<(), AllocError> {
-    let (log, whole) = texts(alloc, REPLAYED)?;
-    let mut written = Vec::new(alloc);
-    let reader = Drip {
-        rest: log.as_bytes().get(..given).unwrap_or(b""),
+/// Checks that of a log whose first so many bytes come one by one the answer is this fault or none, and so much of the
+/// text is written.
+fn assert_read(
+    rt: &impl Abort,
+    (log, text): (&[u8], &[u8]),
+    command: Command,
+    (given, fails): (usize, bool),
+    (fault, len): (Option<LogFault>, usize),
+) {
+    let mut written = [0; 1024];
+    let mut writer = SliceOut::new(&mut written);
+    let mut reader = FromRead::new(Drip {
+        rest: log.get(..given).unwrap_or(b""),
         step: 1,
         fails,
-    };
-    let mut reader = FromRead::new(reader);
-    let answer = play(command, &mut reader, &mut ToWrite::new(&mut written));
-    let is_front = whole.as_bytes().starts_with(written.as_slice());
+    });
+    let is_answered = play(command, &mut reader, &mut writer) == fault;
+    let written = writer.written();
     assert!(rt;
-        is_front && (answer, written.len()) == wanted,
-        "{command}, {given}"
+        is_answered && written.len() == len && text.starts_with(written),
+        "{given}"
     );
-    Ok(())
 }
 
 #[test]
 fn readers_fail(rt: HostRuntime) -> Result<(), AllocError> {
-    let alloc = rt.alloc();
-    assert_read(&rt, alloc, "replay", 266, false, (Ok(()), 581))?;
-    let fault = LogFault::Read(2);
-    assert_read(&rt, alloc, "replay", 133, true, (Err(fault), 264))?;
-    assert_read(&rt, alloc, "replay", 200, true, (Err(fault), 264))?;
+    let (log, text) = texts(rt.alloc(), REPLAYED)?;
+    let texts = (log.as_bytes(), text.as_bytes());
+    let fault = Some(LogFault::Read(2));
+    assert_read(&rt, texts, Command::Replay, (266, false), (None, 581));
+    assert_read(&rt, texts, Command::Replay, (133, true), (fault, 264));
+    assert_read(&rt, texts, Command::Replay, (200, true), (fault, 264));
     // A packet is missing where the reader fails, which no end says.
-    assert_read(&rt, alloc, "check", 200, true, (Err(fault), 0))
+    assert_read(&rt, texts, Command::Check, (200, true), (fault, 0));
+    Ok(())
 }
 
-/// Checks that into a writer that takes a byte a call and fails after any number of calls, so much of the text is
-/// written.
-pub fn assert_written<R: Abort>(
-    rt: &R,
+/// Checks that into a writer that takes a byte a call and fails after so many calls, that much of the text is written.
+fn assert_cut(rt: &impl Abort, command: Command, log: &[u8], text: &[u8], calls: usize) {
+    let mut narrow = Narrow {
+        taken: ArrayVec::new(),
+        step: 1,
+        calls,
+    };
+    let fault = play(
+        command,
+        &mut SliceIn::new(log),
+        &mut ToWrite::new(&mut narrow),
+    );
+    let is_answered = match fault {
+        None => calls == text.len(),
+        Some(fault) => calls < text.len() && fault == LogFault::Write,
+    };
+    let is_front = narrow.taken.len() == calls && text.starts_with(narrow.taken.as_slice());
+    assert!(rt; is_answered && is_front, "{command:?}, {calls}");
+}
+
+/// Checks the same after any number of calls.
+pub fn assert_written(
+    rt: &impl Abort,
     alloc: Global,
-    command: &str,
+    command: Command,
     lines: &str,
 ) -> Result<(), AllocError> {
     let (log, text) = texts(alloc, lines)?;
     for calls in 0..=text.len() {
-        let mut narrow = Narrow {
-            taken: ArrayVec::new(),
-            step: 1,
-            calls,
-        };
-        let reader = &mut SliceIn::new(log.as_bytes());
-        let answer = play(command, reader, &mut ToWrite::new(&mut narrow));
-        let wanted = if calls < text.len() {
-            Err(LogFault::Write)
-        } else {
-            Ok(())
-        };
-        let same = narrow.taken.len() == calls
-            && text.as_bytes().starts_with(narrow.taken.as_slice());
-        assert!(rt; same && answer == wanted, "{command}, {calls}: {answer:?}");
+        assert_cut(rt, command, log.as_bytes(), text.as_bytes(), calls);
     }
     Ok(())
 }
@@ -219,23 +232,22 @@ pub fn assert_written<R: Abort>(
 #[test]
 fn writers_fail(rt: HostRuntime) -> Result<(), AllocError> {
     let alloc = rt.alloc();
-    assert_written(&rt, alloc, "replay", REPLAYED)?;
-    assert_written(&rt, alloc, "check", "-t 5\n+same 1 inputs 0 packets")?;
-    assert_written(&rt, alloc, "quiet", "|t 7\n|t 8")?;
-    let lived = format!(in alloc; "|t 5\n+# need nothing\n|t 7\n+# need nothing\n+{METERS}")?;
-    assert_written(&rt, alloc, "live", lived.as_str())?;
-    assert_written(&rt, alloc, "summary", SUMMARY)?;
     let ticked = "-t 7\n+{\"line\":1,\"kind\":\"tick\",\"moment\":7}";
-    assert_written(&rt, alloc, "json", ticked)
+    assert_written(&rt, alloc, Command::Replay, REPLAYED)?;
+    assert_written(&rt, alloc, Command::Check, "-t 5\n+same 1 inputs 0 packets")?;
+    assert_written(&rt, alloc, Command::Quiet, "|t 7\n|t 8")?;
+    assert_written(&rt, alloc, Command::Live, LIVED)?;
+    assert_written(&rt, alloc, Command::Table, SUMMARY)?;
+    assert_written(&rt, alloc, Command::Objects, ticked)
 }
 
 /// Checks that when so many pieces of a log were asked for, so much was written, and all in so many calls.
-fn assert_watched<R: Abort>(
-    rt: &R,
-    alloc: Global,
-    command: &str,
+fn assert_watched(
+    rt: &impl Abort,
+    command: Command,
     pieces: &[&str],
-    wanted: (&[usize], usize, usize),
+    seen: &[usize],
+    (len, count): (usize, usize),
 ) {
     let (taken, calls) = (Cell::new(0), Cell::new(0));
     let mut watching = Watching {
@@ -247,25 +259,25 @@ fn assert_watched<R: Abort>(
         taken: &taken,
         calls: &calls,
     });
-    let answer = play(command, &mut FromRead::new(&mut watching), &mut writer);
-    let told = (watching.seen.as_slice(), taken.get(), calls.get());
-    assert!(rt; answer.is_ok() && told == wanted, "{command}");
+    let fault = play(command, &mut FromRead::new(&mut watching), &mut writer);
+    let is_seen = watching.seen.as_slice() == seen;
+    let told = (fault.is_none(), is_seen, taken.get(), calls.get());
+    assert!(rt; told == (true, true, len, count), "{command:?}");
 }
 
 #[test]
 fn a_line_is_answered_before_more_is_read(rt: HostRuntime) -> Result<(), AllocError> {
-    let alloc = rt.alloc();
-    let (greeting, _) = texts(alloc, "|> 0 ffffffff8600080001020304050607..")?;
+    let (greeting, _) = texts(rt.alloc(), "|> 0 ffffffff8600080001020304050607..")?;
     let end = METERS.len() + 1;
     // The INIT, half a tick, its other half with a comment and the front of another. One write for each line and its
     // packets, and one for the meters.
     let pieces = [greeting.as_str(), "t ", "5\n# a\n#", " b\n"];
     let seen = [0, 264, 264, 272, 276];
-    assert_watched(&rt, alloc, "replay", &pieces, (&seen, 276 + end, 5));
+    assert_watched(&rt, Command::Replay, &pieces, &seen, (276 + end, 5));
     // With what is needed: a line of 133 bytes, one of 131 and one of 15; then 4 and 15; then 4.
     let pieces = [greeting.as_str(), "t ", "5\n# a\n"];
     let seen = [0, 279, 279, 302];
-    assert_watched(&rt, alloc, "live", &pieces, (&seen, 302 + end, 4));
+    assert_watched(&rt, Command::Live, &pieces, &seen, (302 + end, 4));
     Ok(())
 }
 
@@ -275,16 +287,19 @@ fn failed_writes_are_counted(rt: HostRuntime) {
     let mut target = SliceOut::new(&mut space);
     let (some, few) = (target.put(b"abc").ok(), target.put(b"def").ok());
     let (none, full) = (target.put(b"").ok(), target.put(b"ef").ok());
-    let failed = target.failures();
+    let told = (some, few, none, full, target.failures());
+    let is_full = target.written() == b"abcd".as_slice();
+    assert!(rt; told == (Some(3), Some(1), Some(0), None, 1) && is_full);
+}
+
+#[test]
+fn writes_of_nothing_are_counted(rt: HostRuntime) {
     let mut narrow = ToWrite::new(Narrow {
         taken: ArrayVec::new(),
         step: 0,
         calls: 9,
     });
-    let told = (narrow.put(b"a").ok(), narrow.failures(), failed);
-    let put = (some, few, none, full);
-    assert!(rt; put == (Some(3), Some(1), Some(0), None) && told == (None, 1, 1));
-    assert!(rt; target.written() == b"abcd".as_slice());
+    assert!(rt; narrow.put(b"a").is_err() && narrow.failures() == 1);
 }
 
 #[test]
@@ -303,11 +318,17 @@ fn failed_reads_are_counted(rt: HostRuntime) {
 }
 
 #[test]
-fn a_failed_call_is_not_made_again(rt: HostRuntime) {
-    let (mut reads, mut writes) = (Hiccup { calls: 0 }, Hiccup { calls: 0 });
-    let (mut source, mut target) = (FromRead::new(&mut reads), ToWrite::new(&mut writes));
-    let got = (source.get(&mut [0; 2]).ok(), source.failures());
-    let put = (target.put(b"ab").ok(), target.failures());
-    assert!(rt; got == (None, 1) && put == (None, 1));
-    assert!(rt; reads.calls == 1 && writes.calls == 1);
+fn a_failed_read_is_not_made_again(rt: HostRuntime) {
+    let mut reads = Hiccup { calls: 0 };
+    let mut source = FromRead::new(&mut reads);
+    let told = (source.get(&mut [0; 2]).is_err(), source.failures());
+    assert!(rt; told == (true, 1) && reads.calls == 1);
+}
+
+#[test]
+fn a_failed_write_is_not_made_again(rt: HostRuntime) {
+    let mut writes = Hiccup { calls: 0 };
+    let mut target = ToWrite::new(&mut writes);
+    let told = (target.put(b"ab").is_err(), target.failures());
+    assert!(rt; told == (true, 1) && writes.calls == 1);
 }
