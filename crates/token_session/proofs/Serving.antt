@@ -1,17 +1,14 @@
 -- An input that is served by what the transport makes of it is the composed turn.
-use Rattle.std.proofs.lemmas.Bool.Decides.{nat_tests}
-use Rattle.std.proofs.Common.{rules, ◌≡◌, ℕ, ◌≤◌, List, ◌++◌, max, Option, None, append_assoc, append-nil, cond, refl}
-use Rattle.std.proofs.Common.{sym, ◌∙◌, ap, arith, Some, IfSome, min}
+use Rattle.std.proofs.Common.{◌≡◌, ℕ, List, ◌++◌, max, Option, None, append_assoc, append-nil, cond, refl}
+use Rattle.std.proofs.Common.{sym, ◌∙◌, ap, Some}
 use Rattle.hid_assemble.specs.{declared.verdict.Verdict.Verdict, Verdicts.verdict, Assembly.Assembly, Assembly.accepted}
-use Rattle.authn_core.specs.{State.Event, State.Answer, Views.IsTurn, Views.steps_after}
-use Rattle.authn_core.specs.Turn.{CoreState, working, Held, Work, waiting, core_after, core_answer}
+use Rattle.authn_core.specs.State.{Event}
+use Rattle.authn_core.specs.Turn.{CoreState, working}
 use Rattle.token_session.specs.declared.input.{Input.Input, Input.TheVariants.Packet, Timed.Timed, Meters.Meters}
 use Rattle.token_session.specs.Machine.{MachineState, MachineTurn, event_keeps_alive, time_passed, turn, served}
-use Rattle.token_session.{specs.Machine.happens, specs.Machine.answer_keeps_alive, proofs.Passing.whole}
+use Rattle.token_session.{specs.Machine.happens, proofs.Passing.whole}
 use Rattle.token_session.specs.{Events.event_core, Events.event_packets, Meters.SessionState, Meters.counted}
 use Rattle.token_session.specs.Effects.{assembly_after, input_event, input_verdict, request_in, verdict_packets}
-use Rattle.ctap_message.specs.Requests.{steps_of, LARGEST}
-use Rattle.token_session.specs.Replies.{answer_packets, asker, status_of}
 
 -- An input was served: what is left after it, and what it sent.
 pub record IsServed (v : SessionState) (early : List (List ℕ)) (i : Input) (left : SessionState) (sent : List (List ℕ))
@@ -74,29 +71,3 @@ pub step_turn : (v mid : MachineState) (t : ℕ) (x : Timed) (early : List (List
     → served mid early x.input ≡ turn v x
 unfolding turn
 step_turn v mid t x early a b e = rw (b, e, a) refl
-
--- An event was taken at a moment that is no earlier than the latest.
-pub record IsTaken (old new : Held) (said : Answer) (now : ℕ) (e : Event) : Type 0 where
-  pub core : new.core ≡ core_after old.core now e
-  pub answer : said ≡ core_answer old.core now e
-  pub latest : new.latest ≤ now
-  pub steps : IfSome (request_in (Some e)) (λ m. new.last_steps ≡ min (steps_of m) LARGEST)
-
-pub at_most : (a b : ℕ) → a ≡ b → a ≤ b
-at_most a b e = omega arith
-
-steps_taken : (n k : ℕ) (e : Event) → k ≡ steps_after n e → IfSome (request_in (Some e))
-    (λ m. k ≡ min (steps_of m) LARGEST)
-steps_taken n k other h = search (rules, arith)
-
-pub taken : (v w : Held) (a : Answer) (now : ℕ) (e : Event) → v.latest ≤ now → IsTurn v w a now e → IsTaken v w a now e
-taken v w a now e le h = grind (arith, nat_tests)
-
--- What the answer of an event's turn sends is what the event sends.
-module _ (k : CoreState) (now : ℕ) (e : Event) (w : Option Work) (said : Answer) (ew : waiting k ≡ w)
-    (es : said ≡ core_answer k now e) where
-  pub taken_packets : answer_packets (asker w e) (status_of w) said ≡ event_packets k now (Some e)
-  taken_packets = λ i. answer_packets (asker ((sym ew) i) e) (status_of ((sym ew) i)) (es i)
-
-  pub taken_keeps : answer_keeps_alive (asker w e) (status_of w) said ≡ event_keeps_alive k now (Some e)
-  taken_keeps = λ i. answer_keeps_alive (asker ((sym ew) i) e) (status_of ((sym ew) i)) (es i)
