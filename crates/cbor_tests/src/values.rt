@@ -127,7 +127,7 @@ fn assert_encodes(
 }
 
 #[test]
-fn encodes_or_refuses(rt: HostRuntime) {
+fn encodes_or_refuses_integers(rt: HostRuntime) {
     let alloc = rt.alloc();
     assert_encodes(
         &rt,
@@ -150,6 +150,11 @@ fn encodes_or_refuses(rt: HostRuntime) {
         Ok(()),
         b"\xee\x3b\xff\xff\xff\xff\xff\xff\xff\xff",
     );
+}
+
+#[test]
+fn encodes_or_refuses_maps_and_arrays(rt: HostRuntime) {
+    let alloc = rt.alloc();
     assert_encodes(
         &rt,
         alloc,
