@@ -1,6 +1,6 @@
 -- An input that is served by what the transport makes of it is the composed turn.
-use Rattle.std.proofs.Common.{◌≡◌, ℕ, List, ◌++◌, max, Option, None, append_assoc, append-nil, cond, refl}
-use Rattle.std.proofs.Common.{sym, ◌∙◌, ap, Some}
+use Rattle.std.proofs.Common.{◌≡◌, ◌≤◌, ℕ, List, ◌++◌, max, Option, None, append_assoc, append-nil, cond, refl}
+use Rattle.std.proofs.Common.{sym, ◌∙◌, ap, arith, Some}
 use Rattle.hid_assemble.specs.{declared.verdict.Verdict.Verdict, Verdicts.verdict, Assembly.Assembly, Assembly.accepted}
 use Rattle.authn_core.specs.State.{Event}
 use Rattle.authn_core.specs.Turn.{CoreState, working}
@@ -71,3 +71,6 @@ pub step_turn : (v mid : MachineState) (t : ℕ) (x : Timed) (early : List (List
     → served mid early x.input ≡ turn v x
 unfolding turn
 step_turn v mid t x early a b e = rw (b, e, a) refl
+
+pub at_most : (a b : ℕ) → a ≡ b → a ≤ b
+at_most a b e = omega arith
