@@ -1,6 +1,5 @@
 -- Each answer of an authenticator, from what happened before it (CTAP 2.1, sections 6 and 8.2). A refusal has its
--- status,
--- and beside it the status's name in section 8.2.
+-- status, and beside it the status's name in section 8.2.
 use Rattle.std.specs.Prelude.{ℕ, ◌+◌, ◌==◌, nat_le, List, [], ◌∷◌, length, Bool, true, false, ◌&&◌, not, Option, Some}
 use Rattle.std.specs.Prelude.{None, Result, Ok, Err, if◌then◌else◌}
 use Rattle.std.specs.{List.find, List.list_any, Str.bytes_eq}
@@ -115,8 +114,8 @@ to_request start past now cid (Ok Reset) =
 to_request start past now cid (Ok (MakeCredential hash rp_id user_id user_name discoverable exclude)) = waits_for_user
 to_request start past now cid (Ok (GetAssertion hash rp_id allow presence)) =
     to_assertion (rows_after start past) (status_alone 0x2e)  -- NO_CREDENTIALS
-    (if presence then waits_for_user else is_processed) (assertion_for start past
-    (GetAssertion hash rp_id allow presence))
+    (if presence then waits_for_user else is_processed)
+    (assertion_for start past (GetAssertion hash rp_id allow presence))
 to_request start past now cid (Ok GetNextAssertion) =
     if may_go_on now cid (series past)
     then to_assertion (rows_after start past) (status_alone 0x30) is_processed
@@ -131,11 +130,11 @@ to_reply start rows a Selection [] (PresenceIs reply) = to_consent reply
 to_reply start rows a (MakeCredential hash rp_id user_id user_name discoverable exclude) [] (PresenceIs reply) =
     let rp = sha256 rp_id in
     to_presence (is_excluded rows rp (ids_of exclude)) (is_full start.capacity rows rp user_id discoverable) reply
-to_reply start rows a (MakeCredential hash rp_id user_id user_name discoverable exclude) (PresenceIs reply ∷ [])
-    (KeyIs key) =
+to_reply start rows a (MakeCredential hash rp_id user_id user_name discoverable exclude)
+    (PresenceIs reply ∷ []) (KeyIs key) =
     to_key rows key
-to_reply start rows a (MakeCredential hash rp_id user_id user_name discoverable exclude) (KeyIs (Some key) ∷ took)
-    (SignatureIs sig) =
+to_reply start rows a (MakeCredential hash rp_id user_id user_name discoverable exclude)
+    (KeyIs (Some key) ∷ took) (SignatureIs sig) =
     to_new_signature start.aaguid (sha256 rp_id) key sig
 to_reply start rows a (GetAssertion hash rp_id allow true) [] (PresenceIs reply) =
     if is_granted reply then is_processed else status_alone 0x27  -- OPERATION_DENIED

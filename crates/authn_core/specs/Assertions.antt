@@ -54,8 +54,8 @@ begins_series event answer past = None
 unfoldable pub series : List Exchange → Option Series
 series [] = None
 series (x ∷ past) =
-    option_or (begins_series x.event x.answer past) (option_map (λ (s : Series). record s { since = x ∷ s.since })
-    (series past))
+    option_or (begins_series x.event x.answer past)
+    (option_map (λ (s : Series). record s { since = x ∷ s.since }) (series past))
 
 abbrev pub asks_next : Result Asked ℕ → Bool
 asks_next (Ok GetNextAssertion) = true

@@ -32,8 +32,7 @@ asked_on cid status past (Ok asked) =
 asked_on cid status past (Err code) = None
 
 -- A request that isn't answered at once waits, and takes replies while it does; an ignored one changes nothing; an
--- answer
--- or a drop ends it.
+-- answer or a drop ends it.
 abbrev pub waits_after : Event → Answer → List Exchange → Option Unanswered → Option Unanswered
 waits_after (Request cid bytes) (Waits status) past older = asked_on cid status past (read_of bytes)
 waits_after reply (Waits status) past older =

@@ -30,10 +30,8 @@ or_input [] = codes "-" ∷ []
 or_input (log ∷ logs) = log ∷ logs
 
 -- The log was shown in a form. Line by line it was shown by texts that begin with the lines' numbers, and no more was
--- read
--- than it takes to find a fault. Without a fault all of it was read, and no read and no write failed. A pair is a
--- source or
--- a target before and after.
+-- read than it takes to find a fault. Without a fault all of it was read, and no read and no write failed. A pair is a
+-- source or a target before and after.
 abbrev pub ShowsIn : {I O : Type 0} → Form → Wording → (left : I → Option (List ℕ)) → (unread : I → ℕ) →
     (ended : I → Bool)
     → (taken : O → Option (List ℕ)) → (unput : O → ℕ) → Ended → (I × I) → (O × O) → Type 0
@@ -66,8 +64,7 @@ module _ {D I O F : Type 0} (model : Model D I O F) where
       ⊎ ((rows : List Row) × Opens model.holds old.files path rows × Goes (start_with rows))
 
   -- The log was played on the start, and what was held back of its text was written out. Then, where nothing failed,
-  -- the
-  -- credentials were saved at the path, if there is one.
+  -- the credentials were saved at the path, if there is one.
   abbrev pub RunsOn : LogCommand → Option (List ℕ) → Came → (old new : Host D I O F) → Start → Type 0
   RunsOn command save came old new start =
       (answer : Ended) × (whole : Ended) × (s : SessionState) × (put : O)
@@ -154,9 +151,8 @@ module _ {D I O F : Type 0} (model : Model D I O F) where
       ⊎ ((kind ≢ OutOfMemory) × MatchBool (is_help kind) (Helps status old new) (Refuses status old new))
 
   -- What words ask for is done, or memory was refused. Where they ask for nothing, clap's answer is returned. Except
-  -- for
-  -- what was asked for, the files and the log are left as they are. Texts are for people where that is asked for, or
-  -- where they go to a terminal.
+  -- for what was asked for, the files and the log are left as they are. Texts are for people where that is asked for,
+  -- or where they go to a terminal.
   abbrev pub Answers : List (List ℕ) → Status → (old new : Host D I O F) → Type 0
   Answers words status old new = MatchOption (asked_by words)
       ((kind : ErrorKind) × IsAmong kind (OutOfMemory ∷ answers_to words) × Explains kind status old new)

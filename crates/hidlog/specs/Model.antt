@@ -3,8 +3,7 @@ use Rattle.std.specs.Prelude.{◌<◌, ◌-◌, ◌^◌, ℕ, Bool, List, Option
 use Rattle.hidlog.specs.declared.host.Host.{Host}
 
 -- The words of `Files` (src/files.rt), of `Logs` (src/logs.rt) over `Source`, of `Output` (src/held.rt) over `Target`,
--- and
--- of a `Target` for the texts of faults.
+-- and of a `Target` for the texts of faults.
 pub record Model (D I O F : Type 0) : Type 1 where
   pub holds : D → List ℕ → List ℕ → Type 0
   pub unreadable : D → List ℕ → Type 0

@@ -26,8 +26,7 @@ abbrev pub IsSaved : SessionState → List ℕ → Type 0
 IsSaved s bytes = (rows : List Row) × (rows ≡ s.machine.core.state.rows) × IsSnapshot true 64 rows bytes
 
 -- A snapshot of the credentials was written to the path; or it couldn't be, or memory was refused. Without a path
--- nothing
--- is written. A pair is the files before and after.
+-- nothing is written. A pair is the files before and after.
 abbrev pub Saves : {D : Type 0} → (D → List ℕ → List ℕ → D → Type 0) → (D → List ℕ → List ℕ → D → Type 0)
     → Option (List ℕ) → SessionState → Came → (D × D) → Type 0
 Saves written unwritten None s came files = (came ≡ Ok tt) × (files.1 ≡ files.0)

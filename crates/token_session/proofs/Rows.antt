@@ -1,6 +1,6 @@
 -- Worked histories, by computation: a reader's check that the definitions say what is meant. Code and definitions share
--- the
--- fields, the error codes, the greeting and the authenticator's turns, and only these rows look at them from outside.
+-- the fields, the error codes, the greeting and the authenticator's turns, and only these rows look at them from
+-- outside.
 use Rattle.std.proofs.Common.{arith, inl, inr}
 use Prim.Native.String.{String}
 use Rattle.std.specs.Prelude.{◌≡◌, ℕ, ◌+◌, ◌-◌, ◌*◌, nat_lt, if◌then◌else◌, codes, List, [], ◌∷◌, ◌++◌, length, refl}

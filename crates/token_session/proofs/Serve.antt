@@ -58,8 +58,7 @@ row_sends g c w p cmd len r = grind (arith, append-nil)
 -- ---- a start, by the tests of the table's rows
 
 -- What the rows test of an initialization packet: its channel (`on` which work waits, `known`, `here` a message is
--- open,
--- `apart` from that one or from work), its command, and its length.
+-- open, `apart` from that one or from work), its command, and its length.
 pub record Tests : Type 0 where
   pub cancel : Bool
   pub on : Bool

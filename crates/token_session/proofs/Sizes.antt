@@ -1,6 +1,6 @@
 -- A session takes fewer bytes than 2^63, and so does each part of it that a call is handed. `search` finds the sizes by
--- these, where omega would work through every place of padding. The numbers are the sizes of fields as the prover lays them out: where a field is added, the goal that a
--- check prints has the new ones.
+-- these, where omega would work through every place of padding. The numbers are the sizes of fields as the prover lays
+-- them out: where a field is added, the goal that a check prints has the new ones.
 use Rattle.std.proofs.lemmas.Bool.Decides.{nat_tests}
 use Prim.Native.Nat.{ℕ, ◌+◌, ◌*◌, ◌<◌, ◌≤◌, ◌^◌}
 use native.Mathlib.Nat.{mul-le-mul_right}

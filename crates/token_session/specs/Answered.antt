@@ -1,6 +1,5 @@
 -- What a history of inputs sends, from what happened alone: no state of the authenticator is kept, and none of its
--- turns
--- is looked at. Its events have the answers that what came before them names.
+-- turns is looked at. Its events have the answers that what came before them names.
 use Rattle.std.specs.Prelude.{◌≡◌, ℕ, max, List, [], ◌∷◌, ◌++◌, ◌&&◌, Option, Some, None, option_map, is_some, is_none}
 use Rattle.std.specs.{Prelude.if◌then◌else◌, List.list_any}
 use Rattle.hid_packet.specs.{Commands.KEEPALIVE, Packet.is_command}

@@ -81,8 +81,8 @@ is_last b p =
 -- the open message, where this packet is its last
 unfoldable pub finished_long : Option Begun → List ℕ → Option Message
 finished_long None p = None
-finished_long (Some b) p = if is_last b p then Some (message b.packet (map (λ e. packet e.input) b.own ++ p ∷ [])) else
-    None
+finished_long (Some b) p =
+    if is_last b p then Some (message b.packet (map (λ e. packet e.input) b.own ++ p ∷ [])) else None
 
 -- an admitted short message, or the open one
 unfoldable pub finished : Option Begun → Bool → Input → Option Message

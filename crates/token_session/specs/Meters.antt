@@ -41,8 +41,7 @@ meters_of start h = record {
 }
 
 -- The totals with a request that was finished, if one was: one more, its bytes after the command byte, and the steps
--- that
--- reading it takes.
+-- that reading it takes.
 unfoldable pub counted : Meters → Option (List ℕ) → Meters
 counted m None = m
 counted m (Some message) = record m {
