@@ -8,8 +8,9 @@ python=/usr/bin/python3
     { echo "distributed or cryptography is missing (apt-get install python3-distributed python3-cryptography)" >&2 && exit 3; }
 work=$(mktemp -d)
 started=()
+# Neither the scheduler nor a worker has anything to keep, and one that is asked to end may wait for the other for ever.
 end() {
-    kill "${started[@]}" 2>/dev/null || true
+    kill -KILL "${started[@]}" 2>/dev/null || true
     wait
     rm -rf "$work"
 }
