@@ -1,12 +1,12 @@
 -- What a history sends is what is told of it without a state: by the law of the authenticator's answers.
-use Rattle.std.proofs.Common.{arith, rules, ◌≡◌, ℕ, max, List, [], ◌∷◌, ◌++◌, Option, refl, ap}
+use Rattle.std.proofs.Common.{arith, rules, ◌≡◌, ℕ, List, [], ◌∷◌, ◌++◌, Option, refl, ap}
 use Rattle.authn_core.specs.{Answers.answer_to, Answers.exchanges, Exchanges.Exchange, State.Event}
 use Rattle.authn_core.specs.Turn.{Start, CoreState, core_answer, first_state, waiting, working}
 use Rattle.authn_core.specs.Marks.{Step, Orderly, core_at}
 use Rattle.token_session.specs.{declared.input.Timed.Timed, Events.event_packets, Law.event_at, Replies.ping_packets}
-use Rattle.token_session.specs.Inputs.{Judged, end, given, is_packet}
+use Rattle.token_session.specs.Inputs.{given}
 use Rattle.token_session.specs.{Messages.open_at, Messages.finished, History.table_packets, History.time_packets}
-use Rattle.token_session.specs.History.{admits, core, judge, judged, last_keepalive, sent, sent_at, service_packets}
+use Rattle.token_session.specs.History.{core, judge, judged, last_keepalive, sent, sent_at, service_packets}
 use Rattle.token_session.specs.Credentials.{step_of, steps}
 use Rattle.token_session.specs.Answered.{judge_told, judged_told, waits_in, with_event, happened, answered_packets}
 use Rattle.token_session.specs.Answered.{service_told, time_told, keepalive_told, sent_told}
@@ -81,12 +81,6 @@ pub sent_told_so : (start : Start) (law : Law start) (h : List Timed) →
 unfolding judged sent sent_at sent_told
 sent_told_so start law [] = refl
 sent_told_so start law (x ∷ h) = grind (arith, both_told, keepalive_told_so, sent_told_so start law h)
-
--- an input, judged by the channel of what waits
-abbrev one_judged : Start → Timed → List Judged → Option ℕ → Judged
-one_judged start x past on =
-    let t = max (end start past) x.at in
-    record { at = t; input = x.input; admitted = is_packet (admits (given past) (open_at past t) on) x.input }
 
 -- inputs are judged alike
 pub judged_told_so : (start : Start) (law : Law start) (h : List Timed) → judged start h ≡ judged_told start h

@@ -19,9 +19,6 @@ unfolding core steps core_at
 core_is start [] = refl
 core_is start (e ∷ past) = search (rules, arith, core_is start past)
 
-no_work : (w : Option ChannelTask) → option_map (λ (v : Work). v.cid) (option_map as_work w) ≡ None → w ≡ None
-no_work w h = grind arith
-
 one_orderly : (g : ℕ) (k : CoreState) (at : ℕ) (e : Option Event) (past : List Step)
     → EventGiven g (working (core_at k past)) e
     → Orderly k past → Orderly k (step_of at e ++ past)

@@ -3,31 +3,8 @@
 -- them out: where a field is added, the goal that a check prints has the new ones.
 use Rattle.std.proofs.lemmas.Bool.Decides.{nat_tests}
 use Prim.Native.Nat.{ℕ, ◌+◌, ◌*◌, ◌<◌, ◌≤◌, ◌^◌}
-use native.Mathlib.Nat.{mul-le-mul_right}
 use native.Mathlib.Omega.{arith}
 use prog.Memory.{up}
-
--- what is padded is at most the alignment longer
-up_1 : (e m : ℕ) → e ≤ m → up 1 e ≤ m + 1
-up_1 e m h = omega (arith, h)
-
-up_2 : (e m : ℕ) → e ≤ m → up 2 e ≤ m + 2
-up_2 e m h = omega (arith, h)
-
-up_8 : (e m : ℕ) → e ≤ m → up 8 e ≤ m + 8
-up_8 e m h = omega (arith, h)
-
-more : (k e m : ℕ) → e ≤ m → e + k ≤ m + k
-more k e m h = omega (arith, h)
-
-from : (k e m : ℕ) → e ≤ m → k + e ≤ k + m
-from k e m h = omega (arith, h)
-
-both : (e m f q : ℕ) → e ≤ m → f ≤ q → e + f ≤ m + q
-both e m f q h k = omega (arith, h, k)
-
-times : (k n : ℕ) → n ≤ 256 → 0 + n * k ≤ 0 + 256 * k
-times k n few = from 0 (n * k) (256 * k) (mul-le-mul_right k few)
 
 -- a table of credentials, and the authenticator that has it, by the size of a row and of an id
 abbrev ids : ℕ → ℕ

@@ -1,7 +1,7 @@
 //! The transport and the authenticator together: a session takes inputs, one at a time, and returns the packets to
 //! send.
 //!
-//! An example, which the gate runs (`crates/session_tests/src/page.rt`):
+//! An example, which the gate runs (`crates/page_tests/src/token_session_page.rt`):
 //!
 //! ```text
 //! let mut key = Session::<8>::bare([0; 16], 0);

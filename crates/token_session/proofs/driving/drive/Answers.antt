@@ -57,7 +57,13 @@ loop-i-init g c = record {
 }
 
 pub step-requires : goal.step-requires
-step-requires g c = (search, c.loop-i.invariant.empty)
+step-requires g c = (assumption c.well_formed, c.loop-i.invariant.empty)
 
 pub take_all-requires : goal.take_all-requires
-take_all-requires g c = (search, omega (arith, c.if-remaining_capacity-lt-OUTBOX_CAPACITY.false, c.remaining_capacity.ensures, c.step.ensures.few))
+take_all-requires g c = (assumption c.well_formed, omega (arith, c.if-remaining_capacity-lt-OUTBOX_CAPACITY.false, c.remaining_capacity.ensures, c.step.ensures.few))
+
+pub remaining_capacity-requires : goal.remaining_capacity-requires
+remaining_capacity-requires g c = assumption c.well_formed
+
+pub meters-requires : goal.meters-requires
+meters-requires g c = assumption c.well_formed

@@ -1,6 +1,26 @@
-use Rattle.token_session.specs.Replies.{answer_packets}
+use Rattle.std.proofs.Common.{arith, refl}
+use Rattle.token_session.specs.{Machine.answer_keeps_alive, Replies.answer_packets}
 use Rattle.token_session.proofs.service.Keeper.send.Goals as goal
 
 pub put_message-requires-clause-space : goal.put_message-requires-clause-space
 unfolding answer_packets
 put_message-requires-clause-space g c = rw c.as_slice.ensures.value (rw c.in-Answer.is at c.requires)
+
+pub returns-in-Answer-clause-keepalive : goal.returns-in-Answer-clause-keepalive
+unfolding answer_keeps_alive
+returns-in-Answer-clause-keepalive g c = rw c.in-Answer.is refl
+
+pub put_message-requires-then-not-matches-clause-space : goal.put_message-requires-then-not-matches-clause-space
+unfolding answer_packets
+put_message-requires-then-not-matches-clause-space g c =
+    grind (arith, c.requires, c.in-Waits.is, c.if-not-matches.true, c.match-matches.branch, c.number.ensures)
+
+pub returns-then-not-matches-clause-keepalive : goal.returns-then-not-matches-clause-keepalive
+unfolding answer_keeps_alive
+returns-then-not-matches-clause-keepalive g c =
+    grind (arith, c.in-Waits.is, c.if-not-matches.true, c.match-matches.branch)
+
+pub returns-else-not-matches-clause-keepalive : goal.returns-else-not-matches-clause-keepalive
+unfolding answer_keeps_alive
+returns-else-not-matches-clause-keepalive g c =
+    grind (arith, c.in-Waits.is, c.if-not-matches.false, c.match-matches.branch)

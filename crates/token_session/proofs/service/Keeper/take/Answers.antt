@@ -45,3 +45,24 @@ last_steps-requires-room-T-Table g c κs = search table_held
 
 pub last_steps-requires : goal.last_steps-requires
 last_steps-requires g c = search core_held
+
+pub take-turn-requires : goal.take-turn-requires
+take-turn-requires g c = search core_held
+
+pub send-requires : goal.send-requires
+send-requires g c = (
+  assumption c.well_formed,
+  grind (arith, c.requires.few, c.in-Request.is, c.work-before.ensures, c.take-turn.ensures.answer),
+)
+
+pub send-requires-in-Some : goal.send-requires-in-Some
+send-requires-in-Some g c = (
+  assumption c.well_formed,
+  grind (arith, c.requires.few, c.in-Presence.is, c.in-Some.is, c.work-before.ensures, c.take-turn.ensures.answer),
+)
+
+pub returns-in-Some-clause-bounded : goal.returns-in-Some-clause-bounded
+returns-in-Some-clause-bounded g c = rw c.send-in-Some.ensures.others c.requires.bounded
+
+pub returns-in_default-clause-bounded : goal.returns-in_default-clause-bounded
+returns-in_default-clause-bounded g c = c.requires.bounded

@@ -7,3 +7,10 @@ pub returns-clause-named : goal.returns-clause-named
 returns-clause-named g c = λ start h b.
     c.held.ensures.bytes ∙ ap (λ (v : SessionState). held_bytes v.machine.current) (c.self.view_is ∙ b)
     ∙ session_held start (judged start h)
+
+pub returns-clause-bytes : goal.returns-clause-bytes
+returns-clause-bytes g c =
+    c.held.ensures.bytes ∙ ap (λ (v : SessionState). held_bytes v.machine.current) c.self.view_is
+
+pub returns-clause-limit : goal.returns-clause-limit
+returns-clause-limit g c = rw c.held.ensures.bytes c.held.ensures.limit

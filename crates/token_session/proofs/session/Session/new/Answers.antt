@@ -2,6 +2,7 @@ use Rattle.std.proofs.Common.{ap, length, sym, ◌∙◌}
 use Rattle.authn_core.specs.Turn.{Held}
 use Rattle.token_session.specs.Machine.{start_state}
 use Rattle.token_session.proofs.{Metering.begins, Metering.bounded_first, Passing.whole, Serving.at_most}
+use Rattle.token_session.proofs.Sizes.{core_within, table_within}
 use Rattle.token_session.proofs.session.Session.new.Goals as goal
 
 pub returns : goal.returns
@@ -14,3 +15,12 @@ returns g c =
 pub invariant_of-result : goal.invariant_of-result
 invariant_of-result g c =
     (at_most _ _ (ap (λ (h : Held). h.latest) c.new-2.ensures), bounded_first _ _ c.first_meters.ensures)
+
+pub len-credentials-requires : goal.len-credentials-requires
+len-credentials-requires g c = assumption c.well_formed
+
+pub new-requires-2-room-T-Table : goal.new-requires-2-room-T-Table
+new-requires-2-room-T-Table g c κs = search table_within
+
+pub new-requires-2 : goal.new-requires-2
+new-requires-2 g c = search core_within

@@ -1,8 +1,8 @@
-use Rattle.std.proofs.Common.{◌≡◌, [], Some, refl, sym, ◌∙◌, append-nil, length-append, rules, arith}
+use Rattle.std.proofs.Common.{[], ◌∷◌, Some, refl, sym, ◌∙◌, append-nil, length-append, arith}
 use Rattle.std.proofs.lemmas.Bool.Decides.{nat_tests}
 use Rattle.authn_core.specs.State.{Request, PresenceIs, KeyIs, SignatureIs, Cancel, Drop}
-use Rattle.authn_core.specs.Turn.{working}
 use Rattle.hid_assemble.specs.declared.verdict.Verdict.TheVariants.{Finished, Refuse, Greet, GreetAndDrop, CancelWork}
+use Rattle.hid_packet.proofs.Carrying.{few_written}
 use Rattle.token_session.specs.Meters.{counted}
 use Rattle.token_session.proofs.{Few.event_few, Few.verdict_few, Serving.served_quietly, Serving.served_by}
 use Rattle.token_session.proofs.Sizes.{core_within, keeper_within, table_within}
@@ -48,48 +48,36 @@ returns-in-Tick-clause-meters g c = rw c.in-Tick.is refl
 
 pub returns-in-Ignored : goal.returns-in-Ignored
 returns-in-Ignored g c =
-    let working_is : c.map-working.result ≡ working c.self.inside.keeper.core.core =
-    grind (arith, c.work.ensures, c.map-working.ensures.cases) in
-    let s = served_quietly c.self.inside.latest c.self.inside.keeper.keepalive_at c.self.inside.assembler
-    c.accept.new.self c.self.inside.keeper.core.core c.self.inside.keeper.meters c.args.self.now c.args.outbox.now
-    c.map-working.result
-    c.self.view_is working_is c.args.input (rw c.in-Packet.is c.accept.ensures.state)
+    let s = served_quietly _ _ c.self.inside.assembler c.accept.new.self _ _ _ c.args.outbox.now c.map-working.result
+    c.self.view_is (grind (arith, c.work.ensures, c.map-working.ensures.cases)) c.args.input
+    (rw c.in-Packet.is c.accept.ensures.state)
     (c.accept.result) (rw c.in-Packet.is c.accept.ensures.verdict) (rw c.in-Packet.is (grind (arith, c.in-Ignored.is)))
     _ (grind (arith, c.in-Ignored.is, append-nil)) in
     record { state = s.state; meters = s.meters; packets = s.packets }
 
 pub returns-in-Refuse : goal.returns-in-Refuse
 returns-in-Refuse g c =
-    let working_is : c.map-working.result ≡ working c.self.inside.keeper.core.core =
-    grind (arith, c.work.ensures, c.map-working.ensures.cases) in
-    let s = served_quietly c.self.inside.latest c.self.inside.keeper.keepalive_at c.self.inside.assembler
-    c.accept.new.self c.self.inside.keeper.core.core c.self.inside.keeper.meters c.args.self.now c.args.outbox.now
-    c.map-working.result
-    c.self.view_is working_is c.args.input (rw c.in-Packet.is c.accept.ensures.state)
+    let s = served_quietly _ _ c.self.inside.assembler c.accept.new.self _ _ _ c.args.outbox.now c.map-working.result
+    c.self.view_is (grind (arith, c.work.ensures, c.map-working.ensures.cases)) c.args.input
+    (rw c.in-Packet.is c.accept.ensures.state)
     (Refuse c.in-Refuse.cid c.in-Refuse.code) (rw c.in-Packet.is (sym c.in-Refuse.is ∙ c.accept.ensures.verdict))
     (rw c.in-Packet.is refl) _ (rw (c.put_message.ensures, c.number.ensures) refl) in
     record { state = s.state; meters = s.meters; packets = s.packets }
 
 pub returns-in-Greet : goal.returns-in-Greet
 returns-in-Greet g c =
-    let working_is : c.map-working.result ≡ working c.self.inside.keeper.core.core =
-    grind (arith, c.work.ensures, c.map-working.ensures.cases) in
-    let s = served_quietly c.self.inside.latest c.self.inside.keeper.keepalive_at c.self.inside.assembler
-    c.accept.new.self c.self.inside.keeper.core.core c.self.inside.keeper.meters c.args.self.now c.args.outbox.now
-    c.map-working.result
-    c.self.view_is working_is c.args.input (rw c.in-Packet.is c.accept.ensures.state)
+    let s = served_quietly _ _ c.self.inside.assembler c.accept.new.self _ _ _ c.args.outbox.now c.map-working.result
+    c.self.view_is (grind (arith, c.work.ensures, c.map-working.ensures.cases)) c.args.input
+    (rw c.in-Packet.is c.accept.ensures.state)
     (Greet c.in-Greet.on c.in-Greet.channel c.in-Greet.nonce) (rw c.in-Packet.is
     (sym c.in-Greet.is ∙ c.accept.ensures.verdict)) (rw c.in-Packet.is refl) _ (c.greet.ensures) in
     record { state = s.state; meters = s.meters; packets = s.packets }
 
 pub returns-in-GreetAndDrop : goal.returns-in-GreetAndDrop
 returns-in-GreetAndDrop g c =
-    let working_is : c.map-working.result ≡ working c.self.inside.keeper.core.core =
-    grind (arith, c.work.ensures, c.map-working.ensures.cases) in
-    let s = served_by c.self.inside.latest c.self.inside.keeper.keepalive_at c.self.inside.assembler c.accept.new.self
-    c.self.inside.keeper.core.core c.self.inside.keeper.meters c.args.self.now c.args.outbox.now
-    c.map-working.result
-    c.self.view_is working_is c.args.input (rw c.in-Packet.is c.accept.ensures.state)
+    let s = served_by _ _ c.self.inside.assembler c.accept.new.self _ _ _ c.args.outbox.now c.map-working.result
+    c.self.view_is (grind (arith, c.work.ensures, c.map-working.ensures.cases)) c.args.input
+    (rw c.in-Packet.is c.accept.ensures.state)
     (GreetAndDrop c.in-GreetAndDrop.on c.in-GreetAndDrop.channel c.in-GreetAndDrop.nonce)
     (rw c.in-Packet.is (sym c.in-GreetAndDrop.is ∙ c.accept.ensures.verdict)) (Drop) (rw c.in-Packet.is refl) _
     (c.greet-in-GreetAndDrop.ensures)
@@ -99,12 +87,9 @@ returns-in-GreetAndDrop g c =
 
 pub returns-in-CancelWork : goal.returns-in-CancelWork
 returns-in-CancelWork g c =
-    let working_is : c.map-working.result ≡ working c.self.inside.keeper.core.core =
-    grind (arith, c.work.ensures, c.map-working.ensures.cases) in
-    let s = served_by c.self.inside.latest c.self.inside.keeper.keepalive_at c.self.inside.assembler c.accept.new.self
-    c.self.inside.keeper.core.core c.self.inside.keeper.meters c.args.self.now c.args.outbox.now
-    c.map-working.result
-    c.self.view_is working_is c.args.input (rw c.in-Packet.is c.accept.ensures.state)
+    let s = served_by _ _ c.self.inside.assembler c.accept.new.self _ _ _ c.args.outbox.now c.map-working.result
+    c.self.view_is (grind (arith, c.work.ensures, c.map-working.ensures.cases)) c.args.input
+    (rw c.in-Packet.is c.accept.ensures.state)
     (CancelWork) (rw c.in-Packet.is (sym c.in-CancelWork.is ∙ c.accept.ensures.verdict)) (Cancel)
     (rw c.in-Packet.is refl) _ (sym (append-nil c.args.outbox.now))
     _ _ _ _ c.take-in-CancelWork.ensures.core c.take-in-CancelWork.ensures.keepalive c.take-in-CancelWork.ensures.meters
@@ -113,12 +98,9 @@ returns-in-CancelWork g c =
 
 pub returns-then-cmd-eq-PING : goal.returns-then-cmd-eq-PING
 returns-then-cmd-eq-PING g c =
-    let working_is : c.map-working.result ≡ working c.self.inside.keeper.core.core =
-    grind (arith, c.work.ensures, c.map-working.ensures.cases) in
-    let s = served_quietly c.self.inside.latest c.self.inside.keeper.keepalive_at c.self.inside.assembler
-    c.accept.new.self c.self.inside.keeper.core.core c.self.inside.keeper.meters c.args.self.now c.args.outbox.now
-    c.map-working.result
-    c.self.view_is working_is c.args.input (rw c.in-Packet.is c.accept.ensures.state)
+    let s = served_quietly _ _ c.self.inside.assembler c.accept.new.self _ _ _ c.args.outbox.now c.map-working.result
+    c.self.view_is (grind (arith, c.work.ensures, c.map-working.ensures.cases)) c.args.input
+    (rw c.in-Packet.is c.accept.ensures.state)
     (Finished c.in-Finished.cid c.in-Finished.cmd) (rw c.in-Packet.is (sym c.in-Finished.is ∙ c.accept.ensures.verdict))
     (rw c.in-Packet.is (grind (arith, nat_tests, c.if-cmd-eq-PING.true))) _
     (rw c.put_message-then-cmd-eq-PING.ensures
@@ -127,12 +109,9 @@ returns-then-cmd-eq-PING g c =
 
 pub returns-then-cmd-eq-CBOR : goal.returns-then-cmd-eq-CBOR
 returns-then-cmd-eq-CBOR g c =
-    let working_is : c.map-working.result ≡ working c.self.inside.keeper.core.core =
-    grind (arith, c.work.ensures, c.map-working.ensures.cases) in
-    let s = served_by c.self.inside.latest c.self.inside.keeper.keepalive_at c.self.inside.assembler c.accept.new.self
-    c.self.inside.keeper.core.core c.self.inside.keeper.meters c.args.self.now c.args.outbox.now
-    c.map-working.result
-    c.self.view_is working_is c.args.input (rw c.in-Packet.is c.accept.ensures.state)
+    let s = served_by _ _ c.self.inside.assembler c.accept.new.self _ _ _ c.args.outbox.now c.map-working.result
+    c.self.view_is (grind (arith, c.work.ensures, c.map-working.ensures.cases)) c.args.input
+    (rw c.in-Packet.is c.accept.ensures.state)
     (Finished c.in-Finished.cid c.in-Finished.cmd) (rw c.in-Packet.is (sym c.in-Finished.is ∙ c.accept.ensures.verdict))
     (Request c.in-Finished.cid c.message-message.result.now)
     (rw (c.in-Packet.is, c.message-message.ensures.bytes) (grind (arith, nat_tests, c.if-cmd-eq-CBOR.true))) _
@@ -143,12 +122,9 @@ returns-then-cmd-eq-CBOR g c =
 
 pub returns-else-cmd-eq-CBOR : goal.returns-else-cmd-eq-CBOR
 returns-else-cmd-eq-CBOR g c =
-    let working_is : c.map-working.result ≡ working c.self.inside.keeper.core.core =
-    grind (arith, c.work.ensures, c.map-working.ensures.cases) in
-    let s = served_quietly c.self.inside.latest c.self.inside.keeper.keepalive_at c.self.inside.assembler
-    c.accept.new.self c.self.inside.keeper.core.core c.self.inside.keeper.meters c.args.self.now c.args.outbox.now
-    c.map-working.result
-    c.self.view_is working_is c.args.input (rw c.in-Packet.is c.accept.ensures.state)
+    let s = served_quietly _ _ c.self.inside.assembler c.accept.new.self _ _ _ c.args.outbox.now c.map-working.result
+    c.self.view_is (grind (arith, c.work.ensures, c.map-working.ensures.cases)) c.args.input
+    (rw c.in-Packet.is c.accept.ensures.state)
     (Finished c.in-Finished.cid c.in-Finished.cmd) (rw c.in-Packet.is (sym c.in-Finished.is ∙ c.accept.ensures.verdict))
     (rw c.in-Packet.is (grind (arith, nat_tests, c.if-cmd-eq-CBOR.false))) _
     (grind (arith, nat_tests, append-nil, c.if-cmd-eq-PING.false)) in
@@ -159,3 +135,54 @@ work-requires-room-T-Table g c κs = search table_within
 
 pub work-requires : goal.work-requires
 work-requires g c = search core_within
+
+pub invariant_of-self : goal.invariant_of-self
+invariant_of-self g c = (c.take.ensures.latest, c.take.ensures.bounded)
+
+pub invariant_of-self-in-Key : goal.invariant_of-self-in-Key
+invariant_of-self-in-Key g c = (c.take-in-Key.ensures.latest, c.take-in-Key.ensures.bounded)
+
+pub invariant_of-self-in-Signature : goal.invariant_of-self-in-Signature
+invariant_of-self-in-Signature g c = (c.take-in-Signature.ensures.latest, c.take-in-Signature.ensures.bounded)
+
+pub invariant_of-self-in-GreetAndDrop : goal.invariant_of-self-in-GreetAndDrop
+invariant_of-self-in-GreetAndDrop g c = (c.take-in-GreetAndDrop.ensures.latest, c.take-in-GreetAndDrop.ensures.bounded)
+
+pub invariant_of-self-in-CancelWork : goal.invariant_of-self-in-CancelWork
+invariant_of-self-in-CancelWork g c = (c.take-in-CancelWork.ensures.latest, c.take-in-CancelWork.ensures.bounded)
+
+pub invariant_of-self-then-cmd-eq-CBOR : goal.invariant_of-self-then-cmd-eq-CBOR
+invariant_of-self-then-cmd-eq-CBOR g c =
+    (c.take-then-cmd-eq-CBOR.ensures.latest, c.take-then-cmd-eq-CBOR.ensures.bounded)
+
+pub invariant_of-self-in-Ignored : goal.invariant_of-self-in-Ignored
+invariant_of-self-in-Ignored g c = (c.self.invariant.0, c.self.invariant.1)
+
+pub invariant_of-self-in-Refuse : goal.invariant_of-self-in-Refuse
+invariant_of-self-in-Refuse g c = (c.self.invariant.0, c.self.invariant.1)
+
+pub invariant_of-self-in-Greet : goal.invariant_of-self-in-Greet
+invariant_of-self-in-Greet g c = (c.self.invariant.0, c.self.invariant.1)
+
+pub invariant_of-self-then-cmd-eq-PING : goal.invariant_of-self-then-cmd-eq-PING
+invariant_of-self-then-cmd-eq-PING g c = (c.self.invariant.0, c.self.invariant.1)
+
+pub invariant_of-self-else-cmd-eq-CBOR : goal.invariant_of-self-else-cmd-eq-CBOR
+invariant_of-self-else-cmd-eq-CBOR g c = (c.self.invariant.0, c.self.invariant.1)
+
+pub put_message-requires-clause-space : goal.put_message-requires-clause-space
+put_message-requires-clause-space g c = omega (arith, c.requires, few_written c.in-Refuse.cid 63 (c.number.result ∷ []))
+
+pub greet-requires : goal.greet-requires
+greet-requires g c = c.requires
+
+pub greet-requires-in-GreetAndDrop : goal.greet-requires-in-GreetAndDrop
+greet-requires-in-GreetAndDrop g c = c.requires
+
+pub put_message-requires-then-cmd-eq-PING-clause-short : goal.put_message-requires-then-cmd-eq-PING-clause-short
+put_message-requires-then-cmd-eq-PING-clause-short g c =
+    rw c.message-message.ensures.bytes c.message-message.ensures.limit
+
+pub put_message-requires-then-cmd-eq-PING-clause-space : goal.put_message-requires-then-cmd-eq-PING-clause-space
+put_message-requires-then-cmd-eq-PING-clause-space g c =
+    omega (arith, c.requires, few_written c.in-Finished.cid 1 c.message-message.result.now)

@@ -8,7 +8,7 @@ use Rattle.token_session.proofs.session.Session.step.Goals as goal
 
 pub serve-requires : goal.serve-requires
 serve-requires g c =
-    (search, rw c.pass_time.ensures.packets (time_few (c.args.self.now).machine c.max-now.result))
+    (assumption c.well_formed, rw c.pass_time.ensures.packets (time_few (c.args.self.now).machine c.max-now.result))
 
 pub returns-clause-state : goal.returns-clause-state
 returns-clause-state g c =
@@ -53,7 +53,7 @@ later : (latest at now to : ℕ) → latest ≡ now → to ≡ max latest at →
 later latest at now to e m = omega arith
 
 pub pass_time-requires : goal.pass_time-requires
-pass_time-requires g c = (search, (c.requires, later _ c.args.at _ _ (ap (λ (v : SessionState). v.machine.now) c.self.view_is) c.max-now.ensures))
+pass_time-requires g c = (assumption c.well_formed, (c.requires, later _ c.args.at _ _ (ap (λ (v : SessionState). v.machine.now) c.self.view_is) c.max-now.ensures))
 
 pub credentials-requires-room-T-Table : goal.credentials-requires-room-T-Table
 credentials-requires-room-T-Table g c κs = search table_within
@@ -66,3 +66,9 @@ pending-requires-room-T-Table g c κs = search table_within
 
 pub pending-requires : goal.pending-requires
 pending-requires g c = search core_within
+
+pub overflow_cast-credentials : goal.overflow_cast-credentials
+overflow_cast-credentials g c = omega (arith, c.credentials.ensures.few.0, c.credentials.ensures.few.1)
+
+pub invariant_of-self : goal.invariant_of-self
+invariant_of-self g c = (c.self-2.invariant.0, c.self-2.invariant.1)
