@@ -7,7 +7,7 @@ use Rattle.std.proofs.lemmas.{Slice.Eq.bytes_eq-Decides, List.map-append, List.t
 use Rattle.clap.proofs.{OnLiterals.clap_on_literals, WalkLemmas.first_value-rows, WalkLemmas.raw_values-rows}
 use Rattle.clap.specs.{Built.AddsArg, Built.AddsSubcommand, declared.builder.arg.Arg.Arg, Simple.with_subcommand}
 use Rattle.clap.specs.{Lexer.long_of, Lexer.short_of, Kinds.Kinds, Kinds.or_else, Kinds.check_kinds}
-use Rattle.clap.specs.Walk.{rule_of, Held, Names, Outcome, done, waits, plain, refused, Row, Rule, Step, next, trailing}
+use Rattle.clap.specs.Walk.{rule_of, Held, Names, Outcome, done, waits, plain, refused, Rule, Step, next, trailing}
 use Rattle.clap.specs.Walk.{subcommand, value, Text, Waiting, idle, option, positional, Walk, after_flag, after_step}
 use Rattle.clap.specs.Walk.{arg_by_index, arg_by_long, bundle, finished, long_met, long_or_other, plain_word, settled}
 use Rattle.clap.specs.Walk.{short_or_plain, subcommand_met, subcommand_or_other, to_positional, walk, walk_from, walked}
@@ -16,14 +16,14 @@ use Rattle.clap.specs.Faults.{fault_of, check_fault, defaults_fault, entered_fau
 use Rattle.clap.specs.Faults.{settle_fault, step_fault, turn_fault, walk_fault, word_fault, is_simple_and_free}
 use Rattle.clap.specs.Simple.{new_app, on_top, App, HasMatchesOf, Shape, is_simple, subcommand_of, argument_words}
 use Rattle.clap.specs.Simple.{built, entered, help_shape, names_of, rows_at, shape_of, app_of, subcommand_rows_of}
-use Rattle.clap.specs.Matches.{first_value, matched_of, raw_values, subcommand_name_of}
+use Rattle.clap.specs.Matches.{first_value, matched_of, raw_values}
 use Rattle.clap.specs.declared.builder.command.Command.{Command, TheViews.out-Command as fields_of}
 use Rattle.clap.specs.declared.parser.matches.{ArgMatches.ArgMatches, Found.Found}
 use Rattle.hidlog.specs.declared.command_line.{CommandOptions.CommandOptions, Form.TheVariants.Lines}
-use Rattle.hidlog.specs.declared.command_line.Manner.{Manner, TheVariants.ByTerminal}
+use Rattle.hidlog.specs.declared.command_line.Manner.{TheVariants.ByTerminal}
 use Rattle.hidlog.specs.declared.grammar.{CommandName.CommandName, CommandParameter.CommandParameter}
-use Rattle.hidlog.specs.CommandLine.{AreFound, Ask, command, command_for, rule_for, ask_of, asked_by, grammar}
-use Rattle.hidlog.specs.CommandLine.{answers_to, logs_of, manner_of, play, check, show, task_by, task_for, texts_of}
+use Rattle.hidlog.specs.CommandLine.{Ask, command, command_for, rule_for, ask_of, asked_by, grammar}
+use Rattle.hidlog.specs.CommandLine.{answers_to, logs_of, play, check, show, task_for, texts_of}
 use Rattle.clap.specs.declared.error.kind.ErrorKind.TheVariants as kind
 use Rattle.session_log.specs.declared.command.LogCommand.TheVariants as playing
 
@@ -263,34 +263,9 @@ one_command_more old sub new names place name adds local shape below so_far =
     ∙ sym (ap (fold with_name alone) (take_more names place name below)
     ∙ fold-append with_name alone (take place names) (get_or names place name ∷ []))
 
-name_first : {X A B : Type 0} (f : X → A) (g : X → B) (o : Option X) →
-    option_map (λ (p : A × B). p.0) (option_map (λ x. (f x, g x)) o) ≡ option_map f o
-name_first f g None = refl
-name_first f g (Some x) = refl
-
-both_parts : {A B : Type 0} (o : Option (A × B)) (a : A) (b : B) → Some a ≡ option_map (λ p. p.0) o →
-    Some b ≡ option_map (λ p. p.1) o → o ≡ Some (a, b)
-both_parts None a b first second = cc
-both_parts (Some (x, y)) a b first second = cc
-
--- the command that was met, by its name and what was found for its options
-pub met_is : (m : ArgMatches) (name : Text) (found : Found) → Some name ≡ subcommand_name_of m
-    → Some (rows_of found) ≡ option_map (λ p. p.1) (subcommand_rows_of m) →
-    subcommand_rows_of m ≡ Some (name, rows_of found)
-met_is m name found named rows = both_parts (subcommand_rows_of m) name (rows_of found) (named ∙ sym (name_first _ _ _))
-    rows
-
 pub path_is : (found : Found) (id : Text) (path : Option Text) → path ≡ first_value found id →
     path ≡ first_of id (rows_of found)
 path_is found id path is = is ∙ first_value-rows found id
-
-pub three_parts : {A B C D : Type 0} (f : A → B → C → D) {a a' : A} {b b' : B} {d d' : C} → a ≡ a' → b ≡ b' → d ≡ d' →
-    f a b d ≡ f a' b' d'
-three_parts f {a} {a'} {b} {b'} {d} {d'} p q r = ap (λ x. f x b d) p ∙ (ap (λ x. f a' x d) q ∙ ap (f a' b') r)
-
-pub four_parts : {A B C D E : Type 0} (f : A → B → C → D → E) {a a' : A} {b b' : B} {c c' : C} {d d' : D} → a ≡ a' →
-    b ≡ b' → c ≡ c' → d ≡ d' → f a b c d ≡ f a' b' c' d'
-four_parts f {a} {a'} {b} {b'} {c} {c'} {d} {d'} p q r s = ap (λ x. f x b c d) p ∙ three_parts (f a') q r s
 
 -- the paths of logs, where some were found, and where none was
 pub logs_are : (found : Found) (logs : List Text) → Some logs ≡ option_map raw_values (matched_of found (codes "log"))
@@ -300,14 +275,6 @@ logs_are found logs is = ap (λ all. unwrap_or all []) (is ∙ raw_values-rows f
 pub no_logs : (found : Found) → None ≡ option_map raw_values (matched_of found (codes "log")) →
     [] ≡ logs_of (rows_of found)
 no_logs found is = ap (λ all. unwrap_or all []) (is ∙ raw_values-rows found (codes "log"))
-
--- What the command that was met asks for, with the manner of its texts.
-pub asked_is_met : (m : ArgMatches) (name : Text) (rows : List Row) (task : Option Ask) (manner : Manner) →
-    subcommand_rows_of m ≡ Some (name, rows)
-    → task ≡ task_by name rows → manner ≡ manner_of rows → option_map (λ ask. (ask, manner)) task
-    ≡ option_and_then ask_of (subcommand_rows_of m)
-asked_is_met m name rows task manner met is worded =
-    ap₂ (λ t w. option_map (λ ask. (ask, w)) t) is worded ∙ sym (ap (option_and_then ask_of) met)
 
 -- What a command alone asks for, whatever the program's name is.
 pub plain_replay : (name : Text) → asked_by (name ∷ codes "replay" ∷ [])
@@ -374,8 +341,3 @@ alone_asks [] d ask two below is = absurd (omega (arith, two))
 alone_asks (program ∷ []) d ask two below is = absurd (omega (arith, two))
 alone_asks (program ∷ name ∷ []) d ask two below is = plain_asks program.now name.now ask is
 alone_asks (program ∷ name ∷ third ∷ words) d ask two below is = absurd (omega (arith, below))
-
--- Options that were found ask for what the rows ask for.
-pub found_asks : (name : Text) (options : CommandOptions) (found : List Row) → AreFound options found →
-    task_for name options (logs_of found) ≡ task_by name found
-found_asks name options found are = rw (are.0, are.1, are.2, are.3, are.4, are.5, are.6) refl

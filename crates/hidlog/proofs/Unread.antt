@@ -1,6 +1,6 @@
 -- What is held of a stream, as some of it is handed on or more is read.
 use Rattle.std.proofs.Common.{Option, ◌≡◌, ◌+◌, ◌≤◌, ℕ, List, [], ◌++◌, length, take, drop, sym, ap, ◌∙◌, arith}
-use Rattle.std.proofs.Common.{take_at, length-take-le, take-append-drop, append_assoc, append-nil, None, Some}
+use Rattle.std.proofs.Common.{take_at, length-take-le, take-append-drop, append_assoc, None, Some}
 use Rattle.std.proofs.lemmas.List.{drop-append-le, drop-take, drop-drop, take_all, length-drop, length-take}
 use Rattle.std.specs.Io.KnownBytes.{Appends, Consumes, Keeps, append_known, prepend_known}
 
@@ -47,14 +47,3 @@ held_back (Some x) at held more piece p q =
     ap (λ l. x ++ drop at l) q ∙ ap (λ l. x ++ l) (drop-append-le at held piece p)
     ∙ sym (append_assoc x (drop at held) piece)
     ∙ ap (λ l. (x ++ drop at held) ++ l) (sym (take_all (length piece) piece (omega arith)))
-
--- a piece was handed on, after all that was held back
-pub taken_after : (a t u : Option (List ℕ)) (held rest piece : List ℕ) → Keeps a (append_known t held) → held ≡ [] →
-    rest ≡ held → Appends t u piece
-    → Appends a (append_known u rest) piece
-taken_after None t u held rest piece p none same q = tt
-taken_after (Some x) None u held rest piece p none same q = absurd p
-taken_after (Some x) (Some y) None held rest piece p none same q = absurd q
-taken_after (Some x) (Some y) (Some z) held rest piece p none same q =
-    ap (λ l. z ++ l) (same ∙ none) ∙ append-nil z ∙ q ∙ ap (λ l. l ++ piece)
-    (sym (append-nil y) ∙ ap (λ l. y ++ l) (sym none) ∙ p)

@@ -1,6 +1,5 @@
 //! What the program is asked to do, by its command line.
 ghost use Rattle.std.specs.Prelude.{◌≡◌, List, ℕ, Some, IfOk, IfErr, IfSome, option_map, option_and_then};
-ghost use Rattle.hidlog.specs.declared.command_line.ProgramTask.TheVariants.{Play as play_task};
 ghost use Rattle.clap.specs.Words.{HasKind, app_of, subcommand_rows_of};
 ghost use Rattle.hidlog.specs.CommandLine.{AreFound, answers_to, ask_of, asked_as, asked_by, asks, explains, form_of, grammar, is_set as is_found, logs_of, manner_of, task_for, texts_of};
 ghost use Rattle.clap.specs.Matches.{found_of};
@@ -92,38 +91,40 @@ struct CommandOptions<'a> {
 }
 
 impl<'a> CommandOptions<'a> {
-    /// Returns what a command that plays a log asks for.
-    fn play(&self, command: LogCommand, save: Option<&'a str>) -> ProgramTask<'a>
-        ensures { result ≡ play_task (record { command = command; load = self.now.load; save = save.entry; log = self.now.log }) }
-    {
-        ProgramTask::Play(Play {
-            command,
-            load: self.load,
-            save,
-            log: self.log,
-        })
-    }
-
     /// Returns what the command of this name asks for.
     fn task(&self, name: &str) -> Option<ProgramTask<'a>>
         ensures { (logs : List (List ℕ)) → option_map (λ task. asks task logs) result ≡ task_for name.now self.now logs }
     {
+        let mut play = Play {
+            command: LogCommand::Replay,
+            load: self.load,
+            save: self.save,
+            log: self.log,
+        };
         match name {
-            "replay" => Some(self.play(LogCommand::Replay, self.save)),
-            "live" => Some(self.play(LogCommand::Live, self.save)),
-            "check" => Some(ProgramTask::Check {
-                load: self.load,
-                all: self.all,
-                json: self.json,
-            }),
-            "quiet" => Some(self.play(LogCommand::Quiet, None)),
-            "show" => Some(ProgramTask::Show {
-                form: self.form,
-                wide: self.wide,
-                log: self.log,
-            }),
-            _ => None,
+            "replay" => {}
+            "live" => play.command = LogCommand::Live,
+            "check" => {
+                return Some(ProgramTask::Check {
+                    load: self.load,
+                    all: self.all,
+                    json: self.json,
+                });
+            }
+            "quiet" => {
+                play.command = LogCommand::Quiet;
+                play.save = None;
+            }
+            "show" => {
+                return Some(ProgramTask::Show {
+                    form: self.form,
+                    wide: self.wide,
+                    log: self.log,
+                });
+            }
+            _ => return None,
         }
+        Some(ProgramTask::Play(play))
     }
 }
 
@@ -267,6 +268,8 @@ pub fn task_of<'a>(alloc: Global, words: &'a [&'a str]) -> Result<Invocation<'a>
     if let Some(asked) = alone(alloc, words) {
         return Ok(asked);
     }
-    let mut program = program(alloc)?;
-    task_by(alloc, &mut program, words)
+    match program(alloc) {
+        Ok(mut program) => task_by(alloc, &mut program, words),
+        Err(error) => Err(Error::from(error)),
+    }
 }

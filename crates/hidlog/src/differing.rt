@@ -10,7 +10,7 @@ use crate::process::say;
 use crate::remarks::{Remark, say_remark};
 use crate::screen::CutLines;
 use crate::snapshots::load;
-use crate::wish::Wish;
+use crate::wish::{FaultLine, Wish};
 use session_log::{CAPACITY, LogFault, Source, Target, ToWrite};
 use session_show::{Comparison, Difference, Pen, Written};
 use std::alloc::Global;
@@ -91,16 +91,6 @@ fn begun(alloc: Global) -> Option<Box<Comparison>> {
     Box::new(alloc, Comparison::new()).ok()
 }
 
-/// Returns whether a fault is that of a difference.
-fn is_of(told: &Option<LogFault>, difference: &Difference) -> bool {
-    match told {
-        Some(LogFault::Differs { line, packet }) => {
-            *line == difference.input && *packet == difference.number
-        }
-        _ => false,
-    }
-}
-
 /// Says each difference that is wished for.
 fn say_each<S: Source, E: Target>(
     comparison: &mut Comparison,
@@ -111,34 +101,54 @@ fn say_each<S: Source, E: Target>(
     faults: &mut E,
 ) {
     let mut count = 0_u64;
+    let mut fault = None;
     for _ in 0..u64::MAX {
-        match comparison.find(reader, session) {
-            Ok(Some(difference)) if count == 0 && !is_of(&told, &difference) => {
-                say_remark(wish, CHANGED, faults);
-                return;
-            }
-            Ok(Some(difference)) => {
-                say_one(comparison, wish, reader, &difference, count, faults);
-                count = count.saturating_add(1);
-            }
-            Ok(None) if wish.is_same => {
-                if let Some(otherwise) = comparison.signed_otherwise() {
-                    say_remark(wish, Remark::Signed(otherwise), faults);
-                }
-                return;
-            }
-            Ok(None) => {
-                say_count(wish, count, None, faults);
+        let difference = match comparison.find(reader, session) {
+            Ok(Some(difference)) => difference,
+            Ok(None) => break,
+            Err(other) => {
+                fault = Some(other);
                 break;
             }
-            Err(fault) => {
-                say_count(wish, count, Some(fault), faults);
-                break;
+        };
+        let is_told = match told {
+            Some(LogFault::Differs { line, packet }) => {
+                line == difference.input && packet == difference.number
             }
+            _ => false,
+        };
+        if !is_told && count == 0 {
+            say_remark(wish, CHANGED, faults);
+            return;
         }
+        say_one(comparison, wish, reader, &difference, count, faults);
+        count = count.saturating_add(1);
         if !wish.is_all {
             break;
         }
+    }
+    say_end(comparison, wish, reader, count, fault, faults);
+}
+
+/// Says how many inputs have differences, where all are wished for; or, where nothing may differ, what was signed
+/// otherwise.
+fn say_end<S: Source, E: Target>(
+    comparison: &mut Comparison,
+    wish: &Wish<'_>,
+    reader: &mut S,
+    count: u64,
+    fault: Option<LogFault>,
+    faults: &mut E,
+) {
+    if wish.is_same && fault.is_none() {
+        if let Some(otherwise) = comparison.signed_otherwise() {
+            say_remark(wish, Remark::Signed(otherwise), faults);
+        }
+        return;
+    }
+    if wish.is_all {
+        let wish = &*wish;
+        say(faults, &DifferenceCount { wish, count, fault });
     }
     if (wish.explains || wish.is_json) && !comparison.has_sent(reader) {
         say_remark(wish, INPUTS_ALONE, faults);
@@ -162,10 +172,11 @@ impl Written for DifferenceCount<'_> {
             pen.text("}\n");
             return;
         }
-        if let Some(fault) = &self.fault {
-            self.wish.write_fault(pen, fault);
+        let wish = self.wish;
+        if let Some(fault) = self.fault {
+            FaultLine { wish, fault }.write(pen);
         }
-        self.wish.begin_line(pen);
+        wish.begin_line(pen);
         pen.decimal(self.count);
         pen.text(if self.count == 1 { " input" } else { " inputs" });
         pen.text(" with differences");
@@ -175,13 +186,6 @@ impl Written for DifferenceCount<'_> {
             pen.text(" are said");
         }
         pen.text("\n");
-    }
-}
-
-/// Says how many inputs have differences, where all are wished for.
-fn say_count<E: Target>(wish: &Wish<'_>, count: u64, fault: Option<LogFault>, faults: &mut E) {
-    if wish.is_all {
-        say(faults, &DifferenceCount { wish, count, fault });
     }
 }
 
@@ -220,21 +224,20 @@ fn texts_of<S: Source>(
     reader: &mut S,
     difference: &Difference,
 ) -> DifferenceTexts {
-    let mut texts = DifferenceTexts {
-        transaction: None,
-        logged: Vec::new(wish.alloc),
-        sent: Vec::new(wish.alloc),
-        reason: Vec::new(wish.alloc),
-    };
+    let mut logged = Vec::new(wish.alloc);
+    let mut sent = Vec::new(wish.alloc);
+    let mut reason = Vec::new(wish.alloc);
+    let mut transaction = None;
     if wish.explains || wish.is_json {
-        texts.transaction = comparison.transaction(difference);
-        let _ = comparison.put_reason(difference, &mut ToWrite::new(&mut texts.reason));
-        let _ = comparison.put(
-            difference,
-            reader,
-            &mut ToWrite::new(&mut texts.logged),
-            &mut ToWrite::new(&mut texts.sent),
-        );
+        transaction = comparison.transaction(difference);
+        let _ = comparison.put_reason(difference, &mut ToWrite::new(&mut reason));
+        let (mut left, mut right) = (ToWrite::new(&mut logged), ToWrite::new(&mut sent));
+        let _ = comparison.put(difference, reader, &mut left, &mut right);
     }
-    texts
+    DifferenceTexts {
+        transaction,
+        logged,
+        sent,
+        reason,
+    }
 }

@@ -2,7 +2,6 @@
 ghost use Rattle.std.specs.Prelude.{◌≡◌, ◌≤◌, ℕ, Bool, true, false, List, None, Option, Some, is_some, length, take, IfOk, IfSome, OnOk};
 ghost use Rattle.hidlog.specs.Streams.{over};
 
-use std::alloc::Global;
 use std::fs::{self, File, Metadata, OpenOptions, TryLockError};
 use std::io::{self, Error, ErrorKind, Read, Write};
 use std::os::unix::fs::{FileExt, FileTypeExt, MetadataExt};
@@ -27,13 +26,11 @@ pub trait Place {
         ensures bytes { OnOk result (IfSome (bytes self.old) (λ has. at ≤ length has → bytes self.new ≡ Some (over has at piece.now))) }
         ensures place { (path : List ℕ) → is_at path self.old → is_at path self.new };
 
-    /// Cuts it to so many bytes, where it has more.
+    /// Cuts it to so many bytes, where it has more, and hands what was written to it to the disk. Not each system of
+    /// files can do the latter.
     fn cut(&mut self, size: u64) -> io::Result<()>
         ensures bytes { OnOk result (IfSome (bytes self.old) (λ has. size ≤ length has → bytes self.new ≡ Some (take size has))) }
         ensures place { (path : List ℕ) → is_at path self.old → is_at path self.new };
-
-    /// Hands what was written to it to the disk. Not each system of files can do that.
-    fn sync(&self) -> io::Result<()>;
 }
 
 /// What is at a path that may be written to.
@@ -55,9 +52,6 @@ pub trait Disk {
 
     /// These bytes were handed to what is at a path and isn't a file.
     ghost handed: { List ℕ → List ℕ → Type 0 };
-
-    /// Returns what memory is allocated by.
-    fn alloc(&self) -> Global;
 
     /// Reads a file from its front, up to so many bytes.
     fn read(&self, path: &str, most: u64) -> io::Result<Vec<u8>>
@@ -109,10 +103,7 @@ impl Place for File {
     }
 
     fn cut(&mut self, size: u64) -> io::Result<()> {
-        self.set_len(size)
-    }
-
-    fn sync(&self) -> io::Result<()> {
+        self.set_len(size)?;
         match self.sync_all() {
             Err(error)
                 if matches!(
@@ -158,17 +149,6 @@ impl HostDisk<'_> {
         };
         Err(Error::new(ErrorKind::InvalidInput, message))
     }
-
-    /// Writes to a pipe. It never waits for a reader: where there is none, it fails.
-    fn write_to_pipe(&self, path: &str, bytes: &[u8]) -> io::Result<()> {
-        let both = OpenOptions::new()
-            .read(true)
-            .write(true)
-            .open(self.0, path)?;
-        let mut end = OpenOptions::new().write(true).open(self.0, path)?;
-        drop(both);
-        end.write_all(bytes)
-    }
 }
 
 impl Disk for HostDisk<'_> {
@@ -177,10 +157,6 @@ impl Disk for HostDisk<'_> {
     ghost holds = { λ _ _ _ _. Unit {0} };
 
     ghost handed = { λ _ _. Unit {0} };
-
-    fn alloc(&self) -> Global {
-        self.0.alloc()
-    }
 
     fn read(&self, path: &str, most: u64) -> io::Result<Vec<u8>> {
         let mut bytes = Vec::new(self.0.alloc());
@@ -235,9 +211,16 @@ impl Disk for HostDisk<'_> {
     }
 
     fn hand(&self, path: &str, bytes: &[u8], found: Found) -> io::Result<()> {
-        match found {
-            Found::Pipe => self.write_to_pipe(path, bytes),
-            Found::Nothing | Found::File | Found::Other => fs::write(self.0, path, bytes),
-        }
+        let Found::Pipe = found else {
+            return fs::write(self.0, path, bytes);
+        };
+        // It never waits for a reader: where there is none, it fails.
+        let both = OpenOptions::new()
+            .read(true)
+            .write(true)
+            .open(self.0, path)?;
+        let mut end = OpenOptions::new().write(true).open(self.0, path)?;
+        drop(both);
+        end.write_all(bytes)
     }
 }

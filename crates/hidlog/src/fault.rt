@@ -82,30 +82,26 @@ fn write_path_of_copy(pen: &mut Pen, path: &str) {
 
 /// Writes why a snapshot of these bytes is refused.
 fn write_refusal(pen: &mut Pen, fault: SnapshotFault, bytes: &[u8]) {
-    match fault {
+    let end = match fault {
         SnapshotFault::TooMany => {
-            pen.text("it has more than ");
-            pen.decimal(CAPACITY as u64);
-            pen.text(" credentials");
+            pen.number_after("it has more than ", CAPACITY as u64);
+            " credentials"
         }
         SnapshotFault::RowBroken(place) => {
-            pen.text("credential ");
-            pen.decimal(place.saturating_add(1) as u64);
-            pen.text(" is broken, or is there twice");
+            pen.number_after("credential ", place.saturating_add(1) as u64);
+            " is broken, or is there twice"
         }
         SnapshotFault::NotSnapshot | SnapshotFault::Memory => match bytes {
-            [] => pen.text("it is empty"),
-            [0xA2, 0x01, 0x01 | 0x02, ..] => {
-                pen.text("it begins as a snapshot, and is cut off or changed");
-            }
+            [] => "it is empty",
+            [0xA2, 0x01, 0x01 | 0x02, ..] => "it begins as a snapshot, and is cut off or changed",
             [0xA2, 0x01, version @ 0x03..=0x17, ..] => {
-                pen.text("it is of version ");
-                pen.decimal(u64::from(*version));
-                pen.text(", and 1 and 2 are read");
+                pen.number_after("it is of version ", u64::from(*version));
+                ", and 1 and 2 are read"
             }
-            _ => pen.text("it is no snapshot"),
+            _ => "it is no snapshot",
         },
-    }
+    };
+    pen.text(end);
 }
 
 /// Writes why a snapshot wasn't saved at a path, and what is left there.

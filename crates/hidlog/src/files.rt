@@ -4,6 +4,7 @@ ghost use Rattle.std.specs.IoError.{error_kind};
 ghost use Rattle.hidlog.specs.Streams.{IsWritten};
 
 use crate::disk::{Disk, Found, Place};
+use std::alloc::Global;
 use std::io::{self, Error, ErrorKind};
 
 /// Why a file wasn't written, and what it holds then.
@@ -54,9 +55,9 @@ pub trait Files {
             (λ _. unwritten self.old path.now bytes.now self.new) };
 }
 
-/// The files of a disk. No clause says why one can't be read or written.
-#[derive(Clone, Copy)]
-pub struct HostFiles<D>(pub D);
+/// The files of a disk, with what paths are allocated by. No clause says why one can't be read or written.
+#[derive(Drop)]
+pub struct HostFiles<D>(pub D, pub Global);
 
 /// How many bytes of a snapshot are read: many more than the longest one has, so that one of a key with more capacity is
 /// refused as such.
@@ -71,24 +72,24 @@ pub const COPY: &str = ".hidlog";
 const PART: &str = ".hidlog.part";
 
 /// Returns the path of a file beside another one.
-fn beside<D: Disk>(disk: &D, path: &str, ending: &str) -> io::Result<String> {
-    Ok(format!(in disk.alloc(); "{path}{ending}")?)
+fn beside(alloc: Global, path: &str, ending: &str) -> io::Result<String> {
+    Ok(format!(in alloc; "{path}{ending}")?)
 }
 
 /// Looks whether a file can be made at a path where none is, by making another one beside it.
-fn look_beside<D: Disk>(disk: &D, path: &str) -> io::Result<()> {
+fn look_beside<D: Disk>(files: &HostFiles<D>, path: &str) -> io::Result<()> {
     if path.is_empty() {
         return Err(Error::from_raw_os_error(ENOENT));
     }
-    let part = beside(disk, path, PART)?;
-    match disk.create(part.as_str()) {
-        Ok(_) => disk.remove(part.as_str()),
+    let part = beside(files.1, path, PART)?;
+    match files.0.create(part.as_str()) {
+        Ok(_) => files.0.remove(part.as_str()),
         Err(error) => Err(error),
     }
 }
 
-/// Writes over a file that is open, and cuts it to what was written. What the file is too short for is written first, so
-/// that a full disk leaves the old bytes.
+/// Writes over a file that is open, to the disk, and cuts it to what was written. What the file is too short for is
+/// written first, so that a full disk leaves the old bytes.
 fn write_over<F: Place>(file: &mut F, bytes: &[u8]) -> io::Result<()>
     ensures bytes { OnOk result (IfSome (F.bytes file.old) (λ _. F.bytes file.new ≡ Some bytes.now)) }
     ensures place { (path : List ℕ) → F.is_at path file.old → F.is_at path file.new }
@@ -105,55 +106,49 @@ fn write_over<F: Place>(file: &mut F, bytes: &[u8]) -> io::Result<()>
     file.cut(bytes.len() as u64)
 }
 
-/// Writes over a file that is open, to the disk.
-fn write_through<F: Place>(file: &mut F, bytes: &[u8]) -> io::Result<()>
-    ensures bytes { OnOk result (IfSome (F.bytes file.old) (λ _. F.bytes file.new ≡ Some bytes.now)) }
-    ensures place { (path : List ℕ) → F.is_at path file.old → F.is_at path file.new }
-{
-    write_over(file, bytes)?;
-    file.sync()
-}
-
-/// Writes a new file to the disk, and then renames it to a path.
-fn write_new<D: Disk>(disk: &D, part: &str, to: &str, bytes: &[u8]) -> io::Result<D::File>
-    ensures { IfOk result (λ file. IsWritten D.File.is_at D.File.is_known D.File.bytes to.now bytes.now file) }
-{
-    let mut file = disk.create(part)?;
-    write_through(&mut file, bytes)?;
-    disk.rename(file, part, to)
-}
-
 /// Writes a file beside a path to the disk, and then renames it to another path: whatever happens meanwhile, what is there
 /// is whole.
-fn write_beside<D: Disk>(disk: &D, path: &str, to: &str, bytes: &[u8]) -> io::Result<D::File>
+fn write_beside<D: Disk>(
+    files: &HostFiles<D>,
+    path: &str,
+    to: &str,
+    bytes: &[u8],
+) -> io::Result<D::File>
     ensures { IfOk result (λ file. IsWritten D.File.is_at D.File.is_known D.File.bytes to.now bytes.now file) }
 {
-    let part = beside(disk, path, PART)?;
-    let written = write_new(disk, part.as_str(), to, bytes);
+    let part = beside(files.1, path, PART)?;
+    let written = match files.0.create(part.as_str()) {
+        Ok(mut file) => match write_over(&mut file, bytes) {
+            Ok(()) => files.0.rename(file, part.as_str(), to),
+            Err(error) => Err(error),
+        },
+        Err(error) => Err(error),
+    };
     if written.is_err() {
-        let _ = disk.remove(part.as_str());
+        let _ = files.0.remove(part.as_str());
     }
     written
 }
 
 /// Writes over a file. Until that is done a copy of the bytes is beside it, if the folder allows that; where it fails,
 /// the file gets back what it held.
-fn replace<D: Disk>(disk: &D, path: &str, bytes: &[u8]) -> Result<D::File, Unwritten>
+fn replace<D: Disk>(files: &HostFiles<D>, path: &str, bytes: &[u8]) -> Result<D::File, Unwritten>
     ensures { IfOk result (λ file. IsWritten D.File.is_at D.File.is_known D.File.bytes path.now bytes.now file) }
 {
+    let disk = &files.0;
     let mut file = match disk.open(path) {
         Ok(file) => file,
         Err(error) => return Err(Unwritten::Kept(error)),
     };
     let old = disk.read(path, u64::MAX);
-    let copy = match beside(disk, path, COPY) {
+    let copy = match beside(files.1, path, COPY) {
         Ok(copy) => copy,
         Err(error) => return Err(Unwritten::Kept(error)),
     };
-    let is_copied = write_beside(disk, path, copy.as_str(), bytes).is_ok();
-    if let Err(error) = write_through(&mut file, bytes) {
+    let is_copied = write_beside(files, path, copy.as_str(), bytes).is_ok();
+    if let Err(error) = write_over(&mut file, bytes) {
         let is_back = match &old {
-            Ok(old) => write_through(&mut file, old.as_slice()).is_ok(),
+            Ok(old) => write_over(&mut file, old.as_slice()).is_ok(),
             Err(_) => false,
         };
         return Err(match (is_back, is_copied) {
@@ -186,7 +181,7 @@ impl<D: Disk> Files for HostFiles<D> {
     }
 
     fn has_copy(&self, path: &str) -> bool {
-        match beside(&self.0, path, COPY) {
+        match beside(self.1, path, COPY) {
             Ok(copy) => self.0.has(copy.as_str()),
             Err(_) => false,
         }
@@ -194,7 +189,7 @@ impl<D: Disk> Files for HostFiles<D> {
 
     fn look(&self, path: &str, log: Option<&str>) -> io::Result<()> {
         match self.0.look(path, log) {
-            Ok(Found::Nothing) => look_beside(&self.0, path),
+            Ok(Found::Nothing) => look_beside(self, path),
             Ok(Found::File) => match self.0.open(path) {
                 Ok(_) => Ok(()),
                 Err(error) => Err(error),
@@ -206,11 +201,11 @@ impl<D: Disk> Files for HostFiles<D> {
 
     fn write(&mut self, path: &str, bytes: &[u8], log: Option<&str>) -> Result<(), Unwritten> {
         match self.0.look(path, log) {
-            Ok(Found::Nothing) => match write_beside(&self.0, path, path, bytes) {
+            Ok(Found::Nothing) => match write_beside(self, path, path, bytes) {
                 Ok(_) => Ok(()),
                 Err(error) => Err(Unwritten::Kept(error)),
             },
-            Ok(Found::File) => match replace(&self.0, path, bytes) {
+            Ok(Found::File) => match replace(self, path, bytes) {
                 Ok(_) => Ok(()),
                 Err(unwritten) => Err(unwritten),
             },

@@ -1,9 +1,15 @@
 //! What a person reads of a packet in which a log differs from what the key sends.
 use crate::objects::write_difference;
 use crate::pieces::{after, has_part};
-use crate::sides::{lacks_credential, write_first, write_sides};
-use crate::wish::Wish;
+use crate::sides::{status_in, write_first, write_sides};
+use crate::wish::{FaultLine, Wish};
 use session_show::{Difference, Pen, Transaction, Written};
+
+/// CTAP2_ERR_CREDENTIAL_EXCLUDED.
+const EXCLUDED: u8 = 0x19;
+
+/// CTAP2_ERR_NO_CREDENTIALS.
+const NO_CREDENTIALS: u8 = 0x2E;
 
 const NO_SNAPSHOT: &str =
     "this key lacks a credential that the log's key had: was the log recorded with --load?";
@@ -31,14 +37,16 @@ pub struct Finding<'a> {
 }
 
 impl Finding<'_> {
-    /// Returns what may be done.
+    /// Returns what may be done, where this key lacks a credential that the log's key had.
     pub fn hint(&self) -> Option<&'static str> {
-        if !lacks_credential(self.difference) {
-            None
-        } else if self.wish.load.is_some() {
-            Some(OTHER_SNAPSHOT)
-        } else {
-            Some(NO_SNAPSHOT)
+        let Difference { logged, sent, .. } = self.difference;
+        match (status_in(logged), status_in(sent)) {
+            (Some(EXCLUDED), Some(EXCLUDED)) | (Some(NO_CREDENTIALS), Some(NO_CREDENTIALS)) => None,
+            (Some(EXCLUDED), _) | (_, Some(NO_CREDENTIALS)) => match self.wish.load {
+                Some(_) => Some(OTHER_SNAPSHOT),
+                None => Some(NO_SNAPSHOT),
+            },
+            _ => None,
         }
     }
 
@@ -76,7 +84,8 @@ impl Written for Finding<'_> {
             return;
         }
         if !self.is_first {
-            self.wish.write_fault(pen, &self.difference.fault());
+            let (wish, fault) = (self.wish, self.difference.fault());
+            FaultLine { wish, fault }.write(pen);
         }
         if self.wish.explains {
             self.describe(pen);

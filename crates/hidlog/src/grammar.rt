@@ -41,47 +41,46 @@ enum CommandParameter {
 }
 
 impl CommandParameter {
-    /// Returns its word, by which its value is found.
-    fn word<'a>(self) -> &'a str
-        ensures { result.now ≡ parameter_word self }
+    /// Returns its word, by which its value is found, and what help says of it.
+    fn texts<'a>(self) -> (&'a str, &'a str)
+        ensures { result.0.now ≡ parameter_word self }
     {
         match self {
-            CommandParameter::Load => "load",
-            CommandParameter::Save => "save",
-            CommandParameter::All => "all",
-            CommandParameter::Summary => "summary",
-            CommandParameter::Json => "json",
-            CommandParameter::Wide => "wide",
-            CommandParameter::Explain => "explain",
-            CommandParameter::Plain => "plain",
-            CommandParameter::Log | CommandParameter::Logs => "log",
-        }
-    }
-
-    /// Returns what help says of it.
-    fn help<'a>(self) -> &'a str {
-        match self {
-            CommandParameter::Load =>
+            CommandParameter::Load => (
+                "load",
                 "Starts with the credentials of the snapshot F, and not with none",
-            CommandParameter::Save => {
+            ),
+            CommandParameter::Save => (
+                "save",
                 "Writes a snapshot of the credentials to F at the end, unless the log has a fault; until that is \
-                 done, a whole copy of it is in F.hidlog"
-            }
-            CommandParameter::All => "Goes on after a difference, and counts them",
-            CommandParameter::Summary => {
-                "Writes a summary of the session: its transactions, credentials, noise"
-            }
-            CommandParameter::Json => "Writes an object of JSON a line, for scripts",
-            CommandParameter::Wide => {
-                "Writes lines whole at a terminal, where they are cut at its width otherwise"
-            }
-            CommandParameter::Explain => {
-                "Explains: adds names, members, reasons and notes, as it does at a terminal without this word"
-            }
-            CommandParameter::Plain =>
+                 done, a whole copy of it is in F.hidlog",
+            ),
+            CommandParameter::All => ("all", "Goes on after a difference, and counts them"),
+            CommandParameter::Summary => (
+                "summary",
+                "Writes a summary of the session: its transactions, credentials, noise",
+            ),
+            CommandParameter::Json => ("json", "Writes an object of JSON a line, for scripts"),
+            CommandParameter::Wide => (
+                "wide",
+                "Writes lines whole at a terminal, where they are cut at its width otherwise",
+            ),
+            CommandParameter::Explain => (
+                "explain",
+                "Explains: adds names, members, reasons and notes, as it does at a terminal without this word",
+            ),
+            CommandParameter::Plain => (
+                "plain",
                 "Explains nothing at a terminal either: writes the fixed texts",
-            CommandParameter::Log => "The log; standard input where none is named, and for -",
-            CommandParameter::Logs => "The logs; standard input where none is named, and for -",
+            ),
+            CommandParameter::Log => (
+                "log",
+                "The log; standard input where none is named, and for -",
+            ),
+            CommandParameter::Logs => (
+                "log",
+                "The logs; standard input where none is named, and for -",
+            ),
         }
     }
 }
@@ -91,8 +90,8 @@ fn argument<'a>(alloc: Global, parameter: CommandParameter) -> Arg<'a>
     ensures rule { rule_of result ≡ rule_for parameter }
     ensures local { result.global ≡ false }
 {
-    let word = parameter.word();
-    let arg = Arg::new(alloc, word).help(parameter.help());
+    let (word, help) = parameter.texts();
+    let arg = Arg::new(alloc, word).help(help);
     match parameter {
         CommandParameter::Load | CommandParameter::Save => arg.long(word).value_name("F"),
         CommandParameter::Log => arg.value_name("FILE"),
@@ -126,32 +125,28 @@ const COMMANDS: &[CommandName] = &[
 ];
 
 impl CommandName {
-    /// Returns the command's word.
-    fn word<'a>(self) -> &'a str
-        ensures { result.now ≡ word_for self }
+    /// Returns the command's word, and what help says of it.
+    fn texts<'a>(self) -> (&'a str, &'a str)
+        ensures { result.0.now ≡ word_for self }
     {
         match self {
-            CommandName::Replay => "replay",
-            CommandName::Live => "live",
-            CommandName::Check => "check",
-            CommandName::Quiet => "quiet",
-            CommandName::Show => "show",
-        }
-    }
-
-    /// Returns what help says of the command.
-    fn about<'a>(self) -> &'a str {
-        match self {
-            CommandName::Replay =>
+            CommandName::Replay => (
+                "replay",
                 "Replays the log: writes it with the packets that the key sends, and what it counted",
-            CommandName::Live => {
-                "Replays the log line by line as it comes, and says what the key needs after each input"
-            }
-            CommandName::Check =>
+            ),
+            CommandName::Live => (
+                "live",
+                "Replays the log line by line as it comes, and says what the key needs after each input",
+            ),
+            CommandName::Check => (
+                "check",
                 "Compares the packets that the log names as sent with those that the key sends",
-            CommandName::Quiet =>
+            ),
+            CommandName::Quiet => (
+                "quiet",
                 "Writes the log's inputs, with a tick in place of each that is noise",
-            CommandName::Show => "Writes what the log's lines say, line by line",
+            ),
+            CommandName::Show => ("show", "Writes what the log's lines say, line by line"),
         }
     }
 
@@ -206,7 +201,8 @@ fn command<'a>(alloc: Global, name: CommandName) -> Result<Command<'a>, AllocErr
     ensures shape { IfOk result (λ made. shape_of made ≡ command_for name) }
     ensures local { IfOk result (λ made. (fields_of made).has_globals ≡ false) }
 {
-    let mut command = Command::new(alloc, name.word()).about(name.about());
+    let (word, about) = name.texts();
+    let mut command = Command::new(alloc, word).about(about);
     for parameter in name.parameters() {
         command = command.arg(argument(alloc, *parameter))?;
     }

@@ -3,10 +3,9 @@ ghost use Rattle.std.specs.Prelude.{◌≡◌, ◌<◌, ◌≤◌, ◌-◌, ◌^
 ghost use Rattle.std.specs.Io.KnownBytes.{Keeps, append_known};
 ghost use Rattle.hidlog.specs.Program.{Settles};
 
-use session_log::{Failed, LogFault, Target, ToWrite};
+use session_log::{Failed, LogFault, Target};
 use std::alloc::Global;
 use std::cell::Cell;
-use std::io::Write;
 
 /// The most bytes that are held back.
 const HELD: usize = 8192;
@@ -52,28 +51,22 @@ impl LastLines {
         let (mut first, mut is_whole) = (b'<', false);
         for len in 0..bytes.len() {
             let byte = bytes[bytes.len() - 1 - len];
-            if byte == b'\n' {
-                if is_whole {
-                    last.note(first, len);
+            if is_whole && byte == b'\n' {
+                // What a line is, its first byte says, which may be its line feed.
+                match first {
+                    b'<' | b'=' => {}
+                    b'#' | b'\n' if last.comment > 0 => {}
+                    b'#' | b'\n' => last.comment = len,
+                    _ => last.input = len,
                 }
-                is_whole = true;
             }
+            is_whole = is_whole || byte == b'\n';
             if last.input > 0 {
                 break;
             }
             first = byte;
         }
         last
-    }
-
-    /// Notes a whole line by its first byte, which may be its line feed.
-    fn note(&mut self, first: u8, len: usize) {
-        match first {
-            b'<' | b'=' => {}
-            b'#' | b'\n' if self.comment > 0 => {}
-            b'#' | b'\n' => self.comment = len,
-            _ => self.input = len,
-        }
     }
 
     /// Returns how many of the last so many bytes are handed on at most, so that the next of these lines begins what is
@@ -121,16 +114,6 @@ pub trait Output: Target {
         ensures some { OnErr result (0 < length (waits self.new)) }
         ensures counted { Self.failed self.new
             ≡ (if is_ok result then Self.failed self.old else Self.failed self.old + 1) };
-}
-
-impl<W: Write> Output for ToWrite<W> {
-    ghost waits = { λ _. [] };
-
-    fn hold(&self, _texts: WrittenLines) {}
-
-    fn settle(&mut self) -> Result<(), Failed> {
-        Ok(())
-    }
 }
 
 /// Returns the answer after all that the output held back was handed on, where that can be done.
@@ -187,24 +170,6 @@ impl<T: Target> HeldOutput<'_, T> {
         };
         lies_ahead && self.bytes.len().saturating_add(more) <= HELD
     }
-
-    /// Hands on all that is held back.
-    fn hand_on(&mut self) -> Result<(), Failed>
-        requires { T.failed self.old.inner < 2 ^ 64 - 1 }
-        ensures kept { Keeps (append_known (T.taken self.old.inner) (drop self.old.at self.old.bytes.items))
-            (append_known (T.taken self.new.inner) (drop self.new.at self.new.bytes.items)) }
-        ensures none { OnOk result (drop self.new.at self.new.bytes.items ≡ []) }
-        ensures some { OnErr result (0 < length (drop self.new.at self.new.bytes.items)) }
-        ensures counted { T.failed self.new.inner
-            ≡ (if is_ok result then T.failed self.old.inner else T.failed self.old.inner + 1) }
-    {
-        'waiting: while self.at < self.bytes.len() {
-            self.at += self.inner.put(self.bytes.as_slice().split_at(self.at).1)?;
-        }
-        self.bytes.clear();
-        self.at = 0;
-        Ok(())
-    }
 }
 
 impl<T: Target> Target for HeldOutput<'_, T> {
@@ -216,7 +181,7 @@ impl<T: Target> Target for HeldOutput<'_, T> {
         if self.holds(piece.len()) && self.bytes.extend_from_slice(piece).is_ok() {
             return Ok(piece.len());
         }
-        self.hand_on()?;
+        self.settle()?;
         self.inner.put(piece)
     }
 
@@ -233,6 +198,11 @@ impl<T: Target> Output for HeldOutput<'_, T> {
     }
 
     fn settle(&mut self) -> Result<(), Failed> {
-        self.hand_on()
+        'waiting: while self.at < self.bytes.len() {
+            self.at += self.inner.put(self.bytes.as_slice().split_at(self.at).1)?;
+        }
+        self.bytes.clear();
+        self.at = 0;
+        Ok(())
     }
 }

@@ -1,10 +1,9 @@
 //! The logs that the program reads.
-ghost use Rattle.std.specs.Prelude.{◌≡◌, ℕ, List, [], IfOk, OnOk, MatchResult};
+ghost use Rattle.std.specs.Prelude.{◌≡◌, ℕ, false, List, [], IfOk, OnOk, MatchResult};
 ghost use Rattle.std.specs.Io.KnownBytes.{Keeps, IsAtEnd, prepend_known};
 ghost use Rattle.hidlog.specs.Streams.{unread};
 
 use crate::held::{Ahead, LastLines};
-use crate::progress::Progress;
 use crate::recent::Recent;
 use crate::seen::Seen;
 use crate::streams::Noting;
@@ -36,25 +35,29 @@ pub trait Logs: Source {
     fn restart(&mut self)
         ensures { Self.failed self.new ≡ Self.failed self.old };
 
-    /// Returns what the log is called: its path, where it has one.
-    fn name(&self) -> &str;
-
-    /// Returns the lines that were read last, without the front of one that is remembered in part.
-    fn lines(&self) -> &[u8];
-
-    /// Returns the error at which reading failed.
-    fn failure(&self) -> Option<&Error>;
-
-    /// Returns the log from its front once more, where it is a file or what was read of it is short. What is left of one
-    /// that can't be read twice, as a pipe, is read by what is returned, and no more by this one.
-    fn again(&mut self) -> Option<Self::Again>
-        ensures { Self.failed self.new ≡ Self.failed self.old };
-
-    /// Returns the log from its front once more, where it is a file.
-    fn reread(&self) -> Option<Self::Again>;
-
     /// Returns what was seen of the log so far.
     fn seen(&self) -> &Seen;
+
+    /// Returns what is known of how the log was read.
+    fn state(&self) -> LogState<'_>;
+
+    /// Returns the log from its front once more, where it is a file. Where the rest may be taken, it also returns one
+    /// that can't be read twice, as a pipe, if what was read of it is short. What is left of that is read by what is
+    /// returned, and no more by this one.
+    fn again(&mut self, takes_rest: bool) -> Option<Self::Again>
+        ensures counted { Self.failed self.new ≡ Self.failed self.old }
+        ensures kept { takes_rest ≡ false → self.new ≡ self.old };
+}
+
+/// What is known of a log that is read.
+#[derive(Clone, Copy)]
+pub struct LogState<'a> {
+    /// What it is called: its path, where it has one.
+    pub name: &'a str,
+    /// The lines that were read last, without the front of one that is remembered in part.
+    pub lines: &'a [u8],
+    /// The error at which reading failed.
+    pub failure: Option<&'a Error>,
 }
 
 /// What a log is read by.
@@ -189,7 +192,7 @@ impl<'a, S: Opens> HostLog<'a, S> {
             is_told: audience.is_told,
             is_file: false,
             is_kept,
-            seen: Seen::new(Progress::new(audience.sees_progress, None)),
+            seen: Seen::new(audience.sees_progress, None),
             recent: Recent::new(rt.alloc())?,
             last: LastLines::of(b""),
             ahead,
@@ -218,7 +221,7 @@ impl<'a, S: Opens> HostLog<'a, S> {
         ensures stream { self.new.stream ≡ self.old.stream }
         ensures recent { self.new.recent ≡ self.old.recent }
     {
-        self.seen = Seen::new(Progress::new(self.seen.progress.is_said, size));
+        self.seen = Seen::new(self.seen.progress.is_said, size);
         self.is_file = size.is_some();
         if self.is_kept && !self.is_file {
             self.seen.kept = Some(Vec::new(self.rt.alloc()));
@@ -235,7 +238,7 @@ impl<'a, S: Opens> HostLog<'a, S> {
         ensures end { OnOk result (unread self.new.recent.held.items self.new.recent.at self.new.recent.end ≡ []
             → IsAtEnd (S.remaining self.new.stream.inner)) }
     {
-        if !self.recent.is_read() {
+        if !self.recent.unread().is_empty() {
             return Ok(());
         }
         if self.is_new {
@@ -306,49 +309,41 @@ impl<S: Opens> Logs for HostLog<'_, S> {
         self.begin(S::standard(self.rt), true);
     }
 
-    fn name(&self) -> &str {
-        match &self.path {
-            Some(path) => path.as_str(),
-            None => "standard input",
+    fn state(&self) -> LogState<'_> {
+        LogState {
+            name: match &self.path {
+                Some(path) => path.as_str(),
+                None => "standard input",
+            },
+            lines: self.recent.lines(),
+            failure: self.stream.failure.as_ref(),
         }
     }
 
-    fn lines(&self) -> &[u8] {
-        self.recent.lines()
+    fn seen(&self) -> &Seen {
+        &self.seen
     }
 
-    fn failure(&self) -> Option<&Error> {
-        self.stream.failure()
-    }
-
-    fn again(&mut self) -> Option<FromFront<S>> {
+    fn again(&mut self, takes_rest: bool) -> Option<FromFront<S>> {
+        let alloc = self.rt.alloc();
         if self.is_file {
-            return self.reread();
+            let path = match &self.path {
+                Some(path) => path.as_str(),
+                None => STANDARD_INPUT,
+            };
+            return match S::open(self.rt, path) {
+                Ok((stream, _)) => from_front(alloc, Vec::new(alloc), Noting::new(stream)),
+                Err(_) => None,
+            };
+        }
+        if !takes_rest {
+            return None;
         }
         let Some(kept) = self.seen.kept.take() else {
             return None;
         };
         let spent = Noting::new(S::standard(self.rt));
         let rest = mem::replace(&mut self.stream, spent);
-        from_front(self.rt.alloc(), kept, rest)
-    }
-
-    fn reread(&self) -> Option<FromFront<S>> {
-        if !self.is_file {
-            return None;
-        }
-        let path = match &self.path {
-            Some(path) => path.as_str(),
-            None => STANDARD_INPUT,
-        };
-        let alloc = self.rt.alloc();
-        match S::open(self.rt, path) {
-            Ok((stream, _)) => from_front(alloc, Vec::new(alloc), Noting::new(stream)),
-            Err(_) => None,
-        }
-    }
-
-    fn seen(&self) -> &Seen {
-        &self.seen
+        from_front(alloc, kept, rest)
     }
 }

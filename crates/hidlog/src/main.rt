@@ -51,7 +51,7 @@ use std::cell::Cell;
 use std::io::{self, Write};
 use std::process::ExitCode;
 use streams::Noting;
-use terminal::{audience_of, style_of, terminals_of, width_of_faults};
+use terminal::surroundings_of;
 use texts::StreamFailure;
 
 impl<D: Files, L: Logs, O: Output, E: Target> Host<D, L, O, E> {
@@ -68,7 +68,7 @@ impl<D: Files, L: Logs, O: Output, E: Target> Host<D, L, O, E> {
         } else if let Some(ending) = &outcome.ending
             && let Some(wish) = &outcome.wish
         {
-            note_one(&self.files, wish, &self.input, ending, &mut target);
+            note_one(&self.files, wish, &mut self.input, ending, &mut target);
         }
         more
     }
@@ -79,12 +79,12 @@ impl<D: Files, L: Logs, O: Output, E: Target> Host<D, L, O, E> {
     {
         if let LogFault::Differs { .. } = fault {
             if let Some(wish) = &outcome.wish {
-                let again = self.input.again();
+                let again = self.input.again(true);
                 tell_differences(&self.files, wish, again, outcome.fault, target);
             }
         } else if outcome.explains {
-            let name = self.input.name();
-            say_cause(&self.input, Some(name), fault, target);
+            let state = self.input.state();
+            say_cause(&state, Some(state.name), fault, target);
         }
     }
 
@@ -112,27 +112,37 @@ fn play_to<'a, W: Write, E: Write>(
     writer: &mut Noting<W>,
     errors: &mut Noting<E>,
 ) -> RunOutcome<'a> {
-    let (alloc, terminals) = (rt.alloc(), terminals_of(rt));
-    let is_check = matches!(words.get(1), Some(word) if *word == "check");
-    let audience = audience_of(rt, words, terminals, is_check);
+    let (alloc, around) = (rt.alloc(), surroundings_of(rt, words));
     let ahead = Cell::new(Ahead::Nothing);
     let mut faults = ToWrite::new(errors);
-    let made: Result<ProcessLog<'_>, AllocError> = HostLog::new(rt, is_check, audience, &ahead);
+    let made: Result<ProcessLog<'_>, AllocError> = HostLog::new(
+        rt,
+        around.is_check,
+        around.audience,
+        &ahead,
+    );
     let Ok(input) = made else {
         return RunOutcome::of(Err(no_memory(&mut faults)), false);
     };
-    let style = style_of(rt, words, terminals);
-    let screen = Screen::new(alloc, ToWrite::new(writer), style);
+    let screen = Screen::new(alloc, ToWrite::new(writer), around.style);
     let mut host = Host {
-        files: HostFiles(HostDisk(rt)),
+        files: HostFiles(HostDisk(rt), alloc),
         input,
         output: HeldOutput::new(alloc, screen, &ahead),
         faults,
         alloc,
-        terminals,
-        width: width_of_faults(rt, terminals),
+        terminals: around.terminals,
+        width: around.width,
     };
     host.play(words)
+}
+
+/// Says why the output failed, if faults can be written.
+fn explain_failure<E: Write>(error: &io::Error, errors: &mut Noting<E>) {
+    if errors.failure.is_none() {
+        let name = Some("standard output");
+        tell_written(&mut ToWrite::new(errors), &StreamFailure { name, error });
+    }
 }
 
 /// Runs the program on what its process hands to it. An error holds the exit status.
@@ -145,15 +155,10 @@ fn start(rt: &HostRuntime) -> Result<(), u8> {
     };
     let mut writer = Noting::new(io::writer(rt));
     let outcome = play_to(rt, words.as_slice(), &mut writer, &mut errors);
-    if let Some(error) = writer.failure()
-        && outcome.explains
-        && errors.failure().is_none()
+    if outcome.explains
+        && let Some(error) = &writer.failure
     {
-        let name = Some("standard output");
-        tell_written(
-            &mut ToWrite::new(&mut errors),
-            &StreamFailure { name, error },
-        );
+        explain_failure(error, &mut errors);
     }
     outcome.status
 }

@@ -7,10 +7,7 @@ use session_show::{Pen, Written};
 const CARRIAGE_RETURN: &str =
     " is a carriage return: lines end with a line feed alone (tr -d '\\r' drops the others)\n";
 
-/// Returns how many bytes in front are hexadecimal digits, at most `most`.
-fn hex_len(field: &[u8], most: usize) -> usize {
-    count_in_front(field, b"0123456789abcdefABCDEF").min(most)
-}
+const HEX_DIGITS: &[u8] = b"0123456789abcdefABCDEF";
 
 /// Returns how many bytes in front two texts share.
 fn shared_len(field: &[u8], word: &[u8]) -> usize {
@@ -56,7 +53,7 @@ fn digits_len(fields: &[u8], most: &[usize]) -> usize {
             field = digits;
             len = len.saturating_add(1);
         }
-        let digits = hex_len(field, *most);
+        let digits = count_in_front(field, HEX_DIGITS).min(*most);
         len = len.saturating_add(digits);
         if digits < *most {
             return len;
@@ -65,41 +62,35 @@ fn digits_len(fields: &[u8], most: &[usize]) -> usize {
     len
 }
 
-/// Returns how many bytes in front fit what comes after the moment of a line with this letter: a word, or fields of so
-/// many hexadecimal digits.
-fn fields_len(letter: u8, fields: &[u8]) -> usize {
-    let (words, digits): (&[&str], &[usize]) = match letter {
-        b'>' => (&[], &[128]),
-        b'p' => (&["granted", "denied", "timeout"], &[]),
-        b'k' => (&["no"], &[64, 64, 64]),
-        _ => (&["no"], &[144]),
-    };
-    let mut len = digits_len(fields, digits);
-    for word in words {
-        len = len.max(shared_len(fields, word.as_bytes()));
-    }
-    len
-}
-
 /// Returns how many bytes in front fit a log line. The one after them fits none.
 fn fitting_len(line: &[u8]) -> usize {
-    match line {
-        [b'<', b' ', packet @ ..] => hex_len(packet, 128).saturating_add(2),
-        [b'>' | b't' | b'p' | b'k' | b's', b' ', fields @ ..] => {
-            let digits = moment_len(fields);
-            let len = digits.saturating_add(2);
-            match after(fields, digits) {
-                [b' ', fields @ ..] if line[0] != b't' && digits > 0 => {
-                    fields_len(line[0], fields)
-                        .saturating_add(len)
-                        .saturating_add(1)
+    // What comes after the moment of a line with this letter: a word, or fields of so many hexadecimal digits.
+    let (words, digits): (&'static [&'static str], &'static [usize]) = match line {
+        [b'<' | b'>', ..] => (&[], &[128]),
+        [b't', ..] => (&[], &[]),
+        [b'p', ..] => (&["granted", "denied", "timeout"], &[]),
+        [b'k', ..] => (&["no"], &[64, 64, 64]),
+        [b's', ..] => (&["no"], &[144]),
+        _ => return 0,
+    };
+    let (fields, len) = match line {
+        [b'<', b' ', fields @ ..] => (fields, 2),
+        [letter, b' ', fields @ ..] => {
+            let moment = moment_len(fields);
+            match after(fields, moment) {
+                [b' ', more @ ..] if moment > 0 && *letter != b't' => {
+                    (more, moment.saturating_add(3))
                 }
-                _ => len,
+                _ => return moment.saturating_add(2),
             }
         }
-        [b'>' | b'<' | b't' | b'p' | b'k' | b's', ..] => 1,
-        _ => 0,
+        _ => return 1,
+    };
+    let mut fitting = digits_len(fields, digits);
+    for word in words {
+        fitting = fitting.max(shared_len(fields, word.as_bytes()));
     }
+    len.saturating_add(fitting)
 }
 
 /// The first byte of a line that fits no log line; or that the line ends too early.
@@ -112,25 +103,24 @@ pub struct Misfit<'a> {
 impl Written for Misfit<'_> {
     fn write(&self, pen: &mut Pen) {
         let rest = after(self.line, self.place);
-        if rest.is_empty() {
-            pen.text("  it ends after byte ");
-            pen.decimal(self.place as u64);
-        } else {
-            pen.text("  byte ");
-            pen.decimal(self.place.saturating_add(1) as u64);
+        let [byte, ..] = rest else {
+            pen.number_after("  it ends after byte ", self.place as u64);
+            pen.text(", too early\n");
+            return;
+        };
+        pen.number_after("  byte ", self.place.saturating_add(1) as u64);
+        if self.place == 0 && rest.starts_with(&[0xEF, 0xBB, 0xBF]) {
+            pen.text(" begins a byte order mark: a log has none\n");
+            return;
         }
-        match rest {
-            [] => pen.text(", too early\n"),
-            [0xEF, 0xBB, 0xBF, ..] if self.place == 0 => {
-                pen.text(" begins a byte order mark: a log has none\n");
-            }
-            [b'\r', ..] => pen.text(CARRIAGE_RETURN),
-            [byte @ b' '..=b'~', ..] => {
+        match *byte {
+            b'\r' => pen.text(CARRIAGE_RETURN),
+            b' '..=b'~' => {
                 pen.text(" is '");
                 pen.bytes(&[*byte]);
                 pen.text("', which fits no log line here\n");
             }
-            [byte, ..] => {
+            _ => {
                 pen.text(" is 0x");
                 pen.hex(&[*byte]);
                 pen.text(", which fits no log line here\n");

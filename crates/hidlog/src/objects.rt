@@ -5,7 +5,10 @@ use crate::finding::Finding;
 use crate::sides::members_of;
 use crate::wish::Wish;
 use hid_packet::Packet;
-use session_show::{Pen, Written, write_hex, write_number, write_string, write_word};
+use session_log::ToWrite;
+use session_show::{
+    Pen, Written, put_json_fault, write_hex, write_number, write_string, write_word,
+};
 
 /// What the object of a log's fault begins with.
 const FAULT: &[u8] = b"{\"kind\":\"fault\"";
@@ -76,15 +79,15 @@ fn write_name(pen: &mut Pen, name: &[u8]) {
 pub struct ProgramFaultObject<'a> {
     pub wish: &'a Wish<'a>,
     pub fault: &'a ProgramFault<'a>,
-    /// The object of the log's own fault, without its path.
-    pub log: &'a [u8],
 }
 
 impl Written for ProgramFaultObject<'_> {
     fn write(&self, pen: &mut Pen) {
         self.wish.begin_object(pen, "fault");
-        if let ProgramFault::Log(_) = self.fault {
-            pen.bytes(self.log.strip_prefix(FAULT).unwrap_or(b"}\n"));
+        if let ProgramFault::Log(fault) = self.fault {
+            let mut object = Vec::new(self.wish.alloc);
+            let _ = put_json_fault(&mut ToWrite::new(&mut object), fault);
+            pen.bytes(object.strip_prefix(FAULT).unwrap_or(b"}\n"));
             return;
         }
         let text = self.fault.text();

@@ -3,6 +3,9 @@ ghost use Rattle.std.specs.Prelude.{◌≤◌, ◌+◌, length};
 ghost use Rattle.std.specs.Iterator.{at_most};
 ghost use Rattle.std.specs.Option.{option_map_or};
 
+/// The digits of the number that a line may begin with.
+pub const DIGITS: &[u8] = b"0123456789";
+
 /// The pieces of a text, with bytes of one kind between them: its lines, or its words.
 #[derive(Clone, Copy)]
 pub struct Pieces<'a> {
@@ -61,11 +64,6 @@ pub fn count_in_front(text: &[u8], bytes: &[u8]) -> usize {
         count = count.saturating_add(1);
     }
     count
-}
-
-/// Returns how many digits a line begins with.
-pub fn digits_in(line: &[u8]) -> usize {
-    count_in_front(line, b"0123456789")
 }
 
 /// Returns what comes after so many bytes of a text; the text, where it is shorter.

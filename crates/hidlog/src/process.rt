@@ -7,7 +7,7 @@ use session_log::{Target, put_all};
 use session_show::{Pen, Wording, Written, put_written};
 use std::alloc::AllocGlobal;
 use std::env;
-use std::io::{self, ErrorKind};
+use std::io::ErrorKind;
 use std::rt::Env;
 
 /// The text of a write that failed.
@@ -36,6 +36,13 @@ pub fn say<E: Target, W: Written>(faults: &mut E, what: &W) {
     }
 }
 
+/// Says that writing the result failed, unless too many writes of faults did.
+pub fn say_unwritten<E: Target>(faults: &mut E) {
+    if faults.failures() < u64::MAX {
+        tell(faults, WRITING_FAILED);
+    }
+}
+
 /// Writes a text to the faults and, where it is explained, the line that says why.
 pub fn tell_why<E: Target>(faults: &mut E, explains: bool, text: &[u8], why: &FaultReason<'_>)
     requires { E.failed faults.old < 2 ^ 64 - 1 }
@@ -60,10 +67,6 @@ pub fn no_memory<E: Target>(faults: &mut E) -> u8
     2
 }
 
-fn arguments<R: Env + AllocGlobal>(rt: &R) -> io::Result<Vec<String>> {
-    Ok(env::args(rt)?.collect(rt.alloc())?)
-}
-
 /// Returns the program's arguments, the first of them its name. Where one isn't UTF-8, or memory is refused, that is
 /// written, and an error holds the exit status, 2.
 pub fn words_of<R: Env + AllocGlobal, E: Target>(rt: &R, faults: &mut E) -> Result<Vec<String>, u8>
@@ -73,8 +76,11 @@ pub fn words_of<R: Env + AllocGlobal, E: Target>(rt: &R, faults: &mut E) -> Resu
     ensures told { OnErr result (IsGiven E.taken E.failed (faults.old, faults.new) no_memory_text
         ⊎ IsGiven E.taken E.failed (faults.old, faults.new) not_text) }
 {
-    match arguments(rt) {
-        Ok(words) => Ok(words),
+    match env::args(rt) {
+        Ok(words) => match words.collect(rt.alloc()) {
+            Ok(words) => Ok(words),
+            Err(_) => Err(no_memory(faults)),
+        },
         Err(error) if error.kind() == ErrorKind::OutOfMemory => Err(no_memory(faults)),
         Err(_) => {
             tell(faults, b"hidlog: an argument is not UTF-8\n");

@@ -5,7 +5,7 @@ ghost use Rattle.session_log.specs.Streams.{PutsLine};
 ghost use Rattle.hidlog.specs.CommandLine.{check, show as shown, path_of, texts_of};
 ghost use Rattle.hidlog.specs.Fault.{came_of};
 ghost use Rattle.hidlog.specs.Model.{CanFail};
-ghost use Rattle.hidlog.specs.Program.{IsGiven, IsWhole};
+ghost use Rattle.hidlog.specs.Program.{IsWhole};
 ghost use Rattle.session_log.specs.declared.command.LogCommand.TheVariants.{Check as comparing};
 ghost use Rattle.session_show.specs.declared.wording.Wording.TheVariants.{Fixed as fixed};
 ghost use Rattle.hidlog.specs.Commands.{Answers, Does, DoesCommand, Explains, Reads, Reports, ShowsIn, ShowsLog, wording_for};
@@ -65,16 +65,6 @@ fn put_text<O: Target>(output: &mut O, text: &[u8]) -> Result<(), LogFault>
         Ok(()) => Ok(()),
         Err(_) => Err(LogFault::Write),
     }
-}
-
-/// Writes what is wrong with the words, line by line, with what they have that can't be seen escaped. The exit status, 2.
-fn refuse_words<E: Target>(text: &str, faults: &mut E) -> u8
-    requires { E.failed faults.old < 2 ^ 64 - 1 }
-    ensures status { result ≡ 2 }
-    ensures told { (said : List ℕ) × IsGiven E.taken E.failed (faults.old, faults.new) said }
-{
-    tell_written(faults, &EscapedLines(text));
-    2
 }
 
 /// Writes the log in a form, also one with a fault, up to there. As JSON, the last object is that of the fault; what is
@@ -153,12 +143,16 @@ impl<D: Files, L: Logs, O: Output, E: Target> Host<D, L, O, E> {
         ensures status { IfErr result (λ code. (code ≡ 1) ⊎ (code ≡ 2)) }
         ensures explains { Explains ⟦<Self as Modeled>⟧.model (kind_of error.now) result self.old self.new }
     {
-        let text = match error.to_string(self.alloc) {
-            Ok(text) if !matches!(error.kind(), ErrorKind::OutOfMemory) => text,
-            _ => return Err(no_memory(&mut self.faults)),
+        if let ErrorKind::OutOfMemory = error.kind() {
+            return Err(no_memory(&mut self.faults));
+        }
+        let Ok(text) = error.to_string(self.alloc) else {
+            return Err(no_memory(&mut self.faults));
         };
         if error.use_stderr() {
-            return Err(refuse_words(text.as_str(), &mut self.faults));
+            // What they have that can't be seen is escaped.
+            tell_written(&mut self.faults, &EscapedLines(text.as_str()));
+            return Err(2);
         }
         let answer = put_text(&mut self.output, text.as_bytes());
         if settled(&mut self.output, answer).is_err() {
@@ -242,36 +236,19 @@ impl<D: Files, L: Logs, O: Output, E: Target> Host<D, L, O, E> {
         outcome
     }
 
-    /// Compares the logs at these paths. Of several it is said which is meant.
+    /// Compares the logs at these paths, or that on standard input where there is none. Of several it is said which is
+    /// meant.
     fn check_logs<'a>(&mut self, wish: Wish<'a>, logs: &[&'a str]) -> RunOutcome<'a>
         requires { CanFail ⟦<Self as Modeled>⟧.model self.old }
         ensures status { IfErr result.status (λ code. (code ≡ 1) ⊎ (code ≡ 2)) }
-        ensures does { Does ⟦<Self as Modeled>⟧.model (check (path_of wish.entry.load) wish.entry.is_all false (texts_of logs.now))
-            fixed wish.entry.explains result.status self.old self.new }
+        ensures does { Does ⟦<Self as Modeled>⟧.model (check (path_of wish.entry.load) wish.entry.is_all wish.entry.is_json
+            (texts_of logs.now)) fixed wish.entry.explains result.status self.old self.new }
     {
-        match logs {
-            [] => self.check_log(wish, None),
-            [log] => self.check_log(wish, Some(*log)),
-            _ => RunOutcome::of(self.check_each(&wish, logs), wish.explains),
-        }
-    }
-
-    /// Compares the logs at these paths, or that on standard input where there is none, and says as JSON what differs.
-    fn check_as_json<'a>(&mut self, wish: &Wish<'_>, logs: &[&str]) -> RunOutcome<'a>
-        ensures status { IfErr result.status (λ code. (code ≡ 1) ⊎ (code ≡ 2)) }
-        ensures does { Does ⟦<Self as Modeled>⟧.model (check (path_of wish.now.load) wish.now.is_all true (texts_of logs.now))
-            fixed wish.now.explains result.status self.old self.new }
-    {
-        let explains = wish.explains;
-        let wish = Wish {
-            is_json: true,
-            // An object is never cut.
-            width: None,
-            ..*wish
-        };
-        match logs {
-            [] => RunOutcome::of(self.check_each(&wish, &["-"]), explains),
-            _ => RunOutcome::of(self.check_each(&wish, logs), explains),
+        match (wish.is_json, logs) {
+            (false, []) => self.check_log(wish, None),
+            (false, [log]) => self.check_log(wish, Some(*log)),
+            (true, []) => RunOutcome::of(self.check_each(&wish, &["-"]), wish.explains),
+            (_, _) => RunOutcome::of(self.check_each(&wish, logs), wish.explains),
         }
     }
 
@@ -293,12 +270,8 @@ impl<D: Files, L: Logs, O: Output, E: Target> Host<D, L, O, E> {
         match asked.task {
             ProgramTask::Play(play) => self.run_command(&play, explains),
             ProgramTask::Check { load, all, json } => {
-                let wish = Wish::of(alloc, explains, load, all, self.width);
-                if json {
-                    self.check_as_json(&wish, &asked.logs)
-                } else {
-                    self.check_logs(wish, &asked.logs)
-                }
+                let wish = Wish::of(alloc, explains, load, all, json, self.width);
+                self.check_logs(wish, &asked.logs)
             }
             // Whether lines are whole is a matter of the output.
             ProgramTask::Show { form, wide: _, log } => {

@@ -3,7 +3,7 @@ use session_show::{Pen, Wording};
 use std::io::Write;
 
 /// How many bytes take a command about a second. Of a shorter log nothing is said.
-const LONG: u64 = 64 << 20;
+pub const LONG: u64 = 64 << 20;
 
 /// How many bytes are read from one line to the next.
 const STEP: u64 = 8 << 20;
@@ -19,23 +19,14 @@ const ERASED: &[u8] = b"\r                              \r";
 pub struct Progress {
     pub is_said: bool,
     /// The bytes of the whole log, where they are known.
-    size: Option<u64>,
+    pub size: Option<u64>,
     /// At how many bytes the next line is written.
-    next: u64,
-    is_written: bool,
+    pub next: u64,
+    /// Whether the last line wasn't erased.
+    pub is_written: bool,
 }
 
 impl Progress {
-    /// Returns that of a log of which nothing was read.
-    pub fn new(is_said: bool, size: Option<u64>) -> Self {
-        Progress {
-            is_said,
-            size,
-            next: LONG,
-            is_written: false,
-        }
-    }
-
     /// Says that so many bytes were read. The cursor stays at the line's front, so that what is written next is over it.
     pub fn pass(&mut self, rt: &HostRuntime, len: u64) {
         if !self.is_said || len < self.next {

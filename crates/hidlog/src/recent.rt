@@ -1,5 +1,5 @@
 //! The bytes of a stream that were read last.
-ghost use Rattle.std.specs.Prelude.{◌≡◌, ◌<◌, ◌≤◌, ◌+◌, ◌↔◌, [], ◌++◌, length, take, drop, min, vec_len, IfOk, OnOk, OnErr, IsTrue};
+ghost use Rattle.std.specs.Prelude.{◌≡◌, ◌<◌, ◌≤◌, ◌+◌, [], ◌++◌, length, take, drop, min, vec_len, IfOk, OnOk, OnErr};
 ghost use Rattle.std.specs.Io.KnownBytes.{Consumes, Keeps, IsAtEnd, prepend_known};
 ghost use Rattle.hidlog.specs.Streams.{unread};
 
@@ -73,13 +73,6 @@ impl Recent {
             .0
             .split_at(self.at)
             .1
-    }
-
-    /// Returns whether all were handed on.
-    pub fn is_read(&self) -> bool
-        ensures { IsTrue result ↔ (unread self.now.held.items self.now.at self.now.end ≡ []) }
-    {
-        self.unread().is_empty()
     }
 
     /// Reads once, where all were handed on, after what was read before.

@@ -14,11 +14,8 @@ pub struct ComparisonEnd {
     /// How many bytes of an open message it holds.
     held: u16,
     /// Whether it served a request, so that something may have been signed.
-    has_served: bool,
+    pub has_served: bool,
 }
-
-/// The most bytes of a log that is read once more to see whether what was signed is what the key asks for.
-const READ_AGAIN_AT_MOST: u64 = 1 << 26;
 
 impl ComparisonEnd {
     /// Returns that of a session.
@@ -30,11 +27,6 @@ impl ComparisonEnd {
             held: session.held(),
             has_served: session.meters().requests > 0,
         }
-    }
-
-    /// Returns whether the log is to be read once more to see whether what was signed is what the key asks for.
-    pub fn is_read_again(&self, seen: &Seen) -> bool {
-        self.has_served && seen.len <= READ_AGAIN_AT_MOST
     }
 }
 
@@ -63,13 +55,11 @@ impl Remark {
                 pen.text(awaited.name());
             }
             Remark::EndsInside(held) => {
-                pen.text("the log ends inside a message, after ");
-                pen.decimal(u64::from(held));
+                pen.number_after("the log ends inside a message, after ", u64::from(held));
                 pen.text(" bytes of it");
             }
             Remark::Signed(otherwise) => {
-                pen.text("line ");
-                pen.decimal(otherwise.line);
+                pen.number_after("line ", otherwise.line);
                 pen.text(": what was signed there isn't what this key asks to be signed: ");
                 pen.text(otherwise.what);
             }
@@ -109,21 +99,39 @@ pub fn say_remark<E: Target>(wish: &Wish<'_>, remark: Remark, faults: &mut E) {
     say(faults, &Remarked { wish, remark });
 }
 
-/// Says what may be wrong with a log in which nothing differs.
-pub fn note<E: Target>(wish: &Wish<'_>, seen: &Seen, ending: &ComparisonEnd, faults: &mut E) {
-    if seen.len == 0 {
-        say_remark(wish, Remark::Doubt("the log is empty"), faults);
-    } else if !seen.has_input {
-        say_remark(wish, Remark::Doubt("the log has no inputs"), faults);
-    }
-    if !seen.ends_line {
-        let doubt = "the last line has no line feed, so the log may be cut off";
-        say_remark(wish, Remark::Doubt(doubt), faults);
-    }
-    if let Some(awaited) = ending.awaited {
-        say_remark(wish, Remark::Waits(awaited), faults);
-    }
-    if ending.held > 0 {
-        say_remark(wish, Remark::EndsInside(ending.held), faults);
+/// What may be wrong with a log in which nothing differs, by what was seen of it and how it ended.
+#[derive(Clone, Copy)]
+pub struct Notes<'a> {
+    pub wish: &'a Wish<'a>,
+    pub seen: &'a Seen,
+    pub ending: &'a ComparisonEnd,
+}
+
+impl Written for Notes<'_> {
+    fn write(&self, pen: &mut Pen) {
+        let wish = self.wish;
+        let doubt = if self.seen.len == 0 {
+            Some("the log is empty")
+        } else if !self.seen.has_input {
+            Some("the log has no inputs")
+        } else {
+            None
+        };
+        if let Some(text) = doubt {
+            let remark = Remark::Doubt(text);
+            Remarked { wish, remark }.write(pen);
+        }
+        if !self.seen.ends_line {
+            let remark = Remark::Doubt("the last line has no line feed, so the log may be cut off");
+            Remarked { wish, remark }.write(pen);
+        }
+        if let Some(awaited) = self.ending.awaited {
+            let remark = Remark::Waits(awaited);
+            Remarked { wish, remark }.write(pen);
+        }
+        if self.ending.held > 0 {
+            let remark = Remark::EndsInside(self.ending.held);
+            Remarked { wish, remark }.write(pen);
+        }
     }
 }

@@ -2,7 +2,7 @@
 ghost use Rattle.std.specs.Prelude.{◌≡◌, ◌<◌, ◌-◌, ◌^◌, None, is_none, if◌then◌else◌};
 ghost use Rattle.session_show.specs.Written.{Writes};
 
-use crate::pieces::{Pieces, after, digits_in, has_part};
+use crate::pieces::{DIGITS, Pieces, after, count_in_front, has_part};
 use session_log::{Failed, Target, put_all};
 use session_show::{Pen, Wording, Written, put_written};
 use std::alloc::Global;
@@ -106,7 +106,7 @@ fn colour_of(line: &[u8], digits: usize) -> &'static [u8] {
 impl Style {
     /// Writes a line. Its number ends in a column of its own.
     fn write_line(&self, pen: &mut Pen, line: &[u8]) {
-        let digits = digits_in(line);
+        let digits = count_in_front(line, DIGITS);
         let colour = if self.has_colours {
             colour_of(line, digits)
         } else {

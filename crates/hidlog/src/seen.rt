@@ -1,5 +1,5 @@
 //! What was seen of a log that is read.
-use crate::progress::Progress;
+use crate::progress::{LONG, Progress};
 
 /// The most bytes that are kept of a log that can't be read again, as of a pipe.
 const KEPT_AT_MOST: usize = 1 << 20;
@@ -30,14 +30,20 @@ fn has_input(is_new_line: bool, bytes: &[u8]) -> bool {
 }
 
 impl Seen {
-    /// Returns that of no bytes.
-    pub fn new(progress: Progress) -> Self {
+    /// Returns that of no bytes of a log, which has so many where that is known. Where `is_said`, it is said how much was
+    /// read.
+    pub fn new(is_said: bool, size: Option<u64>) -> Self {
         Seen {
             len: 0,
             ends_line: true,
             has_input: false,
             kept: None,
-            progress,
+            progress: Progress {
+                is_said,
+                size,
+                next: LONG,
+                is_written: false,
+            },
         }
     }
 

@@ -13,18 +13,21 @@ use crate::fault::ProgramFault;
 use crate::files::Files;
 use crate::held::Output;
 use crate::host::{Host, Modeled};
-use crate::logs::Logs;
+use crate::logs::{LogState, Logs};
 use crate::misfit::first_misfit;
 use crate::objects::ProgramFaultObject;
 use crate::pieces::Pieces;
-use crate::process::{WRITING_FAILED, say, tell};
-use crate::remarks::{ComparisonEnd, note};
+use crate::process::{say, say_unwritten};
+use crate::remarks::{ComparisonEnd, Notes};
 use crate::snapshots::load;
 use crate::texts::StreamFailure;
-use crate::wish::Wish;
+use crate::wish::{FaultLine, Wish};
 use session_log::{CAPACITY, LogCommand, LogFault, Target, ToWrite};
-use session_show::{Pen, Wording, Written, put_json_fault, put_written};
+use session_show::{Pen, Wording, Written, put_written};
 use token_session::Session;
+
+/// The most bytes of a log that is read once more to see whether what was signed is what the key asks for.
+const READ_AGAIN_AT_MOST: u64 = 1 << 26;
 
 /// That nothing differs in a log, by the text that says it: `same 14 inputs 22 packets`.
 #[derive(Clone, Copy)]
@@ -52,34 +55,21 @@ impl Written for SameLog<'_> {
     }
 }
 
-/// The line of a log's fault.
-#[derive(Clone, Copy)]
-struct FaultLine<'a> {
-    wish: &'a Wish<'a>,
-    fault: LogFault,
-}
-
-impl Written for FaultLine<'_> {
-    fn write(&self, pen: &mut Pen) {
-        self.wish.write_fault(pen, &self.fault);
-    }
-}
-
 /// Says why a line of a log is none, or why reading it failed, with this name of the log in front.
-pub fn say_cause<L: Logs, E: Target>(
-    input: &L,
+pub fn say_cause<E: Target>(
+    state: &LogState<'_>,
     name: Option<&str>,
     fault: &LogFault,
     faults: &mut E,
 ) {
     match fault {
         LogFault::BadLine(_) => {
-            if let Some(misfit) = first_misfit(input.lines()) {
+            if let Some(misfit) = first_misfit(state.lines) {
                 say(faults, &misfit);
             }
         }
         LogFault::Read(_) => {
-            if let Some(error) = input.failure() {
+            if let Some(error) = state.failure {
                 say(faults, &StreamFailure { name, error });
             }
         }
@@ -101,20 +91,27 @@ fn begin_with<L: Logs>(input: &mut L, path: &str)
 pub fn note_one<D: Files, L: Logs, E: Target>(
     files: &D,
     wish: &Wish<'_>,
-    input: &L,
+    input: &mut L,
     ending: &ComparisonEnd,
     faults: &mut E,
-) {
+)
+    ensures { input.new ≡ input.old }
+{
     if !wish.explains && !wish.is_json {
         return;
     }
-    note(wish, input.seen(), ending, faults);
-    if ending.is_read_again(input.seen()) {
+    let notes = Notes {
+        wish: &*wish,
+        seen: input.seen(),
+        ending: &*ending,
+    };
+    say(faults, &notes);
+    if ending.has_served && input.seen().len <= READ_AGAIN_AT_MOST {
         let same = Wish {
             is_same: true,
             ..*wish
         };
-        tell_differences(files, &same, input.reread(), None, faults);
+        tell_differences(files, &same, input.again(false), None, faults);
     }
 }
 
@@ -177,7 +174,7 @@ impl<D: Files, L: Logs, O: Output, E: Target> Host<D, L, O, E> {
         if said.is_ok() {
             return Ok(());
         }
-        self.say_unwritten();
+        say_unwritten(&mut self.faults);
         Err(1)
     }
 
@@ -187,18 +184,9 @@ impl<D: Files, L: Logs, O: Output, E: Target> Host<D, L, O, E> {
         ensures input { self.new.input ≡ self.old.input }
     {
         if wish.is_json {
-            note_one(&self.files, wish, &self.input, ending, &mut self.output);
+            note_one(&self.files, wish, &mut self.input, ending, &mut self.output);
         } else {
-            note_one(&self.files, wish, &self.input, ending, &mut self.faults);
-        }
-    }
-
-    /// Says that writing the result failed, unless too many writes of faults did.
-    fn say_unwritten(&mut self)
-        ensures { self.new ≡ record self.old { faults = self.new.faults } }
-    {
-        if self.faults.failures() < u64::MAX {
-            tell(&mut self.faults, WRITING_FAILED);
+            note_one(&self.files, wish, &mut self.input, ending, &mut self.faults);
         }
     }
 
@@ -220,7 +208,7 @@ impl<D: Files, L: Logs, O: Output, E: Target> Host<D, L, O, E> {
         let mut pen = Pen::new(Wording::Explained);
         let is_put = put_written(&mut self.faults, &mut pen, &line).is_ok();
         if is_put && wish.explains {
-            say_cause(&self.input, None, &fault, &mut self.faults);
+            say_cause(&self.input.state(), None, &fault, &mut self.faults);
         }
     }
 
@@ -230,36 +218,22 @@ impl<D: Files, L: Logs, O: Output, E: Target> Host<D, L, O, E> {
         ensures { self.new.files ≡ self.old.files }
     {
         self.tell_named(wish, fault);
-        let difference = match fault {
-            ProgramFault::Log(LogFault::Differs { line, packet }) => Some(LogFault::Differs {
-                line: *line,
-                packet: *packet,
-            }),
-            _ => None,
-        };
-        if !wish.is_json {
-            if difference.is_some() {
-                let again = self.input.again();
-                tell_differences(&self.files, wish, again, difference, &mut self.faults);
+        if let ProgramFault::Log(LogFault::Differs { line, packet }) = fault {
+            let (line, packet) = (*line, *packet);
+            let told = Some(LogFault::Differs { line, packet });
+            let again = self.input.again(true);
+            if wish.is_json {
+                tell_differences(&self.files, wish, again, told, &mut self.output);
+            } else {
+                tell_differences(&self.files, wish, again, told, &mut self.faults);
             }
+        }
+        if !wish.is_json {
             return;
         }
-        if difference.is_some() {
-            let again = self.input.again();
-            tell_differences(&self.files, wish, again, difference, &mut self.output);
-        }
-        let mut log = Vec::new(self.alloc);
-        if let ProgramFault::Log(fault) = fault {
-            let _ = put_json_fault(&mut ToWrite::new(&mut log), fault);
-        }
-        let object = ProgramFaultObject {
-            wish,
-            fault,
-            log: &log,
-        };
-        say(&mut self.output, &object);
+        say(&mut self.output, &ProgramFaultObject { wish, fault });
         if self.output.failures() > 0 {
-            self.say_unwritten();
+            say_unwritten(&mut self.faults);
         }
     }
 

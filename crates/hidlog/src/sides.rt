@@ -1,5 +1,5 @@
 //! Two packets beside one another, in `show`'s words.
-use crate::pieces::{Pieces, after, count_in_front, digits_in};
+use crate::pieces::{DIGITS, Pieces, after, count_in_front};
 use hid_packet::command::CBOR;
 use hid_packet::{Packet, View};
 use session_show::{Difference, Pen};
@@ -7,19 +7,11 @@ use session_show::{Difference, Pen};
 /// How many bytes of a packet are written where one of them differs.
 const ROW: usize = 16;
 
-/// CTAP2_ERR_CREDENTIAL_EXCLUDED.
-const EXCLUDED: u8 = 0x19;
-
-/// CTAP2_ERR_NO_CREDENTIALS.
-const NO_CREDENTIALS: u8 = 0x2E;
+/// What is in front of a mark under a row's last byte.
+const SPACES: &[u8] = b"                                                     ";
 
 /// How many members are named that are inside one another.
 const LEVELS: usize = 3;
-
-/// Returns a line without the number at its front.
-fn without_number(line: &[u8]) -> &[u8] {
-    after(line, digits_in(line))
-}
 
 /// Writes the lines of one side which the other one hasn't at their place, and always that of the packet.
 fn write_side(pen: &mut Pen, own: &[u8], other: &[u8]) {
@@ -32,7 +24,7 @@ fn write_side(pen: &mut Pen, own: &[u8], other: &[u8]) {
         };
         if is_packet || !is_shared && !line.is_empty() {
             pen.text(if is_packet { "    " } else { "   " });
-            pen.bytes(without_number(line));
+            pen.bytes(after(line, count_in_front(line, DIGITS)));
             pen.text("\n");
         }
         is_packet = false;
@@ -42,13 +34,11 @@ fn write_side(pen: &mut Pen, own: &[u8], other: &[u8]) {
 /// Writes what the log has and what the key sends: the packets, and of their messages what isn't the same.
 pub fn write_sides(pen: &mut Pen, difference: &Difference, logged: &[u8], sent: &[u8]) {
     if difference.logged.is_some() {
-        pen.text("  the log has in line ");
-        pen.decimal(difference.line);
+        pen.number_after("  the log has in line ", difference.line);
         pen.text(":\n");
         write_side(pen, logged, sent);
     } else {
-        pen.text("  the log has no packet here, up to line ");
-        pen.decimal(difference.line);
+        pen.number_after("  the log has no packet here, up to line ", difference.line);
         pen.text("\n");
     }
     if difference.sent.is_some() {
@@ -67,11 +57,8 @@ pub fn write_first(pen: &mut Pen, difference: &Difference, logged: &[u8], sent: 
     let Some((at, old, new)) = difference.byte() else {
         return;
     };
-    pen.text("  byte ");
-    pen.decimal(at as u64);
-    pen.text(" of the packet");
+    pen.number_after("  byte ", at as u64);
     pen.text(place_of(own, at));
-    pen.text(" is ");
     pen.hex(&[old]);
     pen.text(" in the log and ");
     pen.hex(&[new]);
@@ -79,23 +66,20 @@ pub fn write_first(pen: &mut Pen, difference: &Difference, logged: &[u8], sent: 
     let column = at % ROW;
     write_row(pen, "    log", own, at - column);
     write_row(pen, "    key", other, at - column);
-    pen.text("        ");
-    for _ in 0..column {
-        pen.text("   ");
-    }
+    pen.bytes(SPACES.get(..3 * column + 8).unwrap_or(SPACES));
     pen.text("^^\n");
     write_path(pen, &members_of(logged, sent));
 }
 
-/// Returns what a byte of a packet is, where it isn't data.
+/// Returns that a byte is one of a packet, and what it is there, where it isn't data.
 fn place_of(packet: &Packet, at: usize) -> &'static str {
     let is_start = matches!(packet.view(), View::Start { .. });
     match at {
-        0..=3 => ", in the channel,",
-        4 if is_start => ", the command,",
-        4 => ", the sequence number,",
-        5 | 6 if is_start => ", in the length,",
-        _ => "",
+        0..=3 => " of the packet, in the channel, is ",
+        4 if is_start => " of the packet, the command, is ",
+        4 => " of the packet, the sequence number, is ",
+        5 | 6 if is_start => " of the packet, in the length, is ",
+        _ => " of the packet is ",
     }
 }
 
@@ -110,18 +94,18 @@ fn write_row(pen: &mut Pen, name: &str, packet: &Packet, from: usize) {
     pen.text("\n");
 }
 
-/// Returns how deep a member of a message is, by its line.
-fn level_of(line: &[u8]) -> Option<usize> {
-    let text = without_number(line);
-    if text.len() == line.len() {
-        return None;
-    }
-    match count_in_front(text, b" ") {
-        5 => Some(0),
-        7 => Some(1),
-        9 => Some(2),
+/// Returns how deep a member of a message is, by its line, and its name: `2 authData`, `signCount`.
+fn member_in(line: &[u8]) -> (Option<usize>, &[u8]) {
+    let text = after(line, count_in_front(line, DIGITS));
+    let spaces = count_in_front(text, b" ");
+    let level = match spaces {
+        5 if text.len() < line.len() => Some(0),
+        7 if text.len() < line.len() => Some(1),
+        9 if text.len() < line.len() => Some(2),
         _ => None,
-    }
+    };
+    let text = after(text, spaces);
+    (level, text.get(..name_len(text)).unwrap_or(text))
 }
 
 /// Returns how many bytes in front are the name of a member. One that is a number or a quoted text ends with a colon
@@ -136,13 +120,6 @@ fn name_len(text: &[u8]) -> usize {
     text.len()
 }
 
-/// Returns the name of a member, by its line: `2 authData`, `signCount`.
-fn name_in(line: &[u8]) -> &[u8] {
-    let text = without_number(line);
-    let text = after(text, count_in_front(text, b" "));
-    text.get(..name_len(text)).unwrap_or(text)
-}
-
 /// Returns the names of the members in which two messages differ first, that of the outermost first.
 pub fn members_of<'a>(logged: &'a [u8], sent: &[u8]) -> [&'a [u8]; LEVELS] {
     let mut names: [&[u8]; LEVELS] = [b""; LEVELS];
@@ -152,16 +129,16 @@ pub fn members_of<'a>(logged: &'a [u8], sent: &[u8]) -> [&'a [u8]; LEVELS] {
         let Some(other) = others.next() else {
             break;
         };
-        let Some(level) = level_of(line) else {
-            continue;
-        };
         if line == other {
             continue;
         }
-        if level != depth || level >= LEVELS || name_in(line) != name_in(other) {
+        let (Some(level), name) = member_in(line) else {
+            continue;
+        };
+        if level != depth || level >= LEVELS || name != member_in(other).1 {
             break;
         }
-        names[level] = name_in(line);
+        names[level] = name;
         depth = level + 1;
     }
     names
@@ -184,7 +161,7 @@ fn write_path(pen: &mut Pen, names: &[&[u8]]) {
 }
 
 /// Returns the status of an answer, by its first packet.
-fn status_in(packet: &Option<Packet>) -> Option<u8> {
+pub fn status_in(packet: &Option<Packet>) -> Option<u8> {
     let Some(packet) = packet else {
         return None;
     };
@@ -196,14 +173,5 @@ fn status_in(packet: &Option<Packet>) -> Option<u8> {
             ..
         } if len > 0 => Some(*status),
         _ => None,
-    }
-}
-
-/// Returns whether a difference is one of a key without a credential that the log's key had.
-pub fn lacks_credential(difference: &Difference) -> bool {
-    match (status_in(&difference.logged), status_in(&difference.sent)) {
-        (Some(EXCLUDED), Some(EXCLUDED)) | (Some(NO_CREDENTIALS), Some(NO_CREDENTIALS)) => false,
-        (Some(EXCLUDED), _) | (_, Some(NO_CREDENTIALS)) => true,
-        _ => false,
     }
 }

@@ -3,11 +3,12 @@ ghost use Rattle.std.specs.Prelude.{◌≡◌};
 
 use std::io::{self, Read, Write};
 
-/// A reader or a writer that keeps the error at which it failed last. No call that failed is made again.
+/// A reader or a writer that keeps the error at which it failed last, and returns one of its kind. No call that failed
+/// is made again.
 #[derive(Drop)]
 pub struct Noting<S> {
     inner: S,
-    failure: Option<io::Error>,
+    pub failure: Option<io::Error>,
 }
 
 impl<S> Noting<S> {
@@ -20,20 +21,6 @@ impl<S> Noting<S> {
             failure: None,
         }
     }
-
-    /// Returns the error at which it failed last.
-    pub fn failure(&self) -> Option<&io::Error> {
-        self.failure.as_ref()
-    }
-
-    /// Keeps an error, and returns one of its kind.
-    fn keep(&mut self, error: io::Error) -> io::Error
-        ensures { self.new.inner ≡ self.old.inner }
-    {
-        let kind = error.kind();
-        self.failure = Some(error);
-        io::Error::from(kind)
-    }
 }
 
 impl<R: Read> Read for Noting<R> {
@@ -42,7 +29,11 @@ impl<R: Read> Read for Noting<R> {
     fn read(&mut self, buf: &mut [u8]) -> io::Result<usize> {
         match self.inner.read(buf) {
             Ok(n) => Ok(n),
-            Err(error) => Err(self.keep(error)),
+            Err(error) => {
+                let kind = error.kind();
+                self.failure = Some(error);
+                Err(io::Error::from(kind))
+            }
         }
     }
 }
@@ -53,7 +44,11 @@ impl<W: Write> Write for Noting<W> {
     fn write(&mut self, buf: &[u8]) -> io::Result<usize> {
         match self.inner.write(buf) {
             Ok(n) => Ok(n),
-            Err(error) => Err(self.keep(error)),
+            Err(error) => {
+                let kind = error.kind();
+                self.failure = Some(error);
+                Err(io::Error::from(kind))
+            }
         }
     }
 

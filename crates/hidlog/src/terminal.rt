@@ -14,7 +14,42 @@ const FEWEST: usize = 20;
 
 const MOST: usize = 1000;
 
-/// Returns how many columns a line has, as the environment says.
+/// What the process has for these words.
+#[derive(Clone, Copy)]
+pub struct Surroundings {
+    pub terminals: Terminals,
+    /// Whether logs are compared.
+    pub is_check: bool,
+    /// What is said of a log while it is read.
+    pub audience: Audience,
+    /// How the lines of a log are shown, where standard output is a terminal and a person reads them.
+    pub style: Option<Style>,
+    /// The columns of standard error, where that is a terminal.
+    pub width: Option<usize>,
+}
+
+/// Returns what the process has for these words.
+pub fn surroundings_of(rt: &HostRuntime, words: &[&str]) -> Surroundings {
+    let terminals = Terminals {
+        output: rt.stdout().is_terminal(),
+        faults: rt.stderr().is_terminal(),
+    };
+    let is_check = matches!(words.get(1), Some(word) if *word == "check");
+    let width = if terminals.faults {
+        Some(columns(rt))
+    } else {
+        None
+    };
+    Surroundings {
+        terminals,
+        is_check,
+        audience: audience_of(rt, words, terminals, is_check),
+        style: style_of(rt, words, terminals),
+        width,
+    }
+}
+
+/// Returns how many columns a line of a terminal has, as the environment says.
 fn columns(rt: &HostRuntime) -> usize {
     match env::var(rt, "COLUMNS") {
         Ok(text) => text
@@ -26,24 +61,8 @@ fn columns(rt: &HostRuntime) -> usize {
     }
 }
 
-/// Returns whether the environment wants colours (no-color.org).
-fn has_colours(rt: &HostRuntime) -> bool {
-    match env::var(rt, "NO_COLOR") {
-        Ok(text) => text.as_str().is_empty(),
-        Err(_) => true,
-    }
-}
-
-/// Returns which of the program's streams are terminals.
-pub fn terminals_of(rt: &HostRuntime) -> Terminals {
-    Terminals {
-        output: rt.stdout().is_terminal(),
-        faults: rt.stderr().is_terminal(),
-    }
-}
-
 /// Returns how the lines of a log are shown, where standard output is a terminal and a person reads them.
-pub fn style_of(rt: &HostRuntime, words: &[&str], terminals: Terminals) -> Option<Style> {
+fn style_of(rt: &HostRuntime, words: &[&str], terminals: Terminals) -> Option<Style> {
     if !terminals.output {
         return None;
     }
@@ -60,29 +79,19 @@ pub fn style_of(rt: &HostRuntime, words: &[&str], terminals: Terminals) -> Optio
             },
         ) => Some(Style {
             width: if wide { None } else { Some(columns(rt)) },
-            has_colours: has_colours(rt),
+            // The environment may want none (no-color.org).
+            has_colours: match env::var(rt, "NO_COLOR") {
+                Ok(text) => text.as_str().is_empty(),
+                Err(_) => true,
+            },
         }),
         _ => None,
     }
 }
 
-/// Returns the columns of standard error, where that is a terminal.
-pub fn width_of_faults(rt: &HostRuntime, terminals: Terminals) -> Option<usize> {
-    if terminals.faults {
-        Some(columns(rt))
-    } else {
-        None
-    }
-}
-
 /// Returns what is said of a log while it is read: what is awaited and, at a terminal to which nothing else is written
 /// meanwhile, how much of a long one was read.
-pub fn audience_of(
-    rt: &HostRuntime,
-    words: &[&str],
-    terminals: Terminals,
-    is_check: bool,
-) -> Audience {
+fn audience_of(rt: &HostRuntime, words: &[&str], terminals: Terminals, is_check: bool) -> Audience {
     // Else nothing is said meanwhile, and the words need not be understood.
     let asked = if terminals.faults || rt.stdin().is_terminal() {
         task_of(rt.alloc(), words).ok()

@@ -3,7 +3,7 @@ ghost use Rattle.std.specs.Prelude.{◌≡◌};
 
 use crate::texts::write_shown;
 use session_log::LogFault;
-use session_show::{Pen, write_escaped, write_string};
+use session_show::{Pen, Written, write_escaped, write_string};
 use std::alloc::Global;
 
 /// How what is found in a log is said.
@@ -28,17 +28,19 @@ pub struct Wish<'a> {
 }
 
 impl<'a> Wish<'a> {
-    /// Returns that of a comparison of one log.
+    /// Returns that of a comparison of one log. An object of JSON is never cut.
     pub fn of(
         alloc: Global,
         explains: bool,
         load: Option<&'a str>,
         is_all: bool,
+        is_json: bool,
         width: Option<usize>,
     ) -> Self
         ensures explains { result.explains ≡ explains }
         ensures load { result.load ≡ load.entry }
         ensures all { result.is_all ≡ is_all }
+        ensures json { result.is_json ≡ is_json }
     {
         Wish {
             alloc,
@@ -46,9 +48,9 @@ impl<'a> Wish<'a> {
             load,
             path: None,
             is_all,
-            is_json: false,
+            is_json,
             is_same: false,
-            width,
+            width: if is_json { None } else { width },
         }
     }
 
@@ -61,18 +63,26 @@ impl<'a> Wish<'a> {
         pen.text(": ");
     }
 
-    /// Writes the line of a log's fault.
-    pub fn write_fault(&self, pen: &mut Pen, fault: &LogFault) {
-        self.begin_line(pen);
-        write_shown(pen, fault);
-        pen.text("\n");
-    }
-
     /// Begins an object of JSON (RFC 8259), with the log's path where several are compared.
     pub fn begin_object(&self, pen: &mut Pen, kind: &str) {
         pen.text("{\"kind\":\"");
         pen.text(kind);
         pen.text("\"");
         write_string(pen, "log", self.path);
+    }
+}
+
+/// The line of a log's fault.
+#[derive(Clone, Copy)]
+pub struct FaultLine<'a> {
+    pub wish: &'a Wish<'a>,
+    pub fault: LogFault,
+}
+
+impl Written for FaultLine<'_> {
+    fn write(&self, pen: &mut Pen) {
+        self.wish.begin_line(pen);
+        write_shown(pen, &self.fault);
+        pen.text("\n");
     }
 }

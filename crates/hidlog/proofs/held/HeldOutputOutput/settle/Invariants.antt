@@ -1,6 +1,6 @@
 use Rattle.std.proofs.Common.{◌≡◌, ◌-◌, drop, vec_len}
 use Rattle.std.specs.Io.KnownBytes.{Keeps, append_known}
-use Rattle.hidlog.proofs.held.HeldOutput.hand_on.Given as goal
+use Rattle.hidlog.proofs.held.HeldOutputOutput.settle.Given as goal
 
 -- what was taken stays
 abbrev pub invariant-waiting : goal.invariant-waiting

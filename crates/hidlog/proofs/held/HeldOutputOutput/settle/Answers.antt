@@ -1,7 +1,7 @@
 use Rattle.std.proofs.Common.{drop, take, subst, ap, ◌∙◌}
 use Rattle.std.specs.Io.KnownBytes.{Appends}
 use Rattle.hidlog.proofs.Unread.{handed}
-use Rattle.hidlog.proofs.held.HeldOutput.hand_on.Goals as goal
+use Rattle.hidlog.proofs.held.HeldOutputOutput.settle.Goals as goal
 
 pub waiting-preserved : goal.waiting-preserved
 waiting-preserved g c =
