@@ -1,6 +1,6 @@
 //! The credential table of an authenticator: rows in order of making, whatever keeps them.
 //!
-//! An example, which the gate runs (`crates/authenticator_tests/src/table_page.rt`):
+//! An example, which the gate runs (`crates/page_tests/src/cred_table_page.rt`):
 //!
 //! ```text
 //! let mut table = Store::<4>::new();

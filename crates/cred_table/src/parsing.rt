@@ -7,7 +7,7 @@ ghost use Rattle.ctap_cbor.specs.Grammar.{scalar_text};
 ghost use Rattle.ctap_cbor.specs.Parts.{One, OpensArray, item_text};
 ghost use Rattle.cred_table.specs.Snapshots.{IsHash, IsShort, IsName, IsRow, version};
 ghost use Rattle.ctap_cbor.specs.Views.{part_of};
-ghost use Rattle.cred_table.specs.Parsing.{Reads, ReadsPart, ReadsMember, member_text, map_in, key_in, hash_in, short_in, flag_in, counter_in, name_in, count_in, named_in, name_text, heads_text, row_text, members_of};
+ghost use Rattle.cred_table.specs.Parsing.{Reads, ReadsPart, ReadsMember, member_text, map_in, key_in, and_then, hash_in, short_in, flag_in, counter_in, name_in, count_in, named_in, name_text, heads_text, row_text, members_of};
 
 use crate::name::Name;
 use crate::row::Row;
@@ -32,8 +32,7 @@ fn read_map(cursor: &mut Cursor, level: u8, count: u64) -> Option<()>
     requires high { level ≤ 4 }
     ensures { Reads (λ _. ⊤) (λ _. head 5 count) cursor.old cursor.new result }
 {
-    let item = take(cursor, level)?;
-    map_of(item, count)
+    map_of(take(cursor, level), count)
 }
 
 /// Takes an integer of at least 0.
@@ -42,8 +41,7 @@ fn read_key(cursor: &mut Cursor, level: u8, key: u8) -> Option<()>
     requires high { level ≤ 5 }
     ensures { Reads (λ _. ⊤) (λ _. scalar_text (Int (pos key))) cursor.old cursor.new result }
 {
-    let item = take(cursor, level)?;
-    key_of(item, key)
+    key_of(take(cursor, level), key)
 }
 
 /// Takes a member of a map: the key, and the head of its value, which is a string whole.
@@ -57,41 +55,41 @@ fn read_member<'a>(cursor: &mut Cursor<'a>, level: u8, key: u8) -> Option<Item<'
 }
 
 /// Reads the head of a map of so many pairs.
-fn map_of(item: Item, count: u64) -> Option<()>
-    ensures { result ≡ map_in count (part_of item.entry) }
+fn map_of(item: Option<Item>, count: u64) -> Option<()>
+    ensures { result ≡ and_then (map_in count) (option_map part_of item.entry) }
 {
     match item {
-        Item::Map(found) if found == count => Some(()),
+        Some(Item::Map(found)) if found == count => Some(()),
         _ => None,
     }
 }
 
 /// This integer.
-fn key_of(item: Item, key: u8) -> Option<()>
-    ensures { result ≡ key_in key (part_of item.entry) }
+fn key_of(item: Option<Item>, key: u8) -> Option<()>
+    ensures { result ≡ and_then (key_in key) (option_map part_of item.entry) }
 {
     match item {
-        Item::Int(found) if found == key as i128 => Some(()),
+        Some(Item::Int(found)) if found == key as i128 => Some(()),
         _ => None,
     }
 }
 
 /// Reads 32 bytes.
-fn hash_of(item: Item) -> Option<[u8; 32]>
-    ensures { result ≡ hash_in (part_of item.entry) }
+fn hash_of(item: Option<Item>) -> Option<[u8; 32]>
+    ensures { result ≡ and_then hash_in (option_map part_of item.entry) }
 {
     match item {
-        Item::Bytes(bytes) => bytes.try_into().ok(),
+        Some(Item::Bytes(bytes)) => bytes.try_into().ok(),
         _ => None,
     }
 }
 
 /// Reads at most 64 bytes.
-fn short_of(item: Item) -> Option<ArrayVec<u8, 64>>
-    ensures { option_map (λ v. v.items) result ≡ short_in (part_of item.entry) }
+fn short_of(item: Option<Item>) -> Option<ArrayVec<u8, 64>>
+    ensures { option_map (λ v. v.items) result ≡ and_then short_in (option_map part_of item.entry) }
 {
     match item {
-        Item::Bytes(bytes) if bytes.len() <= 64 => {
+        Some(Item::Bytes(bytes)) if bytes.len() <= 64 => {
             let mut short = ArrayVec::new();
             short.try_extend_from_slice(bytes).unwrap();
             Some(short)
@@ -101,52 +99,52 @@ fn short_of(item: Item) -> Option<ArrayVec<u8, 64>>
 }
 
 /// Reads a truth value.
-fn flag_of(item: Item) -> Option<bool>
-    ensures { result ≡ flag_in (part_of item.entry) }
+fn flag_of(item: Option<Item>) -> Option<bool>
+    ensures { result ≡ and_then flag_in (option_map part_of item.entry) }
 {
     match item {
-        Item::Bool(flag) => Some(flag),
+        Some(Item::Bool(flag)) => Some(flag),
         _ => None,
     }
 }
 
 /// Reads an integer from 0 to 2^32-1.
-fn counter_of(item: Item) -> Option<u32>
-    ensures { result ≡ counter_in (part_of item.entry) }
+fn counter_of(item: Option<Item>) -> Option<u32>
+    ensures { result ≡ and_then counter_in (option_map part_of item.entry) }
 {
     match item {
-        Item::Int(value) if 0 <= value && value <= 0xffff_ffff => Some(value as u32),
+        Some(Item::Int(value)) if 0 <= value && value <= 0xffff_ffff => Some(value as u32),
         _ => None,
     }
 }
 
 /// Reads a text of at most 64 bytes.
-fn name_of(item: Item) -> Option<Name>
-    ensures { result ≡ name_in (part_of item.entry) }
+fn name_of(item: Option<Item>) -> Option<Name>
+    ensures { result ≡ and_then name_in (option_map part_of item.entry) }
 {
     match item {
-        Item::Text(text) => Name::new(text),
+        Some(Item::Text(text)) => Name::new(text),
         _ => None,
     }
 }
 
 /// Reads the number of an array's items.
-fn count_of(item: Item) -> Option<u64>
-    ensures { result ≡ count_in (part_of item.entry) }
+fn count_of(item: Option<Item>) -> Option<u64>
+    ensures { result ≡ and_then count_in (option_map part_of item.entry) }
 {
     match item {
-        Item::Array(count) => Some(count),
+        Some(Item::Array(count)) => Some(count),
         _ => None,
     }
 }
 
 /// Reads a version, by whether its rows have names.
-fn named_of(item: Item) -> Option<bool>
-    ensures { result ≡ named_in (part_of item.entry) }
+fn named_of(item: Option<Item>) -> Option<bool>
+    ensures { result ≡ and_then named_in (option_map part_of item.entry) }
 {
     match item {
-        Item::Int(1) => Some(false),
-        Item::Int(2) => Some(true),
+        Some(Item::Int(1)) => Some(false),
+        Some(Item::Int(2)) => Some(true),
         _ => None,
     }
 }
@@ -155,32 +153,28 @@ fn named_of(item: Item) -> Option<bool>
 fn read_hash(cursor: &mut Cursor, key: u8) -> Option<[u8; 32]>
     ensures { ReadsMember IsHash (λ s. One (Bytes s)) key cursor.old cursor.new result }
 {
-    let item = read_member(cursor, 4, key)?;
-    hash_of(item)
+    hash_of(read_member(cursor, 4, key))
 }
 
 /// Takes a member of at most 64 bytes.
 fn read_short(cursor: &mut Cursor, key: u8) -> Option<ArrayVec<u8, 64>>
     ensures { ReadsMember IsShort (λ s. One (Bytes s)) key cursor.old cursor.new (option_map (λ v. v.items) result) }
 {
-    let item = read_member(cursor, 4, key)?;
-    short_of(item)
+    short_of(read_member(cursor, 4, key))
 }
 
 /// Takes a member that is a truth value.
 fn read_flag(cursor: &mut Cursor, key: u8) -> Option<bool>
     ensures { ReadsMember (λ _. ⊤) (λ b. One (Flag b)) key cursor.old cursor.new result }
 {
-    let item = read_member(cursor, 4, key)?;
-    flag_of(item)
+    flag_of(read_member(cursor, 4, key))
 }
 
 /// Takes a member from 0 to 2^32-1.
 fn read_counter(cursor: &mut Cursor, key: u8) -> Option<u32>
     ensures { ReadsMember (λ n. n < 2 ^ 32) (λ n. One (Int (pos n))) key cursor.old cursor.new result }
 {
-    let item = read_member(cursor, 4, key)?;
-    counter_of(item)
+    counter_of(read_member(cursor, 4, key))
 }
 
 /// Takes the name, where names are kept, and else the empty one.
@@ -190,24 +184,21 @@ fn read_name(cursor: &mut Cursor, named: bool) -> Option<Name>
     if !named {
         return Some(Name::default());
     }
-    let item = read_member(cursor, 4, 8)?;
-    name_of(item)
+    name_of(read_member(cursor, 4, 8))
 }
 
 /// Takes the version: whether rows have names.
 fn read_version(cursor: &mut Cursor) -> Option<bool>
     ensures { ReadsMember (λ _. ⊤) (λ named. One (Int (pos (version named)))) 1 cursor.old cursor.new result }
 {
-    let item = read_member(cursor, 2, 1)?;
-    named_of(item)
+    named_of(read_member(cursor, 2, 1))
 }
 
 /// Takes the head of the entries, and returns their number.
 fn read_count(cursor: &mut Cursor) -> Option<u64>
     ensures { ReadsMember (λ n. n < 2 ^ 64) OpensArray 2 cursor.old cursor.new result }
 {
-    let item = read_member(cursor, 2, 2)?;
-    count_of(item)
+    count_of(read_member(cursor, 2, 2))
 }
 
 /// Takes the heads of a snapshot: whether its rows have names, and how many entries it has.

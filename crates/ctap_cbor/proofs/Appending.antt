@@ -1,6 +1,6 @@
 -- Bytes that are written after what a sink holds.
 use Rattle.std.proofs.lemmas.{Grind.common_steps, Slice.drop-put_mid, List.drop-drop, List.length-take-le}
-use Rattle.std.proofs.Common.{◌≡◌, ℕ, ◌+◌, ◌-◌, ◌≤◌, ◌<◌, nat_lt, true, false, List, ◌++◌, length, take, drop, arith}
+use Rattle.std.proofs.Common.{◌≡◌, ℕ, ◌+◌, ◌≤◌, ◌<◌, nat_lt, true, false, List, ◌++◌, length, take, drop, arith}
 use borrow.Rule.Slice.PartMut.{put_mid}
 use Rattle.ctap_cbor.specs.{declared.sink.Sink.Sink, Writing.space_of, Writing.Appends}
 

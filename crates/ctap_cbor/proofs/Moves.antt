@@ -9,7 +9,7 @@ use Rattle.ctap_cbor.specs.Grammar.{text, texts, pair_texts, scalar_text, IsKey,
 use Rattle.ctap_cbor.specs.Faults.{AKey, first_faults, fault}
 use Rattle.ctap_cbor.specs.{Parts.OpensArray, Parts.OpensMap, Outcome.later_in_pairs, Outcome.later_key}
 use Rattle.ctap_cbor.specs.Outcome.{InArray, AtKey, AtValue, fronts, last_key, later_keys, later_in_all, later_in_map}
-use Rattle.ctap_cbor.specs.Reading.{Reading, rest_of, counted, advance, compared, Takes, TakesKey, Passes, Halts}
+use Rattle.ctap_cbor.specs.Reading.{Reading, rest_of, advance, compared, Takes, TakesKey, Passes, Halts}
 use Rattle.ctap_cbor.specs.Reading.{PassesAll, HaltsInAll, PassesPairs, HaltsAtKey, HaltsAtValue}
 
 abbrev pub at : List ℕ → ℕ → ℕ → Reading

@@ -3,7 +3,7 @@ use Rattle.std.proofs.Common.{arith, rules, ◌≡◌, ℕ, ◌+◌, List, [], �
 use Rattle.std.specs.Prelude.{MatchResult}
 use Rattle.ctap_cbor.specs.declared.{fault.Fault.Fault, fault.Kind.Kind, item.Item.Item}
 use Rattle.ctap_cbor.specs.{Tree.Tree, Grammar.text, Outcome.later_keys, Views.part_of, Views.TakesOnly}
-use Rattle.ctap_cbor.specs.{Faults.AnItem, Faults.passed, Parse.Done, Parse.parse}
+use Rattle.ctap_cbor.specs.{Faults.AnItem, Parse.Done, Parse.parse}
 use Rattle.ctap_cbor.specs.Laws.{NoItemBeginsAnother, OneTreePasses, NothingHalts}
 use Rattle.ctap_cbor.specs.Parts.{Part, item_text, Suits, read}
 use Rattle.ctap_cbor.specs.Reading.{Reading, rest_of, advance, Passes, PassesAs, Halts, Only}

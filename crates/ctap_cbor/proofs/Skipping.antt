@@ -4,7 +4,7 @@ use Rattle.std.proofs.Common.{rules, ◌≡◌, ℕ, suc, ◌+◌, ◌-◌, ◌<
 use Rattle.ctap_cbor.specs.declared.{fault.Kind.Kind, item.Item.Item}
 use Rattle.ctap_cbor.specs.declared.item.Item.TheVariants as item
 use Rattle.ctap_cbor.specs.Tree.{push_pair, Tree, Trees, Pairs, Array, Map, Plain, Scalar}
-use Rattle.ctap_cbor.specs.{Faults.AnItem, Faults.AKey, Faults.passed, Views.part_of}
+use Rattle.ctap_cbor.specs.{Faults.AnItem, Faults.AKey, Views.part_of}
 use Rattle.ctap_cbor.specs.Parts.{Part, One, OpensArray, OpensMap}
 use Rattle.ctap_cbor.specs.Reading.{Reading, Takes, Refuses, Passes, PassesAs, PassesSome, Halts, PassesAll, HaltsInAll}
 use Rattle.ctap_cbor.specs.Reading.{PassesPairs, PassesSomePairs, HaltsInPairs, GivesKey}

@@ -79,9 +79,9 @@ fn find_rest<'a>(first: u8, rest: &'a [u8]) -> Result<(Item<'a>, usize), (Kind, 
     if major == 2 {
         return Ok((Item::Bytes(string), 1 + len + string.len()));
     }
-    match text_of(string) {
-        Some(text) => Ok((Item::Text(text), 1 + len + string.len())),
-        None => Err((Kind::NotUtf8, 1 + len + string.len())),
+    match str::from_utf8(string) {
+        Ok(text) => Ok((Item::Text(text), 1 + len + string.len())),
+        Err(_) => Err((Kind::NotUtf8, 1 + len + string.len())),
     }
 }
 
@@ -134,16 +134,5 @@ fn without_string<'a>(major: u8, info: u8, argument: u64) -> Item<'a>
             21 => Item::Bool(true),
             _ => Item::Null,
         },
-    }
-}
-
-/// Returns the bytes as text, where they are UTF-8.
-#[inline(always)]
-fn text_of(bytes: &[u8]) -> Option<&str>
-    ensures { MatchOption result (is_utf8 bytes.now ≡ false) (λ t. (t.now ≡ bytes.now) × (is_utf8 bytes.now ≡ true)) }
-{
-    match str::from_utf8(bytes) {
-        Ok(text) => Some(text),
-        Err(_) => None,
     }
 }

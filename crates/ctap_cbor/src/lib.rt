@@ -9,7 +9,7 @@
 //! - [`decode_value`] and [`encode_value`] read and write a [`Value`], an owned tree.
 //! - [`laws`] has what holds of the encoding itself, as that no encoding begins another.
 //!
-//! An example, which the gate runs (`crates/cbor_tests/src/page.rt`):
+//! An example, which the gate runs (`crates/page_tests/src/ctap_cbor_page.rt`):
 //!
 //! ```text
 //! /// `{1: "usb", 2: [true]}`

@@ -1,12 +1,13 @@
 -- From pairs and entries that are taken one by one to what the whole map or array says.
-use Rattle.std.proofs.Common.{arith, ◌≡◌, ℕ, Bool, false, List, Option, Some}
-use Rattle.std.specs.Prelude.{unwrap_or}
+use Rattle.std.proofs.Common.{arith, ◌≡◌, ℕ, Bool, false, List, Option, Some, sym, ap, subst, ◌∙◌}
+use Rattle.std.specs.Prelude.{unwrap_or, Result, Ok, Err, MatchResult}
 use Rattle.ctap_cbor.specs.Tree.{Scalar, Tree, Plain, Array, Map, Trees, no_trees, Pairs, no_pairs, push, push_pair}
 use Rattle.ctap_cbor.specs.{Parts.Part, Parts.One, Views.head_of}
-use Rattle.ctap_cbor.specs.Reading.{Reading, Passes, PassesAs, part_of_tree}
-use Rattle.ctap_cbor.specs.Collecting.{Adds, AddsEntry, ReadsMap, ReadsArray}
+use Rattle.ctap_cbor.specs.{declared.fault.Fault.Fault, Reading.Reading, Reading.Passes, Reading.PassesAs}
+use Rattle.ctap_cbor.specs.Reading.{part_of_tree, Halts}
+use Rattle.ctap_cbor.specs.Collecting.{Adds, AddsEntry, ReadsArray}
 use Rattle.ctap_message.specs.Members.{MemberKey, pairs_of, entries_of, suits, all_pairs, all_entries, map_of, array_of}
-use Rattle.ctap_message.specs.Walks.{Reads, HasPairs, HasEntries}
+use Rattle.ctap_message.specs.Walks.{Reads, ReadsMembers, HasPairs, HasEntries}
 use Rattle.ctap_message.proofs.Pushes.{all_push, entries_push}
 
 -- ---- one pair more
@@ -35,6 +36,16 @@ pub adds_head : {M V : Type 0} (shown : M → V) (types : List (MemberKey × (Tr
     → Adds (λ m ok ps. HasPairs types view (shown m) ok ps) levels key taken x y a c
 adds_head shown types view next levels key part taken x y a c grows head h is put = grind (arith, all_push)
 
+-- the same under a key that is known
+pub adds_put : {M V : Type 0} (shown : M → V) (types : List (MemberKey × (Tree → Bool))) (view : Option Tree →
+    V) (next : Tree → Tree → V → V) (levels : ℕ) (key : Part) (j : Scalar) (part : Part) (taken : Bool) (x y : M)
+    (a c : Reading) → Grows view next → key ≡ One j → HeadDecides types next (Plain j) → PassesAs levels part a c
+    → taken ≡ suits types (Plain j) (head_of part) → shown y ≡ next (Plain j) (head_of part) (shown x)
+    → Adds (λ m ok ps. HasPairs types view (shown m) ok ps) levels key taken x y a c
+adds_put shown types view next levels key j part taken x y a c grows e head h is put =
+    subst (λ k. Adds (λ m ok ps. HasPairs types view (shown m) ok ps) levels k taken x y a c) (sym e)
+    (adds_head shown types view next levels (One j) part taken x y a c grows head h is put)
+
 -- ---- one entry more
 
 pub adds_entry : {M V : Type 0} (shown : M → V) (type : Tree → Bool) (view : Option Tree → V) (levels : ℕ)
@@ -48,11 +59,12 @@ adds_entry shown type view levels taken x y t a c passes is more = grind (arith,
 -- ---- from what was collected to what the tree says
 
 pub map_read : {M V : Type 0} (shown : M → V) (types : List (MemberKey × (Tree → Bool))) (view : Option Tree →
-    V) (levels : ℕ) (r : Option Bool) (b : Bool) (x y : M) (a c : Reading) → b ≡ unwrap_or r false
-    → ReadsMap (λ m ok ps. HasPairs types view (shown m) ok ps) levels r x y a c → shown x ≡ view (Some (Map no_pairs))
+    V) (levels : ℕ) (b : Bool) (x y : M) (a c : Reading)
+    → ReadsMembers (λ m ok ps. HasPairs types view (shown m) ok ps) levels b x y a c
+    → shown x ≡ view (Some (Map no_pairs))
     → Reads {V = Bool × V} (λ t. (map_of types t, view (Some (Map (pairs_of (Some t)))))) levels (b, shown y) a c
 unfolding all_pairs
-map_read {V = V} shown types view levels r b x y a c e h start = grind arith
+map_read {V = V} shown types view levels b x y a c h start = grind arith
 
 pub array_read : {M V : Type 0} (shown : M → V) (type : Tree → Bool) (view : Option Tree →
     V) (levels : ℕ) (r : Option Bool) (b : Bool) (x y : M) (a c : Reading) → b ≡ unwrap_or r false
@@ -61,3 +73,26 @@ pub array_read : {M V : Type 0} (shown : M → V) (type : Tree → Bool) (view :
     → Reads {V = Bool × V} (λ t. (array_of type t, view (Some (Array (entries_of (Some t)))))) levels (b, shown y) a c
 unfolding all_entries
 array_read {V = V} shown type view levels r b x y a c e h start = grind arith
+
+pub maps_read : {M V : Type 0} (shown : M → V) (types : List (MemberKey × (Tree → Bool))) (view : Option Tree →
+    V) (levels : ℕ) (r : Result Bool Fault) (x y : M) (a c : Reading)
+    → MatchResult r (λ taken. ReadsMembers (λ m ok ps. HasPairs types view (shown m) ok ps) levels taken x y a c)
+    (λ f. Halts levels a c f.at f.kind) → shown x ≡ view (Some (Map no_pairs))
+    → MatchResult r (λ taken. Reads {V = Bool × V} (λ t. (map_of types t, view (Some (Map (pairs_of (Some t)))))) levels
+    (taken, shown y) a c) (λ f. Halts levels a c f.at f.kind)
+maps_read shown types view levels (Ok taken) x y a c h start = map_read shown types view levels taken x y a c h start
+maps_read shown types view levels (Err f) x y a c h start = h
+
+-- a value that was read under a key is put into a field
+pub adds_read : {M V W : Type 0} (shown : M → V) (types : List (MemberKey × (Tree → Bool))) (view : Option Tree →
+    V) (next : Tree → Tree → V → V) (told : Tree → Bool × W) (value : W) (levels : ℕ) (key : Part) (j : Scalar)
+    (x y : M) (a c : Reading) (r : Result Bool Fault) → Grows view next → key ≡ One j
+    → ((v : Tree) → (told v).0 ≡ suits types (Plain j) v)
+    → ((v : Tree) → value ≡ (told v).1 → shown y ≡ next (Plain j) v (shown x))
+    → MatchResult r (λ taken. Reads told levels (taken, value) a c) (λ f. Halts levels a c f.at f.kind)
+    → MatchResult r (λ taken. Adds (λ m ok ps. HasPairs types view (shown m) ok ps) levels key taken x y a c)
+    (λ f. Halts levels a c f.at f.kind)
+adds_read shown types view next told value levels key j x y a c (Ok taken) grows is suit put h =
+    adds_tree shown types view next levels key j taken x y a c grows is
+    (h.0, h.1, ap (λ p. p.0) h.2 ∙ suit h.0, put h.0 (ap (λ p. p.1) h.2))
+adds_read shown types view next told value levels key j x y a c (Err f) grows is suit put h = h

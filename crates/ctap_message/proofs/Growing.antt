@@ -1,9 +1,9 @@
 -- What each map says, of one pair more, and which keys' values a head decides.
 use Rattle.std.proofs.Common.{arith, rules, ◌≡◌, ℕ, Bool, true, false, List, Option, Some, None, Result, Ok, Err, refl}
 use Rattle.std.{proofs.Common.◌∙◌, specs.Option.option_and_then}
-use Rattle.std.specs.Prelude.{ℤ, pos, MatchResult, is_some, unwrap_or, ◌&&◌, ◌||◌, codes}
+use Rattle.std.specs.Prelude.{ℤ, MatchResult, is_some, unwrap_or, ◌&&◌, ◌||◌, codes}
 use Rattle.ctap_cbor.specs.{declared.fault.Fault.Fault, Views.head_of, Parts.Part, Parts.One}
-use Rattle.ctap_cbor.specs.Tree.{Int, Text, Tree, Array, Map, Trees, no_trees, no_pairs, push, as_bytes, as_text}
+use Rattle.ctap_cbor.specs.Tree.{Text, Tree, Array, Map, Trees, no_trees, no_pairs, push, as_bytes, as_text}
 use Rattle.ctap_cbor.specs.{Tree.as_int, Tree.as_uint, Tree.as_flag, Reading.Reading, Reading.Halts, Reading.PassesAs}
 use Rattle.ctap_cbor.specs.Collecting.{Adds, AddsEntry, InArray, ReadsArray}
 use Rattle.ctap_message.specs.declared.descriptor.Descriptor.{Descriptor as DescriptorFields}
@@ -24,17 +24,11 @@ use Rattle.ctap_message.specs.Judged.{MakeParameters, AssertionParameters}
 use Rattle.ctap_message.specs.Walks.{Reads, typed, HasPairs}
 use Rattle.ctap_message.specs.Collected.{rp_next, user_next, options_next, parameter_next, descriptor_next, IsPlainName}
 use Rattle.ctap_message.specs.Collected.{shown_rp, shown_user, shown_options, shown_parameter, shown_descriptor}
-use Rattle.ctap_message.specs.CollectedRequests.{make_in, make_next, shown_make, IsPlainMake, IsOtherMake, TakesMake}
-use Rattle.ctap_message.specs.CollectedRequests.{no_parameters, assertion_in, assert_next, shown_assert, IsPlainAssert}
-use Rattle.ctap_message.specs.CollectedRequests.{IsOtherAssert, TakesAssert}
+use Rattle.ctap_message.specs.CollectedRequests.{make_in, make_next, shown_make, IsOtherMake}
+use Rattle.ctap_message.specs.CollectedRequests.{assertion_in, assert_next, shown_assert, IsPlainAssert, IsOtherAssert}
 use Rattle.ctap_message.specs.DescriptorWalk.{DescriptorWalk, list_of, left_of, IsWhole}
 use Rattle.ctap_message.proofs.Pushes.{ap2, ap3, field_push, entries_push, some_push}
 use Rattle.ctap_message.proofs.Collecting.{Grows, HeadDecides, adds_head, adds_tree}
-
--- ---- keys
-
-number_key : (n : ℕ) (part : Part) → is_key (Number n) (head_of part) ≡ true → part ≡ One (Int (pos n))
-number_key n part e = grind arith
 
 -- ---- rp
 
@@ -72,8 +66,7 @@ pub user_adds : (levels : ℕ) (key part : Part) (taken : Bool) (x y : UserField
     shown_user y ≡ user_next (head_of key) (head_of part) (shown_user x)
     → Adds (λ m ok ps. HasPairs user_types user_in (shown_user m) ok ps) levels key taken x y a c
 user_adds levels key part taken x y a c = adds_head shown_user user_types user_in user_next levels key part taken x y a
-    c
-    user_grows (user_heads (head_of key))
+    c user_grows (user_heads (head_of key))
 
 pub user_start : make_user None None ≡ user_in (Some (Map no_pairs))
 unfolding value_at
@@ -98,8 +91,7 @@ pub options_adds : (levels : ℕ) (key part : Part) (taken : Bool) (x y : Option
     shown_options y ≡ options_next (head_of key) (head_of part) (shown_options x)
     → Adds (λ m ok ps. HasPairs option_types options_in (shown_options m) ok ps) levels key taken x y a c
 options_adds levels key part taken x y a c = adds_head shown_options option_types options_in options_next levels key
-    part
-    taken x y a c options_grows (options_heads (head_of key))
+    part taken x y a c options_grows (options_heads (head_of key))
 
 pub options_start : make_options None None None ≡ options_in (Some (Map no_pairs))
 unfolding value_at
@@ -122,8 +114,7 @@ pub parameter_adds : (levels : ℕ) (key part : Part) (taken : Bool) (x y : Para
     shown_parameter y ≡ parameter_next (head_of key) (head_of part) (shown_parameter x)
     → Adds (λ m ok ps. HasPairs parameter_types parameter_in (shown_parameter m) ok ps) levels key taken x y a c
 parameter_adds levels key part taken x y a c = adds_head shown_parameter parameter_types parameter_in parameter_next
-    levels
-    key part taken x y a c parameter_grows (parameter_heads (head_of key))
+    levels key part taken x y a c parameter_grows (parameter_heads (head_of key))
 
 pub parameter_start : make_parameter None None ≡ parameter_in (Some (Map no_pairs))
 unfolding value_at
@@ -225,30 +216,26 @@ make_grows ps k v =
     (field_push (option_and_then as_uint) (Number 0x0a) ps k v))
     (field_push entries_of (Number 0x05) ps k v)
 
-pub make_heads : (k : Tree) → IsPlainMake k → HeadDecides make_types make_next k
-make_heads k h v = grind arith
-
-pub make_adds : (levels : ℕ) (key part : Part) (taken : Bool) (x y : Make) (a c : Reading) → IsPlainMake (head_of key)
-    → PassesAs levels part a c → taken ≡ suits make_types (head_of key) (head_of part)
-    → shown_make y ≡ make_next (head_of key) (head_of part) (shown_make x)
-    → Adds (λ m ok ps. HasPairs make_types make_in (shown_make m) ok ps) levels key taken x y a c
-make_adds levels key part taken x y a c plain = adds_head shown_make make_types make_in make_next levels key part taken
-    x y
-    a c make_grows (make_heads (head_of key) plain)
+pub make_heads : (k : Tree) → is_key (Number 0x02) k ≡ false → is_key (Number 0x03) k ≡ false →
+    is_key (Number 0x04) k ≡ false → is_key (Number 0x05) k ≡ false → is_key (Number 0x07) k ≡ false →
+    HeadDecides make_types make_next k
+make_heads k a b c d e v = grind arith
 
 pub make_other : (levels : ℕ) (key part : Part) (x : Make) (a c : Reading) → IsOtherMake (head_of key) →
     PassesAs levels part a c
     → Adds (λ m ok ps. HasPairs make_types make_in (shown_make m) ok ps) levels key true x x a c
 make_other levels key part x a c h passes =
     let o = h.others in
-    make_adds levels key part true x x a c o passes
+    adds_head shown_make make_types make_in make_next levels key part true x x a c make_grows
+    (make_heads (head_of key) o.rp o.user o.parameters o.exclude_list o.options) passes
     (rw (h.hash, o.rp, o.user, o.parameters, o.exclude_list, h.extensions, o.options, h.pin_uv_auth_param, h.pin_uv_auth_protocol, h.enterprise_attestation) refl)
     (rw (h.hash, o.rp, o.user, o.parameters, o.exclude_list, o.options, h.pin_uv_auth_param, h.enterprise_attestation)
     refl)
 
 abbrev make_none : DescriptorList → Trees → MakeParameters × Trees
 make_none list entries =
-    (make_all None None (make_user None None) false no_parameters list (make_options None None None) None None, entries)
+    let m = make_all None None (make_user None None) false (make_parameters true false) list
+    (make_options None None None) None None in (m, entries)
 
 -- with these entries, and these left
 abbrev make_with : Trees → Trees → MakeParameters × Trees
@@ -261,12 +248,6 @@ make_start = refl
 pub make_begins : (w : DescriptorWalk) → IsWhole w no_trees →
     make_with (list_of w) (left_of w) ≡ make_in (Some (Map no_pairs))
 make_begins w h = ap2 make_with h.0 h.1 ∙ make_start
-
-pub make_took : (levels n : ℕ) (key : Part) (taken : Bool) (x y : Make) (a c : Reading) →
-    is_key (Number n) (head_of key) ≡ true → TakesMake n levels taken x y a c
-    → Adds (λ m ok ps. HasPairs make_types make_in (shown_make m) ok ps) levels key taken x y a c
-make_took levels n key taken x y a c e h = adds_tree shown_make make_types make_in make_next levels key
-    (Int (pos n)) taken x y a c make_grows (number_key n key e) h
 
 -- ---- getAssertion
 
@@ -291,21 +272,13 @@ assert_grows ps k v =
 pub assert_heads : (k : Tree) → IsPlainAssert k → HeadDecides assertion_types assert_next k
 assert_heads k h v = grind arith
 
-pub assert_adds : (levels : ℕ) (key part : Part) (taken : Bool) (x y : Assert) (a c : Reading) →
-    IsPlainAssert (head_of key)
-    → PassesAs levels part a c → taken ≡ suits assertion_types (head_of key) (head_of part)
-    → shown_assert y ≡ assert_next (head_of key) (head_of part) (shown_assert x)
-    → Adds (λ m ok ps. HasPairs assertion_types assertion_in (shown_assert m) ok ps) levels key taken x y a c
-assert_adds levels key part taken x y a c plain = adds_head shown_assert assertion_types assertion_in assert_next levels
-    key
-    part taken x y a c assert_grows (assert_heads (head_of key) plain)
-
 pub assert_other : (levels : ℕ) (key part : Part) (x : Assert) (a c : Reading) → IsOtherAssert (head_of key) →
     PassesAs levels part a c
     → Adds (λ m ok ps. HasPairs assertion_types assertion_in (shown_assert m) ok ps) levels key true x x a c
 assert_other levels key part x a c h passes =
     let o = h.others in
-    assert_adds levels key part true x x a c o passes
+    adds_head shown_assert assertion_types assertion_in assert_next levels key part true x x a c assert_grows
+    (assert_heads (head_of key) o) passes
     (rw (h.rp_id, h.hash, o.allow_list, h.extensions, o.options, h.pin_uv_auth_param, h.pin_uv_auth_protocol) refl)
     (rw (h.rp_id, h.hash, o.allow_list, o.options, h.pin_uv_auth_param) refl)
 
@@ -319,9 +292,3 @@ assert_start = refl
 pub assert_begins : (w : DescriptorWalk) → IsWhole w no_trees →
     assert_with (list_of w) (left_of w) ≡ assertion_in (Some (Map no_pairs))
 assert_begins w h = ap2 assert_with h.0 h.1 ∙ assert_start
-
-pub assert_took : (levels n : ℕ) (key : Part) (taken : Bool) (x y : Assert) (a c : Reading) →
-    is_key (Number n) (head_of key) ≡ true → TakesAssert n levels taken x y a c
-    → Adds (λ m ok ps. HasPairs assertion_types assertion_in (shown_assert m) ok ps) levels key taken x y a c
-assert_took levels n key taken x y a c e h = adds_tree shown_assert assertion_types assertion_in assert_next levels key
-    (Int (pos n)) taken x y a c assert_grows (number_key n key e) h

@@ -1,13 +1,11 @@
 -- What is collected of the parameters of a request, of one more by its key and its value; and beside it the entries
 -- that the walk over its list has.
-use Rattle.std.specs.Prelude.{◌≡◌, ℕ, pos, Bool, true, false, Option, Some, is_some, unwrap_or, if◌then◌else◌}
-use Rattle.std.specs.Option.{option_copied, option_map}
+use Rattle.std.specs.Prelude.{◌≡◌, ℕ, pos, true, false, Option, Some, if◌then◌else◌}
+use Rattle.std.specs.Option.{option_copied}
 use Rattle.ctap_cbor.specs.Tree.{Int, Tree, Plain, Trees, as_bytes, as_text, as_uint}
-use Rattle.ctap_cbor.specs.Reading.{Reading, Passes}
 use Rattle.ctap_message.specs.declared.{make.Make.Make, assert.Assert.Assert}
-use Rattle.ctap_message.specs.Members.{Number, is_key, suits, member, entries_of}
-use Rattle.ctap_message.specs.Fields.{Parameters, parameters_in, descriptors_in, options_in, rp_in, user_in}
-use Rattle.ctap_message.specs.{MakeCredential.make_types, GetAssertion.assertion_types}
+use Rattle.ctap_message.specs.Members.{Number, is_key, member, entries_of}
+use Rattle.ctap_message.specs.Fields.{parameters_in, descriptors_in, options_in, rp_in, user_in}
 use Rattle.ctap_message.specs.Judged.{MakeParameters, make_parameters, AssertionParameters, assertion_parameters}
 use Rattle.ctap_message.specs.Collected.{shown_rp, shown_user, shown_parameters, shown_options, shown_list}
 
@@ -20,17 +18,14 @@ numbered n = Plain (Int (pos n))
 abbrev pub make_in : Option Tree → MakeParameters × Trees
 make_in t = (make_parameters t, entries_of (member (Number 0x05) t))
 
-abbrev pub no_parameters : Parameters
-no_parameters = record { is_whole = true; has_es256 = false }
-
 abbrev pub shown_make : Make → MakeParameters × Trees
 shown_make m = (
   record {
     client_data_hash = option_copied m.hash;
     rp_id = shown_rp m.rp;
     user = shown_user m.user;
-    has_parameters = is_some m.parameters;
-    parameters = unwrap_or (option_map shown_parameters m.parameters) no_parameters;
+    has_parameters = m.has_parameters;
+    parameters = shown_parameters m.parameters;
     exclude_list = (shown_list m.exclude).0;
     options = shown_options m.options;
     pin_uv_auth_param = option_copied m.pin_uv_auth_param;
@@ -71,11 +66,6 @@ pub record IsOtherMake (k : Tree) : Type 0 where
   pub pin_uv_auth_param : is_key (Number 0x08) k ≡ false
   pub pin_uv_auth_protocol : is_key (Number 0x09) k ≡ false
   pub enterprise_attestation : is_key (Number 0x0a) k ≡ false
-
--- the value of the parameter with this number was passed, and taken or not
-abbrev pub TakesMake : ℕ → ℕ → Bool → Make → Make → Reading → Reading → Type 0
-TakesMake n levels taken before after old new = (v : Tree) × Passes levels v old new
-    × (taken ≡ suits make_types (numbered n) v) × (shown_make after ≡ make_next (numbered n) v (shown_make before))
 
 -- ---- getAssertion
 
@@ -119,8 +109,3 @@ pub record IsOtherAssert (k : Tree) : Type 0 where
   pub extensions : is_key (Number 0x04) k ≡ false
   pub pin_uv_auth_param : is_key (Number 0x06) k ≡ false
   pub pin_uv_auth_protocol : is_key (Number 0x07) k ≡ false
-
-abbrev pub TakesAssert : ℕ → ℕ → Bool → Assert → Assert → Reading → Reading → Type 0
-TakesAssert n levels taken before after old new = (v : Tree) × Passes levels v old new
-    × (taken ≡ suits assertion_types (numbered n) v)
-    × (shown_assert after ≡ assert_next (numbered n) v (shown_assert before))

@@ -9,9 +9,9 @@ ghost use Rattle.ctap_message.specs.CollectedRequests.{assertion_in, shown_asser
 
 use crate::descriptor::{DescriptorList, read_list};
 use crate::descriptors::Descriptors;
-use crate::item::is_a_map;
-use crate::options::{Options, read_options};
-use ctap_cbor::{Cursor, Fault, Item, Members, read_map};
+use crate::item::{is_a_map, read_members};
+use crate::options::Options;
+use ctap_cbor::{Cursor, Fault, Item, Members};
 
 /// What is known of the parameters of authenticatorGetAssertion.
 #[derive(Drop)]
@@ -28,33 +28,30 @@ impl<'a> Members<'a> for Assert<'a> {
 
     fn member(&mut self, cursor: &mut Cursor<'a>, key: Item<'a>, level: u8) -> Result<bool, Fault> {
         match key {
-            Item::Int(0x01) => {
-                self.rp_id = cursor.whole(level)?.as_text();
-                Ok(self.rp_id.is_some())
-            }
-            Item::Int(0x02) => {
-                self.hash = cursor.whole(level)?.as_bytes();
-                Ok(self.hash.is_some())
-            }
-            Item::Int(0x03) => {
-                let (typed, allow) = read_list(cursor, level)?;
-                self.allow = allow;
-                Ok(typed)
-            }
-            Item::Int(0x04) => Ok(is_a_map(cursor.whole(level)?)),
+            Item::Int(0x03) => read_list(&mut self.allow, cursor, level),
             Item::Int(0x05) => {
-                let (typed, options) = read_options(cursor, level)?;
-                self.options = options;
-                Ok(typed)
+                self.options = Options::NONE;
+                read_members(&mut self.options, cursor, level)
             }
-            Item::Int(0x06) => {
-                self.pin_uv_auth_param = cursor.whole(level)?.as_bytes();
-                Ok(self.pin_uv_auth_param.is_some())
-            }
-            Item::Int(0x07) => Ok(cursor.whole(level)?.as_uint().is_some()),
             _ => {
-                cursor.whole(level)?;
-                Ok(true)
+                let value = cursor.whole(level)?;
+                match key {
+                    Item::Int(0x01) => {
+                        self.rp_id = value.as_text();
+                        Ok(self.rp_id.is_some())
+                    }
+                    Item::Int(0x02) => {
+                        self.hash = value.as_bytes();
+                        Ok(self.hash.is_some())
+                    }
+                    Item::Int(0x04) => Ok(is_a_map(value)),
+                    Item::Int(0x06) => {
+                        self.pin_uv_auth_param = value.as_bytes();
+                        Ok(self.pin_uv_auth_param.is_some())
+                    }
+                    Item::Int(0x07) => Ok(value.as_uint().is_some()),
+                    _ => Ok(true),
+                }
             }
         }
     }
@@ -78,7 +75,7 @@ pub(crate) fn read_assert<'a>(cursor: &mut Cursor<'a>) -> Result<(bool, Assert<'
         options: Options::NONE,
         pin_uv_auth_param: None,
     };
-    let typed = read_map(&mut found, cursor, 1)?.unwrap_or(false);
+    let typed = read_members(&mut found, cursor, 1)?;
     cursor.end()?;
     Ok((typed, found))
 }

@@ -11,8 +11,8 @@ ghost use Rattle.ctap_message.specs.Fields.{descriptor_in, named_id, is_whole_de
 ghost use Rattle.ctap_message.specs.Collected.{shown_descriptor, descriptor_next, IsPlainName, listing_in, shown_listing, list_in, shown_list};
 
 use crate::descriptors::Descriptors;
-use crate::item::is_public_key;
-use ctap_cbor::{Cursor, Entries, Fault, Item, Members, read_array, read_map};
+use crate::item::{is_public_key, read_members};
+use ctap_cbor::{Cursor, Entries, Fault, Item, Members, read_array};
 
 /// Entries that are to be texts.
 #[derive(Drop)]
@@ -117,7 +117,7 @@ pub(crate) fn read_descriptor<'a>(
         id: None,
         kind: None,
     };
-    let typed = read_map(&mut found, cursor, level)?.unwrap_or(false);
+    let typed = read_members(&mut found, cursor, level)?;
     Ok((typed, found))
 }
 
@@ -148,13 +148,14 @@ pub(crate) struct DescriptorList<'a> {
 
 /// Reads a list of descriptors. Returns whether it has its type too.
 pub(crate) fn read_list<'a>(
+    list: &mut DescriptorList<'a>,
     cursor: &mut Cursor<'a>,
     level: u8,
-) -> Result<(bool, DescriptorList<'a>), Fault>
+) -> Result<bool, Fault>
     requires low { 1 ≤ level }
     requires high { level ≤ 5 }
     ensures { MatchResult result
-        (λ r. Reads (typed (array_of (map_of descriptor_types)) list_in) (5 - level) (r.0, shown_list r.1)
+        (λ is. Reads (typed (array_of (map_of descriptor_types)) list_in) (5 - level) (is, shown_list list.new)
         cursor.old cursor.new)
         (λ f. Halts (5 - level) cursor.old cursor.new f.at f.kind) }
 {
@@ -164,11 +165,11 @@ pub(crate) fn read_list<'a>(
         given: false,
     };
     let typed = read_array(&mut found, cursor, level)?.unwrap_or(false);
-    let list = if found.given {
+    list.is_whole = found.is_whole;
+    list.list = if found.given {
         Descriptors::over(cursor.since(from))
     } else {
         Descriptors::none()
     };
-    let is_whole = found.is_whole;
-    Ok((typed, DescriptorList { is_whole, list }))
+    Ok(typed)
 }

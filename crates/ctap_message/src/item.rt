@@ -1,12 +1,14 @@
-//! Small tests of values.
+//! Small tests of values, and maps whose members are collected.
 
-ghost use Rattle.std.specs.Prelude.{◌≡◌, ◌&&◌, ◌||◌};
+ghost use Rattle.std.specs.Prelude.{◌≡◌, ◌&&◌, ◌||◌, ◌-◌, ◌≤◌, MatchResult};
 ghost use Rattle.std.specs.Option.{option_copied};
 ghost use Rattle.ctap_cbor.specs.Views.{part_of, head_of};
 ghost use Rattle.ctap_cbor.specs.Tree.{is_map};
+ghost use Rattle.ctap_cbor.specs.Reading.{Halts};
+ghost use Rattle.ctap_message.specs.Walks.{ReadsMembers};
 ghost use Rattle.ctap_message.specs.Descriptors.{is_public_key as is_known_type};
 
-use ctap_cbor::Item;
+use ctap_cbor::{Cursor, Fault, Item, Members, read_map};
 
 /// Returns whether an item is a map.
 pub(crate) fn is_a_map(item: Item<'_>) -> bool
@@ -20,7 +22,22 @@ pub(crate) fn is_public_key(kind: Option<&str>) -> bool
     ensures { result ≡ is_known_type (option_copied kind.entry) }
 {
     match kind {
-        Some(kind) => kind == "public-key",
-        None => false,
+        Some("public-key") => true,
+        _ => false,
     }
+}
+
+/// Reads a map's members. Returns whether it is a map and each of them was taken.
+pub(crate) fn read_members<'a, M: Members<'a>>(
+    members: &mut M,
+    cursor: &mut Cursor<'a>,
+    level: u8,
+) -> Result<bool, Fault>
+    requires low { 1 ≤ level }
+    requires high { level ≤ 5 }
+    ensures { MatchResult result
+        (λ taken. ReadsMembers M.Holds (5 - level) taken members.old members.new cursor.old cursor.new)
+        (λ f. Halts (5 - level) cursor.old cursor.new f.at f.kind) }
+{
+    Ok(read_map(members, cursor, level)?.unwrap_or(false))
 }

@@ -22,15 +22,15 @@ pub(crate) fn judge_make<'a>(typed: bool, make: Make<'a>) -> Result<Request<'a>,
     if !typed {
         return Err(Status::CBOR_UNEXPECTED_TYPE);
     }
-    let (Some(hash), Some(rp_id), Some(user_id), Some(parameters)) = (
+    let (Some(hash), Some(rp_id), Some(user_id), true) = (
         make.hash,
         make.rp.id,
         make.user.id,
-        make.parameters,
+        make.has_parameters,
     ) else {
         return Err(Status::MISSING_PARAMETER);
     };
-    if !parameters.is_whole || !make.exclude.is_whole {
+    if !make.parameters.is_whole || !make.exclude.is_whole {
         return Err(Status::MISSING_PARAMETER);
     }
     if hash.len() != 32 || user_id.len() > 64 {
@@ -39,7 +39,7 @@ pub(crate) fn judge_make<'a>(typed: bool, make: Make<'a>) -> Result<Request<'a>,
     if make.pin_uv_auth_param.is_some() {
         return Err(Status::INVALID_PARAMETER);
     }
-    if !parameters.has_es256 {
+    if !make.parameters.has_es256 {
         return Err(Status::UNSUPPORTED_ALGORITHM);
     }
     if make.options.uv == Some(true) || make.options.up == Some(false) {

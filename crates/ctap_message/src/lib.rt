@@ -1,7 +1,7 @@
 //! The requests that a host sends to an authenticator, and the answers that it gets (CTAP 2.1, section 6 and
 //! section 8, "Message Encoding").
 //!
-//! An example, which the gate runs (`crates/authenticator_tests/src/message_page.rt`):
+//! An example, which the gate runs (`crates/page_tests/src/ctap_message_page.rt`):
 //!
 //! ```text
 //! let (request, steps) = read_request(b"\x04");

@@ -9,12 +9,12 @@ ghost use Rattle.ctap_message.specs.CollectedRequests.{make_in, shown_make};
 
 use crate::descriptor::{DescriptorList, read_list};
 use crate::descriptors::Descriptors;
-use crate::item::is_a_map;
-use crate::options::{Options, read_options};
+use crate::item::{is_a_map, read_members};
+use crate::options::Options;
 use crate::parameters::Parameters;
 use crate::rp::Rp;
 use crate::user::User;
-use ctap_cbor::{Cursor, Fault, Item, Members, read_array, read_map};
+use ctap_cbor::{Cursor, Fault, Item, Members, read_array};
 
 /// What is known of the parameters of authenticatorMakeCredential.
 #[derive(Drop)]
@@ -22,7 +22,8 @@ pub(crate) struct Make<'a> {
     pub hash: Option<&'a [u8]>,
     pub rp: Rp<'a>,
     pub user: User<'a>,
-    pub parameters: Option<Parameters>,
+    pub has_parameters: bool,
+    pub parameters: Parameters,
     pub exclude: DescriptorList<'a>,
     pub options: Options,
     pub pin_uv_auth_param: Option<&'a [u8]>,
@@ -34,53 +35,46 @@ impl<'a> Members<'a> for Make<'a> {
 
     fn member(&mut self, cursor: &mut Cursor<'a>, key: Item<'a>, level: u8) -> Result<bool, Fault> {
         match key {
-            Item::Int(0x01) => {
-                self.hash = cursor.whole(level)?.as_bytes();
-                Ok(self.hash.is_some())
-            }
             Item::Int(0x02) => {
                 self.rp = Rp { id: None };
-                Ok(read_map(&mut self.rp, cursor, level)?.unwrap_or(false))
+                read_members(&mut self.rp, cursor, level)
             }
             Item::Int(0x03) => {
                 self.user = User {
                     id: None,
                     name: None,
                 };
-                Ok(read_map(&mut self.user, cursor, level)?.unwrap_or(false))
+                read_members(&mut self.user, cursor, level)
             }
             Item::Int(0x04) => {
-                let mut parameters = Parameters {
-                    is_whole: true,
-                    has_es256: false,
-                };
-                let typed = read_array(&mut parameters, cursor, level)?.unwrap_or(false);
-                self.parameters = Some(parameters);
-                Ok(typed)
+                self.has_parameters = true;
+                self.parameters = Parameters::NONE;
+                Ok(read_array(&mut self.parameters, cursor, level)?.unwrap_or(false))
             }
-            Item::Int(0x05) => {
-                let (typed, exclude) = read_list(cursor, level)?;
-                self.exclude = exclude;
-                Ok(typed)
-            }
+            Item::Int(0x05) => read_list(&mut self.exclude, cursor, level),
             Item::Int(0x07) => {
-                let (typed, options) = read_options(cursor, level)?;
-                self.options = options;
-                Ok(typed)
-            }
-            Item::Int(0x06) => Ok(is_a_map(cursor.whole(level)?)),
-            Item::Int(0x08) => {
-                self.pin_uv_auth_param = cursor.whole(level)?.as_bytes();
-                Ok(self.pin_uv_auth_param.is_some())
-            }
-            Item::Int(0x09) => Ok(cursor.whole(level)?.as_uint().is_some()),
-            Item::Int(0x0a) => {
-                self.enterprise_attestation = cursor.whole(level)?.as_uint();
-                Ok(self.enterprise_attestation.is_some())
+                self.options = Options::NONE;
+                read_members(&mut self.options, cursor, level)
             }
             _ => {
-                cursor.whole(level)?;
-                Ok(true)
+                let value = cursor.whole(level)?;
+                match key {
+                    Item::Int(0x01) => {
+                        self.hash = value.as_bytes();
+                        Ok(self.hash.is_some())
+                    }
+                    Item::Int(0x06) => Ok(is_a_map(value)),
+                    Item::Int(0x08) => {
+                        self.pin_uv_auth_param = value.as_bytes();
+                        Ok(self.pin_uv_auth_param.is_some())
+                    }
+                    Item::Int(0x09) => Ok(value.as_uint().is_some()),
+                    Item::Int(0x0a) => {
+                        self.enterprise_attestation = value.as_uint();
+                        Ok(self.enterprise_attestation.is_some())
+                    }
+                    _ => Ok(true),
+                }
             }
         }
     }
@@ -101,7 +95,8 @@ pub(crate) fn read_make<'a>(cursor: &mut Cursor<'a>) -> Result<(bool, Make<'a>),
             id: None,
             name: None,
         },
-        parameters: None,
+        has_parameters: false,
+        parameters: Parameters::NONE,
         exclude: DescriptorList {
             is_whole: true,
             list: Descriptors::none(),
@@ -110,7 +105,7 @@ pub(crate) fn read_make<'a>(cursor: &mut Cursor<'a>) -> Result<(bool, Make<'a>),
         pin_uv_auth_param: None,
         enterprise_attestation: None,
     };
-    let typed = read_map(&mut found, cursor, 1)?.unwrap_or(false);
+    let typed = read_members(&mut found, cursor, 1)?;
     cursor.end()?;
     Ok((typed, found))
 }

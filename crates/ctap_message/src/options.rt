@@ -1,14 +1,11 @@
 //! The parameter options: a credential's discoverability (rk), the user's presence (up) and verification (uv).
 
-ghost use Rattle.std.specs.Prelude.{◌-◌, ◌≤◌, MatchResult};
-ghost use Rattle.ctap_cbor.specs.Reading.{Halts};
-ghost use Rattle.ctap_message.specs.Members.{map_of};
-ghost use Rattle.ctap_message.specs.Walks.{Reads, typed, HasPairs};
+ghost use Rattle.ctap_message.specs.Walks.{HasPairs};
 ghost use Rattle.ctap_message.specs.Descriptors.{option_types};
 ghost use Rattle.ctap_message.specs.Fields.{options_in};
 ghost use Rattle.ctap_message.specs.Collected.{shown_options};
 
-use ctap_cbor::{Cursor, Fault, Item, Members, read_map};
+use ctap_cbor::{Cursor, Fault, Item, Members};
 
 /// What is known of options.
 #[derive(Clone, Copy, Drop)]
@@ -49,17 +46,4 @@ impl<'a> Members<'a> for Options {
         };
         Ok(typed)
     }
-}
-
-/// Reads options. Returns whether it has its type too.
-pub(crate) fn read_options(cursor: &mut Cursor<'_>, level: u8) -> Result<(bool, Options), Fault>
-    requires low { 1 ≤ level }
-    requires high { level ≤ 5 }
-    ensures { MatchResult result
-        (λ r. Reads (typed (map_of option_types) options_in) (5 - level) (r.0, shown_options r.1) cursor.old cursor.new)
-        (λ f. Halts (5 - level) cursor.old cursor.new f.at f.kind) }
-{
-    let mut found = Options::NONE;
-    let typed = read_map(&mut found, cursor, level)?.unwrap_or(false);
-    Ok((typed, found))
 }

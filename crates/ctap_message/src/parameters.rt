@@ -6,8 +6,8 @@ ghost use Rattle.ctap_message.specs.Descriptors.{parameter_types};
 ghost use Rattle.ctap_message.specs.Fields.{parameter_in, parameters_in};
 ghost use Rattle.ctap_message.specs.Collected.{shown_parameter, shown_parameters};
 
-use crate::item::is_public_key;
-use ctap_cbor::{Cursor, Entries, Fault, Item, Members, read_map};
+use crate::item::{is_public_key, read_members};
+use ctap_cbor::{Cursor, Entries, Fault, Item, Members};
 
 /// ES256 as a COSE algorithm.
 const ES256: i128 = -7;
@@ -46,6 +46,14 @@ pub(crate) struct Parameters {
     pub has_es256: bool,
 }
 
+impl Parameters {
+    /// No parameter is given.
+    pub const NONE: Parameters = Parameters {
+        is_whole: true,
+        has_es256: false,
+    };
+}
+
 impl<'a> Entries<'a> for Parameters {
     ghost HoldsAll = { λ x ok ts. HasEntries (map_of parameter_types) parameters_in (shown_parameters x) ok ts };
 
@@ -54,7 +62,7 @@ impl<'a> Entries<'a> for Parameters {
             alg: None,
             kind: None,
         };
-        let typed = read_map(&mut parameter, cursor, level)?.unwrap_or(false);
+        let typed = read_members(&mut parameter, cursor, level)?;
         self.is_whole &= parameter.alg.is_some() && parameter.kind.is_some();
         self.has_es256 |= parameter.alg == Some(ES256) && is_public_key(parameter.kind);
         Ok(typed)

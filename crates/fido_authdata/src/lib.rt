@@ -3,7 +3,7 @@
 //!
 //! Nothing is hashed or signed here: the SHA-256 hash of the RP id comes in as 32 bytes. Nothing allocates.
 //!
-//! An example, which the gate runs (`crates/authenticator_tests/src/auth_data_page.rt`):
+//! An example, which the gate runs (`crates/page_tests/src/fido_authdata_page.rt`):
 //!
 //! ```text
 //! let data = AuthData::assertion(&[0xa3; 32], true, 1);

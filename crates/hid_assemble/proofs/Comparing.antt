@@ -18,6 +18,3 @@ above a b h = grind (arith, nat_tests)
 
 pub below : (a b : ℕ) → nat_lt a b ≡ true → a < b
 below a b h = grind (arith, nat_tests)
-
-pub no_less : (a b : ℕ) → nat_lt a b ≡ false → b ≤ a
-no_less a b h = grind (arith, nat_tests)

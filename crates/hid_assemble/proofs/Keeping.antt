@@ -24,9 +24,6 @@ pub given-is : (given : ℕ) (contents : Contents) (buffer : List ℕ) (a : Asse
 unfolding assembly
 given-is given contents buffer a is = ap (λ (x : Assembly). x.given) is
 
-more_held : (given : ℕ) (contents : Contents) → MayBeHeld given contents → MayBeHeld (given + 1) contents
-more_held given x1 h = search (rules, arith)
-
 -- A channel more was given out.
 pub one_more : (given : ℕ) (contents : Contents) (buffer : List ℕ) → IsKept given contents buffer →
     given < LAST_CHANNEL → IsKept (given + 1) contents buffer

@@ -2,7 +2,7 @@
 //! each packet, and the time-out of a message that isn't finished (CTAP 2.1, sections 11.2.4 and 11.2.5).
 //! Nothing here allocates.
 //!
-//! An example, which the gate runs (`crates/transport_tests/src/assembler_page.rt`):
+//! An example, which the gate runs (`crates/page_tests/src/hid_assemble_page.rt`):
 //!
 //! ```text
 //! let mut assembler = Assembler::with_given(1);

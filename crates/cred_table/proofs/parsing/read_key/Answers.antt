@@ -2,10 +2,6 @@ use Rattle.std.proofs.Common.{arith, ◌-◌}
 use Rattle.cred_table.proofs.Typed.{key_read}
 use Rattle.cred_table.proofs.parsing.read_key.Goals as goal
 
-pub returns-in_err-item : goal.returns-in_err-item
-returns-in_err-item c = key_read (5 - c.args.level) c.args.key c.args.cursor.now c.take.new.cursor _ _ (omega arith)
-    c.in_err-item.ensures c.from_residual.ensures
-
 pub returns : goal.returns
 returns c = key_read (5 - c.args.level) c.args.key c.args.cursor.now c.take.new.cursor _ _ (omega arith)
-    c.in_ok-item.ensures c.key_of.ensures
+    c.take.ensures c.key_of.ensures

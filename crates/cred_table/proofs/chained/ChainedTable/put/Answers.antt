@@ -18,3 +18,6 @@ invariant_of-self g c =
 
 pub returns-clause-stored : goal.returns-clause-stored
 returns-clause-stored g c = grind (arith, none_replaced, stored_last)
+
+pub overflow_add-self : goal.overflow_add-self
+overflow_add-self g c = omega arith

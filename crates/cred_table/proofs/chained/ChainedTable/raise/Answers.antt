@@ -1,4 +1,4 @@
-use Rattle.std.proofs.{lemmas.Grind.common_steps, Common.◌-◌, Common.arith}
+use Rattle.std.proofs.{lemmas.Grind.common_steps, Common.arith}
 use Rattle.cred_table.specs.Linked.{age, rows_in}
 use Rattle.cred_table.proofs.{Raised.Lawful-raised, Found.raised_is, Found.counter_slot}
 use Rattle.cred_table.proofs.chained.ChainedTable.raise.Goals as goal

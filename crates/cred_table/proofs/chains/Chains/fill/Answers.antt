@@ -3,23 +3,13 @@ use Rattle.cred_table.specs.{declared.chains.Chains.Chains, Linked.Linked, Linke
 use Rattle.cred_table.proofs.Filled.{fill, fill_code}
 use Rattle.cred_table.proofs.chains.Chains.fill.Goals as goal
 
-pub returns-clause-linked : goal.returns-clause-linked
-returns-clause-linked g c =
+pub returns : goal.returns
+returns g c =
     let chains = c.args.self.now in
     let bound : c.bucket-head.result < length chains.heads = omega (arith, c.bucket-head.ensures.bound) in
     let is = fill_code chains c.args.number c.args.row c.bucket-head.result c.from.result c.lead-self.new.slots
     c.lead-self.result c.requires c.bucket-head.ensures.value bound c.from.ensures c.lead-self.ensures.slots
     c.lead-self.ensures.start in
-    let P : Chains g.row.C → Type 0 = λ after. Linked [] after in
-    subst P (sym is) (fill chains c.args.number c.args.row c.requires
-    (subst (λ b. b < length chains.heads) c.bucket-head.ensures.value bound)).0
-
-pub returns-clause-rows : goal.returns-clause-rows
-returns-clause-rows g c =
-    let chains = c.args.self.now in
-    let bound : c.bucket-head.result < length chains.heads = omega (arith, c.bucket-head.ensures.bound) in
-    let is = fill_code chains c.args.number c.args.row c.bucket-head.result c.from.result c.lead-self.new.slots
-    c.lead-self.result c.requires c.bucket-head.ensures.value bound c.from.ensures c.lead-self.ensures.slots
-    c.lead-self.ensures.start in
-    ap rows_in is ∙ (fill chains c.args.number c.args.row c.requires
-    (subst (λ b. b < length chains.heads) c.bucket-head.ensures.value bound)).1
+    let done = fill chains c.args.number c.args.row c.requires
+    (subst (λ b. b < length chains.heads) c.bucket-head.ensures.value bound) in
+    record { linked = subst (λ (after : Chains g.row.C). Linked [] after) (sym is) done.0; rows = ap rows_in is ∙ done.1 }
