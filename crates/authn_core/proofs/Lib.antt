@@ -8,3 +8,4 @@ mod Answering
 mod Told
 mod Served
 mod Kept
+mod CoseKeys

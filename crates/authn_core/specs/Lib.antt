@@ -13,3 +13,4 @@ pub mod Rising
 pub mod Exchanges
 pub mod Assertions
 pub mod Answers
+pub mod CoseTree

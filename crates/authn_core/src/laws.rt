@@ -1,8 +1,12 @@
 //! What holds over the definitions alone. Each law is the contract of a function that does nothing.
 
-ghost use Rattle.std.specs.Prelude.{◌≡◌, ◌≤◌, ℕ, List, ◌∷◌, true, Some, None};
+ghost use Rattle.std.specs.Prelude.{◌≡◌, ◌≤◌, ℕ, List, ◌∷◌, length, true, Some, None};
+ghost use Rattle.ctap_cbor.specs.Head.{AreBytes};
+ghost use Rattle.ctap_cbor.specs.Grammar.{IsCanonical};
+ghost use Rattle.fido_authdata.specs.CoseKey.{cose_key_bytes};
 ghost use Rattle.cred_table.specs.Rows.{Lawful};
 ghost use Rattle.cred_table.specs.Waiting.{pending_count};
+ghost use Rattle.authn_core.specs.CoseTree.{cose_key_tree};
 ghost use Rattle.authn_core.specs.State.{Setup, State, Event as AnyEvent, SignatureIs};
 ghost use Rattle.authn_core.specs.Turn.{CoreState, Start, core_answer, first_state, turn, waiting};
 ghost use Rattle.authn_core.specs.Ready.{Ready};
@@ -82,4 +86,11 @@ pub fn answers_follow_history()
         → (core_at (first_state start) h).state.rows ≡ rows_after start (exchanges start h) }
     ensures waits { (start : Start) (h : List Step) → Lawful start.capacity start.rows → Orderly (first_state start) h
         → waiting (core_at (first_state start) h) ≡ waiting_in (unanswered (exchanges start h)) }
+{}
+
+/// States that the bytes of a COSE key are the canonical CBOR encoding of its map `{1: 2, 3: -7, -1: 1, -2: x, -3: y}`
+/// (RFC 8152, sections 7.1, 8.1 and 13.1.1; CTAP 2.1, section 8).
+pub fn cose_keys_are_canonical()
+    ensures { (x y : List ℕ) → length x ≡ 32 → length y ≡ 32 → AreBytes x → AreBytes y
+        → IsCanonical (cose_key_tree x y) (cose_key_bytes x y) }
 {}

@@ -1,7 +1,7 @@
 //! The authenticator of CTAP 2.1, section 6, as a machine that takes requests and replies, one turn each. Nothing here
 //! allocates.
 //!
-//! An example, which the gate runs (`crates/authenticator_tests/src/core_page.rt`):
+//! An example, which the gate runs (`crates/page_tests/src/authn_core_page.rt`):
 //!
 //! ```text
 //! let mut core = Core::<Store<4>, 4>::new(Config { aaguid: [0; 16] }, Store::new(), 0);

@@ -1,7 +1,7 @@
 //! Text logs of CTAPHID sessions: lines are read, their inputs are stepped on a session, and each line
 //! is written again with the packets that the session sent for it (docs/use/LOG_FORMAT.md).
 //!
-//! An example, which the gate runs (`crates/log_tests/src/page.rt`):
+//! An example, which the gate runs (`crates/page_tests/src/session_log_page.rt`):
 //!
 //! ```text
 //! let mut session = Session::<8>::bare([0; 16], 0);

@@ -4,7 +4,7 @@ use Rattle.std.proofs.Common.{append_assoc}
 use Rattle.ctap_cbor.specs.{Head.AreBytes, Head.head, Tree.Int, Tree.Bytes, Tree.Plain}
 use Rattle.ctap_cbor.specs.Grammar.{IsCanonical, IsEncoding, IsLawful, text}
 use Rattle.fido_authdata.specs.CoseKey.{cose_key_bytes}
-use Rattle.encoding_laws.specs.CoseTree.{cose_key_tree}
+use Rattle.authn_core.specs.CoseTree.{cose_key_tree}
 
 -- the head of a byte string of 32 bytes
 of_32 : (x : List ℕ) → length x ≡ 32 → head 2 (length x) ≡ 0x58 ∷ 0x20 ∷ []
