@@ -11,7 +11,7 @@ started=()
 # Neither the scheduler nor a worker has anything to keep, and one that is asked to end may wait for the other for ever.
 end() {
     kill -KILL "${started[@]}" 2>/dev/null || true
-    wait
+    wait 2>/dev/null || true # the shell says of each that it was killed
     rm -rf "$work"
 }
 trap end EXIT
