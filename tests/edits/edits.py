@@ -7,7 +7,7 @@ from dataclasses import dataclass
 from functools import cached_property
 from pathlib import Path
 
-from source import Function, body_of, function_at
+from source import Function, function_at
 
 TOP = Path(__file__).resolve().parent.parent.parent
 PARTS = ("src", "specs", "proofs")
@@ -111,20 +111,9 @@ class Edit:
             found.add(function)
         return frozenset(found)
 
-    @cached_property
-    def bodies(self) -> str:
-        """The text of the functions that the edit changes, with and without it."""
-        olds = [body_of(CRATES[self.crate].folder, it) for it in self.functions]
-        return "\n".join(olds + [new for _, _, new in self.pairs])
-
-    def calls(self, other: Edit) -> bool:
-        """Returns whether a function that this edit changes calls one by the name of one that the other changes."""
-        names = "|".join(sorted({it.name.split("::")[-1] for it in other.functions}))
-        return re.search(rf"\b({names})(::<[^>]*>)?\(", self.bodies) is not None
-
     def meets(self, other: Edit) -> bool:
-        """Returns whether a verdict on the functions of both could be that of the other one's edit."""
-        return bool(self.functions & other.functions) or self.calls(other) or other.calls(self)
+        """Returns whether the two change one proof: that of a function, or of a ring of functions."""
+        return any(not it.is_apart_from(that) for it in self.functions for that in other.functions)
 
 
 def edits_of(crate: str, folders: tuple[str, ...] = FOLDERS) -> list[Edit]:
@@ -134,10 +123,9 @@ def edits_of(crate: str, folders: tuple[str, ...] = FOLDERS) -> list[Edit]:
 
 
 def first_of_each(edits: list[Edit]) -> list[Edit]:
-    """Returns edits of which no two change one function, or functions that call each other: each verdict is of one."""
+    """Returns edits of which no two change one function, or functions of one ring."""
     chosen: list[Edit] = []
-    # Those that meet the most others go first, so that there are fewer rounds.
-    for edit in sorted(edits, key=lambda edit: -sum(it.meets(edit) for it in edits)):
+    for edit in edits:
         if not any(it.meets(edit) for it in chosen):
             chosen.append(edit)
     return chosen

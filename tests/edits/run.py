@@ -162,6 +162,13 @@ def is_own(path: str, line: int, room: Room, functions: list[Function]) -> bool:
     return False
 
 
+def is_refused_itself(verdict: str, function: Function) -> bool:
+    """Returns whether a refusal is of the function's own proof, whatever it says of those that the function calls."""
+    crate, *modules = function.name.split("::")
+    place = ".".join((crate, "proofs", *modules))
+    return "`search` did not prove" in verdict or f"stands on `Rattle.{place}." in verdict
+
+
 def reason(lines: list[str], room: Room, function: Function) -> str:
     """Returns the first line that says why the prover refuses a function: of its text, or of its proof."""
     places = ((line, it) for line in lines if (it := PLACE.match(line)))
@@ -229,7 +236,12 @@ def try_round(room: Room, edits: list[Edit], answers: Answers) -> list[Edit]:
         others = [f"`{it.name}`" for it in tried if it not in edit.functions]
         told = {it: verdict for it, verdict in verdicts.items() if any(is_of(it, own.name) for own in edit.functions)}
         refused = {it: verdict for it, verdict in told.items() if REFUSED.match(verdict)}
-        own = [it for it, verdict in refused.items() if not any(other in verdict for other in others)]
+        own = [
+            it
+            for it, verdict in refused.items()
+            if not any(other in verdict for other in others)
+            or any(is_refused_itself(verdict, function) for function in edit.functions)
+        ]
         if own:
             why = next((it for function in edit.functions if (it := reason(lines, room, function))), "")
             answers.say(edit, True, f"refused: {why or told[own[0]][:160]}")

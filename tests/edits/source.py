@@ -119,12 +119,6 @@ def function_at(folder: Path, path: str, old: str) -> Function | None:
     return next((it for it in functions_in(folder, path) if it.has(begin) and it.has(end)), None)
 
 
-def body_of(folder: Path, function: Function) -> str:
-    """Returns the text of a function after its first line."""
-    lines = (folder / function.path).read_text(encoding="utf-8").split("\n")
-    return "\n".join(lines[function.first + 1 : function.ends])
-
-
 def proofs_of(copy: Path, function: Function) -> list[Path]:
     """Returns the folders of a function's proof: its own, and its ring's."""
     own = copy.joinpath("proofs", *function.name.split("::")[1:])
