@@ -218,7 +218,7 @@ impl<T: Table<C>, const C: usize> Core<T, C> {
             return self.refuse_all(refusals::NOT_ALLOWED, answer);
         };
         let rp = row.rp;
-        if counter_of(&self.table, &id) >= u32::MAX {
+        if row.counter >= u32::MAX {
             return self.refuse_all(refusals::LIMIT_EXCEEDED, answer);
         }
         let a = Asserting {
