@@ -42,7 +42,7 @@ pub(crate) fn judge_make<'a>(typed: bool, make: Make<'a>) -> Result<Request<'a>,
     if !make.parameters.has_es256 {
         return Err(Status::UNSUPPORTED_ALGORITHM);
     }
-    if make.options.uv == Some(true) || make.options.up == Some(false) {
+    if make.options.uv.unwrap_or(false) || !make.options.up.unwrap_or(true) {
         return Err(Status::INVALID_OPTION);
     }
     if make.enterprise_attestation.is_some() {
@@ -53,7 +53,7 @@ pub(crate) fn judge_make<'a>(typed: bool, make: Make<'a>) -> Result<Request<'a>,
         rp_id,
         user_id,
         user_name: make.user.name.unwrap_or(""),
-        discoverable: make.options.rk == Some(true),
+        discoverable: make.options.rk.unwrap_or(false),
         exclude: make.exclude.list,
     }))
 }
@@ -80,7 +80,7 @@ pub(crate) fn judge_assert<'a>(typed: bool, assert: Assert<'a>) -> Result<Reques
     if assert.pin_uv_auth_param.is_some() {
         return Err(Status::INVALID_PARAMETER);
     }
-    if assert.options.uv == Some(true) {
+    if assert.options.uv.unwrap_or(false) {
         return Err(Status::INVALID_OPTION);
     }
     if assert.options.rk.is_some() {
@@ -90,6 +90,6 @@ pub(crate) fn judge_assert<'a>(typed: bool, assert: Assert<'a>) -> Result<Reques
         hash,
         rp_id,
         allow: assert.allow.list,
-        presence: assert.options.up != Some(false),
+        presence: assert.options.up.unwrap_or(true),
     }))
 }
