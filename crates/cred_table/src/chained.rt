@@ -9,9 +9,10 @@ use crate::row::Row;
 use crate::rows::Rows;
 use crate::table::Table;
 use arrayvec::ArrayVec;
+use std::fmt;
 
 /// A table that keeps its rows in slots, chained by age and by id.
-#[derive(Debug, Drop)]
+#[derive(Drop)]
 pub struct Chained<const C: usize> {
     chains: Chains<C>,
     count: usize,
@@ -33,6 +34,12 @@ impl<const C: usize> Chained<C> {
             chains: Chains::new(),
             count: 0,
         }
+    }
+}
+
+impl<const C: usize> fmt::Debug for Chained<C> {
+    fn fmt<W: fmt::Write>(&self, f: &mut fmt::Formatter<W>) -> fmt::Result {
+        write!(f, "Chained {{ count: {}, .. }}", self.count)
     }
 }
 

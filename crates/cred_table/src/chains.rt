@@ -11,7 +11,7 @@ use crate::slot::{self, Along, ChainWalk, Link, Slot};
 use std::array;
 
 /// Slots that hold rows, chained by age and by id, and free slots.
-#[derive(Debug, Drop)]
+#[derive(Drop)]
 pub(crate) struct Chains<const C: usize> {
     slots: [Slot; C],
     /// Where the chains of the ids begin.

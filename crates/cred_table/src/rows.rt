@@ -5,18 +5,19 @@ ghost use Rattle.std.specs.Iterator.{YieldsFirstBy, item_count};
 
 use crate::row::Row;
 use crate::slot::ChainWalk;
+use std::fmt;
 use std::marker::Model;
 use std::slice;
 
 /// The rows of a table in order of making, as [`Table::iter`](crate::Table::iter) yields them. A contract sees those
 /// that are left.
-#[derive(Debug, Drop)]
+#[derive(Drop)]
 pub struct Rows<'a> {
     left: RowsLeft<'a>,
 }
 
 /// The rows that are left, by how their table keeps them.
-#[derive(Debug, Drop)]
+#[derive(Drop)]
 enum RowsLeft<'a> {
     Listed(slice::Iter<'a, Row>),
     Chained(ChainWalk<'a>),
@@ -49,6 +50,12 @@ impl<'a> Rows<'a> {
         Rows {
             left: RowsLeft::Chained(walk),
         }
+    }
+}
+
+impl<'a> fmt::Debug for Rows<'a> {
+    fn fmt<W: fmt::Write>(&self, f: &mut fmt::Formatter<W>) -> fmt::Result {
+        f.write_str("Rows { .. }")
     }
 }
 

@@ -11,7 +11,7 @@ use std::marker::Model;
 pub(crate) type Link = Option<u16>;
 
 /// A place for a row.
-#[derive(Debug, Default, Drop)]
+#[derive(Default, Drop)]
 pub(crate) struct Slot {
     /// The row, where the slot isn't free.
     pub(crate) row: Row,
@@ -24,7 +24,7 @@ pub(crate) struct Slot {
 }
 
 /// The links that a walk follows.
-#[derive(Clone, Copy, Debug)]
+#[derive(Clone, Copy)]
 pub(crate) enum Along {
     Next,
     Newer,
@@ -140,7 +140,7 @@ pub(crate) fn bucket(id: &[u8]) -> usize
 }
 
 /// The slots of a chain from one on, each with its number.
-#[derive(Debug, Drop)]
+#[derive(Drop)]
 pub(crate) struct ChainWalk<'a> {
     pub(crate) slots: &'a [Slot],
     pub(crate) along: Along,
