@@ -118,6 +118,12 @@ pub within_newest : (slots : List Slot) (k : ℕ) (slot : Slot) (held : List ℕ
 within_newest slots k slot held None e i = refl
 within_newest slots k slot held (Some p) e i = search (rules, arith, eq_is, has-push, length-set, lt_is, e.1, e.0)
 
+pub within_back : (slots : List Slot) (k : ℕ) (slot : Slot) (at : Option ℕ) → is_chain (links Older slots) at ≡ true →
+    within at (set slots k slot) ≡ true
+within_back slots k slot None h = refl
+within_back slots k slot (Some p) h =
+    let s = chain_step (links Older slots) p h in grind (arith, length-set, length-links)
+
 -- The table after it.
 abbrev pub filled : {C : ℕ} → Chains C → ℕ → Row → Chains C
 filled chains k row = record {

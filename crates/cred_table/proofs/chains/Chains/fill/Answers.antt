@@ -1,6 +1,6 @@
 use Rattle.std.proofs.Common.{◌<◌, ◌∙◌, [], length, arith, sym, subst, ap}
 use Rattle.cred_table.specs.{declared.chains.Chains.Chains, Linked.Linked, Linked.rows_in}
-use Rattle.cred_table.proofs.Filled.{fill, fill_code}
+use Rattle.cred_table.proofs.Filled.{fill, fill_code, within_back}
 use Rattle.cred_table.proofs.chains.Chains.fill.Goals as goal
 
 pub returns : goal.returns
@@ -13,3 +13,6 @@ returns g c =
     let done = fill chains c.args.number c.args.row c.requires
     (subst (λ b. b < length chains.heads) c.bucket-head.ensures.value bound) in
     record { linked = subst (λ (after : Chains g.row.C). Linked [] after) (sym is) done.0; rows = ap rows_in is ∙ done.1 }
+
+pub lead-self-requires : goal.lead-self-requires
+lead-self-requires g c = within_back c.args.self.now.slots c.from.result _ c.args.self.now.newest c.requires.back
