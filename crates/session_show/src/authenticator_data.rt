@@ -1,7 +1,7 @@
 //! Authenticator data in lines (WebAuthn, section 6.1).
 
 use crate::escape::write_escaped;
-use crate::field::{split, write_bytes, write_front, write_item, write_member};
+use crate::field::{write_bytes, write_item, write_member};
 use crate::member_names::Map;
 use crate::pairs::{Pairs, item_at};
 use crate::pen::Pen;
@@ -13,7 +13,7 @@ use sha2::{Digest, Sha256};
 pub const CREDENTIAL: u8 = 0x40;
 
 /// The letters of the flags.
-const FLAGS: Flags = &[
+static FLAGS: Flags = &[
     (0x01, " UP"),
     (0x04, " UV"),
     (0x08, " BE"),
@@ -34,17 +34,16 @@ pub fn write_authenticator_data(pen: &mut Pen, number: u64, bytes: &[u8], rp_id:
     let [flags, rest @ ..] = rest else {
         return;
     };
-    write_front(pen, number, "flags ");
+    pen.form(b"%d       flags ", &[Some(number)]);
     write_flags(pen, *flags, FLAGS);
     pen.text("\n");
     let Some((count, rest)) = rest.split_first_chunk::<4>() else {
         return;
     };
-    write_front(pen, number, "signCount ");
-    pen.decimal(u64::from(u32::from_be_bytes(*count)));
-    pen.text("\n");
+    let count = u64::from(u32::from_be_bytes(*count));
+    pen.form(b"%d       signCount %d\n", &[Some(number), Some(count)]);
     if flags & CREDENTIAL == 0 {
-        write_item(pen, number, "extensions ", rest);
+        write_item(pen, b"%d       extensions ", number, rest);
     } else {
         write_credential(pen, number, rest);
     }
@@ -52,10 +51,10 @@ pub fn write_authenticator_data(pen: &mut Pen, number: u64, bytes: &[u8], rp_id:
 
 /// Writes the line of an RP id's hash, with the RP id that the request named.
 fn write_hash(pen: &mut Pen, number: u64, hash: &[u8; 32], rp_id: &[u8]) {
-    write_front(pen, number, "rpIdHash ");
+    pen.form(b"%d       rpIdHash ", &[Some(number)]);
     pen.hex(hash.as_slice());
     if !rp_id.is_empty() {
-        let is_its = *hash == Sha256::digest(rp_id);
+        let is_its = hash.as_slice() == Sha256::digest(rp_id).as_slice();
         pen.text(if is_its { "  " } else { "  not that of " });
         write_escaped(pen, rp_id);
     }
@@ -64,32 +63,32 @@ fn write_hash(pen: &mut Pen, number: u64, hash: &[u8; 32], rp_id: &[u8]) {
 
 /// Writes lines for a credential, and for the extensions after it.
 fn write_credential(pen: &mut Pen, number: u64, bytes: &[u8]) {
-    let Some((aaguid, rest)) = split(bytes, 16) else {
+    let Some((aaguid, rest)) = bytes.split_at_checked(16) else {
         return;
     };
-    write_bytes(pen, number, "aaguid ", aaguid);
+    write_bytes(pen, b"%d       aaguid ", number, aaguid);
     let Some((length, rest)) = rest.split_first_chunk::<2>() else {
         return;
     };
     let length = usize::from(u16::from_be_bytes(*length));
-    let Some((id, rest)) = split(rest, length) else {
+    let Some((id, rest)) = rest.split_at_checked(length) else {
         return;
     };
-    write_bytes(pen, number, "credentialId ", id);
+    write_bytes(pen, b"%d       credentialId ", number, id);
     let mut cursor = Cursor::new(rest);
     if cursor.skip(1).is_err() {
-        write_item(pen, number, "publicKey ", rest);
+        write_item(pen, b"%d       publicKey ", number, rest);
         return;
     }
-    if let Some((key, extensions)) = split(rest, cursor.place()) {
+    if let Some((key, extensions)) = rest.split_at_checked(cursor.place()) {
         write_key(pen, number, key);
-        write_item(pen, number, "extensions ", extensions);
+        write_item(pen, b"%d       extensions ", number, extensions);
     }
 }
 
 /// Writes a line for a COSE key, and one for each of its members, where it is a map.
 fn write_key(pen: &mut Pen, number: u64, key: &[u8]) {
-    write_item(pen, number, "publicKey ", key);
+    write_item(pen, b"%d       publicKey ", number, key);
     let map = match item_at(key, Item::Int(1)) {
         Some(Item::Int(RSA)) => Map::RsaKey,
         _ => Map::Key,

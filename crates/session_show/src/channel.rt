@@ -11,16 +11,6 @@ use hid_packet::command::INIT;
 /// The most INITs without an answer that are followed.
 const GREETINGS: usize = 4;
 
-/// An INIT without an answer.
-#[derive(Clone, Copy, Default)]
-pub struct Greeting {
-    pub line: u64,
-    /// Its moment.
-    pub at: u64,
-    pub length: u16,
-    pub nonce: u64,
-}
-
 /// Returns the nonce of an INIT or of its answer, with what its first packet carries.
 pub fn nonce_in(part: &[u8]) -> u64 {
     match part {
@@ -73,7 +63,8 @@ pub struct Channel {
     pub held: Option<Followed>,
     /// A message that began after that one, until it is seen whether it is refused or took the channel.
     pub asked: Option<Followed>,
-    pub greetings: ArrayVec<Greeting, GREETINGS>,
+    /// The INITs without an answer.
+    pub greetings: ArrayVec<Followed, GREETINGS>,
     /// Whether the last message that began is the last greeting.
     pub is_greeted: bool,
     /// Whether a host's last packet was a CANCEL, or a continuation of no message.
@@ -111,32 +102,6 @@ impl Channel {
         !self.told.extent.is_whole()
     }
 
-    /// Returns the transaction that holds it, or else the one that was answered last.
-    pub fn last(&self) -> Option<Transaction> {
-        match &self.held {
-            Some(held) => Some(held.transaction),
-            None => self.told.of(),
-        }
-    }
-
-    /// Returns the transaction of a greeting.
-    fn greeting(&self, greeting: &Greeting) -> Followed {
-        Followed {
-            transaction: Transaction {
-                channel: self.number,
-                line: greeting.line,
-                message: INIT,
-                command: None,
-            },
-            extent: Extent {
-                length: greeting.length,
-                continuations: 0,
-            },
-            at: greeting.at,
-            ..Followed::default()
-        }
-    }
-
     /// Returns what is open, each as it ends where nothing more comes.
     pub fn open(&self) -> EndedTransactions {
         let mut open = EndedTransactions::default();
@@ -146,7 +111,7 @@ impl Channel {
             open.add(exchange, End::Cut(self.told.extent));
         }
         for greeting in self.greetings.as_slice() {
-            open.add(self.greeting(greeting), End::Open);
+            open.add(*greeting, End::Open);
         }
         if let Some(held) = self.held {
             open.add(held, End::Open);
@@ -171,25 +136,19 @@ impl Channel {
 
     // ---- packets of hosts
 
-    /// Takes an INIT. It changes nothing else before it is answered (section 11.2.9.1.3).
-    pub fn greet(&mut self, greeting: Greeting, ends: &mut EndedTransactions) -> Transaction {
-        self.is_stray = false;
-        self.settle(ends);
-        if self.greetings.is_full() {
-            let oldest = self.greetings.remove(0);
-            ends.add(self.greeting(&oldest), End::Forgotten);
-        }
-        self.greetings.push(greeting);
-        self.is_greeted = true;
-        self.greeting(&greeting).transaction
-    }
-
-    /// Takes the initialization packet of a message that is neither INIT nor CANCEL. Where another one holds the channel,
-    /// it isn't known yet which of them goes on.
+    /// Takes the initialization packet of a message that isn't CANCEL. An INIT changes nothing else before it is answered
+    /// (section 11.2.9.1.3). Where another message holds the channel, it isn't known yet which of them goes on.
     pub fn begin(&mut self, begun: Followed, ends: &mut EndedTransactions) {
         self.is_stray = false;
-        self.is_greeted = false;
         self.settle(ends);
+        self.is_greeted = begun.transaction.message == INIT;
+        if self.is_greeted {
+            if self.greetings.is_full() {
+                ends.add(self.greetings.remove(0), End::Forgotten);
+            }
+            self.greetings.push(begun);
+            return;
+        }
         match &self.held {
             None => self.held = Some(begun),
             Some(held) => {
@@ -200,18 +159,16 @@ impl Channel {
         }
     }
 
-    /// Takes a CANCEL on this line, and returns the transaction that it is for. It ends nothing: the answer to that does
-    /// (section 11.2.9.1.5).
+    /// Takes a CANCEL on this line, and returns the transaction that it is for: one that is served. It ends nothing: the
+    /// answer to that does (section 11.2.9.1.5).
     pub fn cancel(&mut self, line: u64) -> Option<Transaction> {
         self.is_stray = true;
-        let is_second = match &self.asked {
-            Some(asked) if asked.is_served() => match &self.held {
-                Some(held) if held.is_served() => {
-                    held.cancelled.is_some() && asked.cancelled.is_none()
-                }
-                _ => true,
-            },
-            _ => false,
+        let is_second = match (&self.asked, &self.held) {
+            (Some(asked), Some(held)) if held.is_served() => {
+                asked.is_served() && held.cancelled.is_some() && asked.cancelled.is_none()
+            }
+            (Some(asked), _) => asked.is_served(),
+            (None, _) => false,
         };
         if is_second {
             cancel_served(&mut self.asked, line)
@@ -220,17 +177,17 @@ impl Channel {
         }
     }
 
-    /// Takes a continuation packet. None where it is of no message that is open.
+    /// Takes the continuation packet with this number. None where it is of no message that is open.
     pub fn go_on(&mut self, number: u8, now: u64) -> Option<Continued> {
         let is_of_asked = matches!(&self.asked, Some(asked)
             if asked.extent.continuations == number && !asked.extent.is_whole());
-        let place = if is_of_asked {
+        let message = if is_of_asked {
             self.since = 0;
             &mut self.asked
         } else {
             &mut self.held
         };
-        let continuation = match place {
+        let continuation = match message {
             Some(exchange) => exchange.go_on(number, now),
             None => None,
         };
@@ -238,20 +195,20 @@ impl Channel {
         continuation
     }
 
-    /// Returns the message that began at a line, where it is open.
-    fn message_from(&mut self, line: u64) -> Option<&mut Followed> {
-        match (&mut self.held, &mut self.asked) {
-            (Some(held), _) if held.transaction.line == line => Some(held),
-            (_, Some(asked)) if asked.transaction.line == line => Some(asked),
-            _ => None,
-        }
-    }
-
-    /// Keeps what the request that began at a line names: an RP id, and the credential that it excludes.
+    /// Keeps what the open request that began at a line names: an RP id, and the credential that it excludes.
     pub fn name(&mut self, line: u64, rp_id: &RpId, excluded: Option<Excluded>) {
-        if let Some(exchange) = self.message_from(line) {
-            exchange.rp_id = *rp_id;
-            exchange.excluded = excluded;
+        if let Some(held) = &mut self.held
+            && held.transaction.line == line
+        {
+            held.rp_id = *rp_id;
+            held.excluded = excluded;
+            return;
+        }
+        if let Some(asked) = &mut self.asked
+            && asked.transaction.line == line
+        {
+            asked.rp_id = *rp_id;
+            asked.excluded = excluded;
         }
     }
 
@@ -296,12 +253,6 @@ impl Channel {
         held
     }
 
-    /// Takes the last greeting.
-    pub fn take_last_greeting(&mut self) -> Option<Followed> {
-        let count = self.greetings.len();
-        self.take_greeting(count.saturating_sub(1))
-    }
-
     /// Takes the greeting at a place, where there is one.
     pub fn take_greeting(&mut self, place: usize) -> Option<Followed> {
         if place >= self.greetings.len() {
@@ -310,8 +261,7 @@ impl Channel {
         if place + 1 == self.greetings.len() {
             self.is_greeted = false;
         }
-        let greeting = self.greetings.remove(place);
-        Some(self.greeting(&greeting))
+        Some(self.greetings.remove(place))
     }
 
     /// Ends the transaction of the device's last message, if packets of that are missing. Returns the line that the

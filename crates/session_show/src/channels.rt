@@ -94,14 +94,6 @@ impl Channels {
         }
     }
 
-    /// Returns what the last message of the device on the channel at a place answers.
-    pub fn answered(&self, place: usize) -> Option<&Followed> {
-        match self.list.get(place) {
-            Some(channel) => channel.told.exchange.as_ref(),
-            None => None,
-        }
-    }
-
     /// Returns where the one request is that waits for its answer, if exactly one does.
     pub fn waiting(&self) -> Option<usize>
         ensures { IfSome result (λ place. place < 6) }

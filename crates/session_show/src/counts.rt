@@ -2,44 +2,47 @@
 
 use crate::entry::{EXCLUDED, Entry};
 use crate::exchange::{End, Ended};
-use crate::json::{begin_member, write_integer};
-use crate::json_line::write_code;
 use crate::pen::Pen;
 use crate::walk::Role;
-use crate::words::{ERRORS, Names, STATUSES, write_named};
 
-/// What is counted by its number.
-#[derive(Clone, Copy)]
-struct TallyKind {
-    title: &'static str,
-    /// The name of a number without one.
-    unnamed: &'static str,
-    names: Names,
-    /// The names of members: that of all, that of the list, that of a number and that of its name.
-    all: &'static str,
-    list: &'static str,
-    number: &'static str,
-    name: &'static str,
+/// How counts are written. In each form the numbers are in the order in which `Counts::write` has them.
+pub struct CountForms {
+    /// The counts of credentials, and of requests that were refused.
+    credentials: &'static [u8],
+    /// A status, and how often it came, for the first one and for others.
+    statuses: [&'static [u8]; 2],
+    /// The count of messages that were refused.
+    messages: &'static [u8],
+    /// A code of ERROR, and how often it came, for the first one and for others.
+    errors: [&'static [u8]; 2],
+    /// The counts of what was for nothing.
+    strays: &'static [u8],
 }
 
-const REQUESTS: &TallyKind = &TallyKind {
-    title: "requests refused:",
-    unnamed: "status",
-    names: STATUSES,
-    all: "requestsRefused",
-    list: "statuses",
-    number: "status",
-    name: "statusName",
+/// As lines.
+pub static LINES: CountForms = CountForms {
+    credentials: b"credentials made: %d\ncredentials used: %d\ncredentials excluded: %d\nrequests refused: %d\n",
+    statuses: [b"%-  %s %x: %d\n", b"%-  %s %x: %d\n"],
+    messages: b"messages refused by ERROR: %d\n",
+    errors: [b"%-  %e %x: %d\n", b"%-  %e %x: %d\n"],
+    strays: b"continuation packets of no open message: %d\nCANCELs for which nothing waited: %d\n\
+        replies for which nothing waited: %d\n",
 };
 
-const MESSAGES: &TallyKind = &TallyKind {
-    title: "messages refused by ERROR:",
-    unnamed: "ERROR",
-    names: ERRORS,
-    all: "messagesRefused",
-    list: "errors",
-    number: "code",
-    name: "codeName",
+/// As an object of JSON.
+pub static OBJECT: CountForms = CountForms {
+    credentials: b"{\"kind\":\"summary\",\"credentialsMade\":%d,\"credentialsUsed\":%d,\
+        \"credentialsExcluded\":%d,\"requestsRefused\":%d,\"statuses\":[",
+    statuses: [
+        br#"{"times":%d,"status":%d,"statusName":"%S}"#,
+        br#",{"times":%d,"status":%d,"statusName":"%S}"#,
+    ],
+    messages: br#"],"messagesRefused":%d,"errors":["#,
+    errors: [
+        br#"{"times":%d,"code":%d,"codeName":"%E}"#,
+        br#",{"times":%d,"code":%d,"codeName":"%E}"#,
+    ],
+    strays: b"],\"strayContinuations\":%d,\"strayCancels\":%d,\"strayReplies\":%d}\n",
 };
 
 /// How often each number came.
@@ -50,12 +53,6 @@ struct Tally {
     sum: u64,
 }
 
-/// That of no numbers.
-const NONE: Tally = Tally {
-    times: [0; 256],
-    sum: 0,
-};
-
 impl Tally {
     /// Counts a number.
     fn add(&mut self, number: u8) {
@@ -64,41 +61,18 @@ impl Tally {
         self.sum = self.sum.saturating_add(1);
     }
 
-    /// Writes how many came, and a line for each number that did.
-    fn write(&self, pen: &mut Pen, kind: &TallyKind) {
-        write_count(pen, kind.title, self.sum);
+    /// Writes each number that came.
+    fn write(&self, pen: &mut Pen, forms: &[&'static [u8]; 2]) {
+        let mut form = forms[0];
         for number in 0..=255_u8 {
             let times = self.times[usize::from(number)];
             if times > 0 {
-                pen.text("  ");
-                write_named(pen, kind.names, number, kind.unnamed);
-                write_count(pen, ":", times);
+                let number = Some(u64::from(number));
+                pen.form(form, &[Some(times), number, number, Some(times)]);
+                form = forms[1];
             }
         }
     }
-
-    /// Writes a member with how many came, and an array with an object for each number that did.
-    fn write_json(&self, pen: &mut Pen, kind: &TallyKind) {
-        write_integer(pen, kind.all, self.sum);
-        begin_member(pen, kind.list);
-        let mut front = "[{\"times\":";
-        for number in 0..=255_u8 {
-            let times = self.times[usize::from(number)];
-            if times > 0 {
-                pen.number_after(front, times);
-                write_code(pen, kind.number, kind.name, number, kind.names);
-                front = "},{\"times\":";
-            }
-        }
-        pen.text(if self.sum > 0 { "}]" } else { "[]" });
-    }
-}
-
-/// Writes a line of a count.
-fn write_count(pen: &mut Pen, title: &str, count: u64) {
-    pen.text(title);
-    pen.number_after(" ", count);
-    pen.text("\n");
 }
 
 /// What came in a session.
@@ -122,12 +96,16 @@ pub struct Counts {
 impl Counts {
     /// Returns those of no lines.
     pub fn new() -> Self {
+        let none = Tally {
+            times: [0; 256],
+            sum: 0,
+        };
         Counts {
             made: 0,
             used: 0,
             excluded: 0,
-            refused: NONE,
-            errors: NONE,
+            refused: none,
+            errors: none,
             continuations: 0,
             cancels: 0,
             replies: 0,
@@ -155,56 +133,36 @@ impl Counts {
 
     /// Counts a transaction that ended.
     fn add(&mut self, ended: &Ended) {
-        match (ended.end, ended.exchange.transaction.command) {
-            (End::Status(0), Some(0x01)) => self.made = self.made.saturating_add(1),
-            (End::Status(0), Some(0x02 | 0x08)) => self.used = self.used.saturating_add(1),
-            (End::Status(0), _) => {}
-            (End::Status(status), _) => {
+        let status = match ended.end {
+            End::Status(status) => status,
+            End::Refused(code) => {
+                self.errors.add(code);
+                return;
+            }
+            _ => return,
+        };
+        match (status, ended.exchange.transaction.command) {
+            (0, Some(0x01)) => self.made = self.made.saturating_add(1),
+            (0, Some(0x02 | 0x08)) => self.used = self.used.saturating_add(1),
+            (0, _) => {}
+            _ => {
                 if status == EXCLUDED {
                     self.excluded = self.excluded.saturating_add(1);
                 }
                 self.refused.add(status);
             }
-            (End::Refused(code), _) => self.errors.add(code),
-            (
-                End::Answered
-                | End::Cut(_)
-                | End::Dropped(_)
-                | End::Replaced(_)
-                | End::Forgotten
-                | End::Open,
-                _,
-            ) => {}
         }
     }
 
-    /// Writes a line for each count.
-    pub fn write(&self, pen: &mut Pen) {
-        write_count(pen, "credentials made:", self.made);
-        write_count(pen, "credentials used:", self.used);
-        write_count(pen, "credentials excluded:", self.excluded);
-        self.refused.write(pen, REQUESTS);
-        self.errors.write(pen, MESSAGES);
-        write_count(
-            pen,
-            "continuation packets of no open message:",
-            self.continuations,
-        );
-        write_count(pen, "CANCELs for which nothing waited:", self.cancels);
-        write_count(pen, "replies for which nothing waited:", self.replies);
-    }
-
-    /// Writes an object of JSON with all counts.
-    pub fn write_json(&self, pen: &mut Pen) {
-        pen.text("{\"kind\":\"summary\"");
-        write_integer(pen, "credentialsMade", self.made);
-        write_integer(pen, "credentialsUsed", self.used);
-        write_integer(pen, "credentialsExcluded", self.excluded);
-        self.refused.write_json(pen, REQUESTS);
-        self.errors.write_json(pen, MESSAGES);
-        write_integer(pen, "strayContinuations", self.continuations);
-        write_integer(pen, "strayCancels", self.cancels);
-        write_integer(pen, "strayReplies", self.replies);
-        pen.text("}\n");
+    /// Writes all counts.
+    pub fn write(&self, pen: &mut Pen, forms: &CountForms) {
+        let sum = Some(self.refused.sum);
+        let (made, used) = (Some(self.made), Some(self.used));
+        pen.form(forms.credentials, &[made, used, Some(self.excluded), sum]);
+        self.refused.write(pen, &forms.statuses);
+        pen.form(forms.messages, &[Some(self.errors.sum)]);
+        self.errors.write(pen, &forms.errors);
+        let (continuations, cancels) = (Some(self.continuations), Some(self.cancels));
+        pen.form(forms.strays, &[continuations, cancels, Some(self.replies)]);
     }
 }

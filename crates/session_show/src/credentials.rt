@@ -2,7 +2,6 @@
 ghost use Rattle.std.specs.Prelude.{◌<◌};
 
 use crate::authenticator_data::CREDENTIAL;
-use crate::field::split;
 use crate::pairs::{item_at, next_value, value_at};
 use crate::pen::Pen;
 use crate::putting::Written;
@@ -34,9 +33,8 @@ pub struct Excluded {
 impl Written for Excluded {
     /// Writes a line.
     fn write(&self, pen: &mut Pen) {
-        pen.number_after("excludeList[", self.place);
-        pen.number_after("] is the credential of line ", self.line);
-        pen.text("\n");
+        let numbers = [Some(self.place), Some(self.line)];
+        pen.form(b"excludeList[%d] is the credential of line %d\n", &numbers);
     }
 }
 
@@ -67,15 +65,15 @@ impl Credentials {
             return;
         };
         // The hash of the relying party is in front (WebAuthn, section 6.1).
-        let Some((relying_party, [flags, rest @ ..])) = split(data, 32) else {
+        let Some((relying_party, [flags, rest @ ..])) = data.split_at_checked(32) else {
             return;
         };
         // The counter and the AAGUID have 20 bytes.
-        let Some((_, [high, low, rest @ ..])) = split(rest, 20) else {
+        let Some((_, [high, low, rest @ ..])) = rest.split_at_checked(20) else {
             return;
         };
         let length = usize::from(u16::from_be_bytes([*high, *low]));
-        if let Some((id, _)) = split(rest, length)
+        if let Some((id, _)) = rest.split_at_checked(length)
             && flags & CREDENTIAL != 0
         {
             let name = name_of(relying_party, id);

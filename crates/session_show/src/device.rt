@@ -36,17 +36,11 @@ pub struct AnswerStart<'a> {
     /// How much of it came with this packet.
     pub extent: Extent,
     pub part: &'a [u8],
+    /// The status of a CBOR answer.
+    pub status: Option<u8>,
 }
 
 impl AnswerStart<'_> {
-    /// Returns the status of a CBOR answer.
-    fn status(&self) -> Option<u8> {
-        match self.part {
-            [status, ..] if self.command == CBOR && self.extent.length > 0 => Some(*status),
-            _ => None,
-        }
-    }
-
     /// Returns whether it can be that of a message: of a whole one with its command.
     fn is_of(&self, message: &Option<Followed>) -> bool {
         matches!(message, Some(message)
@@ -101,7 +95,17 @@ impl Channel {
         {
             self.settle(ends);
         }
-        let is_late = self.leave_out(doubtful);
+        // The packet that came too late is left out of the message.
+        let mut is_late = false;
+        if let Some(doubtful) = doubtful
+            && let Some(held) = &mut self.held
+            && held.transaction.line == doubtful.of.line
+        {
+            is_late = true;
+            if doubtful.is_next {
+                held.extent.continuations = held.extent.continuations.saturating_sub(1);
+            }
+        }
         if let Some(held) = &self.held
             && !held.extent.is_whole()
             && let Some(held) = self.free(ends)
@@ -110,22 +114,6 @@ impl Channel {
             return (Some(held.transaction), is_late);
         }
         (self.refuse_one(code, ends), is_late)
-    }
-
-    /// Leaves out of the open message the packet that may have come too late for it. Returns whether there is one.
-    fn leave_out(&mut self, doubtful: Option<&Doubtful>) -> bool {
-        if let Some(doubtful) = doubtful
-            && let Some(held) = &mut self.held
-            && held.transaction.line == doubtful.of.line
-        {
-            if doubtful.is_next {
-                let came = held.extent.continuations;
-                held.extent.continuations = came.saturating_sub(1);
-            }
-            true
-        } else {
-            false
-        }
     }
 
     /// Ends the unfinished message that began before one that is refused with this code, where that ends it too.
@@ -167,7 +155,8 @@ impl Channel {
         }
         let mut ended = self.free(ends);
         if ended.is_none() {
-            ended = self.take_last_greeting();
+            let last = self.greetings.len().saturating_sub(1);
+            ended = self.take_greeting(last);
         }
         match ended {
             Some(ended) => {
@@ -184,7 +173,7 @@ impl Channel {
         if code == INVALID_LENGTH {
             let mut place = 0_usize;
             for greeting in self.greetings.as_slice() {
-                if greeting.length != 8 {
+                if greeting.extent.length != 8 {
                     return self.take_greeting(place);
                 }
                 place = place.saturating_add(1);
@@ -196,7 +185,8 @@ impl Channel {
             if matches!(code, INVALID_SEQUENCE | TIMED_OUT) || is_busy {
                 return None;
             }
-            return self.take_last_greeting();
+            let last = self.greetings.len().saturating_sub(1);
+            return self.take_greeting(last);
         }
         self.asked.take()
     }
@@ -220,7 +210,7 @@ impl Channel {
         self.told = Told {
             line: answer.line,
             extent: answer.extent,
-            status: answer.status(),
+            status: answer.status,
             exchange,
         };
         self.end_told(ends);
@@ -237,7 +227,7 @@ impl Channel {
         let nonce = nonce_in(answer.part);
         let mut place = 0_usize;
         for greeting in self.greetings.as_slice() {
-            if greeting.length == 8 && greeting.nonce == nonce {
+            if greeting.extent.length == 8 && greeting.nonce == nonce {
                 break;
             }
             place = place.saturating_add(1);
@@ -264,7 +254,7 @@ impl Channel {
     ) -> Option<Followed> {
         let is_of_cancelled = matches!(&self.held, Some(held)
             if held.waits() && held.cancelled.is_some())
-            && matches!(answer.status(), Some(CANCELLED));
+            && matches!(answer.status, Some(CANCELLED));
         if !is_of_cancelled && answer.is_of(&self.asked) {
             self.settle(ends);
         }

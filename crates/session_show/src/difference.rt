@@ -4,7 +4,7 @@ ghost use Rattle.std.specs.Prelude.{◌<◌, ◌-◌, ◌^◌};
 use crate::entry::write_message;
 use crate::exchange::Transaction;
 use crate::packet_line::{channel_of, write_packet};
-use crate::pen::Pen;
+use crate::pen::{Pen, front};
 use crate::putting::{Written, put_written};
 use crate::reason::{Awaited, Reason};
 use crate::signed::{Signed, SignedOtherwise};
@@ -86,22 +86,6 @@ struct PlayedLog {
 }
 
 impl PlayedLog {
-    /// Returns that of no lines.
-    fn new() -> Self {
-        PlayedLog {
-            walk: LogWalk::new(),
-            outbox: Outbox::new(),
-            input: 0,
-            compared: 0,
-            has_differed: false,
-            last: None,
-            has_sent: false,
-            awaited: None,
-            reply: None,
-            signed: Signed::default(),
-        }
-    }
-
     /// Takes the next line, with its number, and returns the difference that it shows. An input steps the session, unless
     /// the log lacks a packet of the input before: then the line isn't taken. Where the line's packet differs, the walk has
     /// yet to take it.
@@ -206,15 +190,10 @@ impl Written for Side<'_> {
         pen.text("< ");
         write_packet(pen, self.packet);
         pen.text("\n");
-        if let Some(message) = &self.walk.message() {
+        if let Some(message) = &self.walk.message(&self.walk.shown) {
             write_message(pen, self.line, message);
         }
     }
-}
-
-/// Returns the front of some bytes.
-fn front(bytes: &[u8], len: usize) -> &[u8] {
-    bytes.get(..len).unwrap_or(bytes)
 }
 
 /// A log beside a session that plays its inputs.
@@ -232,8 +211,20 @@ pub struct Comparison {
 impl Comparison {
     /// Returns that of no lines.
     pub fn new() -> Self {
+        let played = PlayedLog {
+            walk: LogWalk::new(),
+            outbox: Outbox::new(),
+            input: 0,
+            compared: 0,
+            has_differed: false,
+            last: None,
+            has_sent: false,
+            awaited: None,
+            reply: None,
+            signed: Signed::default(),
+        };
         Comparison {
-            played: PlayedLog::new(),
+            played,
             aside: LogWalk::new(),
             window: Window::new(),
             lines: 0,
@@ -304,7 +295,10 @@ impl Comparison {
             return self.aside.of;
         }
         match self.played.walk.channels.on(channel_of(&packet)) {
-            Some(channel) => channel.last(),
+            Some(channel) => match &channel.held {
+                Some(held) => Some(held.transaction),
+                None => channel.told.of(),
+            },
             None => None,
         }
     }
@@ -354,7 +348,8 @@ impl Comparison {
     ) -> Result<(), Failed> {
         let line = difference.line;
         if let Some(packet) = &difference.sent {
-            self.follow_sent(line, packet);
+            self.aside.copy_from(&self.played.walk);
+            self.follow(line, packet, reader, true);
             let side = Side {
                 walk: &self.aside,
                 packet,
@@ -365,7 +360,8 @@ impl Comparison {
         let Some(packet) = &difference.logged else {
             return Ok(());
         };
-        self.follow_logged(line, packet, reader);
+        self.played.last = None;
+        self.follow(line, packet, reader, false);
         let side = Side {
             walk: &self.played.walk,
             packet,
@@ -374,33 +370,27 @@ impl Comparison {
         put_counted(logged, &mut self.pen, &side)
     }
 
-    /// Goes on aside with the packet that the session sends, and those that complete its message.
-    fn follow_sent(&mut self, line: u64, packet: &Packet) {
-        self.aside.copy_from(&self.played.walk);
+    /// Goes on with a packet, and those that complete its message: aside those that the session sends, or else those that
+    /// the log has.
+    fn follow<S: Source>(&mut self, line: u64, packet: &Packet, reader: &mut S, is_aside: bool) {
         let mut next = Some(*packet);
         for _ in 0..PACKETS {
             let Some(part) = next else {
                 return;
             };
-            if !goes_on_after(&mut self.aside, line, &part) {
-                return;
-            }
-            next = self.played.outbox.pop();
-        }
-    }
-
-    /// Goes on with the packet that the log has, and those that complete its message.
-    fn follow_logged<S: Source>(&mut self, line: u64, packet: &Packet, reader: &mut S) {
-        self.played.last = None;
-        let mut next = Some(*packet);
-        for _ in 0..PACKETS {
-            let Some(part) = next else {
-                return;
+            let goes_on = if is_aside {
+                goes_on_after(&mut self.aside, line, &part)
+            } else {
+                goes_on_after(&mut self.played.walk, line, &part)
             };
-            if !goes_on_after(&mut self.played.walk, line, &part) {
+            if !goes_on {
                 return;
             }
-            next = self.next_logged(reader);
+            next = if is_aside {
+                self.played.outbox.pop()
+            } else {
+                self.next_logged(reader)
+            };
         }
     }
 

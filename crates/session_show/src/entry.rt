@@ -2,7 +2,7 @@
 ghost use Rattle.session_show.specs.declared.wording.Wording.TheVariants.{Explained as explained};
 
 use crate::escape::write_escaped;
-use crate::exchange::{End, Ended, Extent, Followed, Transaction};
+use crate::exchange::{Ended, Followed, Transaction};
 use crate::item::write_checked;
 use crate::member_names::Map;
 use crate::members::write_members;
@@ -11,27 +11,45 @@ use crate::pen::Pen;
 use crate::putting::Written;
 use crate::walk::{LogWalk, Role};
 use crate::wording::Wording;
-use crate::words::{COMMANDS, STATUSES, fault_name, name_in, presence_word, write_name};
-use ctap_cbor::{Fault, check};
+use authn_core::Presence;
+use ctap_cbor::check;
 use session_log::Line;
 use token_session::{Input, Timed};
 
 /// CTAP2_ERR_CREDENTIAL_EXCLUDED.
 pub const EXCLUDED: u8 = 0x19;
 
-/// What a CBOR message is.
-#[derive(Clone, Copy)]
-pub enum MessageKind {
-    /// What a host asked.
-    Request,
-    /// What the key answered.
-    Answer,
+/// What a CBOR message is, and how it is written.
+pub struct MessageKind {
+    pub is_request: bool,
+    /// What is in front of its item.
+    front: &'static [u8],
+    /// What an explained text has behind its item: the name of its first byte, and what a fault means.
+    names: &'static [u8],
+    /// What is in front of its item in JSON.
+    pub json: &'static [u8],
 }
+
+/// What a host asked.
+pub static REQUEST: MessageKind = MessageKind {
+    is_request: true,
+    front: b"%d   request %x",
+    names: b"  %c  %f",
+    json: br#"{"line":%d,"kind":"request","transaction":%d,"channel":"%w","command":%d,"name":"%C"#,
+};
+
+/// What the key answered.
+pub static ANSWER: MessageKind = MessageKind {
+    is_request: false,
+    front: b"%d   answer %x",
+    names: b"  %a  %f",
+    json: br#"{"line":%d,"kind":"answer","transaction":%d,"channel":"%w","status":%d,"statusName":"%S"#,
+};
 
 /// A CBOR message that isn't empty.
 #[derive(Clone, Copy)]
 pub struct CborMessage<'a> {
-    pub kind: MessageKind,
+    pub kind: &'static MessageKind,
     /// None where its bytes aren't kept, since too many are under way.
     pub bytes: Option<&'a [u8]>,
     /// The transaction that it answers, where that is known.
@@ -42,7 +60,7 @@ impl<'a> CborMessage<'a> {
     /// Returns the map that its item is, by its first byte. That of an answer to what isn't known has no names: no command
     /// is 0.
     pub fn map(&self, first: u8) -> Map {
-        if let MessageKind::Request = self.kind {
+        if self.kind.is_request {
             return Map::Request(first);
         }
         match self.exchange {
@@ -66,6 +84,16 @@ pub struct Own<'a> {
     pub message: Option<CborMessage<'a>>,
 }
 
+impl Own<'_> {
+    /// Returns the line that its transaction began at.
+    pub fn began(&self) -> Option<u64> {
+        match &self.of {
+            Some(transaction) => Some(transaction.line),
+            None => None,
+        }
+    }
+}
+
 /// A line of a log, and what it shows of a line before it.
 #[derive(Clone, Copy)]
 pub struct Entry<'a> {
@@ -78,6 +106,8 @@ pub struct Entry<'a> {
     pub part: Role,
     /// The transactions that it ends.
     pub ended: &'a [Ended],
+    /// The line that the message of its packet began at, 0 where it is of none: where it is written for a page.
+    pub page: Option<u64>,
 }
 
 /// What follows the lines of a log.
@@ -111,49 +141,46 @@ impl Follows for LogWalk {
 /// Writes the lines of a message, with the number of the line that it ends at: its command or status and the item after
 /// it; explained, also the name of the first, what the item's fault means, and a line for each member.
 pub fn write_message(pen: &mut Pen, number: u64, message: &CborMessage<'_>) {
-    pen.decimal(number);
     let Some([first, item @ ..]) = message.bytes else {
-        pen.text("   message not shown: too many are under way\n");
+        let form = b"%d   message not shown: too many are under way\n";
+        pen.form(form, &[Some(number)]);
         return;
     };
-    let (kind, names) = match message.kind {
-        MessageKind::Request => ("   request ", COMMANDS),
-        MessageKind::Answer => ("   answer ", STATUSES),
-    };
-    pen.text(kind);
-    pen.hex(&[*first]);
-    let checked = if item.is_empty() {
-        Ok(())
-    } else {
-        check(item).result
-    };
-    write_item(pen, item, &checked);
-    write_name(pen, name_in(names, i128::from(*first)));
-    if let Err(fault) = &checked {
-        write_name(pen, Some(fault_name(fault.kind)));
+    let code = Some(u64::from(*first));
+    pen.form(message.kind.front, &[Some(number), code]);
+    let fault = write_item(pen, item);
+    if !pen.explains {
+        pen.text("\n");
+        return;
     }
+    pen.form(message.kind.names, &[code, fault]);
     pen.text("\n");
-    if pen.explains && checked.is_ok() {
+    if fault.is_none() {
         write_more(pen, number, message, *first, item);
     }
 }
 
-/// Writes the item after a message's first byte.
-fn write_item(pen: &mut Pen, item: &[u8], checked: &Result<(), Fault>) {
+/// Writes the item after a message's first byte, where there is one. Returns the number of its fault.
+fn write_item(pen: &mut Pen, item: &[u8]) -> Option<u64> {
     if item.is_empty() {
-        return;
+        return None;
     }
     pen.text(" ");
+    let checked = check(item).result;
     // An item may be long, so it isn't written again for the parts after it.
     match pen.known {
         Some(len) if len <= pen.before => pen.before -= len,
         _ => {
             let before = pen.before;
-            write_checked(pen, item, checked);
+            write_checked(pen, item, &checked);
             if pen.before > 0 {
                 pen.known = Some(before.saturating_sub(pen.before));
             }
         }
+    }
+    match checked {
+        Ok(()) => None,
+        Err(fault) => Some(u64::from(fault.kind.number())),
     }
 }
 
@@ -177,6 +204,10 @@ fn write_more(pen: &mut Pen, number: u64, message: &CborMessage<'_>, first: u8, 
 impl Written for Entry<'_> {
     /// Writes what comes after the number and a space: lines that end with a line feed.
     fn write(&self, pen: &mut Pen) {
+        if let Some(message) = self.page {
+            self.write_page(pen, message);
+            return;
+        }
         match self.own.said {
             Line::Input(timed) => write_input(pen, timed),
             Line::Sent(packet) => {
@@ -196,71 +227,113 @@ impl Written for Entry<'_> {
             write_message(pen, self.own.number, message);
         }
         for ended in self.ended {
-            write_ended(pen, self.own.number, ended);
+            write_ended(pen, Some(self.own.number), ended);
         }
+    }
+}
+
+impl Entry<'_> {
+    /// Writes the lines that its transaction and its message began at, 0 where it is of none; then an earlier line that
+    /// belongs to none after all, and the transactions that end.
+    fn write_page(&self, pen: &mut Pen, message: u64) {
+        let late = match &self.late {
+            Some(late) if late.of.is_none() => Some(late.number),
+            _ => None,
+        };
+        let began = self.own.began().unwrap_or(0);
+        pen.form(b"%d %d l%d", &[Some(began), Some(message), late]);
+        for ended in self.ended {
+            let (forms, number, _) = ended.forms();
+            pen.form(forms.page, &[Some(ended.exchange.transaction.line), number]);
+        }
+        pen.text("\n");
+    }
+}
+
+/// How an input is written, by its moment: in the fixed text, and in JSON, where the line's number is in front of that
+/// and the line behind it that its transaction began at.
+pub struct InputForms {
+    text: &'static [u8],
+    pub json: &'static [u8],
+}
+
+static PACKET: InputForms = InputForms {
+    text: b"> %d ",
+    json: br#"{"line":%d,"kind":"packet","from":"host","moment":%d,"transaction":%d"#,
+};
+
+static TICK: InputForms = InputForms {
+    text: b"t %d",
+    json: b"{\"line\":%d,\"kind\":\"tick\",\"moment\":%d,\"transaction\":%d}\n",
+};
+
+static GRANTED: InputForms = InputForms {
+    text: b"p %d granted",
+    json: b"{\"line\":%d,\"kind\":\"presence\",\"moment\":%d,\"transaction\":%d,\"reply\":\"granted\"}\n",
+};
+
+static DENIED: InputForms = InputForms {
+    text: b"p %d denied",
+    json: b"{\"line\":%d,\"kind\":\"presence\",\"moment\":%d,\"transaction\":%d,\"reply\":\"denied\"}\n",
+};
+
+static TIMED_OUT: InputForms = InputForms {
+    text: b"p %d timeout",
+    json: b"{\"line\":%d,\"kind\":\"presence\",\"moment\":%d,\"transaction\":%d,\"reply\":\"timeout\"}\n",
+};
+
+static KEY: InputForms = InputForms {
+    text: b"k %d yes",
+    json: b"{\"line\":%d,\"kind\":\"key\",\"moment\":%d,\"transaction\":%d,\"had\":true}\n",
+};
+
+static NO_KEY: InputForms = InputForms {
+    text: b"k %d no",
+    json: b"{\"line\":%d,\"kind\":\"key\",\"moment\":%d,\"transaction\":%d,\"had\":false}\n",
+};
+
+static SIGNATURE: InputForms = InputForms {
+    text: b"s %d yes",
+    json: b"{\"line\":%d,\"kind\":\"signature\",\"moment\":%d,\"transaction\":%d,\"had\":true}\n",
+};
+
+static NO_SIGNATURE: InputForms = InputForms {
+    text: b"s %d no",
+    json: b"{\"line\":%d,\"kind\":\"signature\",\"moment\":%d,\"transaction\":%d,\"had\":false}\n",
+};
+
+/// Returns how an input is written; of a packet, what is in front of its channel.
+pub fn forms_of(input: &Input) -> &'static InputForms {
+    match input {
+        Input::Packet(_) => &PACKET,
+        Input::Tick => &TICK,
+        Input::Presence(Presence::Granted) => &GRANTED,
+        Input::Presence(Presence::Denied) => &DENIED,
+        Input::Presence(Presence::TimedOut) => &TIMED_OUT,
+        Input::Key(Some(_)) => &KEY,
+        Input::Key(None) => &NO_KEY,
+        Input::Signature(Some(_)) => &SIGNATURE,
+        Input::Signature(None) => &NO_SIGNATURE,
     }
 }
 
 /// Writes an input: its letter, its moment and what it is.
 fn write_input(pen: &mut Pen, timed: &Timed) {
-    match &timed.input {
-        Input::Packet(packet) => {
-            pen.number_after("> ", timed.at);
-            pen.text(" ");
-            write_packet(pen, packet);
-        }
-        Input::Tick => pen.number_after("t ", timed.at),
-        Input::Presence(presence) => {
-            pen.number_after("p ", timed.at);
-            pen.text(" ");
-            pen.text(presence_word(*presence));
-        }
-        Input::Key(key) => {
-            pen.number_after("k ", timed.at);
-            pen.text(if key.is_some() { " yes" } else { " no" });
-        }
-        Input::Signature(signature) => {
-            pen.number_after("s ", timed.at);
-            pen.text(if signature.is_some() { " yes" } else { " no" });
-        }
+    if let Input::Packet(packet) = &timed.input {
+        pen.number_after("> ", timed.at);
+        pen.text(" ");
+        write_packet(pen, packet);
+    } else {
+        pen.form(forms_of(&timed.input).text, &[Some(timed.at)]);
     }
 }
 
-/// Writes a line for a transaction that ended, where that isn't by an answer or an ERROR to a whole message: those say it
-/// themselves.
-fn write_ended(pen: &mut Pen, number: u64, ended: &Ended) {
-    let exchange = &ended.exchange;
-    let is_whole = exchange.extent.is_whole();
-    let how = match &ended.end {
-        End::Status(_) | End::Answered | End::Open => return,
-        End::Refused(_) if is_whole => return,
-        End::Refused(_) | End::Cut(_) => "",
-        End::Dropped(_) => " dropped by line ",
-        End::Replaced(_) => " replaced by line ",
-        End::Forgotten => " not followed any longer, since too many channels are in use",
-    };
-    pen.decimal(number);
-    pen.number_after("   line ", exchange.transaction.line);
-    pen.text(":");
-    if !is_whole {
-        write_extent(pen, &exchange.extent, " bytes came");
+/// Writes a line for a transaction that ended, where that isn't by an answer or an ERROR to a whole message.
+fn write_ended(pen: &mut Pen, number: Option<u64>, ended: &Ended) {
+    let line = Some(ended.exchange.transaction.line);
+    let (forms, one, two) = ended.forms();
+    match ended.exchange.extent.missing() {
+        (None, _) => pen.form(forms.whole, &[number, line, one, two]),
+        (came, length) => pen.form(forms.part, &[number, line, came, length, one, two]),
     }
-    if let End::Cut(extent) = &ended.end {
-        write_extent(pen, extent, " bytes of its answer came");
-    }
-    if !is_whole && !how.is_empty() {
-        pen.text(",");
-    }
-    pen.text(how);
-    if let End::Dropped(line) | End::Replaced(line) = &ended.end {
-        pen.decimal(*line);
-    }
-    pen.text("\n");
-}
-
-/// Writes how much of a message came.
-pub fn write_extent(pen: &mut Pen, extent: &Extent, what: &str) {
-    pen.number_after(" ", extent.came() as u64);
-    pen.number_after(" of ", u64::from(extent.length));
-    pen.text(what);
 }

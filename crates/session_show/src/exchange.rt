@@ -1,18 +1,13 @@
 //! Transactions: what a host asks on a channel, until it is answered (CTAP 2.1, section 11.2.5.1).
 
-ghost use Rattle.std.specs.Prelude.{◌<◌, ◌-◌, ◌^◌};
-ghost use Rattle.session_show.specs.Written.{Writes};
-
 use crate::credentials::Excluded;
 use crate::pen::Pen;
-use crate::putting::{Written, put_written};
+use crate::putting::Written;
 use crate::rp_id::RpId;
-use crate::wording::Wording;
 use crate::words::{COMMANDS, MESSAGES, name_in};
 use arrayvec::ArrayVec;
 use hid_packet::command::{CBOR, INIT, PING};
 use hid_packet::{CONTINUATION_DATA, INITIALIZATION_DATA, LONGEST_MESSAGE};
-use session_log::{Failed, Target};
 
 /// The most transactions that end at one line.
 const ENDS: usize = 8;
@@ -56,23 +51,19 @@ impl Transaction {
 }
 
 impl Written for Transaction {
+    /// Writes it in words, `authenticatorMakeCredential 01 on channel 00000001, from line 12`, without a line feed.
     fn write(&self, pen: &mut Pen) {
         pen.text(self.name());
-        pen.text(" ");
-        pen.hex(&[self.command.unwrap_or(self.message)]);
-        pen.text(" on channel ");
-        pen.hex(&self.channel.to_be_bytes());
-        pen.number_after(", from line ", self.line);
+        let command = u64::from(self.command.unwrap_or(self.message));
+        pen.form(
+            b" %x on channel %w, from line %d",
+            &[
+                Some(command),
+                Some(u64::from(self.channel)),
+                Some(self.line),
+            ],
+        );
     }
-}
-
-/// Writes a transaction in words, `authenticatorMakeCredential 01 on channel 00000001, from line 12`, without a line
-/// feed.
-pub fn put_transaction<T: Target>(writer: &mut T, transaction: &Transaction) -> Result<(), Failed>
-    requires { T.failed writer.old < 2 ^ 64 - 1 }
-    ensures { Writes T.taken T.failed (writer.old, writer.new) result }
-{
-    put_written(writer, &mut Pen::new(Wording::Explained), transaction)
 }
 
 /// How much of a message came.
@@ -94,6 +85,15 @@ impl Extent {
     /// Returns whether it is whole. A message of more than 7609 bytes never is.
     pub fn is_whole(&self) -> bool {
         self.length <= LONGEST_MESSAGE && self.came() == usize::from(self.length)
+    }
+
+    /// Returns how many bytes came and how many it has, for a form; none where it is whole.
+    pub fn missing(&self) -> (Option<u64>, Option<u64>) {
+        if self.is_whole() {
+            (None, None)
+        } else {
+            (Some(self.came() as u64), Some(u64::from(self.length)))
+        }
     }
 }
 
@@ -117,6 +117,8 @@ pub struct Followed {
     pub rp_id: RpId,
     /// The credential of the log that its request excludes.
     pub excluded: Option<Excluded>,
+    /// What its first packet begins with: of an INIT, the nonce.
+    pub nonce: u64,
 }
 
 impl Followed {

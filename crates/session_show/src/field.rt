@@ -2,7 +2,6 @@
 
 use crate::item::{DIAGNOSTIC, Diagnostic, write_scalar, write_value};
 use crate::member_names::Map;
-use crate::pairs::first_item;
 use crate::pen::Pen;
 use crate::putting::Written;
 use crate::words::{name_in, write_name};
@@ -20,42 +19,26 @@ pub fn write_member(pen: &mut Pen, map: Map, key: Item<'_>, value: &[u8]) {
     pen.text(": ");
     write_value(pen, &mut Cursor::new(value), 1, DIAGNOSTIC, &[]);
     if let Item::Int(number) = key
-        && let Some(Item::Int(value)) = first_item(value)
+        && let Ok(Item::Int(value)) = Cursor::new(value).item(1)
     {
         write_name(pen, map.name_of(number, value));
     }
     pen.text("\n");
 }
 
-/// Writes the front of a line.
-pub fn write_front(pen: &mut Pen, number: u64, name: &str) {
-    pen.decimal(number);
-    pen.text("       ");
-    pen.text(name);
-}
-
-/// Writes the line of a field that is bytes, in hexadecimal digits.
-pub fn write_bytes(pen: &mut Pen, number: u64, name: &str, bytes: &[u8]) {
-    write_front(pen, number, name);
+/// Writes the line of a field that is bytes, in hexadecimal digits, after a form for the line's number.
+pub fn write_bytes(pen: &mut Pen, form: &[u8], number: u64, bytes: &[u8]) {
+    pen.form(form, &[Some(number)]);
     pen.hex(bytes);
     pen.text("\n");
 }
 
-/// Writes the line of a field that is a data item, where there is one.
-pub fn write_item(pen: &mut Pen, number: u64, name: &str, item: &[u8]) {
+/// Writes the line of a field that is a data item, where there is one, after a form for the line's number.
+pub fn write_item(pen: &mut Pen, form: &[u8], number: u64, item: &[u8]) {
     if !item.is_empty() {
-        write_front(pen, number, name);
+        pen.form(form, &[Some(number)]);
         Diagnostic(item).write(pen);
         pen.text("\n");
-    }
-}
-
-/// Splits bytes after the first so many, where there are as many.
-pub fn split(bytes: &[u8], len: usize) -> Option<(&[u8], &[u8])> {
-    if len <= bytes.len() {
-        Some(bytes.split_at(len))
-    } else {
-        None
     }
 }
 
@@ -65,7 +48,7 @@ fn first_number(bytes: &[u8]) -> Option<(&[u8], &[u8])> {
     let [2, len, rest @ ..] = bytes else {
         return None;
     };
-    let Some((number, rest)) = split(rest, usize::from(*len)) else {
+    let Some((number, rest)) = rest.split_at_checked(usize::from(*len)) else {
         return None;
     };
     match number {
@@ -85,7 +68,7 @@ pub fn write_signature(pen: &mut Pen, number: u64, signature: &[u8]) {
     if let Some((r, rest)) = first_number(rest)
         && let Some((s, [])) = first_number(rest)
     {
-        write_bytes(pen, number, "r ", r);
-        write_bytes(pen, number, "s ", s);
+        write_bytes(pen, b"%d       r ", number, r);
+        write_bytes(pen, b"%d       s ", number, s);
     }
 }

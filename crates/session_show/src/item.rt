@@ -21,7 +21,7 @@ pub struct Notation {
 }
 
 /// Diagnostic notation: `{1: "usb", 2: [true, h'0aff', -7]}`.
-pub const DIAGNOSTIC: &Notation = &Notation {
+pub static DIAGNOSTIC: &Notation = &Notation {
     comma: ", ",
     colon: ": ",
     bytes: ("h'", "'"),
@@ -29,7 +29,7 @@ pub const DIAGNOSTIC: &Notation = &Notation {
 };
 
 /// JSON: byte strings are texts of hexadecimal digits, and keys of maps are texts.
-pub const JSON: &Notation = &Notation {
+pub static JSON: &Notation = &Notation {
     comma: ",",
     colon: ":",
     bytes: ("\"", "\""),
@@ -51,8 +51,8 @@ pub fn write_checked(pen: &mut Pen, item: &[u8], checked: &Result<(), Fault>) {
     match checked {
         Ok(()) => write_value(pen, &mut Cursor::new(item), 1, DIAGNOSTIC, &[]),
         Err(fault) => {
-            pen.number_after("fault ", u64::from(fault.kind.number()));
-            pen.number_after(" at ", fault.at as u64);
+            let numbers = [Some(u64::from(fault.kind.number())), Some(fault.at as u64)];
+            pen.form(b"fault %d at %d", &numbers);
         }
     }
 }

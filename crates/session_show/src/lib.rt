@@ -10,6 +10,7 @@ mod counts;
 mod credentials;
 mod device;
 mod difference;
+mod ends;
 mod entry;
 mod escape;
 mod exchange;
@@ -40,7 +41,7 @@ mod words;
 
 pub use difference::{Comparison, Difference};
 pub use escape::{is_hidden, write_escaped};
-pub use exchange::{Transaction, put_transaction};
+pub use exchange::Transaction;
 pub use item::show_item;
 pub use json::{write_hex, write_number, write_string, write_word};
 pub use log_writer::{LogForm, LogWriter, put_json_fault, write_log};

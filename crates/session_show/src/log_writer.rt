@@ -7,10 +7,9 @@ ghost use Rattle.session_show.specs.Shown.{Shows, reading, unsaid};
 ghost use Rattle.session_show.specs.Written.{Writes};
 
 use crate::channels::OPEN;
-use crate::counts::Counts;
+use crate::counts::{Counts, LINES, OBJECT};
 use crate::entry::Entry;
 use crate::exchange::Ended;
-use crate::json::{write_integer, write_word};
 use crate::json_line::{write_line, write_transaction};
 use crate::pen::Pen;
 use crate::putting::{Written, put_written};
@@ -115,8 +114,8 @@ impl Written for LogEnd<'_> {
             line = open.exchange.transaction.line;
         }
         match self.form {
-            LogForm::Table => self.counts.write(pen),
-            LogForm::Summary => self.counts.write_json(pen),
+            LogForm::Table => self.counts.write(pen, &LINES),
+            LogForm::Summary => self.counts.write(pen, &OBJECT),
             LogForm::Objects => {}
         }
     }
@@ -217,32 +216,40 @@ struct FaultObject<'a>(&'a LogFault);
 
 impl Written for FaultObject<'_> {
     fn write(&self, pen: &mut Pen) {
-        let reason = match self.0 {
-            LogFault::BadLine(_) => "not a log line",
-            LogFault::TooLong(_) => "longer than 255 bytes",
-            LogFault::Differs { .. } => "differs",
-            LogFault::Read(_) => "reading failed",
-            LogFault::Write => "writing failed",
-            LogFault::TooManyLines => "too many lines",
-            LogFault::Memory(_) => "no memory",
-        };
-        pen.text("{\"kind\":\"fault\"");
-        write_integer(pen, "number", u64::from(self.0.number()));
-        write_word(pen, "reason", Some(reason));
-        match *self.0 {
-            LogFault::BadLine(line)
-            | LogFault::TooLong(line)
-            | LogFault::Read(line)
-            | LogFault::Memory(line) => write_integer(pen, "line", line),
+        let (form, line) = match *self.0 {
+            LogFault::BadLine(line) => (BAD_LINE, Some(line)),
+            LogFault::TooLong(line) => (TOO_LONG, Some(line)),
             LogFault::Differs { line, packet } => {
-                write_integer(pen, "line", line);
-                write_integer(pen, "packet", packet);
+                pen.form(DIFFERS, &[Some(line), Some(packet)]);
+                return;
             }
-            LogFault::Write | LogFault::TooManyLines => {}
-        }
-        pen.text("}\n");
+            LogFault::Read(line) => (UNREAD, Some(line)),
+            LogFault::Write => (UNWRITTEN, None),
+            LogFault::TooManyLines => (TOO_MANY, None),
+            LogFault::Memory(line) => (NO_MEMORY, Some(line)),
+        };
+        pen.form(form, &[line]);
     }
 }
+
+static BAD_LINE: &[u8] =
+    b"{\"kind\":\"fault\",\"number\":1,\"reason\":\"not a log line\",\"line\":%d}\n";
+
+static TOO_LONG: &[u8] =
+    b"{\"kind\":\"fault\",\"number\":2,\"reason\":\"longer than 255 bytes\",\"line\":%d}\n";
+
+static DIFFERS: &[u8] =
+    b"{\"kind\":\"fault\",\"number\":3,\"reason\":\"differs\",\"line\":%d,\"packet\":%d}\n";
+
+static UNREAD: &[u8] =
+    b"{\"kind\":\"fault\",\"number\":4,\"reason\":\"reading failed\",\"line\":%d}\n";
+
+static UNWRITTEN: &[u8] = b"{\"kind\":\"fault\",\"number\":5,\"reason\":\"writing failed\"}\n";
+
+static TOO_MANY: &[u8] = b"{\"kind\":\"fault\",\"number\":6,\"reason\":\"too many lines\"}\n";
+
+static NO_MEMORY: &[u8] =
+    b"{\"kind\":\"fault\",\"number\":7,\"reason\":\"no memory\",\"line\":%d}\n";
 
 /// Writes the object of a fault, on a line: `{"kind":"fault","number":1,"reason":"not a log line","line":3}`.
 pub fn put_json_fault<T: Target>(writer: &mut T, fault: &LogFault) -> Result<(), Failed>

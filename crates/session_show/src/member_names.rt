@@ -52,7 +52,7 @@ impl Map {
 }
 
 /// Section 6.1, what is asked.
-const MAKE_CREDENTIAL: Names = &[
+static MAKE_CREDENTIAL: Names = &[
     (1, "clientDataHash"),
     (2, "rp"),
     (3, "user"),
@@ -66,7 +66,7 @@ const MAKE_CREDENTIAL: Names = &[
 ];
 
 /// Section 6.1, what is answered.
-const CREATED: Names = &[
+static CREATED: Names = &[
     (1, "fmt"),
     (2, "authData"),
     (3, "attStmt"),
@@ -75,7 +75,7 @@ const CREATED: Names = &[
 ];
 
 /// Section 6.2, what is asked.
-const GET_ASSERTION: Names = &[
+static GET_ASSERTION: Names = &[
     (1, "rpId"),
     (2, "clientDataHash"),
     (3, "allowList"),
@@ -86,7 +86,7 @@ const GET_ASSERTION: Names = &[
 ];
 
 /// Section 6.2, what is answered, to authenticatorGetNextAssertion too.
-const ASSERTED: Names = &[
+static ASSERTED: Names = &[
     (1, "credential"),
     (2, "authData"),
     (3, "signature"),
@@ -97,7 +97,7 @@ const ASSERTED: Names = &[
 ];
 
 /// Section 6.4.
-const INFO: Names = &[
+static INFO: Names = &[
     (1, "versions"),
     (2, "extensions"),
     (3, "aaguid"),
@@ -122,7 +122,7 @@ const INFO: Names = &[
 ];
 
 /// Section 6.5, what is asked.
-const CLIENT_PIN: Names = &[
+static CLIENT_PIN: Names = &[
     (1, "pinUvAuthProtocol"),
     (2, "subCommand"),
     (3, "keyAgreement"),
@@ -134,7 +134,7 @@ const CLIENT_PIN: Names = &[
 ];
 
 /// Section 6.5, what is answered.
-const PIN: Names = &[
+static PIN: Names = &[
     (1, "keyAgreement"),
     (2, "pinUvAuthToken"),
     (3, "pinRetries"),
@@ -143,7 +143,7 @@ const PIN: Names = &[
 ];
 
 /// The members of a COSE key.
-const KEY: Names = &[
+static KEY: Names = &[
     (1, "kty"),
     (2, "kid"),
     (3, "alg"),
@@ -154,7 +154,7 @@ const KEY: Names = &[
 ];
 
 /// The members of one of RSA.
-const RSA_KEY: Names = &[
+static RSA_KEY: Names = &[
     (1, "kty"),
     (2, "kid"),
     (3, "alg"),
@@ -164,10 +164,10 @@ const RSA_KEY: Names = &[
 ];
 
 /// The names of a key's types.
-const KEY_TYPES: Names = &[(1, "OKP"), (2, "EC2"), (3, "RSA")];
+static KEY_TYPES: Names = &[(1, "OKP"), (2, "EC2"), (3, "RSA")];
 
 /// The names of curves.
-const CURVES: Names = &[
+static CURVES: Names = &[
     (1, "P-256"),
     (2, "P-384"),
     (3, "P-521"),
@@ -179,7 +179,7 @@ const CURVES: Names = &[
 ];
 
 /// The names of algorithms.
-pub const ALGORITHMS: Names = &[
+pub static ALGORITHMS: Names = &[
     (-7, "ES256"),
     (-8, "EdDSA"),
     (-35, "ES384"),

@@ -1,12 +1,12 @@
 //! A line for each member of a request or an answer, and for what its bytes hold.
 
 use crate::authenticator_data::write_authenticator_data;
-use crate::field::{write_front, write_member, write_signature};
+use crate::field::{write_member, write_signature};
 use crate::member_names::{ALGORITHMS, Map};
-use crate::pairs::{Pairs, first_item, item_at};
+use crate::pairs::{Pairs, item_at};
 use crate::pen::Pen;
 use crate::words::{name_in, write_name};
-use ctap_cbor::Item;
+use ctap_cbor::{Cursor, Item};
 
 /// Writes a line for each member of a map whose members have names, where the item is one. Of an answer the RP id is that
 /// which its request names.
@@ -35,8 +35,8 @@ pub fn write_members(pen: &mut Pen, number: u64, map: Map, item: &[u8], rp_id: &
 
 /// Writes what a member of an answer to a command holds: authenticator data, a signature, or a statement with one.
 fn write_inside(pen: &mut Pen, number: u64, command: u8, key: i128, value: &[u8], rp_id: &[u8]) {
-    let bytes = match first_item(value) {
-        Some(Item::Bytes(bytes)) => bytes,
+    let bytes = match Cursor::new(value).item(1) {
+        Ok(Item::Bytes(bytes)) => bytes,
         _ => b"",
     };
     match (command, key) {
@@ -50,7 +50,7 @@ fn write_inside(pen: &mut Pen, number: u64, command: u8, key: i128, value: &[u8]
 /// Writes the algorithm and the numbers of the signature in an attestation statement.
 fn write_statement(pen: &mut Pen, number: u64, statement: &[u8]) {
     if let Some(Item::Int(algorithm)) = item_at(statement, Item::Text("alg")) {
-        write_front(pen, number, "alg ");
+        pen.form(b"%d       alg ", &[Some(number)]);
         pen.integer(algorithm);
         write_name(pen, name_in(ALGORITHMS, algorithm));
         pen.text("\n");

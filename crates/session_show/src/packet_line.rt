@@ -1,10 +1,7 @@
 //! A packet as one line shows it.
 
-use crate::field::split;
 use crate::pen::Pen;
-use crate::words::{
-    CAPABILITIES, ERRORS, KEEPALIVES, MESSAGES, Names, name_in, write_flags, write_name,
-};
+use crate::words::{CAPABILITIES, ERRORS, KEEPALIVES, MESSAGES, name_in, write_flags, write_name};
 use hid_packet::command::{ERROR, INIT, KEEPALIVE};
 use hid_packet::{Packet, View};
 
@@ -31,34 +28,29 @@ pub fn write_packet(pen: &mut Pen, packet: &Packet) {
                 }
             }
             pen.number_after(" ", u64::from(len));
-            if let Some(names) = codes_of(cmd)
-                && let [code, ..] = part
-            {
+            let names = match cmd {
+                ERROR => ERRORS,
+                KEEPALIVE => KEEPALIVES,
+                INIT if pen.explains => {
+                    write_init(pen, len, part);
+                    return;
+                }
+                _ => return,
+            };
+            if let [code, ..] = part {
                 pen.text(" ");
                 pen.hex(&[*code]);
                 write_name(pen, name_in(names, i128::from(*code)));
-            }
-            if cmd == INIT && pen.explains {
-                write_init(pen, len, part);
             }
         }
         View::More { seq, .. } => pen.number_after(" +", u64::from(seq)),
     }
 }
 
-/// Returns the names of the first data byte of a message: of ERROR and KEEPALIVE it is a code or a status.
-pub fn codes_of(command: u8) -> Option<Names> {
-    match command {
-        ERROR => Some(ERRORS),
-        KEEPALIVE => Some(KEEPALIVES),
-        _ => None,
-    }
-}
-
 /// Writes the data of an INIT: a host sends a nonce of 8 bytes, and gets it back in an answer of 17 bytes, which says
 /// the channel, the versions of the protocol and of the device, and the capabilities.
 fn write_init(pen: &mut Pen, len: u16, part: &[u8]) {
-    let Some((nonce, rest)) = split(part, 8) else {
+    let Some((nonce, rest)) = part.split_at_checked(8) else {
         return;
     };
     if !matches!(len, 8 | 17) {
@@ -69,15 +61,17 @@ fn write_init(pen: &mut Pen, len: u16, part: &[u8]) {
     if len == 8 {
         return;
     }
-    let Some((channel, [version, major, minor, build, capabilities, ..])) = split(rest, 4) else {
+    let Some((channel, [version, major, minor, build, capabilities, ..])) = rest.split_at_checked(4)
+    else {
         return;
     };
     pen.text(" channel ");
     pen.hex(channel);
-    pen.number_after(" version ", u64::from(*version));
-    pen.number_after(" device ", u64::from(*major));
-    pen.number_after(".", u64::from(*minor));
-    pen.number_after(".", u64::from(*build));
-    pen.text(" capabilities ");
+    let (version, major) = (Some(u64::from(*version)), Some(u64::from(*major)));
+    let (minor, build) = (Some(u64::from(*minor)), Some(u64::from(*build)));
+    pen.form(
+        b" version %d device %d.%d.%d capabilities ",
+        &[version, major, minor, build],
+    );
     write_flags(pen, *capabilities, CAPABILITIES);
 }

@@ -62,18 +62,13 @@ pub fn value_at<'a>(item: &'a [u8], wanted: Item<'_>) -> Option<&'a [u8]> {
     None
 }
 
-/// Returns the item that bytes begin with.
-pub fn first_item(bytes: &[u8]) -> Option<Item<'_>> {
-    match Cursor::new(bytes).item(1) {
-        Ok(item) => Some(item),
-        Err(_) => None,
-    }
-}
-
 /// Returns the item at this key of a map, where the bytes are one.
 pub fn item_at<'a>(item: &'a [u8], wanted: Item<'_>) -> Option<Item<'a>> {
-    match value_at(item, wanted) {
-        Some(value) => first_item(value),
-        None => None,
+    let Some(value) = value_at(item, wanted) else {
+        return None;
+    };
+    match Cursor::new(value).item(1) {
+        Ok(item) => Some(item),
+        Err(_) => None,
     }
 }

@@ -2,6 +2,7 @@
 ghost use Rattle.std.specs.Prelude.{◌<◌, ◌≤◌, length};
 
 use crate::wording::Wording;
+use crate::words::name_at;
 use arrayvec::ArrayVec;
 use itoa::Buffer;
 use std::fmt;
@@ -135,6 +136,55 @@ impl Pen {
         self.decimal(number);
     }
 
+    /// Writes a form: a text with a mark where a number goes, which is `%` and a letter (see `mark`). Where there is no
+    /// number or no name, the text in front of the mark ends at its last comma.
+    pub fn form(&mut self, form: &[u8], numbers: &[Option<u64>]) {
+        let mut rest = form;
+        for number in numbers {
+            let (comma, place) = place_of_mark(rest);
+            let Some([_, mark, after @ ..]) = rest.get(place..) else {
+                break;
+            };
+            match number {
+                Some(number) => self.mark(*mark, *number, front(rest, place), front(rest, comma)),
+                None => self.bytes(front(rest, comma)),
+            }
+            rest = after;
+        }
+        self.bytes(rest);
+    }
+
+    /// Writes the text in front of a mark, and a number: `d` means in decimal digits, `x` and `w` its last byte and its
+    /// last four bytes in hexadecimal digits, `-` not at all. Other letters ask for its name (`name_at`), upper case ones
+    /// with a quotation mark after it: where it has none, what is less of the text is written alone.
+    fn mark(&mut self, mark: u8, number: u64, text: &[u8], less: &[u8]) {
+        match mark {
+            b'-' => self.bytes(text),
+            b'd' => {
+                self.bytes(text);
+                self.decimal(number);
+            }
+            b'x' => {
+                self.bytes(text);
+                self.hex(&number.to_be_bytes()[7..]);
+            }
+            b'w' => {
+                self.bytes(text);
+                self.hex(&number.to_be_bytes()[4..]);
+            }
+            _ => match name_at(mark, number) {
+                Some(name) => {
+                    self.bytes(text);
+                    self.bytes(name.as_bytes());
+                    if mark < b'a' {
+                        self.bytes(b"\"");
+                    }
+                }
+                None => self.bytes(less),
+            },
+        }
+    }
+
     /// Writes an integer in decimal digits, with a sign below zero.
     pub fn integer(&mut self, number: i128) {
         // Most are small, and those are written in fewer steps.
@@ -183,4 +233,24 @@ impl fmt::Write for Pen {
         self.text(text);
         Ok(())
     }
+}
+
+/// Returns where the last comma before a form's first mark is, 0 where there is none, and where the mark is.
+fn place_of_mark(form: &[u8]) -> (usize, usize) {
+    let mut comma = 0;
+    let mut place = 0_usize;
+    for byte in form {
+        match *byte {
+            b'%' => break,
+            b',' => comma = place,
+            _ => {}
+        }
+        place = place.saturating_add(1);
+    }
+    (comma, place)
+}
+
+/// Returns the front of some bytes.
+pub fn front(bytes: &[u8], len: usize) -> &[u8] {
+    bytes.get(..len).unwrap_or(bytes)
 }

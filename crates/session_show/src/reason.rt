@@ -1,7 +1,7 @@
 //! Why the key doesn't send what a log has, as far as the lines before it show that.
 
 use crate::difference::Difference;
-use crate::entry::{EXCLUDED, write_extent};
+use crate::entry::EXCLUDED;
 use crate::packet_line::channel_of;
 use crate::pen::Pen;
 use crate::putting::Written;
@@ -79,39 +79,31 @@ impl Reason<'_> {
             && let Some(open) = &found.held
             && !open.extent.is_whole()
         {
-            pen.number_after(
-                "  it still waits for packet +",
-                u64::from(open.extent.continuations),
+            let (came, length) = open.extent.missing();
+            let next = u64::from(open.extent.continuations);
+            pen.form(
+                b"  it still waits for packet +%d of the message from line %d: %d of %d bytes came\n",
+                &[Some(next), Some(open.transaction.line), came, length],
             );
-            pen.number_after(" of the message from line ", open.transaction.line);
-            pen.text(":");
-            write_extent(pen, &open.extent, " bytes came\n");
         } else if let Some(awaited) = self.difference.awaited {
-            self.write_awaited(pen, awaited);
+            pen.text("  it needs ");
+            pen.text(awaited.name());
+            if let Some(reply) = self.difference.reply
+                && reply as u8 != awaited as u8
+            {
+                pen.form(b"; line %d is ", &[Some(self.difference.input)]);
+                pen.text(reply.name());
+            }
+            pen.text("\n");
         } else if let Some(found) = found
             && found.told.line > 0
             && !found.is_answering()
         {
-            pen.number_after(
-                "  nothing waits: its last answer on this channel is that of line ",
-                found.told.line,
+            pen.form(
+                b"  nothing waits: its last answer on this channel is that of line %d\n",
+                &[Some(found.told.line)],
             );
-            pen.text("\n");
         }
-    }
-
-    /// Writes what the key waits for, and what it got, where that is something else.
-    fn write_awaited(&self, pen: &mut Pen, awaited: Awaited) {
-        pen.text("  it needs ");
-        pen.text(awaited.name());
-        if let Some(reply) = self.difference.reply
-            && reply as u8 != awaited as u8
-        {
-            pen.number_after("; line ", self.difference.input);
-            pen.text(" is ");
-            pen.text(reply.name());
-        }
-        pen.text("\n");
     }
 
     /// Writes what a packet refers to that refuses: the message that is served, or the credential that is excluded.

@@ -16,14 +16,15 @@ use session_log::{LogFault, Source, Target, read_line};
 
 /// What is kept from line to line.
 #[derive(Drop)]
-struct Showing<F> {
+pub struct Showing<F> {
     followed: F,
     pen: Pen,
     numbered: Numbered,
 }
 
 impl<F: Follows> Showing<F> {
-    fn new(followed: F) -> Self {
+    /// Returns that of no lines.
+    pub fn new(followed: F) -> Self {
         Showing {
             followed,
             pen: Pen::new(F::wording()),

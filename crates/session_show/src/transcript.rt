@@ -1,7 +1,7 @@
 //! The messages of the fixed text: one is collected in each direction, whatever channel it is on.
 ghost use Rattle.session_show.specs.declared.wording.Wording.TheVariants.{Fixed as fixed};
 
-use crate::entry::{CborMessage, Entry, Follows, MessageKind, Own};
+use crate::entry::{ANSWER, CborMessage, Entry, Follows, Own, REQUEST};
 use crate::message::Collector;
 use crate::walk::Role;
 use crate::wording::Wording;
@@ -25,11 +25,11 @@ impl Follows for Transcript {
     fn next_entry<'a>(&'a mut self, number: u64, line: &'a [u8], said: &'a Line) -> Entry<'a> {
         let (kind, bytes) = match said {
             Line::Input(timed) => match &timed.input {
-                Input::Packet(packet) => (MessageKind::Request, self.requests.add(packet)),
-                _ => (MessageKind::Request, None),
+                Input::Packet(packet) => (&REQUEST, self.requests.add(packet)),
+                _ => (&REQUEST, None),
             },
-            Line::Sent(packet) => (MessageKind::Answer, self.answers.add(packet)),
-            Line::Comment | Line::Count => (MessageKind::Answer, None),
+            Line::Sent(packet) => (&ANSWER, self.answers.add(packet)),
+            Line::Comment | Line::Count => (&ANSWER, None),
         };
         let message = match bytes {
             Some(_) => Some(CborMessage {
@@ -51,6 +51,7 @@ impl Follows for Transcript {
             is_doubtful: false,
             part: Role::Own,
             ended: &[],
+            page: None,
         }
     }
 }

@@ -1,11 +1,11 @@
 //! One walk over a log: which transaction each line belongs to, which message ends at it, and which transactions end.
 ghost use Rattle.std.specs.Prelude.{◌<◌};
 
-use crate::channel::{Greeting, nonce_in};
+use crate::channel::nonce_in;
 use crate::channels::Channels;
 use crate::credentials::Credentials;
 use crate::device::{AnswerStart, NO_TIME_OUT, TIMED_OUT};
-use crate::entry::{CborMessage, Entry, MessageKind, Own};
+use crate::entry::{ANSWER, CborMessage, Entry, Own, REQUEST};
 use crate::exchange::{EndedTransactions, Extent, Followed, Transaction};
 use crate::packet_line::channel_of;
 use crate::pool::Pool;
@@ -54,7 +54,7 @@ pub struct Doubtful {
 
 /// A message that ends at a line.
 #[derive(Clone, Copy)]
-enum Shown {
+pub enum Shown {
     /// That of the transaction that began at a line.
     Request(u64),
     /// One of the device that began at a line, on the channel at a place.
@@ -89,7 +89,7 @@ pub struct LogWalk {
     /// .. or what it is, where it belongs to none, ..
     part: Role,
     /// .. the message that ends at it, ..
-    shown: Option<Shown>,
+    pub shown: Option<Shown>,
     /// .. and what it shows of a doubtful one before it.
     decided: Option<Decided>,
 }
@@ -172,11 +172,12 @@ impl LogWalk {
                 line,
                 said,
                 of: self.of,
-                message: self.message(),
+                message: self.message(&self.shown),
             },
             is_doubtful: matches!(&self.doubtful, Some(doubtful) if doubtful.line == number),
             part: self.part,
             ended: self.ends.0.as_slice(),
+            page: None,
         }
     }
 
@@ -188,29 +189,27 @@ impl LogWalk {
                 line: b"",
                 said: &decided.said,
                 of: decided.of,
-                message: self.shown(&decided.shown),
+                message: self.message(&decided.shown),
             }),
             None => None,
         }
     }
 
-    /// Returns the message that ends at it.
-    pub fn message(&self) -> Option<CborMessage<'_>> {
-        self.shown(&self.shown)
-    }
-
-    /// Returns a message as it is shown.
-    fn shown(&self, shown: &Option<Shown>) -> Option<CborMessage<'_>> {
+    /// Returns a message that ends at a line.
+    pub fn message(&self, shown: &Option<Shown>) -> Option<CborMessage<'_>> {
         match shown {
             Some(Shown::Request(line)) => Some(CborMessage {
-                kind: MessageKind::Request,
+                kind: &REQUEST,
                 bytes: self.pool.bytes(*line),
                 exchange: None,
             }),
             Some(Shown::Answer(line, place)) => Some(CborMessage {
-                kind: MessageKind::Answer,
+                kind: &ANSWER,
                 bytes: self.pool.bytes(*line),
-                exchange: self.channels.answered(*place),
+                exchange: match self.channels.list.get(*place) {
+                    Some(channel) => channel.told.exchange.as_ref(),
+                    None => None,
+                },
             }),
             None => None,
         }
@@ -244,33 +243,16 @@ impl LogWalk {
         let channel = channel_of(packet);
         let place = self.channels.place(channel, number, &mut self.ends);
         match packet.view() {
-            View::Start {
-                cid,
-                cmd,
-                len,
-                part,
-            } => match cmd {
-                CANCEL => {
-                    self.of = self.channels.list[place].cancel(number);
-                    if self.of.is_none() {
-                        self.part = Role::Cancel;
-                    }
+            View::Start { cmd: CANCEL, .. } => {
+                self.of = self.channels.list[place].cancel(number);
+                if self.of.is_none() {
+                    self.part = Role::Cancel;
                 }
-                INIT => {
-                    self.message_line = number;
-                    let greeting = Greeting {
-                        line: number,
-                        at: self.now,
-                        length: len,
-                        nonce: nonce_in(part),
-                    };
-                    self.of = Some(self.channels.list[place].greet(greeting, &mut self.ends));
-                }
-                _ => {
-                    let transaction = Transaction::of(number, cid, cmd, (len, part));
-                    self.begin(place, transaction, len, part);
-                }
-            },
+            }
+            View::Start { cmd, len, part, .. } => {
+                let transaction = Transaction::of(number, channel, cmd, (len, part));
+                self.begin(place, transaction, len, part);
+            }
             View::More { seq, part, .. } => self.go_on(place, number, timed, seq, part),
         }
     }
@@ -287,6 +269,7 @@ impl LogWalk {
             transaction,
             extent,
             at: self.now,
+            nonce: nonce_in(part),
             ..Followed::default()
         };
         self.channels.list[place].begin(begun, &mut self.ends);
@@ -381,6 +364,10 @@ impl LogWalk {
         let place = self.channels.place(channel, number, &mut self.ends);
         match packet.view() {
             View::Start { cmd, len, part, .. } => {
+                let status = match part {
+                    [status, ..] if cmd == CBOR && len > 0 => Some(*status),
+                    _ => None,
+                };
                 let answer = AnswerStart {
                     line: number,
                     command: cmd,
@@ -389,6 +376,7 @@ impl LogWalk {
                         continuations: 0,
                     },
                     part,
+                    status,
                 };
                 self.take_start(place, &answer);
             }

@@ -1,8 +1,6 @@
 //! The names that CTAP 2.1 has for numbers. What has no name is shown by its number alone.
 
 use crate::pen::Pen;
-use authn_core::Presence;
-use ctap_cbor::Kind;
 
 /// Numbers and their names.
 pub type Names = &'static [(i128, &'static str)];
@@ -17,11 +15,20 @@ pub fn name_in(names: Names, number: i128) -> Option<&'static str> {
     None
 }
 
-/// Writes a number's name, or what it is where it has none, and the number.
-pub fn write_named(pen: &mut Pen, names: Names, code: u8, kind: &str) {
-    pen.text(name_in(names, i128::from(code)).unwrap_or(kind));
-    pen.text(" ");
-    pen.hex(&[code]);
+/// Returns the name of a number that a form asks for by a letter (`Pen::form`).
+pub fn name_at(mark: u8, number: u64) -> Option<&'static str> {
+    let number = i128::from(number);
+    match mark {
+        b'S' | b'a' => name_in(STATUSES, number),
+        b's' => Some(name_in(STATUSES, number).unwrap_or("status")),
+        b'E' => name_in(ERRORS, number),
+        b'e' => Some(name_in(ERRORS, number).unwrap_or("ERROR")),
+        b'C' | b'c' => name_in(COMMANDS, number),
+        b'M' => name_in(MESSAGES, number),
+        b'K' => name_in(KEEPALIVES, number),
+        b'f' => name_in(FAULTS, number),
+        _ => None,
+    }
 }
 
 /// Writes two spaces and a name, where there is one and the text is explained.
@@ -34,33 +41,31 @@ pub fn write_name(pen: &mut Pen, name: Option<&str>) {
     }
 }
 
-/// Returns what the kind of a fault means.
-pub fn fault_name(kind: Kind) -> &'static str {
-    match kind {
-        Kind::Truncated => "Truncated: the item ends early",
-        Kind::Reserved => "Reserved: a length that is reserved or indefinite",
-        Kind::NotShortest => "NotShortest: a number or a length that has a shorter encoding",
-        Kind::TooDeep => "TooDeep: an array or a map within four others",
-        Kind::KeyType => "KeyType: a map's key that is no integer, byte string or text",
-        Kind::KeyOrder => "KeyOrder: a map's key that isn't above the one before it",
-        Kind::NotUtf8 => "NotUtf8: a text that isn't UTF-8",
-        Kind::Unsupported => "Unsupported: a tag, a float or a simple value",
-        Kind::Trailing => "Trailing: bytes after the item",
-        Kind::Memory => "Memory: no memory",
-    }
-}
-
-/// Returns what a reply to a test of the user's presence says.
-pub fn presence_word(presence: Presence) -> &'static str {
-    match presence {
-        Presence::Granted => "granted",
-        Presence::Denied => "denied",
-        Presence::TimedOut => "timeout",
-    }
-}
+/// What the kinds of faults mean, by their numbers.
+pub static FAULTS: Names = &[
+    (1, "Truncated: the item ends early"),
+    (2, "Reserved: a length that is reserved or indefinite"),
+    (
+        3,
+        "NotShortest: a number or a length that has a shorter encoding",
+    ),
+    (4, "TooDeep: an array or a map within four others"),
+    (
+        5,
+        "KeyType: a map's key that is no integer, byte string or text",
+    ),
+    (
+        6,
+        "KeyOrder: a map's key that isn't above the one before it",
+    ),
+    (7, "NotUtf8: a text that isn't UTF-8"),
+    (8, "Unsupported: a tag, a float or a simple value"),
+    (9, "Trailing: bytes after the item"),
+    (10, "Memory: no memory"),
+];
 
 /// The names of a message's commands (section 11.2.9).
-pub const MESSAGES: Names = &[
+pub static MESSAGES: Names = &[
     (0x01, "PING"),
     (0x03, "MSG"),
     (0x04, "LOCK"),
@@ -73,7 +78,7 @@ pub const MESSAGES: Names = &[
 ];
 
 /// The letters of an INIT's capabilities (section 11.2.9.1.3).
-pub const CAPABILITIES: Flags = &[(0x01, " WINK"), (0x04, " CBOR"), (0x08, " NMSG")];
+pub static CAPABILITIES: Flags = &[(0x01, " WINK"), (0x04, " CBOR"), (0x08, " NMSG")];
 
 /// Bits and the letters of those that are set.
 pub type Flags = &'static [(u8, &'static str)];
@@ -89,7 +94,7 @@ pub fn write_flags(pen: &mut Pen, flags: u8, letters: Flags) {
 }
 
 /// The names of an ERROR's codes (section 11.2.9.1.6).
-pub const ERRORS: Names = &[
+pub static ERRORS: Names = &[
     (0x01, "ERR_INVALID_CMD"),
     (0x02, "ERR_INVALID_PAR"),
     (0x03, "ERR_INVALID_LEN"),
@@ -102,10 +107,10 @@ pub const ERRORS: Names = &[
 ];
 
 /// The names of a KEEPALIVE's statuses (section 11.2.9.2.1).
-pub const KEEPALIVES: Names = &[(0x01, "STATUS_PROCESSING"), (0x02, "STATUS_UPNEEDED")];
+pub static KEEPALIVES: Names = &[(0x01, "STATUS_PROCESSING"), (0x02, "STATUS_UPNEEDED")];
 
 /// The names of the authenticator's commands (section 6).
-pub const COMMANDS: Names = &[
+pub static COMMANDS: Names = &[
     (0x01, "authenticatorMakeCredential"),
     (0x02, "authenticatorGetAssertion"),
     (0x04, "authenticatorGetInfo"),
@@ -120,7 +125,7 @@ pub const COMMANDS: Names = &[
 ];
 
 /// The names of statuses (section 8.2).
-pub const STATUSES: Names = &[
+pub static STATUSES: Names = &[
     (0x00, "CTAP2_OK"),
     (0x01, "CTAP1_ERR_INVALID_COMMAND"),
     (0x02, "CTAP1_ERR_INVALID_PARAMETER"),
