@@ -21,7 +21,7 @@ use Rattle.clap.specs.declared.builder.command.Command.{Command, TheViews.out-Co
 use Rattle.clap.specs.declared.parser.matches.{ArgMatches.ArgMatches, Found.Found}
 use Rattle.hidlog.specs.declared.command_line.{CommandOptions.CommandOptions, Form.TheVariants.Lines}
 use Rattle.hidlog.specs.declared.command_line.Manner.{TheVariants.ByTerminal}
-use Rattle.hidlog.specs.declared.grammar.{CommandName.CommandName, CommandParameter.CommandParameter}
+use Rattle.hidlog.specs.declared.grammar.{CommandEntry.CommandEntry, CommandParameter.CommandParameter}
 use Rattle.hidlog.specs.CommandLine.{Ask, command, command_for, rule_for, ask_of, asked_by, grammar}
 use Rattle.hidlog.specs.CommandLine.{answers_to, logs_of, play, check, show, task_for, texts_of}
 use Rattle.clap.specs.declared.error.kind.ErrorKind.TheVariants as kind
@@ -251,17 +251,23 @@ one_more old new argument name before parameter adds so_far rule local =
 abbrev pub alone : App
 alone = on_top (λ top. record top { has_version = true; subcommand_required = true }) (new_app (codes "hidlog"))
 
-abbrev pub with_name : App → CommandName → App
-with_name app name = with_subcommand app (command_for name)
+abbrev pub with_entry : App → CommandEntry → App
+with_entry app entry = with_subcommand app (command_for entry)
 
-pub one_command_more : (old sub new : Command) (names : List CommandName) (place : ℕ) (name : CommandName) →
+pub one_command_more : (old sub new : Command) (entries : List CommandEntry) (place : ℕ) (entry : CommandEntry) →
     AddsSubcommand old sub new
-    → (fields_of sub).has_globals ≡ false → shape_of sub ≡ command_for (get_or names place name) → place < length names
-    → app_of old ≡ fold with_name alone (take place names) → app_of new ≡ fold with_name alone (take (place + 1) names)
-one_command_more old sub new names place name adds local shape below so_far =
+    → (fields_of sub).has_globals ≡ false → shape_of sub ≡ command_for (get_or entries place entry)
+    → place < length entries → app_of old ≡ fold with_entry alone (take place entries)
+    → app_of new ≡ fold with_entry alone (take (place + 1) entries)
+one_command_more old sub new entries place entry adds local shape below so_far =
     adds.shape local ∙ ap₂ with_subcommand so_far shape
-    ∙ sym (ap (fold with_name alone) (take_more names place name below)
-    ∙ fold-append with_name alone (take place names) (get_or names place name ∷ []))
+    ∙ sym (ap (fold with_entry alone) (take_more entries place entry below)
+    ∙ fold-append with_entry alone (take place entries) (get_or entries place entry ∷ []))
+
+pub all_commands : (program : Command) (entries : List CommandEntry) (place : ℕ) →
+    app_of program ≡ fold with_entry alone (take place entries) → place ≡ 5
+    → app_of program ≡ fold with_entry alone (take 5 entries)
+all_commands program entries place so_far all = so_far ∙ ap (λ n. fold with_entry alone (take n entries)) all
 
 pub path_is : (found : Found) (id : Text) (path : Option Text) → path ≡ first_value found id →
     path ≡ first_of id (rows_of found)

@@ -8,12 +8,11 @@ use Rattle.clap.specs.declared.builder.action.ArgAction.TheVariants.{Append, Set
 use Rattle.hidlog.specs.declared.command_line.{Form.Form, Manner.Manner, CommandOptions.CommandOptions}
 use Rattle.hidlog.specs.declared.command_line.{Invocation.Invocation, ProgramTask.ProgramTask}
 use Rattle.hidlog.specs.declared.command_line.Form.TheVariants.{Json, JsonSummary, Lines, Summary}
-use Rattle.hidlog.specs.declared.grammar.{CommandParameter.CommandParameter, CommandName.CommandName}
-use Rattle.hidlog.specs.declared.grammar.CommandParameter.TheVariants.{Load, Save, All, Summary as SummaryFlag, Json as JsonFlag, Wide, Explain, Plain, Log, Logs}
+use Rattle.hidlog.specs.declared.grammar.{CommandEntry.CommandEntry, CommandParameter.CommandParameter}
+use Rattle.hidlog.specs.declared.grammar.ParameterForm.{ParameterForm, TheVariants.Flag, TheVariants.Log, TheVariants.Logs, TheVariants.PathOption}
 use Rattle.hidlog.specs.declared.command_line.Manner.TheVariants.{ByTerminal, Explained, Fixed}
 use Rattle.hidlog.specs.declared.command_line.ProgramTask.TheVariants.{Play, Check, Show}
 use Rattle.session_log.specs.declared.command.LogCommand.{LogCommand}
-use Rattle.hidlog.specs.declared.grammar.CommandName.TheVariants as name
 use Rattle.session_log.specs.declared.command.LogCommand.TheVariants as playing
 
 -- ---- the grammar
@@ -41,49 +40,18 @@ worded logs = flag (codes "explain") ∷ flag (codes "plain") ∷ logs ∷ []
 abbrev pub command : List ℕ → List Rule → Shape
 command name options = record (new_shape name) { rules = options }
 
--- the word of what may come after a command's name, by which its value is found
-abbrev pub parameter_word : CommandParameter → List ℕ
-parameter_word Load = codes "load"
-parameter_word Save = codes "save"
-parameter_word All = codes "all"
-parameter_word SummaryFlag = codes "summary"
-parameter_word JsonFlag = codes "json"
-parameter_word Wide = codes "wide"
-parameter_word Explain = codes "explain"
-parameter_word Plain = codes "plain"
-parameter_word Log = codes "log"
-parameter_word Logs = codes "log"
-
 -- what may come after a command's name, as clap has it
+abbrev pub rule_as : ParameterForm → List ℕ → Rule
+rule_as PathOption word = path_option word
+rule_as Flag word = flag word
+rule_as Log word = record (new_rule word) { value_names = 1 }
+rule_as Logs word = record (new_rule word) { value_names = 1; action = Some Append }
+
 abbrev pub rule_for : CommandParameter → Rule
-rule_for Load = path_option (codes "load")
-rule_for Save = path_option (codes "save")
-rule_for All = flag (codes "all")
-rule_for SummaryFlag = flag (codes "summary")
-rule_for JsonFlag = flag (codes "json")
-rule_for Wide = flag (codes "wide")
-rule_for Explain = flag (codes "explain")
-rule_for Plain = flag (codes "plain")
-rule_for Log = log_path
-rule_for Logs = log_paths
+rule_for parameter = rule_as parameter.form parameter.word.now
 
--- the commands' words, and what may come after them
-abbrev pub word_for : CommandName → List ℕ
-word_for name.Replay = codes "replay"
-word_for name.Live = codes "live"
-word_for name.Check = codes "check"
-word_for name.Quiet = codes "quiet"
-word_for name.Show = codes "show"
-
-abbrev pub parameters_for : CommandName → List CommandParameter
-parameters_for name.Replay = Load ∷ Save ∷ Explain ∷ Plain ∷ Log ∷ []
-parameters_for name.Live = Load ∷ Save ∷ Explain ∷ Plain ∷ Log ∷ []
-parameters_for name.Check = Load ∷ All ∷ JsonFlag ∷ Explain ∷ Plain ∷ Logs ∷ []
-parameters_for name.Quiet = Load ∷ Explain ∷ Plain ∷ Log ∷ []
-parameters_for name.Show = SummaryFlag ∷ JsonFlag ∷ Wide ∷ Explain ∷ Plain ∷ Log ∷ []
-
-abbrev pub command_for : CommandName → Shape
-command_for name = command (word_for name) (map rule_for (parameters_for name))
+abbrev pub command_for : CommandEntry → Shape
+command_for entry = command entry.word.now (map rule_for entry.parameters.now)
 
 -- the five commands, of which one is required; clap adds `help` and `--version`
 abbrev pub grammar : App

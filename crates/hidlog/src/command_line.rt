@@ -1,14 +1,13 @@
 //! What the program is asked to do, by its command line.
 ghost use Rattle.std.specs.Prelude.{◌≡◌, List, ℕ, Some, IfOk, IfErr, IfSome, option_map, option_and_then};
-ghost use Rattle.clap.specs.Words.{HasKind, app_of, subcommand_rows_of};
-ghost use Rattle.hidlog.specs.CommandLine.{AreFound, answers_to, ask_of, asked_as, asked_by, asks, explains, form_of, grammar, is_set as is_found, logs_of, manner_of, task_for, texts_of};
+ghost use Rattle.clap.specs.Words.{HasKind, subcommand_rows_of};
+ghost use Rattle.hidlog.specs.CommandLine.{AreFound, answers_to, ask_of, asked_as, asked_by, asks, explains, form_of, is_set as is_found, logs_of, manner_of, task_for, texts_of};
 ghost use Rattle.clap.specs.Matches.{found_of};
 ghost use Rattle.clap.specs.Walk.{rows_of};
 
 use crate::commands::Play;
 use crate::grammar::program;
-use clap::error::ErrorKind;
-use clap::{ArgMatches, Command, Error};
+use clap::{ArgMatches, Error};
 use session_log::LogCommand;
 use std::alloc::{AllocError, Global};
 
@@ -33,8 +32,8 @@ pub enum ProgramTask<'a> {
     /// `hidlog check [--load F] [--all] [--json] [FILE]..`
     Check {
         load: Option<&'a str>,
-        all: bool,
-        json: bool,
+        is_all: bool,
+        is_json: bool,
     },
     /// `hidlog show [--summary] [--json] [--wide] [FILE]`
     Show {
@@ -107,8 +106,8 @@ impl<'a> CommandOptions<'a> {
             "check" => {
                 return Some(ProgramTask::Check {
                     load: self.load,
-                    all: self.all,
-                    json: self.json,
+                    is_all: self.all,
+                    is_json: self.json,
                 });
             }
             "quiet" => {
@@ -241,23 +240,6 @@ fn alone<'a>(alloc: Global, words: &[&str]) -> Option<Invocation<'a>>
     }
 }
 
-/// Returns what the words ask for by the command line's grammar; or clap's answer.
-fn task_by<'a>(
-    alloc: Global,
-    program: &mut Command<'a>,
-    words: &'a [&'a str],
-) -> Result<Invocation<'a>, Error>
-    requires { app_of program.old ≡ grammar }
-    ensures task { IfOk result (λ asked. asked_by (texts_of words.now) ≡ Some (asked_as asked)) }
-    ensures answer { IfErr result (λ error. HasKind (answers_to (texts_of words.now)) error) }
-{
-    let matches = program.try_get_matches_from_mut(words)?;
-    match task_in(alloc, &matches)? {
-        Some(asked) => Ok(asked),
-        None => Err(program.error(ErrorKind::MissingSubcommand, "a command is needed")?),
-    }
-}
-
 /// Returns what the words ask for, the first of them being the program's name; or clap's answer, which is help or says
 /// what is wrong with them.
 #[inline(never)]
@@ -268,8 +250,12 @@ pub fn task_of<'a>(alloc: Global, words: &'a [&'a str]) -> Result<Invocation<'a>
     if let Some(asked) = alone(alloc, words) {
         return Ok(asked);
     }
-    match program(alloc) {
-        Ok(mut program) => task_by(alloc, &mut program, words),
-        Err(error) => Err(Error::from(error)),
+    let matches = program(alloc)?.try_get_matches_from(words)?;
+    let asked = task_in(alloc, &matches);
+    drop(matches);
+    match asked? {
+        Some(asked) => Ok(asked),
+        // Clap refuses words that have no command.
+        None => unreachable!(),
     }
 }

@@ -3,14 +3,14 @@ ghost use Rattle.std.specs.Prelude.{◌≡◌, [], None, Some, IfErr, IsSomeAnd,
 ghost use Rattle.session_log.specs.Command.{start_with};
 ghost use Rattle.token_session.specs.Meters.{session_of};
 ghost use Rattle.hidlog.specs.CommandLine.{named, path_of};
-ghost use Rattle.hidlog.specs.Commands.{RunsCommand, looked_at};
+ghost use Rattle.hidlog.specs.Commands.{RunsCommand};
 ghost use Rattle.hidlog.specs.Fault.{came_of, reasoned, told_of};
 ghost use Rattle.hidlog.specs.Model.{CanFail};
 ghost use Rattle.hidlog.specs.Program.{cannot_read_log};
 
 use crate::fault::ProgramFault;
 use crate::files::Files;
-use crate::held::{Output, WrittenLines, settled};
+use crate::held::{Output, settled};
 use crate::host::{Host, Modeled};
 use crate::logs::Logs;
 use crate::remarks::ComparisonEnd;
@@ -25,26 +25,6 @@ pub struct Play<'a> {
     pub load: Option<&'a str>,
     pub save: Option<&'a str>,
     pub log: Option<&'a str>,
-}
-
-impl<'a> Play<'a> {
-    /// Returns the path to save at, where it is looked at before the log is read.
-    fn looked_at(&self) -> Option<&'a str>
-        ensures { path_of result ≡ looked_at self.now.command (path_of self.now.save) }
-    {
-        match self.command {
-            LogCommand::Live => self.save,
-            LogCommand::Replay | LogCommand::Check | LogCommand::Quiet => None,
-        }
-    }
-
-    /// Returns of which texts the end is held back while more of the log is at hand. `live` answers line by line.
-    fn held_back(&self) -> WrittenLines {
-        match self.command {
-            LogCommand::Replay | LogCommand::Quiet => WrittenLines::OfComments,
-            LogCommand::Live | LogCommand::Check => WrittenLines::AtOnce,
-        }
-    }
 }
 
 /// Returns the path of the log, where it isn't on standard input.
@@ -115,18 +95,18 @@ impl<D: Files, L: Logs, O: Output, E: Target> Host<D, L, O, E> {
         if let Err(fault) = load(session, &self.files, play.load) {
             return Err(fault);
         }
-        if let Err(fault) = look(&self.files, play.looked_at(), path_in(play.log)) {
+        let log = path_in(play.log);
+        if let Err(fault) = look(&self.files, play.command, play.save, log) {
             return Err(fault);
         }
-        self.output.hold(play.held_back());
+        self.output.hold(Some(play.command));
         let answer = play
             .command
             .play(session, &mut self.input, &mut self.output);
         if let Err(fault) = settled(&mut self.output, answer) {
             return Err(ProgramFault::Log(fault));
         }
-        let (files, log) = (&mut self.files, path_in(play.log));
-        match save_rows(files, self.alloc, play.save, log, session) {
+        match save_rows(&mut self.files, self.alloc, play.save, log, session) {
             Ok(()) => Ok(ComparisonEnd::of(session)),
             Err(fault) => Err(fault),
         }

@@ -33,7 +33,8 @@ const INPUTS_ALONE: Remark = Remark::Differences(
 
 /// Says what differs in a log, after the text of the fault: explained, the packets; and all differences, where they are
 /// wished for. Where nothing differs, it says which bytes were signed otherwise than this key asks. The log is read again,
-/// if it can be.
+/// if it can be, on a session in this frame.
+#[inline(never)]
 pub fn tell_differences<D: Files, S: Source + Drop, E: Target>(
     files: &D,
     wish: &Wish<'_>,
@@ -44,23 +45,13 @@ pub fn tell_differences<D: Files, S: Source + Drop, E: Target>(
     if !wish.explains && !wish.is_all && !wish.is_json {
         return;
     }
-    match again {
-        Some(mut reader) => compare_anew(files, wish, &mut reader, told, faults),
-        None if wish.is_same => {}
-        None => say_remark(wish, READ_ONCE, faults),
-    }
-}
-
-/// Compares the log on a session of its own, in a frame of its own.
-#[inline(never)]
-fn compare_anew<D: Files, S: Source, E: Target>(
-    files: &D,
-    wish: &Wish<'_>,
-    reader: &mut S,
-    told: Option<LogFault>,
-    faults: &mut E,
-) {
-    compare_on(&mut fresh(), files, wish, reader, told, faults);
+    let Some(mut reader) = again else {
+        if !wish.is_same {
+            say_remark(wish, READ_ONCE, faults);
+        }
+        return;
+    };
+    compare_on(&mut fresh(), files, wish, &mut reader, told, faults);
 }
 
 /// Compares the log on a session, and says what differs.
@@ -208,7 +199,7 @@ fn say_one<S: Source, E: Target>(
         is_first: count == 0,
         texts: &texts,
     };
-    let Some(width) = wish.width else {
+    let (false, Some(width)) = (wish.is_json, wish.width) else {
         say(faults, &finding);
         return;
     };

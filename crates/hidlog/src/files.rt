@@ -76,18 +76,6 @@ fn beside(alloc: Global, path: &str, ending: &str) -> io::Result<String> {
     Ok(format!(in alloc; "{path}{ending}")?)
 }
 
-/// Looks whether a file can be made at a path where none is, by making another one beside it.
-fn look_beside<D: Disk>(files: &HostFiles<D>, path: &str) -> io::Result<()> {
-    if path.is_empty() {
-        return Err(Error::from_raw_os_error(ENOENT));
-    }
-    let part = beside(files.1, path, PART)?;
-    match files.0.create(part.as_str()) {
-        Ok(_) => files.0.remove(part.as_str()),
-        Err(error) => Err(error),
-    }
-}
-
 /// Writes over a file that is open, to the disk, and cuts it to what was written. What the file is too short for is
 /// written first, so that a full disk leaves the old bytes.
 fn write_over<F: Place>(file: &mut F, bytes: &[u8]) -> io::Result<()>
@@ -188,15 +176,20 @@ impl<D: Disk> Files for HostFiles<D> {
     }
 
     fn look(&self, path: &str, log: Option<&str>) -> io::Result<()> {
-        match self.0.look(path, log) {
-            Ok(Found::Nothing) => look_beside(self, path),
-            Ok(Found::File) => match self.0.open(path) {
-                Ok(_) => Ok(()),
-                Err(error) => Err(error),
-            },
-            Ok(Found::Pipe | Found::Other) => Ok(()),
-            Err(error) => Err(error),
+        let found = self.0.look(path, log)?;
+        if let Found::File = found {
+            self.0.open(path)?;
         }
+        let Found::Nothing = found else {
+            return Ok(());
+        };
+        if path.is_empty() {
+            return Err(Error::from_raw_os_error(ENOENT));
+        }
+        // Where no file is, one can be made if another one can be beside it.
+        let part = beside(self.1, path, PART)?;
+        self.0.create(part.as_str())?;
+        self.0.remove(part.as_str())
     }
 
     fn write(&mut self, path: &str, bytes: &[u8], log: Option<&str>) -> Result<(), Unwritten> {

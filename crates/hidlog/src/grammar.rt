@@ -2,7 +2,7 @@
 ghost use Rattle.std.specs.Prelude.{◌≡◌, false, IfOk};
 ghost use Rattle.clap.specs.Words.{app_of, rule_of, shape_of};
 ghost use Rattle.clap.specs.declared.builder.command.Command.TheViews.{out-Command as fields_of};
-ghost use Rattle.hidlog.specs.CommandLine.{command_for, grammar, parameter_word, parameters_for, rule_for, word_for};
+ghost use Rattle.hidlog.specs.CommandLine.{command_for, grammar, rule_for};
 
 use clap::{Arg, ArgAction, Command};
 use std::alloc::{AllocError, Global};
@@ -15,196 +15,149 @@ const ABOUT: &str = "Replays text logs of CTAPHID sessions on a FIDO2 security k
      The Python package adds commands to this program: webdriver, browser, import, export, judge, shrink, check-many, \
      mermaid";
 
-/// What may come after a command's name.
+/// How a parameter is written.
 #[derive(Clone, Copy)]
-enum CommandParameter {
+enum ParameterForm {
     /// `--load F`
-    Load,
-    /// `--save F`
-    Save,
+    PathOption,
     /// `--all`
-    All,
-    /// `--summary`
-    Summary,
-    /// `--json`
-    Json,
-    /// `--wide`
-    Wide,
-    /// `--explain`
-    Explain,
-    /// `--plain`
-    Plain,
+    Flag,
     /// The path of a log.
     Log,
     /// The paths of any number of logs.
     Logs,
 }
 
-impl CommandParameter {
-    /// Returns its word, by which its value is found, and what help says of it.
-    fn texts<'a>(self) -> (&'a str, &'a str)
-        ensures { result.0.now ≡ parameter_word self }
-    {
-        match self {
-            CommandParameter::Load => (
-                "load",
-                "Starts with the credentials of the snapshot F, and not with none",
-            ),
-            CommandParameter::Save => (
-                "save",
-                "Writes a snapshot of the credentials to F at the end, unless the log has a fault; until that is \
-                 done, a whole copy of it is in F.hidlog",
-            ),
-            CommandParameter::All => ("all", "Goes on after a difference, and counts them"),
-            CommandParameter::Summary => (
-                "summary",
-                "Writes a summary of the session: its transactions, credentials, noise",
-            ),
-            CommandParameter::Json => ("json", "Writes an object of JSON a line, for scripts"),
-            CommandParameter::Wide => (
-                "wide",
-                "Writes lines whole at a terminal, where they are cut at its width otherwise",
-            ),
-            CommandParameter::Explain => (
-                "explain",
-                "Explains: adds names, members, reasons and notes, as it does at a terminal without this word",
-            ),
-            CommandParameter::Plain => (
-                "plain",
-                "Explains nothing at a terminal either: writes the fixed texts",
-            ),
-            CommandParameter::Log => (
-                "log",
-                "The log; standard input where none is named, and for -",
-            ),
-            CommandParameter::Logs => (
-                "log",
-                "The logs; standard input where none is named, and for -",
-            ),
-        }
-    }
+/// What may come after a command's name.
+#[derive(Clone, Copy)]
+struct CommandParameter {
+    form: ParameterForm,
+    /// The word by which its value is found.
+    word: &'static str,
+    help: &'static str,
 }
+
+const LOAD: CommandParameter = CommandParameter {
+    form: ParameterForm::PathOption,
+    word: "load",
+    help: "Starts with the credentials of the snapshot F, and not with none",
+};
+
+const SAVE: CommandParameter = CommandParameter {
+    form: ParameterForm::PathOption,
+    word: "save",
+    help: "Writes a snapshot of the credentials to F at the end, unless the log has a fault; until that is \
+           done, a whole copy of it is in F.hidlog",
+};
+
+const ALL: CommandParameter = CommandParameter {
+    form: ParameterForm::Flag,
+    word: "all",
+    help: "Goes on after a difference, and counts them",
+};
+
+const SUMMARY: CommandParameter = CommandParameter {
+    form: ParameterForm::Flag,
+    word: "summary",
+    help: "Writes a summary of the session: its transactions, credentials, noise",
+};
+
+const JSON: CommandParameter = CommandParameter {
+    form: ParameterForm::Flag,
+    word: "json",
+    help: "Writes an object of JSON a line, for scripts",
+};
+
+const WIDE: CommandParameter = CommandParameter {
+    form: ParameterForm::Flag,
+    word: "wide",
+    help: "Writes lines whole at a terminal, where they are cut at its width otherwise",
+};
+
+const EXPLAIN: CommandParameter = CommandParameter {
+    form: ParameterForm::Flag,
+    word: "explain",
+    help: "Explains: adds names, members, reasons and notes, as it does at a terminal without this word",
+};
+
+const PLAIN: CommandParameter = CommandParameter {
+    form: ParameterForm::Flag,
+    word: "plain",
+    help: "Explains nothing at a terminal either: writes the fixed texts",
+};
+
+const LOG: CommandParameter = CommandParameter {
+    form: ParameterForm::Log,
+    word: "log",
+    help: "The log; standard input where none is named, and for -",
+};
+
+const LOGS: CommandParameter = CommandParameter {
+    form: ParameterForm::Logs,
+    word: "log",
+    help: "The logs; standard input where none is named, and for -",
+};
 
 /// Returns a parameter as clap has it.
-fn argument<'a>(alloc: Global, parameter: CommandParameter) -> Arg<'a>
-    ensures rule { rule_of result ≡ rule_for parameter }
+fn argument<'a>(alloc: Global, parameter: &CommandParameter) -> Arg<'a>
+    ensures rule { rule_of result ≡ rule_for parameter.now }
     ensures local { result.global ≡ false }
 {
-    let (word, help) = parameter.texts();
-    let arg = Arg::new(alloc, word).help(help);
-    match parameter {
-        CommandParameter::Load | CommandParameter::Save => arg.long(word).value_name("F"),
-        CommandParameter::Log => arg.value_name("FILE"),
-        CommandParameter::Logs => arg.value_name("FILE").action(ArgAction::Append),
-        CommandParameter::All
-        | CommandParameter::Summary
-        | CommandParameter::Json
-        | CommandParameter::Wide
-        | CommandParameter::Explain
-        | CommandParameter::Plain => arg.long(word).action(ArgAction::SetTrue),
+    let word = parameter.word;
+    let arg = Arg::new(alloc, word).help(parameter.help);
+    match parameter.form {
+        ParameterForm::PathOption => arg.long(word).value_name("F"),
+        ParameterForm::Flag => arg.long(word).action(ArgAction::SetTrue),
+        ParameterForm::Log => arg.value_name("FILE"),
+        ParameterForm::Logs => arg.value_name("FILE").action(ArgAction::Append),
     }
 }
 
-/// The name of a command.
+/// A command, and what help says of it.
 #[derive(Clone, Copy)]
-enum CommandName {
-    Replay,
-    Live,
-    Check,
-    Quiet,
-    Show,
+struct CommandEntry {
+    word: &'static str,
+    about: &'static str,
+    parameters: &'static [CommandParameter],
 }
 
 /// The commands, in the order in which help has them.
-const COMMANDS: &[CommandName] = &[
-    CommandName::Replay,
-    CommandName::Live,
-    CommandName::Check,
-    CommandName::Quiet,
-    CommandName::Show,
+static COMMANDS: [CommandEntry; 5] = [
+    CommandEntry {
+        word: "replay",
+        about: "Replays the log: writes it with the packets that the key sends, and what it counted",
+        parameters: &[LOAD, SAVE, EXPLAIN, PLAIN, LOG],
+    },
+    CommandEntry {
+        word: "live",
+        about: "Replays the log line by line as it comes, and says what the key needs after each input",
+        parameters: &[LOAD, SAVE, EXPLAIN, PLAIN, LOG],
+    },
+    CommandEntry {
+        word: "check",
+        about: "Compares the packets that the log names as sent with those that the key sends",
+        parameters: &[LOAD, ALL, JSON, EXPLAIN, PLAIN, LOGS],
+    },
+    CommandEntry {
+        word: "quiet",
+        about: "Writes the log's inputs, with a tick in place of each that is noise",
+        parameters: &[LOAD, EXPLAIN, PLAIN, LOG],
+    },
+    CommandEntry {
+        word: "show",
+        about: "Writes what the log's lines say, line by line",
+        parameters: &[SUMMARY, JSON, WIDE, EXPLAIN, PLAIN, LOG],
+    },
 ];
 
-impl CommandName {
-    /// Returns the command's word, and what help says of it.
-    fn texts<'a>(self) -> (&'a str, &'a str)
-        ensures { result.0.now ≡ word_for self }
-    {
-        match self {
-            CommandName::Replay => (
-                "replay",
-                "Replays the log: writes it with the packets that the key sends, and what it counted",
-            ),
-            CommandName::Live => (
-                "live",
-                "Replays the log line by line as it comes, and says what the key needs after each input",
-            ),
-            CommandName::Check => (
-                "check",
-                "Compares the packets that the log names as sent with those that the key sends",
-            ),
-            CommandName::Quiet => (
-                "quiet",
-                "Writes the log's inputs, with a tick in place of each that is noise",
-            ),
-            CommandName::Show => ("show", "Writes what the log's lines say, line by line"),
-        }
-    }
-
-    /// Returns the command's parameters.
-    fn parameters(self) -> &'static [CommandParameter]
-        ensures { result.now ≡ parameters_for self }
-    {
-        match self {
-            CommandName::Replay | CommandName::Live => {
-                &[
-                    CommandParameter::Load,
-                    CommandParameter::Save,
-                    CommandParameter::Explain,
-                    CommandParameter::Plain,
-                    CommandParameter::Log,
-                ]
-            }
-            CommandName::Check => {
-                &[
-                    CommandParameter::Load,
-                    CommandParameter::All,
-                    CommandParameter::Json,
-                    CommandParameter::Explain,
-                    CommandParameter::Plain,
-                    CommandParameter::Logs,
-                ]
-            }
-            CommandName::Quiet => {
-                &[
-                    CommandParameter::Load,
-                    CommandParameter::Explain,
-                    CommandParameter::Plain,
-                    CommandParameter::Log,
-                ]
-            }
-            CommandName::Show => {
-                &[
-                    CommandParameter::Summary,
-                    CommandParameter::Json,
-                    CommandParameter::Wide,
-                    CommandParameter::Explain,
-                    CommandParameter::Plain,
-                    CommandParameter::Log,
-                ]
-            }
-        }
-    }
-}
-
 /// Returns a command, with its parameters.
-fn command<'a>(alloc: Global, name: CommandName) -> Result<Command<'a>, AllocError>
-    ensures shape { IfOk result (λ made. shape_of made ≡ command_for name) }
+fn command<'a>(alloc: Global, entry: &CommandEntry) -> Result<Command<'a>, AllocError>
+    ensures shape { IfOk result (λ made. shape_of made ≡ command_for entry.now) }
     ensures local { IfOk result (λ made. (fields_of made).has_globals ≡ false) }
 {
-    let (word, about) = name.texts();
-    let mut command = Command::new(alloc, word).about(about);
-    for parameter in name.parameters() {
-        command = command.arg(argument(alloc, *parameter))?;
+    let mut command = Command::new(alloc, entry.word).about(entry.about);
+    for parameter in entry.parameters {
+        command = command.arg(argument(alloc, parameter))?;
     }
     Ok(command)
 }
@@ -217,8 +170,8 @@ pub fn program<'a>(alloc: Global) -> Result<Command<'a>, AllocError>
         .version(VERSION)
         .about(ABOUT)
         .subcommand_required(true);
-    for name in COMMANDS {
-        program = program.subcommand(command(alloc, *name)?)?;
+    for entry in &COMMANDS {
+        program = program.subcommand(command(alloc, entry)?)?;
     }
     Ok(program)
 }

@@ -3,7 +3,7 @@ ghost use Rattle.std.specs.Prelude.{◌≡◌, ◌<◌, ◌≤◌, ◌-◌, ◌^
 ghost use Rattle.std.specs.Io.KnownBytes.{Keeps, append_known};
 ghost use Rattle.hidlog.specs.Program.{Settles};
 
-use session_log::{Failed, LogFault, Target};
+use session_log::{Failed, LogCommand, LogFault, Target};
 use std::alloc::Global;
 use std::cell::Cell;
 
@@ -19,17 +19,6 @@ pub enum Ahead {
     Comment,
     /// Another one: an input, or a line that is refused.
     Input,
-}
-
-/// The lines of which a command writes a text.
-#[derive(Clone, Copy)]
-pub enum WrittenLines {
-    /// Each text is out as soon as it is written.
-    AtOnce,
-    /// Those of inputs.
-    OfInputs,
-    /// Those of comments, too.
-    OfComments,
 }
 
 /// How far from the end of the bytes that were read the last whole lines begin, of which a text may be written; 0 where
@@ -103,8 +92,9 @@ pub trait Output: Target {
     /// The bytes that it took and didn't hand on yet.
     ghost waits: { Self → List ℕ };
 
-    /// Lets it hold back texts of a log that is played, while another of these lies ahead.
-    fn hold(&self, texts: WrittenLines);
+    /// Lets it hold back texts of a log that this command plays, or without one of a log that is shown, while another of
+    /// these lies ahead. `live` answers line by line.
+    fn hold(&self, command: Option<LogCommand>);
 
     /// Hands on all that it holds back. A call that failed isn't made again.
     fn settle(&mut self) -> Result<(), Failed>
@@ -137,7 +127,8 @@ pub fn settled<O: Output>(output: &mut O, answer: Result<(), LogFault>) -> Resul
 pub struct HeldOutput<'a, T> {
     inner: T,
     ahead: &'a Cell<Ahead>,
-    texts: Cell<WrittenLines>,
+    /// The command whose texts these are.
+    command: Cell<Option<LogCommand>>,
     bytes: Vec<u8>,
     /// How many of the bytes were handed on.
     at: usize,
@@ -153,7 +144,7 @@ impl<'a, T: Target> HeldOutput<'a, T> {
         HeldOutput {
             inner,
             ahead,
-            texts: Cell::new(WrittenLines::AtOnce),
+            command: Cell::new(Some(LogCommand::Live)),
             bytes: Vec::new(alloc),
             at: 0,
         }
@@ -163,10 +154,10 @@ impl<'a, T: Target> HeldOutput<'a, T> {
 impl<T: Target> HeldOutput<'_, T> {
     /// Returns whether so many bytes more are held back: a line lies ahead of which a text is.
     fn holds(&self, more: usize) -> bool {
-        let lies_ahead = match self.ahead.get() {
-            Ahead::Nothing => false,
-            Ahead::Comment => matches!(self.texts.get(), WrittenLines::OfComments),
-            Ahead::Input => !matches!(self.texts.get(), WrittenLines::AtOnce),
+        let lies_ahead = match (self.ahead.get(), self.command.get()) {
+            (Ahead::Nothing, _) | (_, Some(LogCommand::Live | LogCommand::Check)) => false,
+            (Ahead::Comment, None) => false,
+            _ => true,
         };
         lies_ahead && self.bytes.len().saturating_add(more) <= HELD
     }
@@ -193,8 +184,8 @@ impl<T: Target> Target for HeldOutput<'_, T> {
 impl<T: Target> Output for HeldOutput<'_, T> {
     ghost waits = { λ s. drop s.at s.bytes.items };
 
-    fn hold(&self, texts: WrittenLines) {
-        self.texts.set(texts);
+    fn hold(&self, command: Option<LogCommand>) {
+        self.command.set(command);
     }
 
     fn settle(&mut self) -> Result<(), Failed> {

@@ -63,29 +63,20 @@ impl<D: Files, L: Logs, O: Output, E: Target> Host<D, L, O, E> {
     {
         let mut more = Vec::new(self.alloc);
         let mut target = ToWrite::new(&mut more);
-        if let Some(fault) = &outcome.fault {
-            self.say_fault(outcome, fault, &mut target);
-        } else if let Some(ending) = &outcome.ending
-            && let Some(wish) = &outcome.wish
-        {
-            note_one(&self.files, wish, &mut self.input, ending, &mut target);
-        }
-        more
-    }
-
-    /// Says what more is known of a log's fault.
-    fn say_fault<T: Target>(&mut self, outcome: &RunOutcome<'_>, fault: &LogFault, target: &mut T)
-        ensures { self.new ≡ record self.old { input = self.new.input } }
-    {
-        if let LogFault::Differs { .. } = fault {
-            if let Some(wish) = &outcome.wish {
-                let again = self.input.again(true);
-                tell_differences(&self.files, wish, again, outcome.fault, target);
+        let Some(fault) = &outcome.fault else {
+            if let (Some(ending), Some(wish)) = (&outcome.ending, &outcome.wish) {
+                note_one(&self.files, wish, &mut self.input, ending, &mut target);
             }
+            return more;
+        };
+        if let (LogFault::Differs { .. }, Some(wish)) = (fault, &outcome.wish) {
+            let again = self.input.again(true);
+            tell_differences(&self.files, wish, again, outcome.fault, &mut target);
         } else if outcome.explains {
             let state = self.input.state();
-            say_cause(&state, Some(state.name), fault, target);
+            say_cause(&state, Some(state.name), fault, &mut target);
         }
+        more
     }
 
     /// Runs the program on these words, and says more of what came of it.
@@ -137,34 +128,28 @@ fn play_to<'a, W: Write, E: Write>(
     host.play(words)
 }
 
-/// Says why the output failed, if faults can be written.
-fn explain_failure<E: Write>(error: &io::Error, errors: &mut Noting<E>) {
-    if errors.failure.is_none() {
-        let name = Some("standard output");
-        tell_written(&mut ToWrite::new(errors), &StreamFailure { name, error });
-    }
-}
-
-/// Runs the program on what its process hands to it. An error holds the exit status.
-fn start(rt: &HostRuntime) -> Result<(), u8> {
+/// Runs the program on what its process hands to it, and says why the output failed, if faults can be written.
+fn main(rt: HostRuntime) -> ExitCode {
     let mut errors = Noting::new(rt.stderr());
-    let texts = words_of(rt, &mut ToWrite::new(&mut errors))?;
+    let texts = match words_of(&rt, &mut ToWrite::new(&mut errors)) {
+        Ok(texts) => texts,
+        Err(status) => return ExitCode::from(status),
+    };
     let words: Result<Vec<&str>, _> = texts.iter().map(|text| text.as_str()).collect(rt.alloc());
     let Ok(words) = words else {
-        return Err(no_memory(&mut ToWrite::new(&mut errors)));
+        return ExitCode::from(no_memory(&mut ToWrite::new(&mut errors)));
     };
-    let mut writer = Noting::new(io::writer(rt));
-    let outcome = play_to(rt, words.as_slice(), &mut writer, &mut errors);
+    let mut writer = Noting::new(io::writer(&rt));
+    let outcome = play_to(&rt, words.as_slice(), &mut writer, &mut errors);
     if outcome.explains
+        && errors.failure.is_none()
         && let Some(error) = &writer.failure
     {
-        explain_failure(error, &mut errors);
+        let name = Some("standard output");
+        let failure = StreamFailure { name, error };
+        tell_written(&mut ToWrite::new(&mut errors), &failure);
     }
-    outcome.status
-}
-
-fn main(rt: HostRuntime) -> ExitCode {
-    match start(&rt) {
+    match outcome.status {
         Ok(()) => ExitCode::SUCCESS,
         Err(status) => ExitCode::from(status),
     }

@@ -1,5 +1,5 @@
 //! Why a line isn't a log line.
-use crate::pieces::{Pieces, after, count_in_front};
+use crate::pieces::{Pieces, after, count_in_front, len_before};
 use session_log::read_line;
 use session_show::{Pen, Written};
 
@@ -8,6 +8,19 @@ const CARRIAGE_RETURN: &str =
     " is a carriage return: lines end with a line feed alone (tr -d '\\r' drops the others)\n";
 
 const HEX_DIGITS: &[u8] = b"0123456789abcdefABCDEF";
+
+/// What lines begin with.
+const LETTERS: &[u8] = b"<>tpks";
+
+/// What comes after the moment of a line with each of these letters: a word, or fields of so many hexadecimal digits.
+static FIELDS: [(&[&str], &[usize]); 6] = [
+    (&[], &[128]),
+    (&[], &[128]),
+    (&[], &[]),
+    (&["granted", "denied", "timeout"], &[]),
+    (&["no"], &[64, 64, 64]),
+    (&["no"], &[144]),
+];
 
 /// Returns how many bytes in front two texts share.
 fn shared_len(field: &[u8], word: &[u8]) -> usize {
@@ -64,33 +77,30 @@ fn digits_len(fields: &[u8], most: &[usize]) -> usize {
 
 /// Returns how many bytes in front fit a log line. The one after them fits none.
 fn fitting_len(line: &[u8]) -> usize {
-    // What comes after the moment of a line with this letter: a word, or fields of so many hexadecimal digits.
-    let (words, digits): (&'static [&'static str], &'static [usize]) = match line {
-        [b'<' | b'>', ..] => (&[], &[128]),
-        [b't', ..] => (&[], &[]),
-        [b'p', ..] => (&["granted", "denied", "timeout"], &[]),
-        [b'k', ..] => (&["no"], &[64, 64, 64]),
-        [b's', ..] => (&["no"], &[144]),
-        _ => return 0,
+    let [letter, rest @ ..] = line else {
+        return 0;
     };
-    let (fields, len) = match line {
-        [b'<', b' ', fields @ ..] => (fields, 2),
-        [letter, b' ', fields @ ..] => {
-            let moment = moment_len(fields);
-            match after(fields, moment) {
-                [b' ', more @ ..] if moment > 0 && *letter != b't' => {
-                    (more, moment.saturating_add(3))
-                }
-                _ => return moment.saturating_add(2),
-            }
-        }
-        _ => return 1,
+    let Some(known) = FIELDS.get(len_before(LETTERS, *letter)) else {
+        return 0;
     };
-    let mut fitting = digits_len(fields, digits);
-    for word in words {
+    let [b' ', fields @ ..] = rest else {
+        return 1;
+    };
+    if *letter == b'<' {
+        return digits_len(fields, known.1).saturating_add(2);
+    }
+    let moment = moment_len(fields);
+    let [b' ', fields @ ..] = after(fields, moment) else {
+        return moment.saturating_add(2);
+    };
+    if moment == 0 || *letter == b't' {
+        return moment.saturating_add(2);
+    }
+    let mut fitting = digits_len(fields, known.1);
+    for word in known.0 {
         fitting = fitting.max(shared_len(fields, word.as_bytes()));
     }
-    len.saturating_add(fitting)
+    moment.saturating_add(fitting).saturating_add(3)
 }
 
 /// The first byte of a line that fits no log line; or that the line ends too early.

@@ -36,13 +36,6 @@ pub fn say<E: Target, W: Written>(faults: &mut E, what: &W) {
     }
 }
 
-/// Says that writing the result failed, unless too many writes of faults did.
-pub fn say_unwritten<E: Target>(faults: &mut E) {
-    if faults.failures() < u64::MAX {
-        tell(faults, WRITING_FAILED);
-    }
-}
-
 /// Writes a text to the faults and, where it is explained, the line that says why.
 pub fn tell_why<E: Target>(faults: &mut E, explains: bool, text: &[u8], why: &FaultReason<'_>)
     requires { E.failed faults.old < 2 ^ 64 - 1 }

@@ -14,7 +14,7 @@ use crate::command_line::{Form, ProgramTask, task_of};
 use crate::commands::{Play, open_log};
 use crate::fault::ProgramFault;
 use crate::files::Files;
-use crate::held::{Output, WrittenLines, settled};
+use crate::held::{Output, settled};
 use crate::host::{Host, Modeled};
 use crate::logs::Logs;
 use crate::process::{WRITING_FAILED, no_memory, tell, tell_written};
@@ -24,7 +24,7 @@ use crate::wish::Wish;
 use clap::Error;
 use clap::error::ErrorKind;
 use session_log::{LogCommand, LogFault, Target, put_all};
-use session_show::{LogForm, LogWriter, Wording, explain, put_json_fault, show, write_log};
+use session_show::{LogForm, LogWriter, explain, put_json_fault, show, write_log};
 
 /// What came of the words, with what more may be said of a log that isn't one of several.
 #[derive(Drop)]
@@ -103,32 +103,21 @@ fn show_form<L: Logs, O: Target>(
     }
 }
 
-/// Returns how lines are worded.
-fn wording_of(explains: bool) -> Wording
-    ensures { result ≡ wording_for explains }
-{
-    if explains {
-        Wording::Explained
-    } else {
-        Wording::Fixed
-    }
-}
-
 /// Shows the log in a form, line by line in words.
 fn show_in<L: Logs, O: Target>(
     form: Form,
-    wording: Wording,
+    is_worded: bool,
     input: &mut L,
     output: &mut O,
 ) -> Result<(), LogFault>
     requires reads { L.failed input.old < 2 ^ 64 - 1 }
     requires writes { O.failed output.old < 2 ^ 64 - 1 }
-    ensures { ShowsIn form wording L.left L.failed L.ended O.taken O.failed result (input.old, input.new)
+    ensures { ShowsIn form (wording_for is_worded) L.left L.failed L.ended O.taken O.failed result (input.old, input.new)
         (output.old, output.new) }
 {
-    match (form, wording) {
-        (Form::Lines, Wording::Fixed) => show(input, output),
-        (Form::Lines, Wording::Explained) => explain(input, output),
+    match (form, is_worded) {
+        (Form::Lines, false) => show(input, output),
+        (Form::Lines, true) => explain(input, output),
         (Form::Summary, _) => show_form(LogForm::Table, input, output),
         (Form::JsonSummary, _) => show_form(LogForm::Summary, input, output),
         (Form::Json, _) => show_form(LogForm::Objects, input, output),
@@ -151,7 +140,7 @@ impl<D: Files, L: Logs, O: Output, E: Target> Host<D, L, O, E> {
         };
         if error.use_stderr() {
             // What they have that can't be seen is escaped.
-            tell_written(&mut self.faults, &EscapedLines(text.as_str()));
+            tell_written(&mut self.faults, &EscapedLines(text.as_bytes()));
             return Err(2);
         }
         let answer = put_text(&mut self.output, text.as_bytes());
@@ -167,17 +156,17 @@ impl<D: Files, L: Logs, O: Output, E: Target> Host<D, L, O, E> {
     fn show_log<'a>(
         &mut self,
         form: Form,
-        wording: Wording,
+        is_worded: bool,
         log: Option<&'a str>,
     ) -> Result<(), ProgramFault<'a>>
         requires { CanFail ⟦<Self as Modeled>⟧.model self.old }
         ensures { Reads ⟦<Self as Modeled>⟧.model (path_of log.entry)
-            (λ read. ShowsLog ⟦<Self as Modeled>⟧.model form wording (came_of result) read self.new)
+            (λ read. ShowsLog ⟦<Self as Modeled>⟧.model form (wording_for is_worded) (came_of result) read self.new)
             (came_of result) self.old self.new }
     {
         open_log(&mut self.input, log)?;
-        self.output.hold(WrittenLines::OfInputs);
-        let answer = show_in(form, wording, &mut self.input, &mut self.output);
+        self.output.hold(None);
+        let answer = show_in(form, is_worded, &mut self.input, &mut self.output);
         match settled(&mut self.output, answer) {
             Ok(()) => Ok(()),
             Err(fault) => Err(ProgramFault::Log(fault)),
@@ -269,14 +258,27 @@ impl<D: Files, L: Logs, O: Output, E: Target> Host<D, L, O, E> {
         let explains = asked.manner.explains(self.terminals.faults);
         match asked.task {
             ProgramTask::Play(play) => self.run_command(&play, explains),
-            ProgramTask::Check { load, all, json } => {
-                let wish = Wish::of(alloc, explains, load, all, json, self.width);
+            ProgramTask::Check {
+                load,
+                is_all,
+                is_json,
+            } => {
+                let wish = Wish {
+                    alloc,
+                    explains,
+                    load,
+                    path: None,
+                    is_all,
+                    is_json,
+                    is_same: false,
+                    width: self.width,
+                };
                 self.check_logs(wish, &asked.logs)
             }
             // Whether lines are whole is a matter of the output.
             ProgramTask::Show { form, wide: _, log } => {
-                let wording = wording_of(asked.manner.explains(self.terminals.output));
-                let came = self.show_log(form, wording, log);
+                let is_worded = asked.manner.explains(self.terminals.output);
+                let came = self.show_log(form, is_worded, log);
                 self.conclude(&came, explains)
             }
         }

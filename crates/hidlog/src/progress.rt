@@ -27,8 +27,16 @@ pub struct Progress {
 }
 
 impl Progress {
-    /// Says that so many bytes were read. The cursor stays at the line's front, so that what is written next is over it.
-    pub fn pass(&mut self, rt: &HostRuntime, len: u64) {
+    /// Says that so many bytes were read, or erases what was written where all were. The cursor stays at the line's front,
+    /// so that what is written next is over it.
+    pub fn pass(&mut self, rt: &HostRuntime, len: Option<u64>) {
+        let Some(len) = len else {
+            if self.is_written {
+                self.is_written = false;
+                let _ = rt.stderr().write_all(ERASED);
+            }
+            return;
+        };
         if !self.is_said || len < self.next {
             return;
         }
@@ -43,13 +51,5 @@ impl Progress {
         }
         pen.text(" MB\r");
         let _ = rt.stderr().write_all(pen.part());
-    }
-
-    /// Erases what was written.
-    pub fn end(&mut self, rt: &HostRuntime) {
-        if self.is_written {
-            self.is_written = false;
-            let _ = rt.stderr().write_all(ERASED);
-        }
     }
 }

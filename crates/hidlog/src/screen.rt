@@ -32,20 +32,16 @@ pub struct Style {
     pub has_colours: bool,
 }
 
-/// Returns how many columns a byte begins. A character of three or four bytes may be a wide one.
-fn columns_of(byte: u8) -> usize {
-    match byte {
-        0x80..=0xBF => 0,
-        0xE0..=0xFF => 2,
-        _ => 1,
-    }
-}
-
-/// Returns how many bytes of a line are written before two dots, where it is wider than this.
+/// Returns how many bytes of a line are written before two dots, where it is wider than this. A character of three or
+/// four bytes may be a wide one.
 fn cut_at(line: &[u8], width: usize) -> Option<usize> {
     let (mut columns, mut end) = (0_usize, 0);
     for (place, byte) in line.iter().enumerate() {
-        columns = columns.saturating_add(columns_of(*byte));
+        columns = columns.saturating_add(match *byte {
+            0x80..=0xBF => 0,
+            0xE0..=0xFF => 2,
+            _ => 1,
+        });
         if columns > width {
             return Some(end);
         }

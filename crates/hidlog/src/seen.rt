@@ -50,13 +50,13 @@ impl Seen {
     /// Takes the bytes that come next, and says how much was read; there are none at the log's end.
     pub fn take(&mut self, rt: &HostRuntime, bytes: &[u8]) {
         let [.., last] = bytes else {
-            self.progress.end(rt);
+            self.progress.pass(rt, None);
             return;
         };
         self.has_input = self.has_input || has_input(self.ends_line, bytes);
         self.ends_line = *last == b'\n';
         self.len = self.len.saturating_add(bytes.len() as u64);
-        self.progress.pass(rt, self.len);
+        self.progress.pass(rt, Some(self.len));
         let Some(kept) = &mut self.kept else {
             return;
         };

@@ -17,10 +17,10 @@ use crate::logs::{LogState, Logs};
 use crate::misfit::first_misfit;
 use crate::objects::ProgramFaultObject;
 use crate::pieces::Pieces;
-use crate::process::{say, say_unwritten};
+use crate::process::{WRITING_FAILED, say};
 use crate::remarks::{ComparisonEnd, Notes};
 use crate::snapshots::load;
-use crate::texts::StreamFailure;
+use crate::texts::{EscapedLines, StreamFailure};
 use crate::wish::{FaultLine, Wish};
 use session_log::{CAPACITY, LogCommand, LogFault, Target, ToWrite};
 use session_show::{Pen, Wording, Written, put_written};
@@ -174,20 +174,8 @@ impl<D: Files, L: Logs, O: Output, E: Target> Host<D, L, O, E> {
         if said.is_ok() {
             return Ok(());
         }
-        say_unwritten(&mut self.faults);
+        say(&mut self.faults, &EscapedLines(WRITING_FAILED));
         Err(1)
-    }
-
-    /// Says what may be wrong with a log in which nothing differs; as objects, where these are wished for.
-    fn say_notes(&mut self, wish: &Wish<'_>, ending: &ComparisonEnd)
-        ensures files { self.new.files ≡ self.old.files }
-        ensures input { self.new.input ≡ self.old.input }
-    {
-        if wish.is_json {
-            note_one(&self.files, wish, &mut self.input, ending, &mut self.output);
-        } else {
-            note_one(&self.files, wish, &mut self.input, ending, &mut self.faults);
-        }
     }
 
     /// Writes the fault of a log of this name and, where it is explained, what more is known of it.
@@ -233,11 +221,12 @@ impl<D: Files, L: Logs, O: Output, E: Target> Host<D, L, O, E> {
         }
         say(&mut self.output, &ProgramFaultObject { wish, fault });
         if self.output.failures() > 0 {
-            say_unwritten(&mut self.faults);
+            say(&mut self.faults, &EscapedLines(WRITING_FAILED));
         }
     }
 
-    /// Compares one of several logs, and says what came of it with its path in front. An error holds the exit status.
+    /// Compares one of several logs, and says what came of it with its path in front; as objects, where these are wished
+    /// for. An error holds the exit status.
     fn check_one<'a>(&mut self, wish: &Wish<'a>, path: &'a str) -> Result<(), u8>
         requires { CanFail ⟦<Self as Modeled>⟧.model self.old }
         ensures status { IfErr result (λ code. (code ≡ 1) ⊎ (code ≡ 2)) }
@@ -249,7 +238,23 @@ impl<D: Files, L: Logs, O: Output, E: Target> Host<D, L, O, E> {
         match self.compare(wish, path, &mut same) {
             Ok(ending) => {
                 let said = self.say_same(wish, &same);
-                self.say_notes(wish, &ending);
+                if wish.is_json {
+                    note_one(
+                        &self.files,
+                        wish,
+                        &mut self.input,
+                        &ending,
+                        &mut self.output,
+                    );
+                    return said;
+                }
+                note_one(
+                    &self.files,
+                    wish,
+                    &mut self.input,
+                    &ending,
+                    &mut self.faults,
+                );
                 said
             }
             Err(fault) => {

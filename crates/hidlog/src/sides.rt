@@ -16,17 +16,15 @@ const LEVELS: usize = 3;
 /// Writes the lines of one side which the other one hasn't at their place, and always that of the packet.
 fn write_side(pen: &mut Pen, own: &[u8], other: &[u8]) {
     let mut others = Pieces::of(other, b'\n');
-    let mut is_packet = true;
+    let (mut front, mut is_packet): (&[u8], bool) = (b"    ", true);
     for line in Pieces::of(own, b'\n') {
-        let is_shared = match others.next() {
-            Some(other) => line == other,
-            None => false,
-        };
-        if is_packet || !is_shared && !line.is_empty() {
-            pen.text(if is_packet { "    " } else { "   " });
+        let other = others.next().unwrap_or(b"");
+        if is_packet || !line.is_empty() && line != other {
+            pen.bytes(front);
             pen.bytes(after(line, count_in_front(line, DIGITS)));
             pen.text("\n");
         }
+        front = b"   ";
         is_packet = false;
     }
 }

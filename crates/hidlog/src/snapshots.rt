@@ -1,9 +1,9 @@
 //! The session's start from a snapshot, and the snapshot of its end.
-ghost use Rattle.std.specs.Prelude.{◌≡◌, [], List, Some, Ok, IfOk, IfErr, MatchResult, OnOk};
+ghost use Rattle.std.specs.Prelude.{◌≡◌, [], List, IfErr, OnOk};
 ghost use Rattle.cred_table.specs.declared.row.Row.{Row as AnyRow};
-ghost use Rattle.cred_table.specs.Snapshots.{Loads, Refuses};
 ghost use Rattle.token_session.specs.Meters.{StandsAfter, session_of};
 ghost use Rattle.hidlog.specs.CommandLine.{path_of};
+ghost use Rattle.hidlog.specs.Commands.{looked_at};
 ghost use Rattle.hidlog.specs.Fault.{came_of, told_of};
 ghost use Rattle.session_log.specs.Command.{start_with};
 ghost use Rattle.hidlog.specs.Saved.{FailsToOpen, FailsToSave, Opens, Saves};
@@ -11,37 +11,14 @@ ghost use Rattle.hidlog.specs.Saved.{FailsToOpen, FailsToSave, Opens, Saves};
 use crate::fault::ProgramFault;
 use crate::files::{Files, Unwritten};
 use authn_core::Config;
-use cred_table::{SnapshotFault, save};
-use session_log::CAPACITY;
+use cred_table::save;
+use session_log::{CAPACITY, LogCommand};
 use std::alloc::Global;
 use std::io::ErrorKind;
 use token_session::Session;
 
-/// Reads the file of a snapshot.
-fn read_file<'a, D: Files>(files: &D, path: &'a str) -> Result<Vec<u8>, ProgramFault<'a>>
-    ensures holds { IfOk result (λ bytes. D.holds files.now path.now bytes.items) }
-    ensures fails { IfErr result (λ fault. FailsToOpen D.holds D.unreadable files.now (Some path.now) (Err (told_of fault))) }
-{
-    match files.read(path) {
-        Ok(bytes) => Ok(bytes),
-        Err(error) if error.kind() == ErrorKind::OutOfMemory => Err(ProgramFault::Memory),
-        Err(error) => Err(ProgramFault::UnreadSnapshot(path, error)),
-    }
-}
-
-/// Puts the credentials of a snapshot into the program's session, which begins anew: its AAGUID is zero, its moment 0.
-fn put_rows(session: &mut Session<CAPACITY>, bytes: &[u8]) -> Result<(), SnapshotFault>
-    ensures { MatchResult result
-        (λ _. (rows : List AnyRow) × Loads 64 bytes.now (Ok tt) rows × StandsAfter session.new (start_with rows) [])
-        (λ fault. Refuses 64 bytes.now fault) }
-{
-    match session.load(Config { aaguid: [0; 16] }, bytes, 0) {
-        Ok(()) => Ok(()),
-        Err(fault) => Err(fault),
-    }
-}
-
-/// Puts the credentials of the snapshot at the path, if there is one, into the program's session.
+/// Puts the credentials of the snapshot at the path, if there is one, into the program's session, which begins anew: its
+/// AAGUID is zero, its moment 0.
 #[inline(never)]
 pub fn load<'a, D: Files>(
     session: &mut Session<CAPACITY>,
@@ -56,22 +33,29 @@ pub fn load<'a, D: Files>(
     let Some(path) = path else {
         return Ok(());
     };
-    let bytes = read_file(files, path)?;
-    match put_rows(session, &bytes) {
+    let bytes = match files.read(path) {
+        Ok(bytes) => bytes,
+        Err(error) if error.kind() == ErrorKind::OutOfMemory => return Err(ProgramFault::Memory),
+        Err(error) => return Err(ProgramFault::UnreadSnapshot(path, error)),
+    };
+    match session.load(Config { aaguid: [0; 16] }, &bytes, 0) {
         Ok(()) => Ok(()),
         Err(fault) => Err(ProgramFault::RefusedSnapshot(path, fault, bytes)),
     }
 }
 
-/// Looks whether a snapshot can be written to the path, if there is one.
+/// Looks whether a snapshot can be written to the path, if there is one. That is done for `live` alone, whose log may take
+/// long to come.
 pub fn look<'a, D: Files>(
     files: &D,
+    command: LogCommand,
     path: Option<&'a str>,
     log: Option<&str>,
 ) -> Result<(), ProgramFault<'a>>
-    ensures { IfErr result (λ fault. FailsToSave D.unwritable files.now (path_of path.entry) (Err (told_of fault))) }
+    ensures { IfErr result (λ fault.
+        FailsToSave D.unwritable files.now (looked_at command (path_of path.entry)) (Err (told_of fault))) }
 {
-    let Some(path) = path else {
+    let (LogCommand::Live, Some(path)) = (command, path) else {
         return Ok(());
     };
     match files.look(path, log) {

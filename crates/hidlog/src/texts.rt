@@ -6,12 +6,12 @@ use std::io::Error;
 
 /// Lines, with what can't be seen in them escaped, and their line feeds as they are.
 #[derive(Clone, Copy)]
-pub struct EscapedLines<'a>(pub &'a str);
+pub struct EscapedLines<'a>(pub &'a [u8]);
 
 impl Written for EscapedLines<'_> {
     fn write(&self, pen: &mut Pen) {
         let mut front: &[u8] = b"";
-        for line in Pieces::of(self.0.as_bytes(), b'\n') {
+        for line in Pieces::of(self.0, b'\n') {
             pen.bytes(front);
             write_escaped(pen, line);
             front = b"\n";

@@ -1,6 +1,4 @@
 //! How what is found in a log is said.
-ghost use Rattle.std.specs.Prelude.{◌≡◌};
-
 use crate::texts::write_shown;
 use session_log::LogFault;
 use session_show::{Pen, Written, write_escaped, write_string};
@@ -23,37 +21,11 @@ pub struct Wish<'a> {
     pub is_json: bool,
     /// Whether nothing differs.
     pub is_same: bool,
-    /// The columns of the terminal where they are said, if it is one.
+    /// The columns of the terminal where they are said, if it is one. An object of JSON is never cut.
     pub width: Option<usize>,
 }
 
-impl<'a> Wish<'a> {
-    /// Returns that of a comparison of one log. An object of JSON is never cut.
-    pub fn of(
-        alloc: Global,
-        explains: bool,
-        load: Option<&'a str>,
-        is_all: bool,
-        is_json: bool,
-        width: Option<usize>,
-    ) -> Self
-        ensures explains { result.explains ≡ explains }
-        ensures load { result.load ≡ load.entry }
-        ensures all { result.is_all ≡ is_all }
-        ensures json { result.is_json ≡ is_json }
-    {
-        Wish {
-            alloc,
-            explains,
-            load,
-            path: None,
-            is_all,
-            is_json,
-            is_same: false,
-            width: if is_json { None } else { width },
-        }
-    }
-
+impl Wish<'_> {
     /// Begins a line with the log's path where several are compared, and else with the program's name.
     pub fn begin_line(&self, pen: &mut Pen) {
         match self.path {

@@ -12,7 +12,7 @@ returns-in-Err-look g c =
     inr (
       c.open_log.new.input,
       c.in_default.ensures.opened,
-      inr (begun.0, begun.1, inl (refl, rw (sym c.looked_at.ensures) c.in-Err-look.ensures)),
+      inr (begun.0, begun.1, inl (refl, c.in-Err-look.ensures)),
     )
 
 pub returns-in-Err-settled : goal.returns-in-Err-settled
