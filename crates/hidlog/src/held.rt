@@ -4,7 +4,6 @@ ghost use Rattle.std.specs.Io.KnownBytes.{Keeps, append_known};
 ghost use Rattle.hidlog.specs.Program.{Settles};
 
 use session_log::{Failed, LogCommand, LogFault, Target};
-use std::alloc::Global;
 use std::cell::Cell;
 
 /// The most bytes that are held back.
@@ -125,30 +124,14 @@ pub fn settled<O: Output>(output: &mut O, answer: Result<(), LogFault>) -> Resul
 /// A target over another one, which holds back what it takes while a text lies ahead.
 #[derive(Drop)]
 pub struct HeldOutput<'a, T> {
-    inner: T,
-    ahead: &'a Cell<Ahead>,
-    /// The command whose texts these are.
-    command: Cell<Option<LogCommand>>,
-    bytes: Vec<u8>,
+    pub inner: T,
+    pub ahead: &'a Cell<Ahead>,
+    /// The command whose texts these are; `live` until one is known, so that all is handed on at once.
+    pub command: Cell<Option<LogCommand>>,
+    pub bytes: Vec<u8>,
     /// How many of the bytes were handed on.
-    at: usize,
+    pub at: usize,
     ghost within: { at ≤ vec_len bytes },
-}
-
-impl<'a, T: Target> HeldOutput<'a, T> {
-    /// Returns the target, which took nothing yet and hands all on at once.
-    pub fn new(alloc: Global, inner: T, ahead: &'a Cell<Ahead>) -> Self
-        ensures counted { ⟦<HeldOutput<'a, T> as Target>⟧.failed result ≡ T.failed inner }
-        ensures waits { ⟦<HeldOutput<'a, T> as Output>⟧.waits result ≡ [] }
-    {
-        HeldOutput {
-            inner,
-            ahead,
-            command: Cell::new(Some(LogCommand::Live)),
-            bytes: Vec::new(alloc),
-            at: 0,
-        }
-    }
 }
 
 impl<T: Target> HeldOutput<'_, T> {

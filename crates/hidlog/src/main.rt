@@ -44,7 +44,7 @@ use logs::{HostLog, Logs, ProcessLog};
 use process::{no_memory, tell, tell_written, words_of};
 use program::RunOutcome;
 use screen::Screen;
-use session_log::{LogFault, Target, ToWrite};
+use session_log::{LogCommand, LogFault, Target, ToWrite};
 use several::{note_one, say_cause};
 use std::alloc::AllocError;
 use std::cell::Cell;
@@ -115,11 +115,21 @@ fn play_to<'a, W: Write, E: Write>(
     let Ok(input) = made else {
         return RunOutcome::of(Err(no_memory(&mut faults)), false);
     };
-    let screen = Screen::new(alloc, ToWrite::new(writer), around.style);
+    let screen = Screen {
+        inner: ToWrite::new(writer),
+        style: around.style,
+        line: Vec::new(alloc),
+    };
     let mut host = Host {
         files: HostFiles(HostDisk(rt), alloc),
         input,
-        output: HeldOutput::new(alloc, screen, &ahead),
+        output: HeldOutput {
+            inner: screen,
+            ahead: &ahead,
+            command: Cell::new(Some(LogCommand::Live)),
+            bytes: Vec::new(alloc),
+            at: 0,
+        },
         faults,
         alloc,
         terminals: around.terminals,

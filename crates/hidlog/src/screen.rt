@@ -5,7 +5,6 @@ ghost use Rattle.session_show.specs.Written.{Writes};
 use crate::pieces::{DIGITS, Pieces, after, count_in_front, has_part};
 use session_log::{Failed, Target, put_all};
 use session_show::{Pen, Wording, Written, put_written};
-use std::alloc::Global;
 
 const PLAIN: &[u8] = b"\x1b[0m";
 
@@ -158,24 +157,10 @@ fn whole_len(text: &[u8]) -> usize {
 /// A target over another one, which is a terminal where there is a style.
 #[derive(Drop)]
 pub struct Screen<T> {
-    inner: T,
-    style: Option<Style>,
+    pub inner: T,
+    pub style: Option<Style>,
     /// The line that isn't ended yet.
-    line: Vec<u8>,
-}
-
-impl<T: Target> Screen<T> {
-    /// Returns the target, which took nothing yet.
-    pub fn new(alloc: Global, inner: T, style: Option<Style>) -> Self
-        ensures taken { ⟦<Screen<T> as Target>⟧.taken result ≡ (if is_none style then T.taken inner else None) }
-        ensures counted { ⟦<Screen<T> as Target>⟧.failed result ≡ T.failed inner }
-    {
-        Screen {
-            inner,
-            style,
-            line: Vec::new(alloc),
-        }
-    }
+    pub line: Vec<u8>,
 }
 
 /// Writes lines in a style. It has a frame of its own, since one with a pen is zeroed at each call.

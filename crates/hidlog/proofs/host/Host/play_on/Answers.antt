@@ -1,4 +1,4 @@
-use Rattle.std.proofs.Common.{[], inl, inr, refl, sym}
+use Rattle.std.proofs.Common.{[], inl, inr, refl}
 use Rattle.session_log.specs.Command.{start_with}
 use Rattle.hidlog.proofs.host.Host.play_on.Goals as goal
 
