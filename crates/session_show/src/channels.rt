@@ -3,6 +3,7 @@ ghost use Rattle.std.specs.Prelude.{◌<◌, IfSome};
 
 use crate::channel::Channel;
 use crate::exchange::{Ended, EndedTransactions, Followed};
+use hid_packet::command::CBOR;
 
 /// How many channels are followed at once.
 const CHANNELS: usize = 6;
@@ -101,7 +102,9 @@ impl Channels {
         let mut waiting = CHANNELS;
         let mut count = 0_usize;
         for place in 0..CHANNELS {
-            if matches!(&self.list[place].held, Some(held) if held.waits()) {
+            if matches!(&self.list[place].held, Some(held)
+                if held.transaction.message == CBOR && held.extent.is_whole())
+            {
                 count = count.saturating_add(1);
                 waiting = place;
             }

@@ -253,7 +253,7 @@ impl Channel {
         ends: &mut EndedTransactions,
     ) -> Option<Followed> {
         let is_of_cancelled = matches!(&self.held, Some(held)
-            if held.waits() && held.cancelled.is_some())
+            if held.transaction.message == CBOR && held.extent.is_whole() && held.cancelled.is_some())
             && matches!(answer.status, Some(CANCELLED));
         if !is_of_cancelled && answer.is_of(&self.asked) {
             self.settle(ends);

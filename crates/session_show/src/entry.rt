@@ -155,8 +155,20 @@ pub fn write_message(pen: &mut Pen, number: u64, message: &CborMessage<'_>) {
     }
     pen.form(message.kind.names, &[code, fault]);
     pen.text("\n");
-    if fault.is_none() {
-        write_more(pen, number, message, *first, item);
+    if fault.is_some() {
+        return;
+    }
+    let map = message.map(*first);
+    let Some(exchange) = message.exchange else {
+        write_members(pen, number, map, item, b"");
+        return;
+    };
+    write_members(pen, number, map, item, exchange.rp_id.bytes());
+    if *first == EXCLUDED
+        && let Some(excluded) = &exchange.excluded
+    {
+        pen.form(b"%d   ", &[Some(number)]);
+        excluded.write(pen);
     }
 }
 
@@ -181,23 +193,6 @@ fn write_item(pen: &mut Pen, item: &[u8]) -> Option<u64> {
     match checked {
         Ok(()) => None,
         Err(fault) => Some(u64::from(fault.kind.number())),
-    }
-}
-
-/// Writes a line for each member of a message, and which credential a refusal excludes.
-fn write_more(pen: &mut Pen, number: u64, message: &CborMessage<'_>, first: u8, item: &[u8]) {
-    let map = message.map(first);
-    let Some(exchange) = message.exchange else {
-        write_members(pen, number, map, item, b"");
-        return;
-    };
-    write_members(pen, number, map, item, exchange.rp_id.bytes());
-    if first == EXCLUDED
-        && let Some(excluded) = &exchange.excluded
-    {
-        pen.decimal(number);
-        pen.text("   ");
-        excluded.write(pen);
     }
 }
 

@@ -126,11 +126,6 @@ impl Followed {
     pub fn is_served(&self) -> bool {
         self.extent.is_whole() && !matches!(self.transaction.message, PING | INIT)
     }
-
-    /// Returns whether it is a CBOR request that waits for its answer.
-    pub fn waits(&self) -> bool {
-        self.extent.is_whole() && self.transaction.message == CBOR
-    }
 }
 
 /// How a transaction ended.
