@@ -5,9 +5,8 @@ ghost use Rattle.std.specs.Iterator.{YieldsFirstBy, item_count};
 
 use crate::row::Row;
 use crate::slot::ChainWalk;
-use std::fmt;
 use std::marker::Model;
-use std::slice;
+use std::{fmt, slice};
 
 /// The rows of a table in order of making, as [`Table::iter`](crate::Table::iter) yields them. A contract sees those
 /// that are left.
