@@ -4,6 +4,7 @@ use crate::entry::{CborMessage, Own, forms_of};
 use crate::exchange::Ended;
 use crate::item::{Diagnostic, JSON, write_value};
 use crate::json::{write_hex, write_string, write_word};
+use crate::packet_line::channel_of;
 use crate::pen::Pen;
 use crate::putting::Written;
 use crate::rp_id::RpId;
@@ -44,14 +45,11 @@ pub fn write_line(pen: &mut Pen, own: &Own<'_>) {
 
 /// Writes the rest of the object of a packet, from its channel on, and the object of the message that it ends.
 fn write_packet(pen: &mut Pen, own: &Own<'_>, packet: &Packet) {
-    let channel = match packet.view() {
-        View::Start {
-            cid,
-            cmd,
-            len,
-            part,
-        } => {
-            let command = Some(u64::from(cmd));
+    let cid = channel_of(packet);
+    let channel = Some(u64::from(cid));
+    match packet.view() {
+        View::Start { cmd, len, part, .. } => {
+            let (command, length) = (Some(u64::from(cmd)), Some(u64::from(len)));
             let (error, status) = match part {
                 [code, ..] if cmd == ERROR => (Some(u64::from(*code)), None),
                 [code, ..] if cmd == KEEPALIVE => (None, Some(u64::from(*code))),
@@ -60,30 +58,21 @@ fn write_packet(pen: &mut Pen, own: &Own<'_>, packet: &Packet) {
             pen.form(
                 br#","channel":"%w","command":%d,"name":"%M,"length":%d,"code":%d,"codeName":"%E,"code":%d,"codeName":"%K"#,
                 &[
-                    Some(u64::from(cid)),
-                    command,
-                    command,
-                    Some(u64::from(len)),
-                    error,
-                    error,
-                    status,
-                    status,
+                    channel, command, command, length, error, error, status, status,
                 ],
             );
             let carried = part.len().min(usize::from(len));
             write_hex(pen, "data", part.split_at(carried).0);
-            cid
         }
-        View::More { cid, seq, part } => {
+        View::More { seq, part, .. } => {
             let form = br#","channel":"%w","sequence":%d"#;
-            pen.form(form, &[Some(u64::from(cid)), Some(u64::from(seq))]);
+            pen.form(form, &[channel, Some(u64::from(seq))]);
             write_hex(pen, "data", part);
-            cid
         }
-    };
+    }
     pen.text("}\n");
     if let Some(message) = &own.message {
-        write_message(pen, own, channel, message);
+        write_message(pen, own, cid, message);
     }
 }
 
