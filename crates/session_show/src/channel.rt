@@ -11,6 +11,36 @@ use hid_packet::command::INIT;
 /// The most INITs without an answer that are followed.
 const GREETINGS: usize = 4;
 
+/// An INIT without an answer. It is less than what is followed of others, since a walk has many of them.
+#[derive(Clone, Copy, Default)]
+pub struct Greeting {
+    pub line: u64,
+    /// Its moment.
+    pub at: u64,
+    pub length: u16,
+    pub nonce: u64,
+}
+
+impl Greeting {
+    /// Returns what is followed of it, on a channel.
+    fn on(&self, channel: u32) -> Followed {
+        Followed {
+            transaction: Transaction {
+                channel,
+                line: self.line,
+                message: INIT,
+                command: None,
+            },
+            extent: Extent {
+                length: self.length,
+                continuations: 0,
+            },
+            at: self.at,
+            ..Followed::default()
+        }
+    }
+}
+
 /// Returns the nonce of an INIT or of its answer, with what its first packet carries.
 pub fn nonce_in(part: &[u8]) -> u64 {
     match part {
@@ -64,7 +94,7 @@ pub struct Channel {
     /// A message that began after that one, until it is seen whether it is refused or took the channel.
     pub asked: Option<Followed>,
     /// The INITs without an answer.
-    pub greetings: ArrayVec<Followed, GREETINGS>,
+    pub greetings: ArrayVec<Greeting, GREETINGS>,
     /// Whether the last message that began is the last greeting.
     pub is_greeted: bool,
     /// Whether a host's last packet was a CANCEL, or a continuation of no message.
@@ -111,7 +141,7 @@ impl Channel {
             open.add(exchange, End::Cut(self.told.extent));
         }
         for greeting in self.greetings.as_slice() {
-            open.add(*greeting, End::Open);
+            open.add(greeting.on(self.number), End::Open);
         }
         if let Some(held) = self.held {
             open.add(held, End::Open);
@@ -136,17 +166,24 @@ impl Channel {
 
     // ---- packets of hosts
 
-    /// Takes the initialization packet of a message that isn't CANCEL. An INIT changes nothing else before it is answered
-    /// (section 11.2.9.1.3). Where another message holds the channel, it isn't known yet which of them goes on.
-    pub fn begin(&mut self, begun: Followed, ends: &mut EndedTransactions) {
+    /// Takes the initialization packet of a message that isn't CANCEL, with what it carries. An INIT changes nothing else
+    /// before it is answered (section 11.2.9.1.3). Where another message holds the channel, it isn't known yet which of
+    /// them goes on.
+    pub fn begin(&mut self, begun: Followed, part: &[u8], ends: &mut EndedTransactions) {
         self.is_stray = false;
         self.settle(ends);
         self.is_greeted = begun.transaction.message == INIT;
         if self.is_greeted {
             if self.greetings.is_full() {
-                ends.add(self.greetings.remove(0), End::Forgotten);
+                let oldest = self.greetings.remove(0);
+                ends.add(oldest.on(self.number), End::Forgotten);
             }
-            self.greetings.push(begun);
+            self.greetings.push(Greeting {
+                line: begun.transaction.line,
+                at: begun.at,
+                length: begun.extent.length,
+                nonce: nonce_in(part),
+            });
             return;
         }
         match &self.held {
@@ -261,7 +298,8 @@ impl Channel {
         if place + 1 == self.greetings.len() {
             self.is_greeted = false;
         }
-        Some(self.greetings.remove(place))
+        let greeting = self.greetings.remove(place);
+        Some(greeting.on(self.number))
     }
 
     /// Ends the transaction of the device's last message, if packets of that are missing. Returns the line that the

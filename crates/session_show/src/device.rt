@@ -173,7 +173,7 @@ impl Channel {
         if code == INVALID_LENGTH {
             let mut place = 0_usize;
             for greeting in self.greetings.as_slice() {
-                if greeting.extent.length != 8 {
+                if greeting.length != 8 {
                     return self.take_greeting(place);
                 }
                 place = place.saturating_add(1);
@@ -227,7 +227,7 @@ impl Channel {
         let nonce = nonce_in(answer.part);
         let mut place = 0_usize;
         for greeting in self.greetings.as_slice() {
-            if greeting.extent.length == 8 && greeting.nonce == nonce {
+            if greeting.length == 8 && greeting.nonce == nonce {
                 break;
             }
             place = place.saturating_add(1);

@@ -117,8 +117,6 @@ pub struct Followed {
     pub rp_id: RpId,
     /// The credential of the log that its request excludes.
     pub excluded: Option<Excluded>,
-    /// What its first packet begins with: of an INIT, the nonce.
-    pub nonce: u64,
 }
 
 impl Followed {

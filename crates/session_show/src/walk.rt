@@ -1,7 +1,6 @@
 //! One walk over a log: which transaction each line belongs to, which message ends at it, and which transactions end.
 ghost use Rattle.std.specs.Prelude.{◌<◌};
 
-use crate::channel::nonce_in;
 use crate::channels::Channels;
 use crate::credentials::Credentials;
 use crate::device::{AnswerStart, NO_TIME_OUT, TIMED_OUT};
@@ -269,10 +268,9 @@ impl LogWalk {
             transaction,
             extent,
             at: self.now,
-            nonce: nonce_in(part),
             ..Followed::default()
         };
-        self.channels.list[place].begin(begun, &mut self.ends);
+        self.channels.list[place].begin(begun, part, &mut self.ends);
         self.of = Some(transaction);
         self.message_line = transaction.line;
         if transaction.command.is_some() && length <= LONGEST_MESSAGE {
