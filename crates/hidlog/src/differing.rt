@@ -33,8 +33,7 @@ const INPUTS_ALONE: Remark = Remark::Differences(
 
 /// Says what differs in a log, after the text of the fault: explained, the packets; and all differences, where they are
 /// wished for. Where nothing differs, it says which bytes were signed otherwise than this key asks. The log is read again,
-/// if it can be, on a session in this frame.
-#[inline(never)]
+/// if it can be.
 pub fn tell_differences<D: Files, S: Source + Drop, E: Target>(
     files: &D,
     wish: &Wish<'_>,
@@ -45,13 +44,23 @@ pub fn tell_differences<D: Files, S: Source + Drop, E: Target>(
     if !wish.explains && !wish.is_all && !wish.is_json {
         return;
     }
-    let Some(mut reader) = again else {
-        if !wish.is_same {
-            say_remark(wish, READ_ONCE, faults);
-        }
-        return;
-    };
-    compare_on(&mut fresh(), files, wish, &mut reader, told, faults);
+    match again {
+        Some(mut reader) => compare_anew(files, wish, &mut reader, told, faults),
+        None if wish.is_same => {}
+        None => say_remark(wish, READ_ONCE, faults),
+    }
+}
+
+/// Compares the log on a session of its own. It has a frame of its own, which would hold two sessions otherwise.
+#[inline(never)]
+fn compare_anew<D: Files, S: Source, E: Target>(
+    files: &D,
+    wish: &Wish<'_>,
+    reader: &mut S,
+    told: Option<LogFault>,
+    faults: &mut E,
+) {
+    compare_on(&mut fresh(), files, wish, reader, told, faults);
 }
 
 /// Compares the log on a session, and says what differs.
