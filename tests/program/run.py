@@ -677,6 +677,7 @@ def little_stack_is_enough(_: Path) -> None:
         ["--help"],
         ["show", "--summary"],
         ["show", "--json"],
+        ["show", "--summary", "--json"],
     ):
         wants(run(words, log, before=small), 0, b"")
     wants(run(["replay", "--load", str(SNAPSHOT)], AGAIN.read_bytes(), before=small), 0, b"")
@@ -685,6 +686,9 @@ def little_stack_is_enough(_: Path) -> None:
     for name, loaded in (("counter_stays", ()), ("wrong_snapshot", ("--load", bob))):
         said = explained(["check", "--all", *loaded], stdin=EXAMPLES / f"failing/{name}.log", before=small)
         assert said.returncode == 1 and b"  the key sends:\n" in said.stderr, said
+        twice = [str(EXAMPLES / f"failing/{name}.log")] * 2
+        said = run(["check", "--all", "--json", *loaded, *twice], before=small)
+        assert said.returncode == 1 and said.stdout.count(b'"kind":"differences"') == 2, said
 
 
 class Skipped(Exception):
