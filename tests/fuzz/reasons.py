@@ -20,7 +20,7 @@ from typing import Any, Iterator, Optional
 sys.dont_write_bytecode = True
 
 import executors
-from transactions import CBOR, ERROR, EXCLUDED, TOP, Hosts, Machine
+from transactions import CBOR, ERROR, EXCLUDED, TOP, Hosts, Machine, needs_in
 
 BUSY = 0x06
 NEEDS = {b"presence": "the user's presence", b"key": "a new key", b"signature": "a signature"}
@@ -47,21 +47,26 @@ def need_after(live: list[bytes], number: int) -> Optional[bytes]:
     return None
 
 
-def reason_of(machine: Machine, found: dict[str, Any], need: Optional[bytes], line: bytes) -> Optional[str]:
-    """Why the key sends something else, as far as it is known."""
+def reason_of(
+    machine: Machine, found: dict[str, Any], needed: Optional[bytes], need: Optional[bytes], line: bytes
+) -> Optional[str]:
+    """Why the key sends something else, as far as it is known. Before the input, a line, it needed a reply, and then one."""
     sent, logged = (bytes.fromhex(found.get(it, "")) for it in ("sent", "logged"))
     channel = int.from_bytes((sent or logged)[:4], "big")
     held = machine.open
     if not sent and held and held.channel == channel:
         came = f"{len(held.data)} of {held.length} bytes came"
         return f"it still waits for packet +{held.next} of the message from line {held.line}: {came}"
-    if not sent and need:
+    if not sent and need and machine.work and machine.work.channel == channel:
         reply = REPLIES.get(line[:1])
-        other = f"; line {found['input']} is {reply}" if reply and reply != NEEDS[need] else ""
+        other = f"; line {found['input']} is {reply}" if reply and reply != NEEDS.get(needed or b"") else ""
         return f"it needs {NEEDS[need]}{other}"
+    if not sent and machine.is_stray:
+        return f"line {found['input']} is a continuation packet of no open message"
     if not sent:
         told = machine.told.get(channel)
-        return f"nothing waits: its last answer on this channel is that of line {told}" if told else None
+        said = f"nothing waits on this channel: its last answer there is that of line {told}"
+        return said if told else None
     if sent[4] == 0x80 | ERROR and sent[7] == BUSY:
         served = machine.open or machine.work
         return served and f"on channel {served.channel:08x}, from line {served.line}"
@@ -88,8 +93,9 @@ def judge(task: tuple[str, str, int]) -> tuple[int, Optional[str], int]:
     last = sum(it[:1] in INPUTS for it in lines[: found["input"]])
     log = b"\n".join(inputs) + b"\n"
     replayed = run(log, "replay")
-    machine = Machine(replayed, list(numbers_of(lines, replayed)), found["input"])
-    wanted = reason_of(machine, found, need_after(run(log, "live"), last), inputs[last - 1])
+    live = run(log, "live")
+    machine = Machine(replayed, needs_in(live), list(numbers_of(lines, replayed)), found["input"])
+    wanted = reason_of(machine, found, need_after(live, last - 1), need_after(live, last), inputs[last - 1])
     said = found.get("reason")
     if (said is None) != (wanted is None) or not (said or "").endswith(wanted or ""):
         return number, f"line {found['line']}: the reason is {wanted!r}, not {said!r}", 0

@@ -5,7 +5,8 @@
 
 What each packet belongs to comes from a machine of the transport's rules (CTAP 2.1, section 11.2): it steps the inputs, and
 says as it goes for which message the key sends each packet. It knows nothing of the program's own walk over a log, and
-stops where the log has a packet that the rules don't have. `show --json`, `--summary` and `--explain` have to say the same.
+stops where the log has a packet that the rules don't have. Which reply the key needs, `live` says. `show --json`,
+`--summary` and `--explain` have to say the same.
 """
 
 from __future__ import annotations
@@ -31,6 +32,8 @@ from hostile import MAKE, RESET, Maker, encode
 PING, INIT, CBOR, CANCEL, KEEPALIVE, ERROR = 0x01, 0x06, 0x10, 0x11, 0x3B, 0x3F
 BROADCAST, LONGEST = 0xFFFFFFFF, 7609
 EXCLUDED = 0x19
+INPUTS = (b">", b"t", b"p", b"k", b"s")
+REPLIES = {b"presence": b"p", b"key": b"k", b"signature": b"s"}
 FIRST_MEMBERS = {0x01: "fmt", 0x02: "credential", 0x04: "versions", 0x08: "credential"}
 
 
@@ -77,11 +80,25 @@ class Made:
         return same and self.is_discoverable and other.is_discoverable
 
 
+def needs_in(live: list[bytes]) -> list[bytes]:
+    """The letter of the reply that the key needs before each input, as `live` says; none where it needs nothing."""
+    needs = [b""]
+    for line in live:
+        if line[:1] in INPUTS:
+            needs.append(needs[-1])
+        elif line.startswith(b"# need "):
+            needs[-1] = REPLIES.get(line.split(b" ")[2], b"")
+    return needs
+
+
 class Machine:
     """The transport, stepped by the lines of a log that the key wrote itself."""
 
-    def __init__(self, lines: list[bytes], numbers: Optional[list[int]] = None, until: Optional[int] = None) -> None:
-        """Steps the inputs of lines, which have these numbers, or those from 1 on; up to that of a number."""
+    def __init__(
+        self, lines: list[bytes], needs: list[bytes], numbers: Optional[list[int]] = None, until: Optional[int] = None
+    ) -> None:
+        """Steps the inputs of lines, which have these numbers, or those from 1 on; up to that of a number. Before each input
+        the key needs a reply."""
         self.owners: dict[int, Optional[int]] = {}
         self.transactions: dict[int, Transaction] = {}
         self.given = 0
@@ -91,6 +108,7 @@ class Machine:
         self.alive = 0
         self.sent: collections.deque[tuple[int, bytes]] = collections.deque()
         self.strays: collections.Counter[str] = collections.Counter()
+        self.is_stray = False
         self.answers: dict[int, Optional[Transaction]] = {}
         self.message: tuple[int, bytes] = (0, b"")
         self.told: dict[int, int] = {}
@@ -100,23 +118,25 @@ class Machine:
         for number, line in zip(numbers or range(1, len(lines) + 1), lines):
             if line[:2] == b"< ":
                 inputs[-1][2].append((number, bytes.fromhex(line[2:].decode())))
-            elif line[:1] in (b">", b"t", b"p", b"k", b"s"):
+            elif line[:1] in INPUTS:
                 inputs.append((number, line.split(b" "), []))
-        for number, words, sent in inputs:
-            self.step(number, words, collections.deque(sent))
+        for (number, words, sent), need in zip(inputs, needs):
+            self.step(number, words, need, collections.deque(sent))
             if number == until:
                 break
 
-    def step(self, number: int, words: list[bytes], sent: collections.deque[tuple[int, bytes]]) -> None:
+    def step(self, number: int, words: list[bytes], need: bytes, sent: collections.deque[tuple[int, bytes]]) -> None:
         self.now = max(self.now, int(words[1]))
         self.sent = sent
         self.owners[number] = None
+        self.is_stray = False
         self.pass_time()
         if words[0] == b">":
             self.serve(number, bytes.fromhex(words[2].decode()))
         elif words[0] != b"t":
-            self.owners[number] = self.work.line if self.work else None
-            if self.work is None:
+            if self.work and words[0] == need:
+                self.owners[number] = self.work.line
+            else:
                 self.strays["replies"] += 1
             self.go_on()
         if self.sent:
@@ -232,6 +252,7 @@ class Machine:
         message = self.open
         if message is None or message.channel != channel:
             self.strays["continuations"] += 1
+            self.is_stray = True
             return
         self.owners[number] = message.line
         if packet[4] != message.next:
@@ -321,14 +342,16 @@ class Hosts(Maker):
         return self.registrations(self.channel()) if self.often(0.2) else super().flow()
 
     def registrations(self, channel: int) -> list[tuple]:
-        """Registrations at one site, each with a list of what was made before it, and of what wasn't."""
+        """Registrations of two users at one site, and then some with a list of what was made before, and of what wasn't."""
         site = self.one_of(*self.sites)
         events: list[tuple] = []
-        for _ in range(self.one_of(2, 3, 4)):
-            user = bytes([self.chance.randrange(3)])
-            asked = {1: self.some_bytes(32), 2: {"id": site}, 3: {"id": user}, 7: {"rk": self.often(0.5)}}
+        makes = self.one_of(1, 2, 3, 4)
+        for number in range(makes + self.one_of(1, 2)):
+            user = bytes([self.chance.randrange(2)])
+            asked = {1: self.some_bytes(32), 2: {"id": site}, 3: {"id": user}, 7: {"rk": self.often(0.7)}}
             asked[4] = [{"alg": -7, "type": "public-key"}]
-            asked[5] = [{"type": "public-key", "id": self.credential(site)} for _ in range(self.one_of(1, 2, 3))]
+            if number >= makes:
+                asked[5] = [{"type": "public-key", "id": self.credential(site)} for _ in range(self.one_of(1, 2, 3))]
             replies = self.presence(), self.key(site), self.signature()
             events += self.request(channel, bytes([MAKE]) + encode(asked), *replies)
         return events
@@ -401,7 +424,7 @@ def judge(task: tuple[str, str, int]) -> tuple[int, Optional[str], int]:
 
     log = run(Hosts(f"{seed}/{number}").log(), "replay")
     try:
-        machine = Machine(log.splitlines())
+        machine = Machine(log.splitlines(), needs_in(run(log, "live").splitlines()))
         said([json.loads(it) for it in run(log, "show", "--json").splitlines()], machine)
         explained(run(log, "show", "--explain").decode(), machine)
         summed(run(log, "show", "--summary").decode(), machine)

@@ -22,7 +22,7 @@ sys.dont_write_bytecode = True
 TOP = Path(__file__).resolve().parents[2]
 sys.path.insert(0, str(TOP / "tests" / "fuzz"))
 
-from transactions import Finding, Hosts, Machine, said
+from transactions import Finding, Hosts, Machine, needs_in, said
 
 
 def write_log(program: str, name: str, path: Path) -> None:
@@ -50,7 +50,8 @@ def main() -> int:
             ["node", str(TOP / "tests/web/walk_json.mjs")], input=listed, capture_output=True, text=True, check=True
         )
         for path, objects in zip(paths, walked.stdout.splitlines(), strict=True):
-            machine = Machine(path.read_bytes().splitlines())
+            live = subprocess.run([asked.program, "live", str(path)], capture_output=True, check=True, timeout=60).stdout
+            machine = Machine(path.read_bytes().splitlines(), needs_in(live.splitlines()))
             transactions += len(machine.transactions)
             try:
                 said(json.loads(objects), machine)

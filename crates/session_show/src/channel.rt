@@ -1,15 +1,22 @@
 //! What hosts and a device do on one channel, by the transport's own rules (CTAP 2.1, sections 11.2.4 and 11.2.5). Nothing
 //! is known of the device but its packets.
 
-use crate::credentials::Excluded;
-use crate::exchange::{End, EndedTransactions, Extent, Followed, Transaction};
+use crate::credentials::Name;
+use crate::exchange::{End, EndedTransactions, Extent, Followed, Named, Transaction};
+use crate::reason::Awaited;
 use crate::rp_id::RpId;
+use crate::walk::{MAKE, Role};
 use arrayvec::ArrayVec;
 use hid_packet::LONGEST_MESSAGE;
 use hid_packet::command::INIT;
 
 /// The most INITs without an answer that are followed.
 const GREETINGS: usize = 4;
+
+/// What KEEPALIVEs say (CTAP 2.1, section 11.2.9.2.1).
+const PROCESSING: u8 = 0x01;
+
+const USER_NEEDED: u8 = 0x02;
 
 /// An INIT without an answer. It is less than what is followed of others, since a walk has many of them.
 #[derive(Clone, Copy, Default)]
@@ -69,6 +76,14 @@ impl Told {
             None => None,
         }
     }
+
+    /// Returns the account that what it answers asks a discoverable credential for.
+    pub fn account(&self) -> Option<Name> {
+        match &self.exchange {
+            Some(exchange) => exchange.named.account,
+            None => None,
+        }
+    }
 }
 
 /// A continuation packet of a host beside a message that isn't whole.
@@ -108,17 +123,6 @@ pub struct Channel {
 }
 
 impl Channel {
-    /// Becomes the same as another one.
-    pub fn copy_from(&mut self, other: &Channel) {
-        *self = Channel {
-            greetings: ArrayVec::new(),
-            ..*other
-        };
-        let _ = self
-            .greetings
-            .try_extend_from_slice(other.greetings.as_slice());
-    }
-
     /// Returns whether nothing on it is open.
     pub fn is_idle(&self) -> bool {
         self.held.is_none()
@@ -171,7 +175,7 @@ impl Channel {
     /// them goes on.
     pub fn begin(&mut self, begun: Followed, part: &[u8], ends: &mut EndedTransactions) {
         self.is_stray = false;
-        self.settle(ends);
+        self.settle(false, ends);
         self.is_greeted = begun.transaction.message == INIT;
         if self.is_greeted {
             if self.greetings.is_full() {
@@ -232,40 +236,42 @@ impl Channel {
         continuation
     }
 
-    /// Keeps what the open request that began at a line names: an RP id, and the credential that it excludes.
-    pub fn name(&mut self, line: u64, rp_id: &RpId, excluded: Option<Excluded>) {
+    /// Keeps what the open request that began at a line names.
+    pub fn name(&mut self, line: u64, named: &Named) {
         if let Some(held) = &mut self.held
             && held.transaction.line == line
         {
-            held.rp_id = *rp_id;
-            held.excluded = excluded;
+            held.named = *named;
             return;
         }
         if let Some(asked) = &mut self.asked
             && asked.transaction.line == line
         {
-            asked.rp_id = *rp_id;
-            asked.excluded = excluded;
+            asked.named = *named;
         }
     }
 
-    /// Takes a reply of the user at a moment, and returns the request that waited for it.
-    pub fn reply(&mut self, presence: Option<u64>) -> Option<Transaction> {
+    /// Takes a reply at a moment, and returns the request that waited for it, and what it is where none did. Without a
+    /// KEEPALIVE it isn't known what is waited for, and of two messages not which of them is served.
+    pub fn reply(&mut self, reply: Awaited, now: u64) -> (Option<Transaction>, Role) {
         let Some(held) = &mut self.held else {
-            return None;
+            return (None, Role::Reply);
         };
-        if let Some(at) = presence
-            && held.took.is_none()
-        {
-            held.took = Some(at.saturating_sub(held.at));
+        match held.awaited {
+            None if self.asked.is_some() => return (None, Role::Own),
+            None => {}
+            Some(awaited) if awaited as u8 != reply as u8 => return (None, Role::Reply),
+            Some(Awaited::Presence) => held.took = Some(now.saturating_sub(held.at)),
+            Some(_) => held.awaited = Some(Awaited::Signature),
         }
-        Some(held.transaction)
+        (Some(held.transaction), Role::Own)
     }
 
     // ---- which message goes on
 
-    /// Lets what was asked have the channel: it wasn't refused before the next message began, or it was answered.
-    pub fn settle(&mut self, ends: &mut EndedTransactions) {
+    /// Lets what was asked have the channel, as a packet of the device shows, or since it wasn't refused before the next
+    /// message began.
+    pub fn settle(&mut self, is_shown: bool, ends: &mut EndedTransactions) {
         let Some(mut asked) = self.asked.take() else {
             return;
         };
@@ -275,6 +281,7 @@ impl Channel {
                 held.keepalives = held.keepalives.saturating_sub(self.since);
             }
             let end = match held.cancelled {
+                _ if !is_shown => End::Untold,
                 Some(line) => End::Dropped(line),
                 None => End::Replaced(asked.transaction.line),
             };
@@ -286,7 +293,7 @@ impl Channel {
     /// Takes what held the channel, of which the end is known.
     pub fn free(&mut self, ends: &mut EndedTransactions) -> Option<Followed> {
         let held = self.held.take();
-        self.settle(ends);
+        self.settle(true, ends);
         held
     }
 
@@ -330,6 +337,19 @@ fn cancel_served(message: &mut Option<Followed>, line: u64) -> Option<Transactio
 }
 
 impl Followed {
+    /// Returns which reply it waits for after a KEEPALIVE with this status.
+    pub fn awaited_after(&self, status: Option<u8>) -> Option<Awaited> {
+        match (status, self.awaited) {
+            (Some(USER_NEEDED), _) => Some(Awaited::Presence),
+            (Some(PROCESSING), Some(Awaited::Key | Awaited::Signature)) => self.awaited,
+            (Some(PROCESSING), _) => match self.transaction.command {
+                Some(MAKE) => Some(Awaited::Key),
+                _ => Some(Awaited::Signature),
+            },
+            _ => None,
+        }
+    }
+
     /// Goes on with its message by the packet with this number, unless it is whole.
     fn go_on(&mut self, number: u8, now: u64) -> Option<Continued> {
         if self.extent.is_whole() {

@@ -32,13 +32,6 @@ impl Channels {
         }
     }
 
-    /// Becomes the same as others.
-    pub fn copy_from(&mut self, others: &Channels) {
-        for place in 0..CHANNELS {
-            self.list[place].copy_from(&others.list[place]);
-        }
-    }
-
     /// Returns where a channel is, which is used on this line. Where there are too many, the one that was used least
     /// lately makes way, one on which nothing is open first.
     pub fn place(&mut self, number: u32, line: u64, ends: &mut EndedTransactions) -> usize

@@ -19,6 +19,9 @@ const CHANNEL_BUSY: u8 = 0x06;
 
 const INVALID_CHANNEL: u8 = 0x0B;
 
+/// The status of a request that was done.
+const OK: u8 = 0x00;
+
 /// The status of a request that was cancelled.
 const CANCELLED: u8 = 0x2D;
 
@@ -36,7 +39,7 @@ pub struct AnswerStart<'a> {
     /// How much of it came with this packet.
     pub extent: Extent,
     pub part: &'a [u8],
-    /// The status of a CBOR answer.
+    /// The status of a CBOR answer, or of a KEEPALIVE.
     pub status: Option<u8>,
 }
 
@@ -59,16 +62,21 @@ pub struct Answered {
 }
 
 impl Channel {
-    /// Takes a KEEPALIVE, and returns the transaction that is worked on.
-    pub fn keep_alive(&mut self, ends: &mut EndedTransactions) -> Option<Transaction> {
+    /// Takes a KEEPALIVE with this status, and returns the transaction that is worked on.
+    pub fn keep_alive(
+        &mut self,
+        status: Option<u8>,
+        ends: &mut EndedTransactions,
+    ) -> Option<Transaction> {
         let is_held = matches!(&self.held, Some(held) if held.is_served());
         let is_asked = matches!(&self.asked, Some(asked) if asked.is_served());
         if is_asked && !is_held {
-            self.settle(ends);
+            self.settle(true, ends);
         }
         match &mut self.held {
             Some(held) if held.is_served() => {
                 held.keepalives = held.keepalives.saturating_add(1);
+                held.awaited = held.awaited_after(status);
                 self.since = self.since.saturating_add(1);
                 Some(held.transaction)
             }
@@ -93,7 +101,7 @@ impl Channel {
             && !asked.extent.is_whole()
             && (held.extent.is_whole() || asked.after < NO_TIME_OUT)
         {
-            self.settle(ends);
+            self.settle(true, ends);
         }
         // The packet that came too late is left out of the message.
         let mut is_late = false;
@@ -203,9 +211,9 @@ impl Channel {
             self.answer_message(answer, ends)
         };
         if let Some(exchange) = &exchange
-            && let Some(ASSERT) = exchange.transaction.command
+            && let (Some(ASSERT), Some(OK)) = (exchange.transaction.command, answer.status)
         {
-            self.asserted = exchange.rp_id;
+            self.asserted = exchange.named.rp_id;
         }
         self.told = Told {
             line: answer.line,
@@ -246,7 +254,8 @@ impl Channel {
         Some(exchange)
     }
 
-    /// Takes the message that an answer is for: the newest whole one of its command.
+    /// Takes the message that an answer is for: the whole one of its command. Of two it can't be told which one, and both
+    /// end so.
     fn answer_message(
         &mut self,
         answer: &AnswerStart<'_>,
@@ -256,7 +265,14 @@ impl Channel {
             if held.transaction.message == CBOR && held.extent.is_whole() && held.cancelled.is_some())
             && matches!(answer.status, Some(CANCELLED));
         if !is_of_cancelled && answer.is_of(&self.asked) {
-            self.settle(ends);
+            if answer.is_of(&self.held) {
+                self.settle(false, ends);
+                if let Some(asked) = self.held.take() {
+                    ends.add(asked, End::Untold);
+                }
+                return None;
+            }
+            self.settle(true, ends);
         }
         if answer.is_of(&self.held) {
             self.free(ends)

@@ -8,11 +8,11 @@ use crate::pen::{Pen, front};
 use crate::putting::{Written, put_written};
 use crate::reason::{Awaited, Reason};
 use crate::signed::{Signed, SignedOtherwise};
-use crate::walk::LogWalk;
+use crate::walk::{LogWalk, Role};
 use crate::wording::Wording;
 use hid_packet::{Outbox, Packet};
 use session_log::{Failed, Line, LogFault, Source, Target, Window, next_line, read_line};
-use token_session::Session;
+use token_session::{Input, Session};
 
 /// More than the most lines of a log.
 const LINES: u64 = 1 << 33;
@@ -35,8 +35,10 @@ pub struct Difference {
     pub sent: Option<Packet>,
     /// What the session waits for then.
     pub awaited: Option<Awaited>,
-    /// What the input is, where it is a reply.
+    /// What the input is, where it is a reply that the session didn't wait for.
     pub reply: Option<Awaited>,
+    /// Whether the input is a continuation packet of no open message.
+    pub is_stray: bool,
 }
 
 impl Difference {
@@ -65,8 +67,11 @@ impl Difference {
 /// What the lines so far led to.
 #[derive(Drop)]
 struct PlayedLog {
+    /// A walk over the log.
     walk: LogWalk,
-    /// The packets that the session sent and the log has yet to have.
+    /// A walk over the log's inputs and what the session sends for them.
+    key: LogWalk,
+    /// The packets that the session sent and that walk has yet to take.
     outbox: Outbox,
     /// The line of the last input, 0 before any.
     input: u64,
@@ -74,14 +79,16 @@ struct PlayedLog {
     compared: u64,
     /// Whether one of them differed, so that the others aren't compared.
     has_differed: bool,
-    /// The packet that differed, and its line, until the walk has it.
-    last: Option<(u64, Packet)>,
+    /// The packets that differed, until the walks take them.
+    last: Option<Difference>,
     /// Whether the log has a packet of the key.
     has_sent: bool,
     /// What the session waits for.
     awaited: Option<Awaited>,
-    /// What the last input is, where it is a reply.
+    /// What the last input is, where it is a reply that the session didn't wait for.
     reply: Option<Awaited>,
+    /// Whether the last input is a continuation packet of no open message.
+    is_stray: bool,
     signed: Signed,
 }
 
@@ -108,18 +115,28 @@ impl PlayedLog {
                 if let Some(sent) = self.outbox.pop() {
                     return Some(self.differ(number, None, Some(sent)));
                 }
+                self.reply = self.unawaited(&timed.input);
                 session.step(timed.at, timed.input, &mut self.outbox);
                 self.awaited = Awaited::of(&session.need());
-                self.reply = Awaited::in_input(&timed.input);
                 self.signed.len = 0;
                 self.input = number;
                 self.compared = 0;
+                self.key.take(number, said);
+                self.is_stray = matches!(self.key.part, Role::Stray);
             }
             Line::Comment => self.signed.take(number, line, &session.need()),
             Line::Count => {}
         }
         self.walk.take(number, said);
         None
+    }
+
+    /// Returns what an input is, where it is a reply that the session doesn't wait for.
+    fn unawaited(&self, input: &Input) -> Option<Awaited> {
+        match (self.awaited, Awaited::in_input(input)) {
+            (Some(awaited), Some(reply)) if awaited as u8 == reply as u8 => None,
+            (_, reply) => reply,
+        }
     }
 
     /// Compares a packet of the log with the one that the session sent.
@@ -133,20 +150,33 @@ impl PlayedLog {
             && *sent == *packet
         {
             self.compared = self.compared.saturating_add(1);
+            self.key.take(number, &Line::Sent(*packet));
             return None;
         }
-        self.last = Some((number, *packet));
         Some(self.differ(number, Some(*packet), sent))
     }
 
-    /// Goes on after a difference: drops the packets that the session sent after it, and lets the walk take the one that
-    /// differed.
-    fn pass_last(&mut self) {
-        if self.has_differed {
-            self.outbox = Outbox::new();
+    /// Lets the walks take the packets that differed last, if they have yet to.
+    fn take_last(&mut self) {
+        let Some(last) = self.last.take() else {
+            return;
+        };
+        if let Some(packet) = last.sent {
+            self.key.take(last.line, &Line::Sent(packet));
         }
-        if let Some((number, packet)) = self.last.take() {
-            self.walk.take(number, &Line::Sent(packet));
+        if let Some(packet) = last.logged {
+            self.walk.take(last.line, &Line::Sent(packet));
+        }
+    }
+
+    /// Goes on after a difference, with what the session sent after it.
+    fn pass_last(&mut self) {
+        self.take_last();
+        for _ in 0..PACKETS {
+            let Some(packet) = self.outbox.pop() else {
+                break;
+            };
+            self.key.take(self.input, &Line::Sent(packet));
         }
     }
 
@@ -164,7 +194,7 @@ impl PlayedLog {
     /// Returns a difference at this line.
     fn differ(&mut self, line: u64, logged: Option<Packet>, sent: Option<Packet>) -> Difference {
         self.has_differed = true;
-        Difference {
+        let difference = Difference {
             input: self.input,
             number: self.compared.saturating_add(1),
             line,
@@ -172,7 +202,10 @@ impl PlayedLog {
             sent,
             awaited: self.awaited,
             reply: self.reply,
-        }
+            is_stray: self.is_stray,
+        };
+        self.last = Some(difference);
+        difference
     }
 }
 
@@ -200,8 +233,6 @@ impl Written for Side<'_> {
 #[derive(Drop)]
 pub struct Comparison {
     played: PlayedLog,
-    /// A walk that goes on from the played one with packets that the log lacks.
-    aside: LogWalk,
     window: Window,
     /// How many lines were taken.
     lines: u64,
@@ -213,6 +244,7 @@ impl Comparison {
     pub fn new() -> Self {
         let played = PlayedLog {
             walk: LogWalk::new(),
+            key: LogWalk::new(),
             outbox: Outbox::new(),
             input: 0,
             compared: 0,
@@ -221,11 +253,11 @@ impl Comparison {
             has_sent: false,
             awaited: None,
             reply: None,
+            is_stray: false,
             signed: Signed::default(),
         };
         Comparison {
             played,
-            aside: LogWalk::new(),
             window: Window::new(),
             lines: 0,
             pen: Pen::new(Wording::Explained),
@@ -283,24 +315,20 @@ impl Comparison {
         self.lines = self.lines.saturating_add(1);
     }
 
-    /// Returns the transaction that the packet belongs to; of one that belongs to none, the one that holds its channel or
-    /// was answered last there.
+    /// Returns the transaction that the session's packet belongs to, or else the log's; of one that belongs to none, the one
+    /// that holds its channel or was answered last there. It has to be asked after [`Comparison::put_reason`].
     pub fn transaction(&mut self, difference: &Difference) -> Option<Transaction> {
         let Some(packet) = difference.sent.or(difference.logged) else {
             return None;
         };
-        self.aside.copy_from(&self.played.walk);
-        self.aside.take(difference.line, &Line::Sent(packet));
-        if self.aside.of.is_some() {
-            return self.aside.of;
-        }
-        match self.played.walk.channels.on(channel_of(&packet)) {
-            Some(channel) => match &channel.held {
-                Some(held) => Some(held.transaction),
-                None => channel.told.of(),
-            },
-            None => None,
-        }
+        let before = transaction_on(&self.played.key, &packet);
+        self.played.take_last();
+        let of = if difference.sent.is_some() {
+            self.played.key.of
+        } else {
+            self.played.walk.of
+        };
+        of.or(before)
     }
 
     /// Returns the first line so far that says that other bytes were signed than the session asks to be signed.
@@ -309,14 +337,15 @@ impl Comparison {
     }
 
     /// Writes why the key doesn't send what the log has, `  it needs a new key; line 9 is a signature`, where that is seen
-    /// from the lines before. It has to be asked before [`Comparison::put`], which reads on.
+    /// from the lines before. It has to be asked before [`Comparison::transaction`] and [`Comparison::put`], which take the
+    /// packets that differ.
     pub fn put_reason<T: Target>(
         &mut self,
         difference: &Difference,
         writer: &mut T,
     ) -> Result<(), Failed> {
         let reason = Reason {
-            walk: &self.played.walk,
+            walk: &self.played.key,
             difference,
         };
         put_counted(writer, &mut self.pen, &reason)
@@ -346,51 +375,46 @@ impl Comparison {
         logged: &mut T,
         sent: &mut T,
     ) -> Result<(), Failed> {
+        self.played.take_last();
         let line = difference.line;
         if let Some(packet) = &difference.sent {
-            self.aside.copy_from(&self.played.walk);
-            self.follow(line, packet, reader, true);
-            let side = Side {
-                walk: &self.aside,
-                packet,
-                line,
-            };
+            self.follow_sent(line, packet);
+            let walk = &self.played.key;
+            let side = Side { walk, packet, line };
             put_counted(sent, &mut self.pen, &side)?;
         }
-        let Some(packet) = &difference.logged else {
-            return Ok(());
-        };
-        self.played.last = None;
-        self.follow(line, packet, reader, false);
-        let side = Side {
-            walk: &self.played.walk,
-            packet,
-            line,
-        };
-        put_counted(logged, &mut self.pen, &side)
+        if let Some(packet) = &difference.logged {
+            self.follow_logged(line, packet, reader);
+            let walk = &self.played.walk;
+            let side = Side { walk, packet, line };
+            put_counted(logged, &mut self.pen, &side)?;
+        }
+        Ok(())
     }
 
-    /// Goes on with a packet, and those that complete its message: aside those that the session sends, or else those that
-    /// the log has.
-    fn follow<S: Source>(&mut self, line: u64, packet: &Packet, reader: &mut S, is_aside: bool) {
-        let mut next = Some(*packet);
+    /// Goes on with the packets that complete a message of the session.
+    fn follow_sent(&mut self, line: u64, packet: &Packet) {
         for _ in 0..PACKETS {
-            let Some(part) = next else {
-                return;
-            };
-            let goes_on = if is_aside {
-                goes_on_after(&mut self.aside, line, &part)
-            } else {
-                goes_on_after(&mut self.played.walk, line, &part)
-            };
-            if !goes_on {
+            if !is_answering(&self.played.key, packet) {
                 return;
             }
-            next = if is_aside {
-                self.played.outbox.pop()
-            } else {
-                self.next_logged(reader)
+            let Some(next) = self.played.outbox.pop() else {
+                return;
             };
+            self.played.key.take(line, &Line::Sent(next));
+        }
+    }
+
+    /// Goes on with the packets that complete a message of the log.
+    fn follow_logged<S: Source>(&mut self, line: u64, packet: &Packet, reader: &mut S) {
+        for _ in 0..PACKETS {
+            if !is_answering(&self.played.walk, packet) {
+                return;
+            }
+            let Some(next) = self.next_logged(reader) else {
+                return;
+            };
+            self.played.walk.take(line, &Line::Sent(next));
         }
     }
 
@@ -425,9 +449,19 @@ fn put_counted<T: Target, W: Written>(
     put_written(writer, pen, written)
 }
 
-/// Takes a packet of the key. Returns whether its message has further packets.
-fn goes_on_after(walk: &mut LogWalk, line: u64, packet: &Packet) -> bool {
-    walk.take(line, &Line::Sent(*packet));
+/// Returns the transaction that holds a packet's channel, or was answered last there.
+fn transaction_on(walk: &LogWalk, packet: &Packet) -> Option<Transaction> {
+    match walk.channels.on(channel_of(packet)) {
+        Some(channel) => match &channel.held {
+            Some(held) => Some(held.transaction),
+            None => channel.told.of(),
+        },
+        None => None,
+    }
+}
+
+/// Returns whether the message that a packet begins has further packets.
+fn is_answering(walk: &LogWalk, packet: &Packet) -> bool {
     match walk.channels.on(channel_of(packet)) {
         Some(channel) => channel.is_answering(),
         None => false,

@@ -69,8 +69,16 @@ static FORGOTTEN: EndForms = EndForms {
     row: b"not followed any longer",
     json: br#","end":"forgotten""#,
     page: b" f%d",
-    whole: b"%d   line %d: not followed any longer, since too many channels are in use\n",
-    part: b"%d   line %d: %d of %d bytes came, not followed any longer, since too many channels are in use\n",
+    whole: b"%d   line %d: not followed any longer, since too much is open at once\n",
+    part: b"%d   line %d: %d of %d bytes came, not followed any longer, since too much is open at once\n",
+};
+
+static UNTOLD: EndForms = EndForms {
+    row: b"can't be told",
+    json: br#","end":"unknown""#,
+    page: b" u%d",
+    whole: b"%d   line %d: whether it was answered can't be told\n",
+    part: b"%d   line %d: %d of %d bytes came, whether it was answered can't be told\n",
 };
 
 static OPEN: EndForms = EndForms {
@@ -110,6 +118,7 @@ impl Ended {
             ),
             End::Answered => (&ANSWERED, None, None),
             End::Forgotten => (&FORGOTTEN, None, None),
+            End::Untold => (&UNTOLD, None, None),
             End::Open => match self.exchange.extent.missing() {
                 (None, _) => (&OPEN, None, None),
                 (came, length) => (&UNFINISHED, came, length),

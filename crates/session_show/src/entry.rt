@@ -163,9 +163,9 @@ pub fn write_message(pen: &mut Pen, number: u64, message: &CborMessage<'_>) {
         write_members(pen, number, map, item, b"");
         return;
     };
-    write_members(pen, number, map, item, exchange.rp_id.bytes());
+    write_members(pen, number, map, item, exchange.named.rp_id.bytes());
     if *first == EXCLUDED
-        && let Some(excluded) = &exchange.excluded
+        && let Some(excluded) = &exchange.named.excluded
     {
         pen.form(b"%d   ", &[Some(number)]);
         excluded.write(pen);
@@ -214,9 +214,10 @@ impl Written for Entry<'_> {
         }
         pen.text("\n");
         if let Some(late) = &self.late
-            && let Some(message) = &late.message
+            && late.of.is_none()
         {
-            write_message(pen, late.number, message);
+            let form = b"%d   line %d came too late for its message\n";
+            pen.form(form, &[Some(self.own.number), Some(late.number)]);
         }
         if let Some(message) = &self.own.message {
             write_message(pen, self.own.number, message);

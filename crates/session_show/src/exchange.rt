@@ -1,8 +1,9 @@
 //! Transactions: what a host asks on a channel, until it is answered (CTAP 2.1, section 11.2.5.1).
 
-use crate::credentials::Excluded;
+use crate::credentials::{Excluded, Name};
 use crate::pen::Pen;
 use crate::putting::Written;
+use crate::reason::Awaited;
 use crate::rp_id::RpId;
 use crate::words::{COMMANDS, MESSAGES, name_in};
 use arrayvec::ArrayVec;
@@ -97,6 +98,16 @@ impl Extent {
     }
 }
 
+/// What a request names, once it is whole.
+#[derive(Clone, Copy, Default)]
+pub struct Named {
+    pub rp_id: RpId,
+    /// The credential of the log that it excludes.
+    pub excluded: Option<Excluded>,
+    /// The account that it asks a discoverable credential for.
+    pub account: Option<Name>,
+}
+
 /// A transaction and what came for it so far.
 #[derive(Clone, Copy, Default)]
 pub struct Followed {
@@ -109,14 +120,13 @@ pub struct Followed {
     pub after: u64,
     /// The line of the CANCEL that came while it waited.
     pub cancelled: Option<u64>,
-    /// How long the user took, in milliseconds.
+    /// How long the user took, in milliseconds, where a KEEPALIVE asked for the user.
     pub took: Option<u64>,
+    /// The reply that it waits for, as far as KEEPALIVEs say.
+    pub awaited: Option<Awaited>,
     /// How many KEEPALIVEs were sent.
     pub keepalives: u64,
-    /// The RP id that its request names.
-    pub rp_id: RpId,
-    /// The credential of the log that its request excludes.
-    pub excluded: Option<Excluded>,
+    pub named: Named,
 }
 
 impl Followed {
@@ -141,8 +151,10 @@ pub enum End {
     Dropped(u64),
     /// By the message on its channel that begins on this line.
     Replaced(u64),
-    /// It isn't followed any longer, since too many channels are in use.
+    /// It isn't followed any longer, since too much is open at once.
     Forgotten,
+    /// Whether it was answered can't be told: of two messages either may have been, or neither.
+    Untold,
     /// It hasn't: it is open at the log's end.
     #[default]
     Open,

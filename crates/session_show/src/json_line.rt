@@ -51,8 +51,8 @@ fn write_packet(pen: &mut Pen, own: &Own<'_>, packet: &Packet) {
         View::Start { cmd, len, part, .. } => {
             let (command, length) = (Some(u64::from(cmd)), Some(u64::from(len)));
             let (error, status) = match part {
-                [code, ..] if cmd == ERROR => (Some(u64::from(*code)), None),
-                [code, ..] if cmd == KEEPALIVE => (None, Some(u64::from(*code))),
+                [code, ..] if cmd == ERROR && len > 0 => (Some(u64::from(*code)), None),
+                [code, ..] if cmd == KEEPALIVE && len > 0 => (None, Some(u64::from(*code))),
                 _ => (None, None),
             };
             pen.form(
@@ -95,7 +95,7 @@ fn write_message(pen: &mut Pen, own: &Own<'_>, channel: u32, message: &CborMessa
     {
         let command = Some(u64::from(command));
         pen.form(br#","command":%d,"name":"%C"#, &[command, command]);
-        write_string(pen, "rpId", exchange.rp_id.text());
+        write_string(pen, "rpId", exchange.named.rp_id.text());
     }
     write_data(pen, item, &checked, message.map(*first).names());
     pen.text("}\n");
@@ -136,7 +136,7 @@ pub fn write_transaction(pen: &mut Pen, number: u64, ended: &Ended) {
         ],
     );
     write_word(pen, "name", Some(transaction.name()));
-    write_string(pen, "rpId", exchange.rp_id.text());
+    write_string(pen, "rpId", exchange.named.rp_id.text());
     let (forms, one, two) = ended.forms();
     pen.form(forms.json, &[one, two]);
     let (came, length) = exchange.extent.missing();

@@ -43,17 +43,6 @@ impl Pool {
         }
     }
 
-    /// Becomes the same as another one.
-    pub fn copy_from(&mut self, other: &Pool) {
-        for place in 0..MESSAGES {
-            let (kept, other) = (&mut self.kept[place], &other.kept[place]);
-            kept.line = other.line;
-            kept.length = other.length;
-            kept.bytes.clear();
-            let _ = kept.bytes.try_extend_from_slice(other.bytes.as_slice());
-        }
-    }
-
     /// Begins to keep a message of so many bytes, in the place of the one that began first where there are too many.
     pub fn begin(&mut self, line: u64, length: u16, part: &[u8]) {
         let mut first = 0;

@@ -2,6 +2,7 @@
 
 use crate::difference::Difference;
 use crate::entry::EXCLUDED;
+use crate::exchange::Followed;
 use crate::packet_line::channel_of;
 use crate::pen::Pen;
 use crate::putting::Written;
@@ -72,37 +73,39 @@ impl Written for Reason<'_> {
 }
 
 impl Reason<'_> {
-    /// Writes what the key waits for before it answers on a channel.
+    /// Writes what the key waits for before it answers on a channel, or why it answers nothing there.
     fn write_waiting(&self, pen: &mut Pen, channel: u32) {
         let found = self.walk.channels.on(channel);
-        if let Some(found) = found
-            && let Some(open) = &found.held
-            && !open.extent.is_whole()
-        {
-            let (came, length) = open.extent.missing();
-            let next = u64::from(open.extent.continuations);
-            pen.form(
-                b"  it still waits for packet +%d of the message from line %d: %d of %d bytes came\n",
-                &[Some(next), Some(open.transaction.line), came, length],
-            );
-        } else if let Some(awaited) = self.difference.awaited {
-            pen.text("  it needs ");
-            pen.text(awaited.name());
-            if let Some(reply) = self.difference.reply
-                && reply as u8 != awaited as u8
-            {
-                pen.form(b"; line %d is ", &[Some(self.difference.input)]);
-                pen.text(reply.name());
+        let held = match found {
+            Some(found) => found.held.as_ref(),
+            None => None,
+        };
+        let input = self.difference.input;
+        match (held, self.difference.awaited) {
+            (Some(open), _) if !open.extent.is_whole() => write_missing(pen, open),
+            (Some(served), Some(awaited)) if served.is_served() => {
+                pen.text("  it needs ");
+                pen.text(awaited.name());
+                if let Some(reply) = self.difference.reply {
+                    pen.form(b"; line %d is ", &[Some(input)]);
+                    pen.text(reply.name());
+                }
+                pen.text("\n");
             }
-            pen.text("\n");
-        } else if let Some(found) = found
-            && found.told.line > 0
-            && !found.is_answering()
-        {
-            pen.form(
-                b"  nothing waits: its last answer on this channel is that of line %d\n",
-                &[Some(found.told.line)],
-            );
+            _ if self.difference.is_stray => {
+                let form = b"  line %d is a continuation packet of no open message\n";
+                pen.form(form, &[Some(input)]);
+            }
+            _ => {
+                if let Some(found) = found
+                    && found.told.line > 0
+                    && !found.is_answering()
+                {
+                    let form =
+                        b"  nothing waits on this channel: its last answer there is that of line %d\n";
+                    pen.form(form, &[Some(found.told.line)]);
+                }
+            }
         }
     }
 
@@ -129,10 +132,20 @@ impl Reason<'_> {
             && *code == EXCLUDED
             && let Some(found) = self.walk.channels.on(cid)
             && let Some(held) = &found.held
-            && let Some(excluded) = &held.excluded
+            && let Some(excluded) = &held.named.excluded
         {
             pen.text("  ");
             excluded.write(pen);
         }
     }
+}
+
+/// Writes which packet of a message comes next.
+fn write_missing(pen: &mut Pen, open: &Followed) {
+    let (came, length) = open.extent.missing();
+    let next = u64::from(open.extent.continuations);
+    pen.form(
+        b"  it still waits for packet +%d of the message from line %d: %d of %d bytes came\n",
+        &[Some(next), Some(open.transaction.line), came, length],
+    );
 }

@@ -28,9 +28,9 @@ pub fn write_row(pen: &mut Pen, ended: &Ended) {
         None => pen.text("        -"),
     }
     pen.column(exchange.keepalives, 12);
-    if !exchange.rp_id.bytes().is_empty() {
+    if !exchange.named.rp_id.bytes().is_empty() {
         pen.text("  ");
-        write_escaped(pen, exchange.rp_id.bytes());
+        write_escaped(pen, exchange.named.rp_id.bytes());
     }
     pen.text("\n");
 }

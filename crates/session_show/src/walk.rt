@@ -5,9 +5,10 @@ use crate::channels::Channels;
 use crate::credentials::Credentials;
 use crate::device::{AnswerStart, NO_TIME_OUT, TIMED_OUT};
 use crate::entry::{ANSWER, CborMessage, Entry, Own, REQUEST};
-use crate::exchange::{EndedTransactions, Extent, Followed, Transaction};
+use crate::exchange::{EndedTransactions, Extent, Followed, Named, Transaction};
 use crate::packet_line::channel_of;
 use crate::pool::Pool;
+use crate::reason::Awaited;
 use crate::rp_id::RpId;
 use ctap_cbor::check;
 use hid_packet::command::{CANCEL, CBOR, ERROR, INIT, KEEPALIVE};
@@ -16,7 +17,7 @@ use session_log::Line;
 use token_session::{Input, Timed};
 
 /// authenticatorMakeCredential, authenticatorReset and authenticatorGetNextAssertion.
-const MAKE: u8 = 0x01;
+pub const MAKE: u8 = 0x01;
 
 const RESET: u8 = 0x07;
 
@@ -86,7 +87,7 @@ pub struct LogWalk {
     /// .. the line that the message began at which its packet is of, 0 where it is of none, ..
     pub message_line: u64,
     /// .. or what it is, where it belongs to none, ..
-    part: Role,
+    pub part: Role,
     /// .. the message that ends at it, ..
     pub shown: Option<Shown>,
     /// .. and what it shows of a doubtful one before it.
@@ -109,16 +110,6 @@ impl LogWalk {
             shown: None,
             decided: None,
         }
-    }
-
-    /// Becomes one that took the same lines as another one.
-    pub fn copy_from(&mut self, other: &LogWalk) {
-        self.clear();
-        self.channels.copy_from(&other.channels);
-        self.pool.copy_from(&other.pool);
-        self.credentials = other.credentials;
-        self.now = other.now;
-        self.doubtful = other.doubtful;
     }
 
     /// Takes the log's next line, which has this number and says this.
@@ -164,6 +155,15 @@ impl LogWalk {
 
     /// Returns the last line, which has this number and says this, as it is shown, with what it shows of lines before it.
     pub fn entry<'a>(&'a self, number: u64, line: &'a [u8], said: &'a Line) -> Entry<'a> {
+        // A packet that may have come too late is shown with its message. If it did, the next line says so.
+        let doubtful = match &self.doubtful {
+            Some(doubtful) if doubtful.line == number => Some(doubtful),
+            _ => None,
+        };
+        let shown = match doubtful {
+            Some(doubtful) if doubtful.is_whole => Some(Shown::Request(doubtful.of.line)),
+            _ => self.shown,
+        };
         Entry {
             late: self.late(),
             own: Own {
@@ -171,9 +171,9 @@ impl LogWalk {
                 line,
                 said,
                 of: self.of,
-                message: self.message(&self.shown),
+                message: self.message(&shown),
             },
-            is_doubtful: matches!(&self.doubtful, Some(doubtful) if doubtful.line == number),
+            is_doubtful: doubtful.is_some(),
             part: self.part,
             ended: self.ends.0.as_slice(),
             page: None,
@@ -216,24 +216,24 @@ impl LogWalk {
 
     // ---- inputs
 
-    /// Takes an input. A reply is of the one request that waits for its answer, if exactly one does.
+    /// Takes an input.
     fn take_input(&mut self, number: u64, timed: &Timed) {
         self.believe();
         self.now = self.now.max(timed.at);
-        let presence = match &timed.input {
-            Input::Packet(packet) => {
-                self.take_packet(number, timed, packet);
-                return;
-            }
-            Input::Tick => return,
-            Input::Presence(_) => Some(self.now),
-            Input::Key(_) | Input::Signature(_) => None,
-        };
-        if let Some(place) = self.channels.waiting() {
-            self.of = self.channels.list[place].reply(presence);
+        if let Input::Packet(packet) = &timed.input {
+            self.take_packet(number, timed, packet);
+        } else if let Some(reply) = Awaited::in_input(&timed.input) {
+            self.take_reply(reply);
         }
-        if self.of.is_none() {
-            self.part = Role::Reply;
+    }
+
+    /// Takes a reply. It is of the one request that waits for its answer, if exactly one does.
+    fn take_reply(&mut self, reply: Awaited) {
+        self.part = Role::Reply;
+        if let Some(place) = self.channels.waiting() {
+            let (of, part) = self.channels.list[place].reply(reply, self.now);
+            self.of = of;
+            self.part = part;
         }
     }
 
@@ -314,19 +314,18 @@ impl LogWalk {
     fn complete(&mut self, place: usize, of: &Transaction) -> Option<Shown>
         requires { place < 6 }
     {
-        let mut rp_id = RpId::default();
-        let mut excluded = None;
+        let mut named = Named::default();
         match (of.command, self.pool.bytes(of.line)) {
-            (Some(NEXT), _) => rp_id = self.channels.list[place].asserted,
+            (Some(NEXT), _) => named.rp_id = self.channels.list[place].asserted,
             (Some(command), Some([_, item @ ..])) if check(item).result.is_ok() => {
-                rp_id = RpId::of_request(command, item);
-                if command == MAKE && !rp_id.bytes().is_empty() {
-                    excluded = self.credentials.excluded_in(&rp_id, item);
+                named.rp_id = RpId::of_request(command, item);
+                if command == MAKE && !named.rp_id.bytes().is_empty() {
+                    self.credentials.name_in(item, &mut named);
                 }
             }
             _ => {}
         }
-        self.channels.list[place].name(of.line, &rp_id, excluded);
+        self.channels.list[place].name(of.line, &named);
         Some(Shown::Request(of.line))
     }
 
@@ -363,7 +362,7 @@ impl LogWalk {
         match packet.view() {
             View::Start { cmd, len, part, .. } => {
                 let status = match part {
-                    [status, ..] if cmd == CBOR && len > 0 => Some(*status),
+                    [status, ..] if matches!(cmd, CBOR | KEEPALIVE) && len > 0 => Some(*status),
                     _ => None,
                 };
                 let answer = AnswerStart {
@@ -405,7 +404,7 @@ impl LogWalk {
             return;
         }
         if answer.command == KEEPALIVE {
-            self.of = self.channels.list[place].keep_alive(&mut self.ends);
+            self.of = self.channels.list[place].keep_alive(answer.status, &mut self.ends);
             return;
         }
         self.of = self.channels.list[place].answer(answer, &mut self.ends);
@@ -413,7 +412,7 @@ impl LogWalk {
         if answer.command == CBOR && length > 0 && length <= LONGEST_MESSAGE {
             self.pool.begin(answer.line, length, answer.part);
             if answer.extent.is_whole() {
-                self.learn(answer.line, answer.line);
+                self.learn(place, answer.line, answer.line);
                 self.shown = Some(Shown::Answer(answer.line, place));
             }
         }
@@ -436,15 +435,20 @@ impl LogWalk {
     }
 
     /// Keeps the credential that an answer made, which began at a line and ends at this one; a reset forgets all.
-    fn learn(&mut self, number: u64, line: u64) {
+    fn learn(&mut self, place: usize, number: u64, line: u64)
+        requires { place < 6 }
+    {
         let Some(of) = self.of else {
             return;
         };
+        let account = self.channels.list[place].told.account();
         let Some([0, item @ ..]) = self.pool.bytes(line) else {
             return;
         };
         match of.command {
-            Some(MAKE) if check(item).result.is_ok() => self.credentials.add(number, item),
+            Some(MAKE) if check(item).result.is_ok() => {
+                self.credentials.add(number, item, account);
+            }
             Some(RESET) => self.credentials = Credentials::new(),
             _ => {}
         }
@@ -461,7 +465,7 @@ impl LogWalk {
         self.message_line = answered.line;
         self.pool.add(answered.line, part);
         if answered.is_whole && self.pool.bytes(answered.line).is_some() {
-            self.learn(number, answered.line);
+            self.learn(place, number, answered.line);
             self.shown = Some(Shown::Answer(answered.line, place));
         }
     }
