@@ -229,8 +229,8 @@ fn texts_of<S: Source>(
     let mut reason = Vec::new(wish.alloc);
     let mut transaction = None;
     if wish.explains || wish.is_json {
-        transaction = comparison.transaction(difference);
         let _ = comparison.put_reason(difference, &mut ToWrite::new(&mut reason));
+        transaction = comparison.transaction(difference);
         let (mut left, mut right) = (ToWrite::new(&mut logged), ToWrite::new(&mut sent));
         let _ = comparison.put(difference, reader, &mut left, &mut right);
     }
