@@ -12,6 +12,9 @@ use sha2::{Digest, Sha256};
 /// The flag that says that a credential follows.
 pub const CREDENTIAL: u8 = 0x40;
 
+/// The flag that says that extensions come last.
+const EXTENSIONS: u8 = 0x80;
+
 /// The letters of the flags.
 static FLAGS: Flags = &[
     (0x01, " UP"),
@@ -19,11 +22,8 @@ static FLAGS: Flags = &[
     (0x08, " BE"),
     (0x10, " BS"),
     (CREDENTIAL, " AT"),
-    (0x80, " ED"),
+    (EXTENSIONS, " ED"),
 ];
-
-/// The type of an RSA key.
-const RSA: i128 = 3;
 
 /// Writes lines for what authenticator data hold, as far as the bytes reach.
 pub fn write_authenticator_data(pen: &mut Pen, number: u64, bytes: &[u8], rp_id: &[u8]) {
@@ -43,9 +43,18 @@ pub fn write_authenticator_data(pen: &mut Pen, number: u64, bytes: &[u8], rp_id:
     let count = u64::from(u32::from_be_bytes(*count));
     pen.form(b"%d       signCount %d\n", &[Some(number), Some(count)]);
     if flags & CREDENTIAL == 0 {
-        write_item(pen, b"%d       extensions ", number, rest);
+        write_last(pen, number, *flags, rest);
     } else {
-        write_credential(pen, number, rest);
+        write_credential(pen, number, *flags, rest);
+    }
+}
+
+/// Writes the line of what comes last: extensions where their flag is set, and bytes that are too many where it isn't.
+fn write_last(pen: &mut Pen, number: u64, flags: u8, bytes: &[u8]) {
+    if flags & EXTENSIONS != 0 {
+        write_item(pen, b"%d       extensions ", number, bytes);
+    } else if !bytes.is_empty() {
+        write_bytes(pen, b"%d       bytes too many ", number, bytes);
     }
 }
 
@@ -61,8 +70,8 @@ fn write_hash(pen: &mut Pen, number: u64, hash: &[u8; 32], rp_id: &[u8]) {
     pen.text("\n");
 }
 
-/// Writes lines for a credential, and for the extensions after it.
-fn write_credential(pen: &mut Pen, number: u64, bytes: &[u8]) {
+/// Writes lines for a credential, and for what comes after it.
+fn write_credential(pen: &mut Pen, number: u64, flags: u8, bytes: &[u8]) {
     let Some((aaguid, rest)) = bytes.split_at_checked(16) else {
         return;
     };
@@ -80,18 +89,18 @@ fn write_credential(pen: &mut Pen, number: u64, bytes: &[u8]) {
         write_item(pen, b"%d       publicKey ", number, rest);
         return;
     }
-    if let Some((key, extensions)) = rest.split_at_checked(cursor.place()) {
-        write_key(pen, number, key);
-        write_item(pen, b"%d       extensions ", number, extensions);
+    if let Some((key, last)) = rest.split_at_checked(cursor.place()) {
+        write_item(pen, b"%d       publicKey ", number, key);
+        write_key(pen, b"%d         ", number, key);
+        write_last(pen, number, flags, last);
     }
 }
 
-/// Writes a line for a COSE key, and one for each of its members, where it is a map.
-fn write_key(pen: &mut Pen, number: u64, key: &[u8]) {
-    write_item(pen, b"%d       publicKey ", number, key);
+/// Writes a line for each member of a COSE key, where it is a map, after a form for the line's number.
+pub fn write_key(pen: &mut Pen, form: &[u8], number: u64, key: &[u8]) {
     let map = match item_at(key, Item::Int(1)) {
-        Some(Item::Int(RSA)) => Map::RsaKey,
-        _ => Map::Key,
+        Some(Item::Int(key_type)) => Map::Key(key_type),
+        _ => Map::Key(0),
     };
     let Some(mut pairs) = Pairs::of(key) else {
         return;
@@ -103,8 +112,7 @@ fn write_key(pen: &mut Pen, number: u64, key: &[u8]) {
         let Some((key, value)) = pairs.next_pair() else {
             return;
         };
-        pen.decimal(number);
-        pen.text("         ");
+        pen.form(form, &[Some(number)]);
         write_member(pen, map, key, value);
     }
 }

@@ -33,13 +33,15 @@ pub fn write_bytes(pen: &mut Pen, form: &[u8], number: u64, bytes: &[u8]) {
     pen.text("\n");
 }
 
-/// Writes the line of a field that is a data item, where there is one, after a form for the line's number.
+/// Writes the line of a field that is a data item, or that it is missing, after a form for the line's number.
 pub fn write_item(pen: &mut Pen, form: &[u8], number: u64, item: &[u8]) {
-    if !item.is_empty() {
-        pen.form(form, &[Some(number)]);
+    pen.form(form, &[Some(number)]);
+    if item.is_empty() {
+        pen.text("missing");
+    } else {
         Diagnostic(item).write(pen);
-        pen.text("\n");
     }
+    pen.text("\n");
 }
 
 /// Returns the bytes of the number in front of a signature in DER (RFC 3279, section 2.2.3), and what comes after it. The
