@@ -83,7 +83,7 @@ pub struct Counts {
     excluded: u64,
     /// The statuses of requests that were refused.
     refused: Tally,
-    /// The codes of ERRORs.
+    /// The codes of the ERRORs that refused messages.
     errors: Tally,
     /// Continuation packets of no message that is open.
     continuations: u64,
@@ -120,10 +120,9 @@ impl Counts {
             self.continuations = self.continuations.saturating_add(1);
         }
         match entry.part {
-            Role::Own => {}
+            Role::Own | Role::Error(_) => {}
             Role::Stray => self.continuations = self.continuations.saturating_add(1),
             Role::Cancel => self.cancels = self.cancels.saturating_add(1),
-            Role::Error(code) => self.errors.add(code),
             Role::Reply => self.replies = self.replies.saturating_add(1),
         }
         for ended in entry.ended {
