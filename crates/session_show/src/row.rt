@@ -9,6 +9,13 @@ pub static HEAD: &str =
     "  line  channel   command                        status                            \
     user ms  KEEPALIVEs  RP id\n";
 
+/// Where the columns of the status, the user's milliseconds and the KEEPALIVEs end, behind where the command begins.
+const STATUS_END: usize = 63;
+
+const USER_END: usize = 72;
+
+const KEEPALIVES_END: usize = 84;
+
 /// Writes a transaction: its line, channel, command, status, the milliseconds that the user took, the number of
 /// KEEPALIVEs, and the RP id.
 pub fn write_row(pen: &mut Pen, ended: &Ended) {
@@ -19,18 +26,30 @@ pub fn write_row(pen: &mut Pen, ended: &Ended) {
     pen.text(exchange.transaction.name());
     pen.fill(name, 29);
     pen.text("  ");
-    let end = pen.place();
     let (forms, one, two) = ended.forms();
     pen.form(forms.row, &[one, two]);
-    pen.fill(end, 32);
-    match exchange.took {
-        Some(took) => pen.column(took, 9),
-        None => pen.text("        -"),
-    }
-    pen.column(exchange.keepalives, 12);
+    // What is longer than its column takes from those after it.
+    pen.fill(name, STATUS_END);
+    write_right(pen, exchange.took, name, USER_END);
+    write_right(pen, Some(exchange.keepalives), name, KEEPALIVES_END);
     if !exchange.named.rp_id.bytes().is_empty() {
         pen.text("  ");
         write_escaped(pen, exchange.named.rp_id.bytes());
     }
     pen.text("\n");
+}
+
+/// Writes a number, or `-`, after a space at least, that ends so far behind a place where there is space.
+fn write_right(pen: &mut Pen, number: Option<u64>, place: usize, end: usize) {
+    pen.text(" ");
+    match number {
+        Some(number) => {
+            let written = pen.place().saturating_sub(place);
+            pen.column(number, end.saturating_sub(written));
+        }
+        None => {
+            pen.fill(place, end.saturating_sub(1));
+            pen.text("-");
+        }
+    }
 }
