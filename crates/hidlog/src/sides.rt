@@ -56,7 +56,7 @@ pub fn write_first(pen: &mut Pen, difference: &Difference, logged: &[u8], sent: 
         return;
     };
     pen.number_after("  byte ", at as u64);
-    pen.text(place_of(own, at));
+    pen.text(place_of(own, other, at));
     pen.hex(&[old]);
     pen.text(" in the log and ");
     pen.hex(&[new]);
@@ -69,16 +69,20 @@ pub fn write_first(pen: &mut Pen, difference: &Difference, logged: &[u8], sent: 
     write_path(pen, &members_of(logged, sent));
 }
 
-/// Returns that a byte is one of a packet, and what it is there, where it isn't data.
-fn place_of(packet: &Packet, at: usize) -> &'static str {
-    let is_start = matches!(packet.view(), View::Start { .. });
-    match at {
-        0..=3 => " of the packet, in the channel, is ",
-        4 if is_start => " of the packet, the command, is ",
-        4 => " of the packet, the sequence number, is ",
-        5 | 6 if is_start => " of the packet, in the length, is ",
+/// Returns that a byte is one of two packets, and what it is there, where it is the same in both and isn't data.
+fn place_of(packet: &Packet, other: &Packet, at: usize) -> &'static str {
+    match (at, is_start(packet), is_start(other)) {
+        (0..=3, _, _) => " of the packet, in the channel, is ",
+        (4, true, true) => " of the packet, the command, is ",
+        (4, false, false) => " of the packet, the sequence number, is ",
+        (5 | 6, true, true) => " of the packet, in the length, is ",
         _ => " of the packet is ",
     }
+}
+
+/// Returns whether a packet is the first one of a message.
+fn is_start(packet: &Packet) -> bool {
+    matches!(packet.view(), View::Start { .. })
 }
 
 /// Writes some bytes of a packet.
