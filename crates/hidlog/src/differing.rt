@@ -4,8 +4,10 @@ ghost use Rattle.session_log.specs.Command.{start_with};
 ghost use Rattle.token_session.specs.Meters.{session_of};
 
 use crate::commands::fresh;
+use crate::fault::ProgramFault;
 use crate::files::Files;
 use crate::finding::{DifferenceTexts, Finding};
+use crate::objects::ProgramFaultObject;
 use crate::process::say;
 use crate::remarks::{Remark, say_remark};
 use crate::screen::CutLines;
@@ -165,14 +167,18 @@ struct DifferenceCount<'a> {
 
 impl Written for DifferenceCount<'_> {
     fn write(&self, pen: &mut Pen) {
-        if self.wish.is_json {
-            self.wish.begin_object(pen, "differences");
+        let wish = self.wish;
+        if wish.is_json {
+            if let Some(fault) = self.fault {
+                let fault = &ProgramFault::Log(fault);
+                ProgramFaultObject { wish, fault }.write(pen);
+            }
+            wish.begin_object(pen, "differences");
             pen.text(",\"inputs\":");
             pen.decimal(self.count);
             pen.text("}\n");
             return;
         }
-        let wish = self.wish;
         if let Some(fault) = self.fault {
             FaultLine { wish, fault }.write(pen);
         }
