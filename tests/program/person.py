@@ -98,8 +98,8 @@ def a_snapshot_that_is_missing_is_named(room: Path) -> None:
     """Where the key lacks a credential that the log's key had, the snapshot is asked for: at a sign-in, and at a
     registration that excludes."""
     log, folder = EXAMPLES / "failing/wrong_snapshot.log", EXAMPLES / "failing"
-    missing = b"\n  this key lacks a credential that the log's key had: was the log recorded with --load?\n"
-    other = b"\n  this key lacks a credential that the log's key had: is the snapshot of --load another key's?\n"
+    missing = b"\n  this key may lack a credential that the log's key had: was the log recorded with --load?\n"
+    other = b"\n  this key may lack a credential that the log's key had: is the snapshot of --load another key's?\n"
     assert explained(["check", str(log)]).stderr.endswith(missing)
     assert explained(["check", "--load", str(folder / "bob.snapshot"), str(log)]).stderr.endswith(other)
     wants(explained(["check", "--load", str(folder / "alice.snapshot"), str(log)]), 0, b"")

@@ -93,6 +93,15 @@ fn begun(alloc: Global) -> Option<Box<Comparison>> {
     Box::new(alloc, Comparison::new()).ok()
 }
 
+/// What was said of a log so far.
+#[derive(Clone, Copy)]
+struct Said {
+    /// How many differences.
+    count: u64,
+    /// Whether the keys may have other credentials by one of them.
+    has_changed: bool,
+}
+
 /// Says each difference that is wished for.
 fn say_each<S: Source, E: Target>(
     comparison: &mut Comparison,
@@ -102,7 +111,10 @@ fn say_each<S: Source, E: Target>(
     told: Option<LogFault>,
     faults: &mut E,
 ) {
-    let mut count = 0_u64;
+    let mut said = Said {
+        count: 0,
+        has_changed: false,
+    };
     let mut fault = None;
     for _ in 0..u64::MAX {
         let difference = match comparison.find(reader, session) {
@@ -119,17 +131,18 @@ fn say_each<S: Source, E: Target>(
             }
             _ => false,
         };
-        if !is_told && count == 0 {
+        if !is_told && said.count == 0 {
             say_remark(wish, CHANGED, faults);
             return;
         }
-        say_one(comparison, wish, reader, &difference, count, faults);
-        count = count.saturating_add(1);
+        let changes = say_one(comparison, wish, reader, &difference, said, faults);
+        said.count = said.count.saturating_add(1);
+        said.has_changed = said.has_changed || changes;
         if !wish.is_all {
             break;
         }
     }
-    say_end(comparison, wish, reader, count, fault, faults);
+    say_end(comparison, wish, reader, said.count, fault, faults);
 }
 
 /// Says how many inputs have differences, where all are wished for; or, where nothing may differ, what was signed
@@ -195,32 +208,36 @@ impl Written for DifferenceCount<'_> {
     }
 }
 
-/// Says a difference, after so many others, unless there are too many. At a terminal its lines are cut.
+/// Says a difference, after what was said before, unless there are too many. At a terminal its lines are cut. Returns
+/// whether the keys may have other credentials by it.
 fn say_one<S: Source, E: Target>(
     comparison: &mut Comparison,
     wish: &Wish<'_>,
     reader: &mut S,
     difference: &Difference,
-    count: u64,
+    said: Said,
     faults: &mut E,
-) {
-    if count >= MOST && !wish.is_json {
-        return;
+) -> bool {
+    if said.count >= MOST && !wish.is_json {
+        return false;
     }
     let texts = texts_of(comparison, wish, reader, difference);
     let finding = Finding {
         wish,
         difference,
-        is_first: count == 0,
+        is_first: said.count == 0,
+        has_changed: said.has_changed,
         texts: &texts,
     };
-    let (false, Some(width)) = (wish.is_json, wish.width) else {
-        say(faults, &finding);
-        return;
-    };
-    let mut text = Vec::new(wish.alloc);
-    say(&mut ToWrite::new(&mut text), &finding);
-    say(faults, &CutLines { text: &text, width });
+    match wish.width {
+        Some(width) if !wish.is_json => {
+            let mut text = Vec::new(wish.alloc);
+            say(&mut ToWrite::new(&mut text), &finding);
+            say(faults, &CutLines { text: &text, width });
+        }
+        _ => say(faults, &finding),
+    }
+    finding.may_change_credentials()
 }
 
 /// Returns what is known of a difference, where that is wished for.

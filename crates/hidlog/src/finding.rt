@@ -1,21 +1,40 @@
 //! What a person reads of a packet in which a log differs from what the key sends.
 use crate::objects::write_difference;
 use crate::pieces::{after, has_part};
-use crate::sides::{status_in, write_first, write_sides};
+use crate::sides::{is_keepalive, status_in, write_first, write_sides};
 use crate::wish::{FaultLine, Wish};
-use session_show::{Difference, Pen, Transaction, Written};
+use session_show::{Awaited, Difference, Pen, Transaction, Written};
+
+/// CTAP2_OK.
+const OK: u8 = 0x00;
 
 /// CTAP2_ERR_CREDENTIAL_EXCLUDED.
 const EXCLUDED: u8 = 0x19;
 
+/// CTAP2_ERR_OPERATION_DENIED.
+const DENIED: u8 = 0x27;
+
+/// CTAP2_ERR_KEY_STORE_FULL.
+const STORE_FULL: u8 = 0x28;
+
 /// CTAP2_ERR_NO_CREDENTIALS.
 const NO_CREDENTIALS: u8 = 0x2E;
 
+/// What changes no credentials of a key.
+const KEEPING: [&str; 6] = [
+    "INIT",
+    "PING",
+    "authenticatorGetAssertion",
+    "authenticatorGetInfo",
+    "authenticatorGetNextAssertion",
+    "authenticatorSelection",
+];
+
 const NO_SNAPSHOT: &str =
-    "this key lacks a credential that the log's key had: was the log recorded with --load?";
+    "this key may lack a credential that the log's key had: was the log recorded with --load?";
 
 const OTHER_SNAPSHOT: &str =
-    "this key lacks a credential that the log's key had: is the snapshot of --load another key's?";
+    "this key may lack a credential that the log's key had: is the snapshot of --load another key's?";
 
 /// What is known of a difference: its transaction, what the log has, what the key sends, and why.
 #[derive(Drop)]
@@ -33,21 +52,60 @@ pub struct Finding<'a> {
     pub difference: &'a Difference,
     /// Whether it is the first one, whose fault was said before.
     pub is_first: bool,
+    /// Whether the keys may have other credentials by what differed before it.
+    pub has_changed: bool,
     pub texts: &'a DifferenceTexts,
 }
 
 impl Finding<'_> {
-    /// Returns what may be done, where this key lacks a credential that the log's key had.
+    /// Returns what may be done, where this key may lack a credential that the log's key had.
     pub fn hint(&self) -> Option<&'static str> {
-        let Difference { logged, sent, .. } = self.difference;
-        match (status_in(logged), status_in(sent)) {
-            (Some(EXCLUDED), Some(EXCLUDED)) | (Some(NO_CREDENTIALS), Some(NO_CREDENTIALS)) => None,
-            (Some(EXCLUDED), _) | (_, Some(NO_CREDENTIALS)) => match self.wish.load {
-                Some(_) => Some(OTHER_SNAPSHOT),
-                None => Some(NO_SNAPSHOT),
-            },
-            _ => None,
+        if self.has_changed || !self.may_lack_credential() {
+            return None;
         }
+        match self.wish.load {
+            Some(_) => Some(OTHER_SNAPSHOT),
+            None => Some(NO_SNAPSHOT),
+        }
+    }
+
+    /// Returns whether the key goes on where the log's key excludes a credential, or finds none where that one goes on.
+    fn may_lack_credential(&self) -> bool {
+        let Difference {
+            logged,
+            sent,
+            awaited,
+            ..
+        } = self.difference;
+        // Both packets are there, on one channel.
+        let Some((4.., _, _)) = self.difference.byte() else {
+            return false;
+        };
+        match (status_in(logged), status_in(sent)) {
+            (Some(OK), Some(NO_CREDENTIALS)) => true,
+            (None, Some(NO_CREDENTIALS)) => is_keepalive(logged),
+            (Some(EXCLUDED), Some(DENIED | STORE_FULL)) => true,
+            // It is past the excludeList only where it waits for a new key.
+            (Some(EXCLUDED), None) => {
+                is_keepalive(sent) && matches!(awaited, Some(Awaited::Key))
+            }
+            _ => false,
+        }
+    }
+
+    /// Returns whether the keys may have other credentials after it, for which no snapshot has to be missing. Where a hint
+    /// is said, a snapshot may be missing all the same.
+    pub fn may_change_credentials(&self) -> bool {
+        let Some(transaction) = &self.texts.transaction else {
+            return true;
+        };
+        let name = transaction.name();
+        for kept in &KEEPING {
+            if name == *kept {
+                return false;
+            }
+        }
+        self.hint().is_none()
     }
 
     /// Describes it: its transaction, the packets and messages, and where they differ first.

@@ -1,6 +1,6 @@
 //! Two packets beside one another, in `show`'s words.
 use crate::pieces::{DIGITS, Pieces, after, count_in_front};
-use hid_packet::command::CBOR;
+use hid_packet::command::{CBOR, KEEPALIVE};
 use hid_packet::{Packet, View};
 use session_show::{Difference, Pen};
 
@@ -175,5 +175,13 @@ pub fn status_in(packet: &Option<Packet>) -> Option<u8> {
             ..
         } if len > 0 => Some(*status),
         _ => None,
+    }
+}
+
+/// Returns whether it is a KEEPALIVE.
+pub fn is_keepalive(packet: &Option<Packet>) -> bool {
+    match packet {
+        Some(packet) => matches!(packet.view(), View::Start { cmd: KEEPALIVE, .. }),
+        None => false,
     }
 }
