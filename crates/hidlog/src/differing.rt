@@ -94,7 +94,7 @@ fn begun(alloc: Global) -> Option<Box<Comparison>> {
 }
 
 /// What was said of a log so far.
-#[derive(Clone, Copy)]
+#[derive(Clone, Copy, Default)]
 struct Said {
     /// How many differences.
     count: u64,
@@ -111,10 +111,7 @@ fn say_each<S: Source, E: Target>(
     told: Option<LogFault>,
     faults: &mut E,
 ) {
-    let mut said = Said {
-        count: 0,
-        has_changed: false,
-    };
+    let mut said = Said::default();
     let mut fault = None;
     for _ in 0..u64::MAX {
         let difference = match comparison.find(reader, session) {
