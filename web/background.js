@@ -53,17 +53,16 @@
     // Bytes that are handed to a worker at once: a long log as a whole would stop the page.
     const PART = 16 * 1024 * 1024;
     const WORK = `
-        let [task, log, came] = [null, null, 0];
+        let [task, came] = [null, 0];
         onmessage = async ({ data: { part, ...given } }) => {
             try {
                 task ??= given;
-                log ??= new Uint8Array(task.length);
-                log.set(part, came);
+                globalThis.HIDLOG_WASM = task.wasm;
+                const core = await hidlog.load();
+                core.hold(part, came, task.length);
                 came += part.length;
-                if (came === log.length) {
-                    globalThis.HIDLOG_WASM = task.wasm;
-                    const core = await hidlog.load();
-                    const outcome = core.run(task.command, log, task.snapshot);
+                if (came === task.length) {
+                    const outcome = core.runHeld(task.command, task.length, task.snapshot);
                     postMessage({ outcome }, [outcome.text.buffer]);
                 }
             } catch (error) {
@@ -74,9 +73,9 @@
     /** Hands a log to a worker, and with its first part what is to be done. */
     const hand = async (worker, log, task) => {
         for (let from = 0; from < log.length; from += PART) {
+            await breathe();
             const part = log.slice(from, from + PART);
             worker.postMessage({ part, ...(from ? {} : task) }, [part.buffer]);
-            await breathe();
         }
     };
 
@@ -84,7 +83,7 @@
      * Runs a command of the core in a worker; in this thread, where none can be made. Returns a promise of its outcome,
      * and what ends it.
      */
-    const run = (core, command, log, snapshot) => {
+    const run = (core, command, log, snapshot = new Uint8Array(0)) => {
         const sources = globalThis.HIDLOG_SOURCES;
         const text = [sources["dist/bytes.js"], sources["core.js"], WORK].join("\n");
         const address = URL.createObjectURL(new Blob([text], { type: "text/javascript" }));

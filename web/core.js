@@ -63,20 +63,31 @@
             return Number(this.outcome.getBigUint64(at, true));
         }
 
-        /** One call of a command, with room for at most so many bytes. */
-        call(command, log, snapshot, wanted) {
-            const logAt = this.base + OUTCOME_BYTES;
-            const snapshotAt = aligned(logAt + log.length);
+        get logAt() {
+            return this.base + OUTCOME_BYTES;
+        }
+
+        /** Takes a part of a log of so many bytes into the module's memory, from a place of it on. */
+        hold(part, place, length) {
+            if (this.logAt + length > MOST) {
+                throw new Error("the log is too long");
+            }
+            this.grow(this.logAt + length);
+            this.bytes.set(part, this.logAt + place);
+        }
+
+        /** One call of a command on the log of so many bytes that is held, with room for at most so many. */
+        call(command, length, snapshot, wanted) {
+            const snapshotAt = aligned(this.logAt + length);
             const outAt = aligned(snapshotAt + snapshot.length);
             const room = Math.min(wanted, MOST - outAt);
             if (room < 0) {
                 throw new Error("the log is too long");
             }
             this.grow(outAt + room);
-            this.bytes.set(log, logAt);
             this.bytes.set(snapshot, snapshotAt);
             const between = BETWEEN[command] ?? [snapshotAt, snapshot.length].map(BigInt);
-            const [from, size, to, most, at] = [logAt, log.length, outAt, room, this.base].map(BigInt);
+            const [from, size, to, most, at] = [this.logAt, length, outAt, room, this.base].map(BigInt);
             this.exports[`hidlog_${command}`](from, size, ...between, to, most, at);
             return {
                 status: this.outcome.getUint32(0, true),
@@ -87,15 +98,23 @@
             };
         }
 
-        /** Runs a command. Where the room was too small, it is run again with more, as far as the memory goes. */
+        /** Runs a command on a log. */
         run(command, log, snapshot = new Uint8Array(0)) {
-            const { length } = log;
+            this.hold(log, 0, log.length);
+            return this.runHeld(command, log.length, snapshot);
+        }
+
+        /**
+         * Runs a command on the log of so many bytes that is held. Where the room was too small, it is run again with
+         * more, as far as the memory goes.
+         */
+        runHeld(command, length, snapshot) {
             const wanted = command === "transactions" ? length / 2 : 2 * length + Math.min(6 * length, 1024 * 1024);
             let room = Math.ceil(wanted) + 8192;
-            let outcome = this.call(command, log, snapshot, room);
+            let outcome = this.call(command, length, snapshot, room);
             while (outcome.fault === WRITE_FAULT && outcome.status === 1 && room < MOST) {
                 room *= 4;
-                outcome = this.call(command, log, snapshot, room);
+                outcome = this.call(command, length, snapshot, room);
             }
             return outcome;
         }
