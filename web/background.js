@@ -63,7 +63,8 @@
                 came += part.length;
                 if (came === task.length) {
                     const outcome = core.runHeld(task.command, task.length, task.snapshot);
-                    postMessage({ outcome }, [outcome.text.buffer]);
+                    const found = task.command === "show" ? hidlogExplained.indexed(outcome) : outcome;
+                    postMessage({ outcome: found }, [found.text.buffer]);
                 }
             } catch (error) {
                 postMessage({ error: error.message });
@@ -81,11 +82,12 @@
 
     /**
      * Runs a command of the core in a worker; in this thread, where none can be made. Returns a promise of its outcome,
-     * and what ends it.
+     * of which `show` is indexed (explained.js), and what ends it.
      */
     const run = (core, command, log, snapshot = new Uint8Array(0)) => {
         const sources = globalThis.HIDLOG_SOURCES;
-        const text = [sources["dist/bytes.js"], sources["core.js"], WORK].join("\n");
+        const names = ["dist/bytes.js", "core.js", "log.js", "explained.js"];
+        const text = [...names.map((name) => sources[name]), WORK].join("\n");
         const address = URL.createObjectURL(new Blob([text], { type: "text/javascript" }));
         let worker = null;
         const end = () => {
@@ -99,7 +101,11 @@
             const task = { wasm: globalThis.HIDLOG_WASM, command, length: log.length, snapshot };
             hand(worker, log, task).catch(fail);
         });
-        const outcome = answered.catch(() => ({ outcome: core.run(command, log, snapshot) })).then((came) => {
+        const here = () => {
+            const made = core.run(command, log, snapshot);
+            return { outcome: command === "show" ? globalThis.hidlogExplained.indexed(made) : made };
+        };
+        const outcome = answered.catch(here).then((came) => {
             if (came.error) {
                 throw new Error(came.error);
             }

@@ -26,8 +26,8 @@ import json, pathlib, sys
 texts = {it: pathlib.Path(sys.argv[1 if it == "dist/bytes.js" else 2], it).read_text("utf-8") for it in sys.argv[3:]}
 print("// Made by build.sh: the files of the page, for its worker and for Save as page.")
 print("globalThis.HIDLOG_SOURCES =", json.dumps(texts, indent=1) + ";")
-' "$work" web index.html viewer.css dist/bytes.js captures.js core.js log.js transactions.js session.js shown.js \
-    difference.js rows.js story.js drawing.js background.js save.js viewer.js judge.js hands.js >"$work/dist/sources.js"
+' "$work" web index.html viewer.css dist/bytes.js captures.js core.js log.js transactions.js session.js explained.js \
+    shown.js difference.js rows.js story.js drawing.js background.js save.js viewer.js judge.js hands.js >"$work/dist/sources.js"
 status=0
 for file in wasm.js dist/judge.js dist/bytes.js dist/sources.js dist/security_key.js; do
     if [ "${1-}" = --check ]; then

@@ -45,13 +45,16 @@
             : `line ${has.number} is one too many: the key sends ${packet - 1} packets ${whence}`;
     };
 
+    // What is said of packets until their words are known.
+    const UNKNOWN = "…";
+
     /** Finds the packet that `check` named, and what the key sends there: inputs have the same place in a replay. */
     const find = (recorded, replayed, { line, packet }) => {
         const before = inputsUpTo(recorded, line - 1);
         const has = packetOf(recorded, line - 1, packet);
         const sends = packetOf(replayed, before ? inputPlace(replayed, before) : -1, packet);
         const found = { has, sends, line, packet, marked: has?.number ?? line };
-        return { ...found, says: sentence(found) };
+        return { ...found, says: sentence(found), explained: [[UNKNOWN], [UNKNOWN]] };
     };
 
     const mark = (text) => {
@@ -99,10 +102,12 @@
     const NONE = "CTAP2_ERR_NO_CREDENTIALS";
     const HINT = "The key has no credential for this: a log that began with some needs its snapshot, dropped first.\n";
 
+    /** What is said of both packets, once the words for them are known. */
+    const explain = ({ has, sends }, shown) => [has, sends].map((line) => (line ? shown.detail(line) : []));
+
     /** The difference as a page's nodes: both packets, and what their messages say. */
-    const nodes = ({ has, sends, says }, shown) => {
+    const nodes = ({ has, sends, says, explained: [ownSays, otherSays] }) => {
         const [own, other] = [has, sends].map((line) => (line ? line.text : "nothing"));
-        const [ownSays, otherSays] = [has, sends].map((line) => (line ? shown.detail(line) : []));
         const packets = has && sends ? [markedDigits(own, other), markedDigits(other, own)] : [[own], [other]];
         const messages = [markedLines(ownSays, otherSays), markedLines(otherSays, ownSays)];
         const isNone = otherSays.join().includes(NONE) && !ownSays.join().includes(NONE);
@@ -114,8 +119,7 @@
     };
 
     /** The difference in a sentence: what the log has in the place of what the key sends. */
-    const inWords = ({ has, sends }, shown) => {
-        const [own, other] = [has, sends].map((line) => (line ? shown.detail(line) : []));
+    const inWords = ({ has, sends, explained: [own, other] }) => {
         const [has1, sends1] = [[own, other], [other, own]].map(([lines, others]) =>
             lines.find((it) => !others.includes(it) && it.length < SHORT)?.trim());
         if (other.join().includes(NONE) && !own.join().includes(NONE)) {
@@ -128,5 +132,5 @@
             : "The log has another packet than the key sends.";
     };
 
-    globalThis.hidlogDifference = { find, nodes, inWords };
+    globalThis.hidlogDifference = { explain, find, nodes, inWords };
 })();

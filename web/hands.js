@@ -3,8 +3,9 @@
 
 (() => {
     const {
-        AT_ONCE, MOST_BYTES, ROW, at, choose, commanded, decoder, firstLines, hasAnswers, inMegabytes, readSession,
-        reading, refresh, render, rest, rowAt, session, setView, state, tell, tellStory, withBar, withView,
+        AT_ONCE, FINDING_WORDS, MOST_BYTES, ROW, at, choose, commanded, decoder, firstLines, hasAnswers, inMegabytes,
+        readSession, reading, refresh, render, rest, rowAt, session, setView, showDetail, state, tell, tellStory, withBar,
+        withView, withWords,
     } = globalThis.hidlogViewer;
     const { Shown } = globalThis.hidlogShown;
     const { HEAD } = globalThis.hidlogDrawing;
@@ -122,6 +123,7 @@
 
     const play = () => {
         state.job.end();
+        state.shown.endAll();
         globalThis.hidlogJudge.clear();
         Object.assign(state, { difference: null, reason: "", view: "recorded", sessions: {}, texts: {} });
         if (state.bytes.length > AT_ONCE) {
@@ -192,8 +194,14 @@
     const showDifference = (outcome) => setView("recorded", () => withView("replayed", () => {
         state.difference = difference.find(state.sessions.recorded, state.sessions.replayed, outcome);
         tell(`${state.name}: ${state.difference.says}.`, true);
-        state.reason = difference.inWords(state.difference, state.shown);
-        tellStory();
+        const { recorded, replayed } = state.sessions;
+        withWords([recorded, replayed], () => {
+            state.difference.explained = difference.explain(state.difference, state.shown);
+            state.reason = difference.inWords(state.difference);
+            state.shown.keep([recorded.log], [replayed.log]);
+            tellStory();
+            showDetail();
+        });
         goToDifference();
     }));
 
@@ -379,7 +387,7 @@
         listen();
         try {
             state.core = await globalThis.hidlog.load();
-            state.shown = new Shown(state.core);
+            state.shown = new Shown(state.core, FINDING_WORDS);
         } catch (error) {
             tell(`This browser can't run the core: it needs WebAssembly with BigInt (${error.message})`, true);
             return;

@@ -13,8 +13,6 @@
     const [HOST, KEY, TICK, PRESENCE, NEW_KEY, SIGNATURE, COMMENT, NEED, COUNT, EMPTY] = KINDS.keys();
     const ENDS = ["", "answered", "refused", "timed out", "replaced", "dropped", "forgotten"];
     const [, ANSWERED, REFUSED, TIMED_OUT, REPLACED, DROPPED, FORGOTTEN] = ENDS.keys();
-    // Lines whose words are kept.
-    const MOST_WORDS = 300_000;
     const decoder = new TextDecoder("utf-8", { ignoreBOM: true });
 
     /** The value of a hexadecimal digit by its character code, or 16 and more for others. */
@@ -138,15 +136,6 @@
         get transaction() {
             const owner = this.log.owners.values[this.place];
             return owner ? new Transaction(this.log, owner - 1) : null;
-        }
-
-        /** The core's words, once they were asked for. */
-        get words() {
-            return this.log.words.get(this.place);
-        }
-
-        set words(words) {
-            this.log.words.set(this.place, words);
         }
 
         get says() {
@@ -327,7 +316,8 @@
                 until: Uint32Array,
             });
             this.answers = new Table({ ...packets, asks: Uint32Array });
-            this.words = new Map();
+            // The core's words for the lines, once they were asked for (explained.js).
+            this.explained = null;
             this.sources = new Map();
             this.before = null;
         }
@@ -375,17 +365,10 @@
         channelAt(line) {
             return this.byte(line, 0) * 2 ** 24 + this.byte(line, 1) * 65536 + this.byte(line, 2) * 256 + this.byte(line, 3);
         }
-
-        /** Forgets the words of lines, which are asked for again then, where so many more would be too many. */
-        makePlace(count) {
-            if (this.words.size + count > MOST_WORDS) {
-                this.words.clear();
-            }
-        }
     }
 
     globalThis.hidlogLog = {
-        Log, Answer, Transaction, digits, readMoment, PACKET_DIGITS,
+        Log, Answer, Column, Transaction, digits, readMoment, PACKET_DIGITS,
         KIND: { HOST, KEY, TICK, PRESENCE, NEW_KEY, SIGNATURE, COMMENT, NEED, COUNT, EMPTY },
         END: { ANSWERED, REFUSED, TIMED_OUT, REPLACED, DROPPED, FORGOTTEN },
         // Those of CTAPHID, by their numbers (CTAP 2.1, section 11.2.9).

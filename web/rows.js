@@ -22,10 +22,11 @@
     const isLoose = (session, place) => place >= session.size || !isQuietKind(session.kindAt(place));
 
     /**
-     * Makes rows, a slice at a time: each step of this generator is one.
+     * Makes rows, a slice at a time: each step of this generator is one. Before rows are sought `ready` is awaited, where
+     * it is a promise.
      * @yields how many lines are looked at
      */
-    const making = function* making(session, { isFolded, unfolded, isFound }) {
+    const making = function* making(session, { isFolded, unfolded, isFound, ready = null }) {
         const rows = [];
         for (let place = 0; place < session.length; place += 1) {
             const transaction = session.transactionAt(place);
@@ -42,6 +43,10 @@
             }
         }
         const kept = isFound ? [] : rows;
+        if (ready) {
+            yield { rows: kept, place: 0 };
+            yield ready;
+        }
         for (let at = 0; isFound && at < rows.length; at += 1) {
             if (isFound(rows[at])) {
                 kept.push(rows[at]);

@@ -1,15 +1,12 @@
-// What `hidlog show` says of the lines of a session: the core's text, made for what is looked at alone. It sets
-// `globalThis.hidlogShown`.
+// What `hidlog show` says of the lines of a session, put into rows and details. It sets `globalThis.hidlogShown`.
 "use strict";
 
 (() => {
     const CBOR = 0x10;
     const NAMED = [0x3b, 0x3f];
-    // How many lines are shown at once where all are asked for.
-    const BATCH = 4000;
     const PACKET = /^(?:> \d+|<) [0-9a-f]{8} /;
     const WORD = / {2}(\w+)$/;
-    const decoder = new TextDecoder();
+    const { Explained, explain, explainFirst } = globalThis.hidlogExplained;
 
     /** Whether a line is of the item of a request or an answer. */
     const isItem = (line) => /^(request|answer) /.test(line);
@@ -17,72 +14,79 @@
     /** A request's or an answer's line without its item: the number, and its name. */
     const shortItem = (line) => line.split(" ").slice(0, 2).join(" ") + (WORD.exec(line)?.[0] ?? "");
 
-    /** Lines as a log of their own. */
-    const logOf = (lines) => {
-        const log = new Uint8Array(lines.reduce((sum, { from, to }) => sum + to - from + 1, 0));
-        let at = 0;
-        for (const { bytes, from, to } of lines) {
-            log.set(bytes.subarray(from, to), at);
-            at += to - from + 1;
-            log[at - 1] = 10;
-        }
-        return log;
-    };
+    /** The work on a log that would take more memory than a page should have. */
+    const tooLong = () => ({ outcome: Promise.reject(new Error("the log is too long")), end: () => {} });
 
-    /** What is shown with a line: its message's packets, and before an answer those of its request. */
-    const groupOf = (line) => {
-        const { message } = line;
-        return message ? [...(message.asks?.lines ?? []), ...message.lines] : [line];
-    };
-
-    /** The core's words for lines. Each line keeps them: a head, and the lines below it. */
+    /**
+     * The core's words for lines. A log of up to `atOnce` bytes is explained at once. Of a longer one the first lines are,
+     * and once others are asked for, all of it by `work`, if it has `most` bytes at most: that returns a promise of what
+     * is `indexed`, and what ends it. Then `changed` is called, with an error where it failed.
+     */
     class Shown {
-        constructor(core) {
-            this.core = core;
+        constructor(core, { atOnce = Infinity, most = Infinity, work = null, changed = () => {} } = {}) {
+            Object.assign(this, { core, atOnce, most, work, changed, jobs: new Map() });
         }
 
-        /** Shows lines in this order. */
-        show(lines) {
-            const found = lines.map(() => ({ head: "", below: [] }));
-            for (const text of decoder.decode(this.core.run("show", logOf(lines)).text).split("\n")) {
-                const at = text.indexOf(" ");
-                const words = found[Number(text.slice(0, at)) - 1];
-                if (words && text.startsWith("   ", at)) {
-                    words.below.push(text.slice(at + 3));
-                } else if (words) {
-                    words.head = text.slice(at + 1);
-                }
+        /** What is known so far of a log's words. */
+        explained(log) {
+            log.explained ??= (log.bytes.length > this.atOnce ? explainFirst : explain)(this.core, log.bytes);
+            return log.explained;
+        }
+
+        /** Has all words of logs found. Returns a promise of that, or null where they are known. */
+        ready(logs) {
+            const unknown = logs.filter((log) => !this.explained(log).isLast);
+            return unknown.length ? this.readyEach(unknown) : null;
+        }
+
+        /** One after the other, since each takes memory. */
+        async readyEach(logs) {
+            for (const log of logs) {
+                await this.explaining(log);
             }
-            lines[0]?.log.makePlace(lines.length);
-            lines.forEach((line, place) => {
-                line.words ??= found[place];
+        }
+
+        /** A promise that a long log is explained, which is begun once. */
+        explaining(log) {
+            if (!this.jobs.has(log)) {
+                const job = log.bytes.length > this.most ? tooLong() : this.work(log.bytes);
+                job.done = job.outcome.then((found) => this.take(log, job, new Explained(found, true)), (error) =>
+                    this.take(log, job, new Explained(log.explained, true), error));
+                this.jobs.set(log, job);
+            }
+            return this.jobs.get(log).done;
+        }
+
+        take(log, job, explained, error = null) {
+            if (this.jobs.get(log) === job) {
+                this.jobs.delete(log);
+                log.explained = explained;
+                this.changed(error);
+            }
+        }
+
+        /** Forgets the words of long logs, but of those that are kept and of those that are being explained. */
+        keep(kept, logs) {
+            const isForgotten = (log) => log.bytes.length > this.atOnce && !kept.includes(log) && !this.jobs.has(log);
+            logs.filter(isForgotten).forEach((log) => {
+                log.explained = null;
             });
         }
 
-        /** Shows those lines that weren't shown yet. */
-        showAll(lines) {
-            const queued = new Set();
-            let waiting = [];
-            for (const line of lines.map((it) => it.source ?? it)) {
-                const first = line.message?.start ?? line.place;
-                if (!line.words && !queued.has(first)) {
-                    queued.add(first);
-                    waiting.push(...groupOf(line));
-                }
-                if (waiting.length >= BATCH) {
-                    this.show(waiting);
-                    waiting = [];
-                }
-            }
-            this.show(waiting);
+        /** Ends all that looks for words. */
+        endAll() {
+            this.jobs.forEach((job) => job.end());
+            this.jobs.clear();
         }
 
+        /** A line's words: a head, and the lines below it. */
         words(line) {
-            const source = line.source ?? line;
-            if (!source.words) {
-                this.show(groupOf(source));
+            const { log, place } = line.source ?? line;
+            const explained = this.explained(log);
+            if (!explained.has(place)) {
+                this.explaining(log);
             }
-            return source.words;
+            return explained.words(place);
         }
 
         /** What is said of a packet after its channel, and of another line after its kind. */
@@ -135,16 +139,16 @@
             const { lines, came, isWhole, length } = message;
             const packets = lines.length > 1 ? `, ${lines.length} packets` : "";
             const missing = isWhole ? "" : `, not whole: ${came} of ${length} bytes`;
-            const { below } = this.words(lines.at(-1));
+            const below = lines.flatMap((it) => this.words(it).below);
             const hasMembers = below.some((it) => it.startsWith("  "));
             const shortened = below.map((it) => (hasMembers && isItem(it) ? shortItem(it) : it));
             return [`${this.rest(lines[0])}${packets}${missing}`, ...shortened];
         }
 
-        /** All that is said of a line, in lines. */
-        detail(line) {
+        /** All that is said of a line, in lines, the first of which may be put in other words. */
+        detail(line, first = this.rest(line)) {
             const { message } = line.source ?? line;
-            return message ? this.message(message) : [this.rest(line)];
+            return message ? this.message(message) : [first, ...this.words(line).below];
         }
     }
 

@@ -6,10 +6,10 @@
     // A log up to so many bytes is played at once; what is longer is read in slices, and played by a worker.
     const AT_ONCE = 4 * 1024 * 1024;
     const MOST_BYTES = 1024 * 1024 * 1024;
+    // While a log is explained, five times its bytes are held.
+    const MOST_EXPLAINED = 700 * 1024 * 1024;
     // Milliseconds that a letter of a search may stop the page.
     const SOUGHT = 30;
-    // Lines whose words are asked for at once in a search.
-    const SHOWN_AT_ONCE = 128;
     const CALLER_KINDS = ["presence", "new key", "signature"];
     const SHOWN_KINDS = ["host", "key", "comment", "need"];
     const ARROWS = { host: "→", key: "←", caller: "⇠", need: "?", time: "·", comment: "#", fault: "!" };
@@ -92,7 +92,7 @@
                 const messages = [transaction, transaction.answer ?? refusal].filter(Boolean);
                 return messages.flatMap((it) => [...state.shown.message(it), ""]);
             }
-            return line.message ? state.shown.detail(line) : [this.says];
+            return line.isFault ? [this.says] : state.shown.detail(line, this.says);
         }
 
         has(words, channel) {
@@ -112,15 +112,8 @@
 
     const rowAt = (place) => (state.rows[place] === undefined ? null : rowOf(state.rows[place]));
 
-    /** Whether a row is sought and of the channel that is chosen. Words of lines are asked for many at once. */
-    const seeking = (words, channel) => (number) => {
-        const row = rowOf(number);
-        if (words && !(row.line.source ?? row.line).words && !row.line.isFault) {
-            const { place } = row.line;
-            state.shown.showAll(session().slice(place, place + SHOWN_AT_ONCE).filter((line) => !line.isFault));
-        }
-        return row.has(words, channel);
-    };
+    /** The logs whose words a view has: in the quiet one noise has those of the recorded log. */
+    const logsOf = ({ log }) => [log, log.before].filter(Boolean);
 
     const cell = (text, className = "") => {
         const span = document.createElement("span");
@@ -181,10 +174,11 @@
         const { line } = row;
         at("detail-title").textContent = row.transaction ? row.says : `Line ${line.number}`;
         if (row.differs) {
-            at("detail-text").replaceChildren(...difference.nodes(state.difference, state.shown));
+            at("detail-text").replaceChildren(...difference.nodes(state.difference));
             return;
         }
-        const went = line.went ? `Noise: it changes nothing but the time.\nIt was: ${line.went}\n\n` : "";
+        const was = line.went ? `It was line ${line.source.number} of the log: ${line.went}` : "";
+        const went = was && `Noise: it changes nothing but the time.\n${was}\n\n`;
         const raw = (row.transaction?.all ?? [line]).map((it) => it.text);
         const text = `${went}${row.detail().join("\n")}`;
         at("detail-text").replaceChildren(text, cell(`\n\n${raw.map(visible).join("\n")}`, "raw"));
@@ -227,8 +221,9 @@
         const words = at("search").value.trim().toLowerCase();
         const channel = at("channel").value;
         const isFolded = at("fold").checked && session().transactions > 0;
-        const isFound = words || channel ? seeking(words, channel) : null;
-        const steps = making(session(), { isFolded, unfolded: state.unfolded, isFound });
+        const isFound = words || channel ? (number) => rowOf(number).has(words, channel) : null;
+        const ready = words ? state.shown.ready(logsOf(session())) : null;
+        const steps = making(session(), { isFolded, unfolded: state.unfolded, isFound, ready });
         const part = ({ rows, place }) => {
             at("count").textContent = `${rows.length} found, at line ${place} of ${session().length}`;
         };
@@ -245,7 +240,7 @@
         if (!isLong()) {
             return { outcome: state.core.run("transactions", bytes), end: () => {} };
         }
-        const { outcome, end } = run(state.core, "transactions", bytes, new Uint8Array(0));
+        const { outcome, end } = run(state.core, "transactions", bytes);
         return { outcome: outcome.catch(({ message }) => ({ error: message, text: new Uint8Array(0) })), end };
     };
 
@@ -371,6 +366,7 @@
 
     const setView = (view, after = () => {}) => withView(view, () => {
         state.view = view;
+        state.shown.keep(logsOf(session()), Object.values(state.sessions).map(({ log }) => log));
         at("view").value = view;
         state.unfolded.clear();
         const { channels, many } = session();
@@ -397,8 +393,34 @@
         return recorded.find((place) => recorded.kindAt(place) === KIND.KEY) >= 0;
     };
 
+    /** Calls what comes after all words of two sessions are known, if the log is still the same. */
+    const withWords = (sessions, done) => {
+        const { bytes } = state;
+        const ready = state.shown.ready(sessions.flatMap(logsOf));
+        if (!ready) {
+            done();
+            return;
+        }
+        ready.then(() => bytes === state.bytes && done());
+    };
+
+    /** How the words of the core are found: those of a long log by a worker, and then what is in sight is shown anew. */
+    const FINDING_WORDS = {
+        atOnce: AT_ONCE,
+        most: MOST_EXPLAINED,
+        work: (bytes) => run(state.core, "show", bytes),
+        changed: (error) => {
+            if (error) {
+                tell(`${state.name}: not all of it is explained: ${error.message}`, true);
+            }
+            showDetail();
+            render();
+        },
+    };
+
     globalThis.hidlogViewer = {
-        AT_ONCE, MOST_BYTES, ROW, at, choose, commanded, decoder, firstLines, hasAnswers, inMegabytes, readSession,
-        reading, rest, refresh, render, rowAt, session, setView, state, tell, tellStory, withBar, withView,
+        AT_ONCE, FINDING_WORDS, MOST_BYTES, ROW, at, choose, commanded, decoder, firstLines, hasAnswers, inMegabytes,
+        readSession, reading, rest, refresh, render, rowAt, session, setView, showDetail, state, tell, tellStory, withBar,
+        withView, withWords,
     };
 })();

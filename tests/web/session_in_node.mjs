@@ -4,7 +4,7 @@ import vm from "node:vm";
 
 export const fileOf = (name) => new URL(`../../${name}`, import.meta.url);
 
-for (const name of ["wasm.js", "dist/bytes.js", "core.js", "log.js", "transactions.js", "session.js"]) {
+for (const name of ["wasm.js", "dist/bytes.js", "core.js", "log.js", "transactions.js", "session.js", "explained.js"]) {
     vm.runInThisContext(readFileSync(fileOf(`web/${name}`), "utf8"));
 }
 export const core = await globalThis.hidlog.load();
