@@ -10,13 +10,19 @@
         0x06: ["PIN", ""], 0x07: ["Reset", "reset"], 0x08: ["Next account", ""], 0x0b: ["Selection", "selection"],
     };
     const ENDS = {
-        0x00: "done", 0x19: "already registered", 0x27: "the user denied", 0x28: "the key is full",
+        0x00: "done", 0x19: "already registered", 0x28: "the key is full",
         0x2d: "cancelled", 0x2e: "no credential for it", 0x2f: "the user did nothing in time",
         0x26: "no algorithm that the key has", 0x2b: "an option that the key hasn't", 0x2c: "a wrong option",
         0x14: "a parameter is missing", 0x11: "a parameter of another type", 0x12: "broken CBOR", 0x36: "a PIN is needed",
     };
+    const DENIED = 0x27;
+    // What that status is after which reply of the user's: it is told for both.
+    const DENIALS = {
+        denied: "the user denied", timeout: "the user didn't answer", granted: "denied, though the user agreed",
+        none: "the user denied or didn't answer",
+    };
     const ERRORS = {
-        0x01: "no such command", 0x03: "a wrong length", 0x04: "a packet is missing", 0x05: "packets came too late",
+        0x01: "no such command", 0x03: "a wrong length", 0x04: "a wrong sequence number", 0x05: "packets came too late",
         0x06: "the key was busy", 0x0b: "no such channel",
     };
     const hex = (byte) => `0x${byte.toString(16).padStart(2, "0")}`;
@@ -31,18 +37,23 @@
         return { [INIT]: "New channel", [PING]: "Ping" }[command] ?? `Message ${hex(command)}`;
     };
 
+    /** What the user did last in a transaction, as the log has it. */
+    const replyOf = ({ all }) => all.filter((line) => line.kind === "presence").at(-1)?.says ?? "none";
+
     /** How it ended, in words. */
-    const endOf = ({ answer, end, code, command, by }) => {
+    const endOf = (transaction) => {
+        const { answer, end, code, by } = transaction;
         if (code !== null) {
             return ERRORS[code] ?? `error ${hex(code)}`;
         }
         if (answer) {
             const status = answer.command === CBOR && answer.length ? answer.byteAt(0) : 0;
-            return answer.isWhole ? ENDS[status] ?? `status ${hex(status)}` : "its answer isn't whole";
+            const said = status === DENIED ? DENIALS[replyOf(transaction)] : ENDS[status] ?? `status ${hex(status)}`;
+            return answer.isWhole ? said : "its answer isn't whole";
         }
         const ends = {
             replaced: `given up for line ${by?.number}`, dropped: `given up at line ${by?.number}`,
-            forgotten: "not followed to its end: too many channels are in use", "not whole": "it never came whole",
+            forgotten: "not followed any longer, since too much is open at once", "not whole": "it never came whole",
         };
         return ends[end] ?? "no answer";
     };

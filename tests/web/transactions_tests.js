@@ -52,7 +52,7 @@ const saysWhatIsForgotten = async () => {
     const packet = (channel) => `> 0 0000000${channel}90000104${"0".repeat(112)}\n`;
     await open("seven.log", encode([1, 2, 3, 4, 5, 6, 7].map(packet).join("")), true);
     choose("view", "recorded");
-    const said = texts().filter((text) => text.includes("not followed to its end: too many channels are in use"));
+    const said = texts().filter((text) => text.includes("not followed any longer, since too much is open at once"));
     expect(said.length === 1 && said[0].includes("not followed beyond line 7"), texts().join("\n"));
 };
 
