@@ -2,7 +2,7 @@
 // fail the tests where the page's address has `quiet`, on a machine that does nothing else (bench/page.sh); elsewhere
 // only a page that hangs fails.
 import { expect, results, run, until, wait } from "./harness.js";
-import { at, choose, encode, notice, open, page, rows } from "./viewing.js";
+import { at, choose, encode, notice, open, page, rows, texts } from "./viewing.js";
 
 const isQuiet = new URLSearchParams(location.search).has("quiet");
 const HANGS = 60_000;
@@ -60,11 +60,26 @@ const scrolls = async () => {
     results.figures.push(`four jumps in it: the page never stopped for more than ${stop().toFixed(0)} ms`);
 };
 
+/** The last lines have their words, which the core finds by going through the whole log. */
+const explains = async () => {
+    const stop = longestBlock();
+    const begun = performance.now();
+    at("scroller").scrollTop = at("scroller").scrollHeight;
+    const isLast = (row) => row?.getAttribute("aria-posinset") === row?.getAttribute("aria-setsize");
+    await until(() => isLast(rows().at(-1)) && !texts().join().includes("…"), "the words of the last lines");
+    const longest = stop();
+    results.figures.push(`the words of its last lines after ${seconds(performance.now() - begun)}: the page never stopped`
+        + ` for more than ${longest.toFixed(0)} ms`);
+    expect(texts().at(-1).includes("CTAP2_OK"), texts().at(-1));
+    expect(longest < MOST_BLOCK, `it stopped for ${longest} ms`);
+};
+
 /** 200 MB of sessions. */
 const opensHugeLogs = async () => {
     await open("", null);
     await opens(await fileOf("huge.log", "sign_in.log", 200), "\\d+");
     await scrolls();
+    await explains();
     const stop = longestBlock();
     choose("search", "no such words");
     at("cancel").click();

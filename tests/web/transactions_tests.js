@@ -1,16 +1,28 @@
 // Transactions in web/index.html: those of long logs, which a worker finds, and those that are not followed any longer.
 import { expect, run, until } from "./harness.js";
-import { at, choose, drop, encode, fetched, notice, open, page, texts } from "./viewing.js";
+import { at, choose, drop, encode, fetched, notice, open, page, rows, seek, texts } from "./viewing.js";
+
+/** 5 MB of a session, over and over. */
+const longLog = async () => {
+    const session = new TextDecoder().decode(await fetched("sign_in.log")).replace(/^[=#].*\n/gm, "");
+    return session.repeat(Math.ceil((5 * 1024 * 1024) / session.length));
+};
 
 /** Opens 5 MB of sessions, and returns what happened in them. */
 const opensSessions = async (Worker) => {
-    const session = new TextDecoder().decode(await fetched("sign_in.log")).replace(/^[=#].*\n/gm, "");
+    const log = await longLog();
     await open("", null);
     page().Worker = Worker ?? page().Worker;
-    drop("sessions.log", encode(session.repeat(Math.ceil((5 * 1024 * 1024) / session.length))));
+    drop("sessions.log", encode(log));
     await until(() => /^sessions\.log: \d+ lines/.test(notice()) && at("story").textContent, "the lines");
     expect(texts().some((text) => text.includes("Registration: done at example.com")), texts().join());
-    return at("story").textContent;
+    const story = at("story").textContent;
+    at("scroller").scrollTop = at("scroller").scrollHeight;
+    const isLast = (row) => row?.getAttribute("aria-posinset") === row?.getAttribute("aria-setsize");
+    await until(() => isLast(rows().at(-1)) && !texts().join().includes("…"), "the words of the last lines");
+    const signIn = "Sign-in: done at example.com  ·  authenticatorGetAssertion → CTAP2_OK";
+    expect(texts().at(-1).includes(signIn), texts().at(-1));
+    return story;
 };
 
 /** Long logs are looked at by a worker, and where there is none by the page itself. */
@@ -36,6 +48,22 @@ const needsNoWorker = async () => {
     }
 };
 
+/** In a long log, whose words come later than its rows, rows are sought and a difference is told all the same. */
+const waitsForWords = async () => {
+    const log = await longLog();
+    await open("", null);
+    drop("changed.log", encode(log.replace("470100000002", "470100000007")));
+    await until(() => /^changed\.log: \d+ lines/.test(notice()) && at("story").textContent, "the lines");
+    await seek("search", "signcount 7");
+    await until(() => / of \d+ lines$/.test(at("count").textContent), "what is found");
+    expect(rows().length === 1 && texts()[0].includes("Sign-in: done at example.com"), texts().join());
+    at("check").click();
+    const said = "The log has signCount 7, and the key sends signCount 2.";
+    await until(() => at("story").textContent.startsWith(said), "the difference in words");
+    const detail = at("detail-text").textContent;
+    expect(detail.includes("In the log: signCount 7") && detail.includes("The key:    signCount 2"), detail);
+};
+
 /** Reading a long log is cancelled, and the page goes on with another one. */
 const cancelsReading = async () => {
     await open("", null);
@@ -58,6 +86,7 @@ const saysWhatIsForgotten = async () => {
 
 run({
     "long logs without a worker": needsNoWorker,
+    "words of a long log": waitsForWords,
     "reading is cancelled": cancelsReading,
     "more channels than are followed": saysWhatIsForgotten,
 });

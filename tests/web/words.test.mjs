@@ -1,0 +1,291 @@
+// The words that the page shows beside those of `hidlog show --explain` for the whole log, line by line: the page itself
+// in jsdom, with each row chosen, before a search and after it; and where jsdom is missing, what the page reads them by.
+// The program is the one that the variable HIDLOG names, or ./hidlog.
+import assert from "node:assert/strict";
+import { execFileSync } from "node:child_process";
+import { existsSync, readdirSync, readFileSync } from "node:fs";
+import { createRequire } from "node:module";
+import { test } from "node:test";
+import { fileURLToPath } from "node:url";
+import vm from "node:vm";
+import { core, fileOf, readSession } from "./session_in_node.mjs";
+
+for (const name of ["shown.js", "story.js"]) {
+    vm.runInThisContext(readFileSync(fileOf(`web/${name}`), "utf8"));
+}
+const PROGRAM = process.env.HIDLOG ?? fileURLToPath(fileOf("hidlog"));
+const JSDOM = "/usr/share/nodejs/jsdom";
+const FOLDERS = [
+    "examples/", "examples/failing/", "crates/hidlog/data/capacity_64/", "tests/captures/data/", "tests/web/walks/",
+    "tests/web/words/",
+];
+const names = FOLDERS.flatMap((folder) => readdirSync(fileOf(folder)).filter((it) => it.endsWith(".log"))
+    .map((it) => folder + it));
+
+/** What the program says of a log's lines, by their numbers: a head, and the lines below it. */
+const explained = (name) => {
+    const words = new Map();
+    const path = fileURLToPath(fileOf(name));
+    const said = execFileSync("sh", ["-c", '"$0" show --explain "$1" || true', PROGRAM, path], {
+        encoding: "utf8", maxBuffer: 2 ** 28, stdio: ["ignore", "pipe", "ignore"],
+    });
+    for (const [, number, below, text] of said.matchAll(/^(\d+) ( {2})?(.*)$/gm)) {
+        const of = words.get(Number(number)) ?? { head: "", below: [] };
+        words.set(Number(number), of);
+        if (below === undefined) {
+            of.head = text;
+        } else {
+            of.below.push(text);
+        }
+    }
+    return (number) => words.get(number) ?? { head: "", below: [] };
+};
+
+const bytesOf = (name) => new Uint8Array(readFileSync(fileOf(name)));
+
+test("each line has the words of the whole log", () => {
+    assert.ok(names.length >= 80, `${names.length} logs`);
+    for (const name of names) {
+        const expected = explained(name);
+        const session = readSession(bytesOf(name));
+        const shown = new globalThis.hidlogShown.Shown(core);
+        const lines = session.slice(0, session.length);
+        for (const line of [...lines, ...lines.toReversed()]) {
+            assert.deepEqual(shown.words(line), expected(line.number), `${name}, line ${line.number}`);
+        }
+    }
+});
+
+/** Sessions whose packets came 150 ms apart, a comment behind each: only a later line shows what was said. */
+const slowLog = (count) => {
+    const slow = readFileSync(fileOf("tests/web/words/slow_packets.log"), "utf8").trimEnd().split("\n");
+    const later = (line, by) => line.replace(/^(. )(\d+) /, (_, kind, at) => `${kind}${Number(at) + by} `);
+    const sessions = Array.from({ length: count }, (_, at) => slow.map((line) => `${later(line, 1000 * at)}\n# between\n`));
+    return sessions.flat().join("");
+};
+
+test("the first lines of a long log have the words of all of it, and all of them once it is explained", async () => {
+    const { explain, indexed } = globalThis.hidlogExplained;
+    const bytes = new TextEncoder().encode(slowLog(400));
+    const whole = explain(core, bytes);
+    const job = { ended: 0 };
+    const changes = [];
+    const shown = new globalThis.hidlogShown.Shown(core, {
+        atOnce: 1000,
+        work: () => ({ outcome: Promise.resolve(indexed(core.run("show", bytes))), end: () => { job.ended += 1; } }),
+        changed: (error) => changes.push(error),
+    });
+    const session = readSession(bytes);
+    const lines = session.slice(0, session.length);
+    const first = lines.filter((line) => shown.words(line).head !== "…");
+    assert.ok(first.length > 200 && first.length < lines.length / 2, `${first.length} of ${lines.length} lines`);
+    assert.deepEqual(first.map(({ place }) => place), [...first.keys()]);
+    for (const line of first) {
+        assert.deepEqual(shown.words(line), whole.words(line.place), `line ${line.number}`);
+    }
+    await shown.ready([session.log]);
+    assert.equal(shown.ready([session.log]), null);
+    assert.deepEqual([changes, job.ended], [[null], 0]);
+    for (const line of lines) {
+        assert.deepEqual(shown.words(line), whole.words(line.place), `line ${line.number}`);
+    }
+    assert.ok(lines.some((line) => shown.words(line).below.some((it) => it.startsWith("request 01"))));
+    shown.keep([], [session.log]);
+    assert.equal(shown.words(lines.at(-1)).head, "…");
+    shown.endAll();
+    assert.equal(job.ended, 1);
+});
+
+test("what can't be explained says so, and nothing else", async () => {
+    const bytes = new TextEncoder().encode(slowLog(400));
+    const changes = [];
+    const work = () => ({ outcome: Promise.reject(new Error("no memory")), end: () => {} });
+    const shown = new globalThis.hidlogShown.Shown(core, { atOnce: 1000, work, changed: (it) => changes.push(it?.message) });
+    const session = readSession(bytes);
+    await shown.ready([session.log]);
+    const other = new globalThis.hidlogShown.Shown(core, {
+        atOnce: 1000, most: bytes.length - 1, changed: (it) => changes.push(it.message),
+    });
+    await other.ready([readSession(bytes).log]);
+    assert.deepEqual(changes, ["no memory", "the log is too long"]);
+    assert.match(shown.words(session.line(session.length - 1)).head, /^\(too long to be explained here/);
+    assert.match(shown.words(session.line(0)).head, /^> 1 ffffffff INIT/);
+    const { text } = core.run("show", bytes);
+    const { Explained, indexed } = globalThis.hidlogExplained;
+    for (const cut of [0, 1, 100, 1000, 5003, text.length - 1]) {
+        const some = new Explained(indexed({ text: text.slice(0, cut), status: 1, fault: 5 }), true);
+        const whole = new Explained(indexed({ text, status: 0, fault: 0 }), true);
+        const known = session.slice(0, session.length).filter(({ place }) => place < some.sure);
+        assert.ok(known.length >= cut / 200 - 10, `${known.length} lines of ${cut} bytes`);
+        known.forEach(({ place }) => assert.deepEqual(some.words(place), whole.words(place), `line ${place + 1}`));
+    }
+});
+
+/** What the page says happened in a log. */
+const storyOf = (bytes) => {
+    const steps = globalThis.hidlogStory.summing(readSession(bytes));
+    let step = steps.next();
+    while (!step.done) {
+        step = steps.next();
+    }
+    return step.value;
+};
+
+test("a refusal is told as the user's last reply in the log is", () => {
+    const name = "examples/failing/denied_user.log";
+    const text = readFileSync(fileOf(name), "utf8");
+    const told = (from, to) => storyOf(new TextEncoder().encode(text.replace(from, to)));
+    assert.match(text, /^p \d+ denied$/m);
+    assert.match(told("", ""), /^1 registration: the user denied\. /);
+    assert.match(told(/^(p \d+) denied$/m, "$1 timeout"), /^1 registration: the user didn't answer\. /);
+    assert.match(told(/^p \d+ denied\n/m, ""), /^1 registration: the user denied or didn't answer\. /);
+    assert.match(told(/^(p \d+) denied$/m, "$1 granted"), /^1 registration: denied, though the user agreed\. /);
+    assert.match(storyOf(bytesOf("examples/service_presence_timed_out.log")), /^1 registration: the user didn't answer\. /);
+});
+
+test("ends are told in words that hold of every cause", () => {
+    assert.match(storyOf(bytesOf("tests/web/words/sequence_twice.log")), /^1 registration: a wrong sequence number\. /);
+    const session = readSession(bytesOf("tests/web/words/six_inits.log"));
+    const ends = Array.from({ length: session.transactions }, (_, place) =>
+        globalThis.hidlogStory.endOf(session.transaction(place)));
+    assert.ok(ends.includes("not followed any longer, since too much is open at once"), ends.join("; "));
+});
+
+// ---- the page
+
+const noJsdom = { skip: !existsSync(JSDOM) && "node-jsdom is missing" };
+const isItem = (line) => /^(request|answer) /.test(line);
+// An item's line may be shown by its number and its name alone, where its members have lines of their own.
+const shortened = (lines) => lines.map((it) => (isItem(it)
+    ? it.split(" ").slice(0, 2).join(" ") + (/ {2}\w+$/.exec(it)?.[0] ?? "") : it));
+
+/** The page, ready for a log. */
+const openPage = async () => {
+    process.env.NODE_PATH = "/usr/share/nodejs";
+    createRequire(import.meta.url)("node:module").Module._initPaths();
+    const { JSDOM: Page, VirtualConsole } = createRequire(import.meta.url)(JSDOM);
+    const { window } = await Page.fromFile(fileURLToPath(fileOf("web/index.html")), {
+        runScripts: "dangerously", resources: "usable", pretendToBeVisual: true, virtualConsole: new VirtualConsole(),
+        beforeParse: (made) => Object.assign(made, { TextDecoder, TextEncoder, Uint8Array, WebAssembly }),
+    });
+    while (window.document.documentElement.dataset.ready !== "yes") {
+        await new Promise((done) => {
+            setTimeout(done, 10);
+        });
+    }
+    return window;
+};
+
+/** Hands on the page: what a person pastes, seeks, and chooses. */
+class Hands {
+    constructor(window) {
+        this.window = window;
+    }
+
+    at(id) {
+        return this.window.document.getElementById(id);
+    }
+
+    paste(text) {
+        const event = new this.window.Event("paste");
+        event.clipboardData = { getData: () => text };
+        this.window.document.dispatchEvent(event);
+    }
+
+    fold(isFolded) {
+        this.at("fold").checked = isFolded;
+        this.at("fold").dispatchEvent(new this.window.Event("change"));
+    }
+
+    async seek(words) {
+        this.at("search").value = words;
+        this.at("search").dispatchEvent(new this.window.Event("input"));
+        while (this.at("count").textContent.includes("found, at")) {
+            await new Promise((done) => {
+                setTimeout(done, 1);
+            });
+        }
+    }
+
+    /** Chooses each row, and looks at what is said of it. */
+    chooseAll(expected, name) {
+        const { choose, rowAt, state } = this.window.hidlogViewer;
+        for (let place = 0; place < state.rows.length; place += 1) {
+            choose(place);
+            const row = rowAt(place);
+            this.look(row, expected, `${name}, row ${place} of ${state.rows.length}, line ${row.line.number}`);
+        }
+        return state.rows.length;
+    }
+
+    look(row, expected, where) {
+        const { line, transaction } = row;
+        const shown = this.at("detail-text").firstChild.data.split("\n");
+        const refusal = transaction?.code ? transaction.by.message : null;
+        const messages = transaction ? [transaction, transaction.answer ?? refusal].filter(Boolean) : [line.message ?? line];
+        const due = messages.map((it) => [...it.lines ?? [it]].map(({ number }) => expected(number)));
+        for (const words of due) {
+            const said = shown.splice(0, 1 + words.flatMap(({ below }) => below).length);
+            assert.deepEqual(shortened(said.slice(1)), shortened(words.flatMap(({ below }) => below)), where);
+            if (line.isPacket) {
+                const head = words[0].head.replace(/^(> \d+|<) [0-9a-f]{8} /, "");
+                assert.ok(said[0].startsWith(head), `${where}: ${said[0]} for ${head}`);
+            }
+            if (transaction) {
+                assert.equal(shown.shift(), "", where);
+            }
+        }
+        assert.deepEqual(shown.filter(Boolean), [], where);
+        if (line.isPacket && !transaction) {
+            const head = expected(line.number).head.replace(/^(> \d+|<) [0-9a-f]{8} /, "");
+            assert.ok(row.says.startsWith(head), `${where}: ${row.says} for ${head}`);
+        }
+    }
+}
+
+test("each row that is chosen has them, before a search and after it", noJsdom, async () => {
+    const window = await openPage();
+    try {
+        const hands = new Hands(window);
+        let looked = 0;
+        for (const name of names) {
+            const expected = explained(name);
+            hands.paste(readFileSync(fileOf(name), "latin1"));
+            assert.equal(hands.at("view").disabled, false, name);
+            window.hidlogViewer.setView("recorded");
+            hands.fold(true);
+            looked += hands.chooseAll(expected, name);
+            for (const words of ["already", "line", "rpid", "a"]) {
+                await hands.seek(words);
+                looked += hands.chooseAll(expected, `${name}, ${words} sought`);
+            }
+            hands.fold(false);
+            looked += hands.chooseAll(expected, `${name}, lines with a`);
+            await hands.seek("");
+            looked += hands.chooseAll(expected, `${name}, all lines`);
+        }
+        assert.ok(looked > 5000, `${looked} rows`);
+    } finally {
+        window.close();
+    }
+});
+
+test("an excluded credential that is sought and chosen has its registration's line", noJsdom, async () => {
+    const window = await openPage();
+    try {
+        const hands = new Hands(window);
+        hands.paste(readFileSync(fileOf("tests/web/words/already_registered.log"), "utf8"));
+        await hands.seek("already");
+        window.hidlogViewer.choose(0);
+        const said = hands.at("detail-text").textContent;
+        assert.ok(said.includes("excludeList[0] is the credential of line 173"), said);
+        hands.paste(readFileSync(fileOf("tests/web/words/slow_packets.log"), "utf8"));
+        await hands.seek("");
+        hands.fold(true);
+        window.hidlogViewer.choose(1);
+        const title = hands.at("detail-title").textContent;
+        assert.ok(title.startsWith("Registration: done at example.com  ·  authenticatorMakeCredential → CTAP2_OK"), title);
+    } finally {
+        window.close();
+    }
+});
