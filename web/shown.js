@@ -6,6 +6,9 @@
     const NAMED = [0x3b, 0x3f];
     const PACKET = /^(?:> \d+|<) [0-9a-f]{8} /;
     const WORD = / {2}(\w+)$/;
+    // A text in diagnostic notation: a quote and a backslash inside have a backslash before them.
+    const RP_ID = /^ {2}(?:1 rpId: |2 rp: \{"id": )"((?:[^"\\]|\\.)*)"/;
+    const ESCAPED = /\\(["\\])/g;
     const { Explained, explain, explainFirst } = globalThis.hidlogExplained;
 
     /** Whether a line is of the item of a request or an answer. */
@@ -131,7 +134,7 @@
         /** The id of the relying party that a request names, or nothing. */
         rpIdOf(transaction) {
             const { below } = this.words(transaction.lines.at(-1));
-            return below.map((it) => /^ {2}(?:1 rpId: |2 rp: \{"id": )"([^"]*)"/.exec(it)?.[1]).find(Boolean);
+            return below.map((it) => RP_ID.exec(it)?.[1].replace(ESCAPED, "$1")).find(Boolean);
         }
 
         /** A message in lines. Where its members have lines of their own, the item that they are of is left out. */

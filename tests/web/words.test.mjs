@@ -121,6 +121,13 @@ test("what can't be explained says so, and nothing else", async () => {
     }
 });
 
+test("a relying party's id is told whole, with a quote and a backslash in it", () => {
+    const session = readSession(bytesOf("tests/web/words/quote_in_rp.log"));
+    const shown = new globalThis.hidlogShown.Shown(core);
+    const ids = Array.from({ length: session.transactions }, (_, place) => shown.rpIdOf(session.transaction(place)));
+    assert.deepEqual(ids, [undefined, 'a"b\\c', 'a"b\\c']);
+});
+
 /** What the page says happened in a log. */
 const storyOf = (bytes) => {
     const steps = globalThis.hidlogStory.summing(readSession(bytes));
