@@ -11,8 +11,8 @@
     const LONGEST = 7609;
     const KINDS = ["host", "key", "tick", "presence", "new key", "signature", "comment", "need", "count", "empty"];
     const [HOST, KEY, TICK, PRESENCE, NEW_KEY, SIGNATURE, COMMENT, NEED, COUNT, EMPTY] = KINDS.keys();
-    const ENDS = ["", "answered", "refused", "timed out", "replaced", "dropped", "forgotten"];
-    const [, ANSWERED, REFUSED, TIMED_OUT, REPLACED, DROPPED, FORGOTTEN] = ENDS.keys();
+    const ENDS = ["", "answered", "refused", "timed out", "replaced", "dropped", "forgotten", "unknown"];
+    const [, ANSWERED, REFUSED, TIMED_OUT, REPLACED, DROPPED, FORGOTTEN, UNKNOWN] = ENDS.keys();
     const decoder = new TextDecoder("utf-8", { ignoreBOM: true });
 
     /** The value of a hexadecimal digit by its character code, or 16 and more for others. */
@@ -370,7 +370,7 @@
     globalThis.hidlogLog = {
         Log, Answer, Column, Transaction, digits, readMoment, PACKET_DIGITS,
         KIND: { HOST, KEY, TICK, PRESENCE, NEW_KEY, SIGNATURE, COMMENT, NEED, COUNT, EMPTY },
-        END: { ANSWERED, REFUSED, TIMED_OUT, REPLACED, DROPPED, FORGOTTEN },
+        END: { ANSWERED, REFUSED, TIMED_OUT, REPLACED, DROPPED, FORGOTTEN, UNKNOWN },
         // Those of CTAPHID, by their numbers (CTAP 2.1, section 11.2.9).
         COMMANDS: { PING: 0x01, INIT: 0x06, CBOR: 0x10, KEEPALIVE: 0x3b, ERROR: 0x3f },
     };

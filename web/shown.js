@@ -125,7 +125,7 @@
             const { answer, by, end, code } = transaction;
             const ends = {
                 replaced: `replaced by line ${by?.number}`, dropped: `dropped by line ${by?.number}`,
-                forgotten: `not followed beyond line ${by?.number}`, "not whole": "not whole",
+                forgotten: `not followed beyond line ${by?.number}`, unknown: "can't be told", "not whole": "not whole",
             };
             const last = answer ?? (code !== null && by ? by.message : null);
             return `${this.name(transaction)} → ${last ? this.name(last) : ends[end] ?? "no answer"}`;

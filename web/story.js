@@ -54,6 +54,7 @@
         const ends = {
             replaced: `given up for line ${by?.number}`, dropped: `given up at line ${by?.number}`,
             forgotten: "not followed any longer, since too much is open at once", "not whole": "it never came whole",
+            unknown: "whether it was answered can't be told",
         };
         return ends[end] ?? "no answer";
     };

@@ -5,8 +5,10 @@
 (() => {
     const { COMMANDS: { ERROR, KEEPALIVE }, END, KIND } = globalThis.hidlogLog;
     const [NEWLINE, COLON, ZERO, NINE] = [10, 58, 48, 57];
-    const [LATE, BY_ERROR, DROPPED, REPLACED, FORGOTTEN] = Array.from("ledrf", (it) => it.charCodeAt(0));
-    const ENDS = { [DROPPED]: END.DROPPED, [REPLACED]: END.REPLACED, [FORGOTTEN]: END.FORGOTTEN };
+    const [LATE, BY_ERROR, DROPPED, REPLACED, FORGOTTEN, UNKNOWN] = Array.from("ledrfu", (it) => it.charCodeAt(0));
+    const ENDS = {
+        [DROPPED]: END.DROPPED, [REPLACED]: END.REPLACED, [FORGOTTEN]: END.FORGOTTEN, [UNKNOWN]: END.UNKNOWN,
+    };
     const TIMED_OUT = 5;
     // Lines that are filled before the clock is looked at.
     const BATCH = 512;
@@ -85,7 +87,7 @@
                 this.end(id, number === TIMED_OUT ? END.TIMED_OUT : END.REFUSED, line);
                 this.log.transactions.code.values[id - 1] = number + 1;
             } else if (ENDS[letter]) {
-                this.end(id, ENDS[letter], letter === FORGOTTEN ? line : number - 1);
+                this.end(id, ENDS[letter], letter === FORGOTTEN || letter === UNKNOWN ? line : number - 1);
             }
         }
 

@@ -281,7 +281,7 @@ impl Channel {
                 held.keepalives = held.keepalives.saturating_sub(self.since);
             }
             let end = match held.cancelled {
-                _ if !is_shown => End::Untold,
+                _ if !is_shown => End::Unknown,
                 Some(line) => End::Dropped(line),
                 None => End::Replaced(asked.transaction.line),
             };

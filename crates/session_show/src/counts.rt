@@ -120,7 +120,7 @@ impl Counts {
             self.continuations = self.continuations.saturating_add(1);
         }
         match entry.part {
-            Role::Own | Role::Error(_) => {}
+            Role::Own | Role::Error => {}
             Role::Stray => self.continuations = self.continuations.saturating_add(1),
             Role::Cancel => self.cancels = self.cancels.saturating_add(1),
             Role::Reply => self.replies = self.replies.saturating_add(1),

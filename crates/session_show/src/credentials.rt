@@ -12,7 +12,7 @@ use sha2::{Digest, Sha256};
 /// How many credentials are followed, those that were made last: as many as this key has capacity for.
 const CREDENTIALS: usize = 64;
 
-/// What tells credentials apart, or accounts: the front of a hash of the relying party's hash and the id of either.
+/// The name of a credential, or of an account: the front of a hash of the relying party's hash and the id of either.
 pub type Name = [u8; 16];
 
 /// A credential that an answer made.

@@ -254,8 +254,8 @@ impl Channel {
         Some(exchange)
     }
 
-    /// Takes the message that an answer is for: the whole one of its command. Of two it can't be told which one, and both
-    /// end so.
+    /// Takes the message that an answer is for: the whole one of its command. Of two it isn't known which one, and both end
+    /// so.
     fn answer_message(
         &mut self,
         answer: &AnswerStart<'_>,
@@ -268,7 +268,7 @@ impl Channel {
             if answer.is_of(&self.held) {
                 self.settle(false, ends);
                 if let Some(asked) = self.held.take() {
-                    ends.add(asked, End::Untold);
+                    ends.add(asked, End::Unknown);
                 }
                 return None;
             }

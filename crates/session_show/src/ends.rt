@@ -73,7 +73,7 @@ static FORGOTTEN: EndForms = EndForms {
     part: b"%d   line %d: %d of %d bytes came, not followed any longer, since too much is open at once\n",
 };
 
-static UNTOLD: EndForms = EndForms {
+static UNKNOWN: EndForms = EndForms {
     row: b"can't be told",
     json: br#","end":"unknown""#,
     page: b" u%d",
@@ -118,7 +118,7 @@ impl Ended {
             ),
             End::Answered => (&ANSWERED, None, None),
             End::Forgotten => (&FORGOTTEN, None, None),
-            End::Untold => (&UNTOLD, None, None),
+            End::Unknown => (&UNKNOWN, None, None),
             End::Open => match self.exchange.extent.missing() {
                 (None, _) => (&OPEN, None, None),
                 (came, length) => (&UNFINISHED, came, length),

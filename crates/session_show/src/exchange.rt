@@ -153,8 +153,8 @@ pub enum End {
     Replaced(u64),
     /// It isn't followed any longer, since too much is open at once.
     Forgotten,
-    /// Whether it was answered can't be told: of two messages either may have been, or neither.
-    Untold,
+    /// Whether it was answered isn't known: of two messages either may have been, or neither.
+    Unknown,
     /// It hasn't: it is open at the log's end.
     #[default]
     Open,

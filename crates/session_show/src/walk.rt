@@ -34,8 +34,8 @@ pub enum Role {
     Cancel,
     /// A reply for which nothing waited.
     Reply,
-    /// An ERROR of no transaction, with this code.
-    Error(u8),
+    /// An ERROR of no transaction.
+    Error,
 }
 
 /// A continuation packet of a host of which it isn't known yet whether it came too late for its message. The next line
@@ -430,7 +430,7 @@ impl LogWalk {
         }
         self.of = of;
         if of.is_none() {
-            self.part = Role::Error(code);
+            self.part = Role::Error;
         }
     }
 
