@@ -188,7 +188,8 @@ class Machine:
         asked = ctap_cbor.decode(owner.data[1:])
         site = asked[2]["id"]
         if message[0] == EXCLUDED:
-            names = [it["id"] for it in asked[5]]
+            # An entry of another type names no credential.
+            names = [it["id"] if it["type"] == "public-key" else None for it in asked[5]]
             held = [it for it in self.held if it.relying_party == site and it.name in names]
             if held:
                 self.excluded[line] = names.index(held[-1].name), held[-1].line
