@@ -50,7 +50,9 @@ def main() -> int:
             ["node", str(TOP / "tests/web/walk_json.mjs")], input=listed, capture_output=True, text=True, check=True
         )
         for path, objects in zip(paths, walked.stdout.splitlines(), strict=True):
-            live = subprocess.run([asked.program, "live", str(path)], capture_output=True, check=True, timeout=60).stdout
+            live = subprocess.run(
+                [asked.program, "live", str(path)], capture_output=True, check=True, timeout=60
+            ).stdout
             machine = Machine(path.read_bytes().splitlines(), needs_in(live.splitlines()))
             transactions += len(machine.transactions)
             try:
