@@ -84,7 +84,8 @@ void hidlog_show(const uint8_t *log, size_t log_len, uint32_t explain, uint8_t *
  *     e12:6   .. by an ERROR with the code 6
  *     d12:17  .. since the CANCEL or the INIT of line 17 dropped it
  *     r12:17  .. since the message from line 17 took its channel
- *     f12     it isn't followed any longer: too many channels are in use
+ *     f12     it isn't followed any longer: too much is open at once
+ *     u12     whether it was answered can't be told
  *
  * A transaction that no such word ends is open at the log's end, or its answer isn't whole there. The text is about a
  * sixth as long as the log. Faults are as at hidlog_show. */
