@@ -58,15 +58,15 @@ const packet = (channel, command, bytes) =>
         .padEnd(128, "0");
 const host = (at, channel, command, bytes) => `> ${at} ${packet(channel, command, bytes)}`;
 const key = (channel, command, bytes) => `< ${packet(channel, command, bytes)}`;
-const [CBOR, CANCEL, KEEPALIVE, ERROR] = [0x10, 0x11, 0x3b, 0x3f];
+const [PING, CBOR, CANCEL, KEEPALIVE, ERROR] = [0x01, 0x10, 0x11, 0x3b, 0x3f];
 const [ONE, TWO] = ["00000001", "00000002"];
 
 // Sessions of keys that do what ours doesn't, with what the rules say of them, by hand.
 const OTHERS = {
-    "a KEEPALIVE is of the request that has the channel so far": [
+    "a KEEPALIVE is of the request that has the channel so far, and of two it isn't known which one is answered": [
         [host(0, ONE, CBOR, [4]), key(ONE, KEEPALIVE, [1]), host(5, ONE, CBOR, [4]), key(ONE, KEEPALIVE, [1]),
             key(ONE, CBOR, [0])],
-        [1, 1, 3, 1, 3], ["1 replaced by 3", "3 answered by 5"],
+        [1, 1, 3, 1, 0], ["1 unknown by 5", "3 unknown by 5"],
     ],
     "of two requests that wait none has the user's reply": [
         [host(0, ONE, CBOR, [4]), host(1, TWO, CBOR, [4]), "p 2 granted", key(ONE, CBOR, [0]), "p 3 granted",
@@ -127,8 +127,12 @@ const TEXTS = {
     "an INIT that drops a message, and a message that takes the channel": [
         [whole(host(0, ONE, CBOR, FIRST), 300), host(1, ONE, 6, [1, 2, 3, 4, 5, 6, 7, 8]),
             key(ONE, 6, [1, 2, 3, 4, 5, 6, 7, 8, 0, 0, 0, 1, 2, 1, 0, 0, 4]), host(2, ONE, CBOR, [4]),
-            host(3, ONE, CBOR, [4]), key(ONE, CBOR, [0])],
-        ["1 1 1", "2 2 2", "3 2 3 d1:2 a2", "4 4 4", "5 5 5", "6 5 6 r4:5 s5:0"],
+            host(3, ONE, PING, [4]), key(ONE, PING, [4])],
+        ["1 1 1", "2 2 2", "3 2 3 d1:2 a2", "4 4 4", "5 5 5", "6 5 6 r4:5 a5"],
+    ],
+    "two messages of one command, and one answer": [
+        [host(0, ONE, CBOR, [4]), host(1, ONE, CBOR, [7]), key(ONE, CBOR, [0])],
+        ["1 1 1", "2 2 2", "3 0 3 u1 u2"],
     ],
     "more channels than are followed": [
         [1, 2, 3, 4, 5, 6, 7].map((at) => host(at, `0000000${at}`, CBOR, [4])),

@@ -45,13 +45,17 @@ local STATUSES = {
   [0x3c] = "CTAP2_ERR_UV_BLOCKED", [0x3d] = "CTAP2_ERR_INTEGRITY_FAILURE", [0x3e] = "CTAP2_ERR_INVALID_SUBCOMMAND",
   [0x3f] = "CTAP2_ERR_UV_INVALID", [0x40] = "CTAP2_ERR_UNAUTHORIZED_PERMISSION", [0x7f] = "CTAP1_ERR_OTHER",
 }
--- Names of members by their keys: of requests, and of answers (sections 6.1 to 6.5).
+-- Names of members by their keys: of requests, and of answers (sections 6.1 to 6.11).
 local ASKED = {
   [0x01] = { "clientDataHash", "rp", "user", "pubKeyCredParams", "excludeList", "extensions", "options",
     "pinUvAuthParam", "pinUvAuthProtocol", "enterpriseAttestation" },
   [0x02] = { "rpId", "clientDataHash", "allowList", "extensions", "options", "pinUvAuthParam", "pinUvAuthProtocol" },
   [0x06] = { "pinUvAuthProtocol", "subCommand", "keyAgreement", "pinUvAuthParam", "newPinEnc", "pinHashEnc",
     [9] = "permissions", [10] = "rpId" },
+  [0x09] = { "modality", "subCommand", "subCommandParams", "pinUvAuthProtocol", "pinUvAuthParam", "getModality" },
+  [0x0a] = { "subCommand", "subCommandParams", "pinUvAuthProtocol", "pinUvAuthParam" },
+  [0x0c] = { "get", "set", "offset", "length", "pinUvAuthParam", "pinUvAuthProtocol" },
+  [0x0d] = { "subCommand", "subCommandParams", "pinUvAuthProtocol", "pinUvAuthParam" },
 }
 local ASSERTED = { "credential", "authData", "signature", "user", "numberOfCredentials", "userSelected",
   "largeBlobKey" }
@@ -65,6 +69,11 @@ local ANSWERED = {
     "vendorPrototypeConfigCommands" },
   [0x06] = { "keyAgreement", "pinUvAuthToken", "pinRetries", "powerCycleState", "uvRetries" },
   [0x08] = ASSERTED,
+  [0x09] = { "modality", "fingerprintKind", "maxCaptureSamplesRequiredForEnroll", "templateId",
+    "lastEnrollSampleStatus", "remainingSamples", "templateInfos", "maxTemplateFriendlyName" },
+  [0x0a] = { "existingResidentCredentialsCount", "maxPossibleRemainingResidentCredentialsCount", "rp", "rpIDHash",
+    "totalRPs", "user", "credentialID", "publicKey", "totalCredentials", "credProtect", "largeBlobKey" },
+  [0x0c] = { "config" },
 }
 
 local f = ctaphid.fields
