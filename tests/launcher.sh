@@ -128,11 +128,11 @@ RT
     rm "$FAILS" "$CALLS"
     call 0 "$copy/hidlog" replay
     cmp "$work/out" "$log" || fail "the program that was built does not replay"
-    grep -q 'a source has changed .* about .* minutes (11 of 11 crates)' "$work/said" ||
+    grep -q 'a source has changed .* about .* minutes (12 of 12 crates)' "$work/said" ||
         fail "a build: $(cat "$work/said")"
-    [ "$(sort -u "$CALLS" | wc -l)" = 11 ] || fail "crates were built twice, or left out: $(cat "$CALLS")"
+    [ "$(sort -u "$CALLS" | wc -l)" = 12 ] || fail "crates were built twice, or left out: $(cat "$CALLS")"
     replays "$copy/hidlog"
-    [ "$(wc -l <"$CALLS")" = 11 ] || fail "a second call built something"
+    [ "$(wc -l <"$CALLS")" = 12 ] || fail "a second call built something"
     cp -p "$work/source" "$source"
     replays "$copy/hidlog"
 fi

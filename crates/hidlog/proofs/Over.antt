@@ -84,3 +84,11 @@ written_over (Ok x) (Ok y) a b c d bytes front more old shared f m size s is fir
     (subst (λ l. IfSome a (λ has. old ≤ length has → b ≡ Some (over has old l))) m first)
     (subst (λ l. IfSome b (λ has. 0 ≤ length has → c ≡ Some (over has 0 l))) f second)
     last
+
+-- Where the length isn't known before, the size is a premise.
+pub where_sized : {E : Type 0} (r : Result (Unit {0}) E) (a d : Option (List ℕ)) (bytes : List ℕ) (old : ℕ)
+    → (IfSome a (λ has. length has ≡ old) → OnOk r (IfSome a (λ _. d ≡ Some bytes)))
+    → OnOk r (IfSome a (λ has. length has ≡ old → d ≡ Some bytes))
+where_sized (Err x) a d bytes old f = tt
+where_sized (Ok x) None d bytes old f = tt
+where_sized (Ok x) (Some has) d bytes old f = λ size. f size

@@ -1,5 +1,5 @@
 //! The commands that play a log.
-ghost use Rattle.std.specs.Prelude.{◌≡◌, [], None, Some, IfErr, IsSomeAnd, MatchOption, OnOk};
+ghost use Rattle.std.specs.Prelude.{◌≡◌, [], None, Some, IfErr, IfOk, IsSomeAnd, MatchOption, OnOk};
 ghost use Rattle.session_log.specs.Command.{start_with};
 ghost use Rattle.token_session.specs.Meters.{session_of};
 ghost use Rattle.hidlog.specs.CommandLine.{named, path_of};
@@ -27,35 +27,30 @@ pub struct Play<'a> {
     pub log: Option<&'a str>,
 }
 
-/// Returns the path of the log, where it isn't on standard input.
-fn path_in<'a>(log: Option<&'a str>) -> Option<&'a str>
-    ensures { path_of result ≡ named (path_of log.entry) }
-{
-    match log {
-        Some("-") | None => None,
-        Some(path) => Some(path),
-    }
-}
-
-/// Begins at the front of the log.
-pub fn open_log<'a, L: Logs>(input: &mut L, log: Option<&'a str>) -> Result<(), ProgramFault<'a>>
+/// Begins at the front of the log. Returns its path, where it isn't on standard input.
+pub fn open_log<'a, L: Logs>(
+    input: &mut L,
+    log: Option<&'a str>,
+) -> Result<Option<&'a str>, ProgramFault<'a>>
+    ensures path { IfOk result (λ path. path_of path ≡ named (path_of log.entry)) }
     ensures opened { OnOk result (MatchOption (named (path_of log.entry)) (input.new ≡ input.old)
         (λ path. L.opened input.old path input.new)) }
     ensures fails { IfErr result (λ fault. (told_of fault ≡ reasoned 1 cannot_read_log)
         × IsSomeAnd (named (path_of log.entry)) (L.unopenable input.old) × (input.new ≡ input.old)) }
     ensures counted { L.failed input.new ≡ L.failed input.old }
 {
-    let Some(path) = path_in(log) else {
-        return Ok(());
+    let path = match log {
+        Some("-") | None => return Ok(None),
+        Some(path) => path,
     };
-    match input.open(path) {
-        Ok(()) => Ok(()),
+    match input.open(Some(path)) {
+        Ok(()) => Ok(Some(path)),
         Err(error) => Err(ProgramFault::UnreadLog(path, error)),
     }
 }
 
-// A session takes 29 kB. Each command makes one in a frame of its own, and does nothing else there, so that only one is
-// on the stack at a time, and it isn't copied.
+// A session takes 29 kB. Each command makes one in a frame of its own, and does nothing else there, so that only one
+// is on the stack at a time, and it isn't copied.
 
 /// Returns the program's session at its start, without credentials.
 // By this function it is made where its caller keeps it. Of a call of `Session::bare` in its place there is a copy.
@@ -89,17 +84,16 @@ impl<D: Files, L: Logs, O: Output, E: Target> Host<D, L, O, E> {
         ensures { RunsCommand ⟦<Self as Modeled>⟧.model play.now.command (path_of play.now.load) (path_of play.now.save)
             (path_of play.now.log) (came_of result) self.old self.new }
     {
-        if let Err(fault) = open_log(&mut self.input, play.log) {
-            return Err(fault);
-        }
+        let log = match open_log(&mut self.input, play.log) {
+            Ok(log) => log,
+            Err(fault) => return Err(fault),
+        };
         if let Err(fault) = load(session, &self.files, play.load) {
             return Err(fault);
         }
-        let log = path_in(play.log);
         if let Err(fault) = look(&self.files, play.command, play.save, log) {
             return Err(fault);
         }
-        self.output.hold(Some(play.command));
         let answer = play
             .command
             .play(session, &mut self.input, &mut self.output);

@@ -9,8 +9,8 @@ use crate::files::Files;
 use crate::finding::{DifferenceTexts, Finding};
 use crate::objects::ProgramFaultObject;
 use crate::process::say;
-use crate::remarks::{Remark, say_remark};
-use crate::screen::CutLines;
+use crate::remarks::{Remark, Remarked};
+use crate::screen::{Style, StyledLines};
 use crate::snapshots::load;
 use crate::wish::{FaultLine, Wish};
 use session_log::{CAPACITY, LogFault, Source, Target, ToWrite};
@@ -33,9 +33,16 @@ const INPUTS_ALONE: Remark = Remark::Differences(
     "the log has no packet of the key: hidlog replay plays a log of inputs, and check compares its result",
 );
 
-/// Says what differs in a log, after the text of the fault: explained, the packets; and all differences, where they are
-/// wished for. Where nothing differs, it says which bytes were signed otherwise than this key asks. The log is read again,
-/// if it can be.
+/// Returns a comparison of no lines.
+// It takes 40 kB, which are never on the stack with a session.
+#[inline(never)]
+fn begun(alloc: Global) -> Option<Box<Comparison>> {
+    Box::new(alloc, Comparison::new()).ok()
+}
+
+/// Says what differs in a log, after the text of the fault: explained, the packets; and all differences, where they
+/// are wished for. Where nothing differs, it says which bytes were signed otherwise than this key asks. The log is
+/// read again, if it can be.
 pub fn tell_differences<D: Files, S: Source + Drop, E: Target>(
     files: &D,
     wish: &Wish<'_>,
@@ -46,11 +53,14 @@ pub fn tell_differences<D: Files, S: Source + Drop, E: Target>(
     if !wish.explains && !wish.is_all && !wish.is_json {
         return;
     }
-    match again {
-        Some(mut reader) => compare_anew(files, wish, &mut reader, told, faults),
-        None if wish.is_same => {}
-        None => say_remark(wish, READ_ONCE, faults),
-    }
+    let Some(mut reader) = again else {
+        if !wish.is_same {
+            let (wish, remark) = (&*wish, READ_ONCE);
+            say(faults, &Remarked { wish, remark });
+        }
+        return;
+    };
+    compare_anew(files, wish, &mut reader, told, faults);
 }
 
 /// Compares the log on a session of its own. It has a frame of its own, which would hold two sessions otherwise.
@@ -84,13 +94,6 @@ fn compare_on<D: Files, S: Source, E: Target>(
     if let Some(mut comparison) = begun(wish.alloc) {
         say_each(&mut *comparison, session, wish, reader, told, faults);
     }
-}
-
-/// Returns a comparison of no lines.
-// It takes 40 kB, which are never on the stack with a session.
-#[inline(never)]
-fn begun(alloc: Global) -> Option<Box<Comparison>> {
-    Box::new(alloc, Comparison::new()).ok()
 }
 
 /// What was said of a log so far.
@@ -129,7 +132,8 @@ fn say_each<S: Source, E: Target>(
             _ => false,
         };
         if !is_told && said.count == 0 {
-            say_remark(wish, CHANGED, faults);
+            let (wish, remark) = (&*wish, CHANGED);
+            say(faults, &Remarked { wish, remark });
             return;
         }
         let changes = say_one(comparison, wish, reader, &difference, said, faults);
@@ -154,7 +158,8 @@ fn say_end<S: Source, E: Target>(
 ) {
     if wish.is_same && fault.is_none() {
         if let Some(otherwise) = comparison.signed_otherwise() {
-            say_remark(wish, Remark::Signed(otherwise), faults);
+            let (wish, remark) = (&*wish, Remark::Signed(otherwise));
+            say(faults, &Remarked { wish, remark });
         }
         return;
     }
@@ -163,7 +168,8 @@ fn say_end<S: Source, E: Target>(
         say(faults, &DifferenceCount { wish, count, fault });
     }
     if (wish.explains || wish.is_json) && !comparison.has_sent(reader) {
-        say_remark(wish, INPUTS_ALONE, faults);
+        let (wish, remark) = (&*wish, INPUTS_ALONE);
+        say(faults, &Remarked { wish, remark });
     }
 }
 
@@ -181,27 +187,23 @@ impl Written for DifferenceCount<'_> {
         if wish.is_json {
             if let Some(fault) = self.fault {
                 let fault = &ProgramFault::Log(fault);
+                let wish = self.wish;
                 ProgramFaultObject { wish, fault }.write(pen);
             }
             wish.begin_object(pen, "differences");
-            pen.text(",\"inputs\":");
-            pen.decimal(self.count);
-            pen.text("}\n");
+            pen.form(b",\"inputs\":%d}\n", &[Some(self.count)]);
             return;
         }
         if let Some(fault) = self.fault {
             FaultLine { wish, fault }.write(pen);
         }
         wish.begin_line(pen);
-        pen.decimal(self.count);
-        pen.text(if self.count == 1 { " input" } else { " inputs" });
-        pen.text(" with differences");
-        if self.count > MOST {
-            pen.text(", the first ");
-            pen.decimal(MOST);
-            pen.text(" are said");
-        }
-        pen.text("\n");
+        let form: &[u8] = match self.count {
+            1 => b"%d input with differences\n",
+            0..=MOST => b"%d inputs with differences\n",
+            _ => b"%d inputs with differences, the first 20 are said\n",
+        };
+        pen.form(form, &[Some(self.count)]);
     }
 }
 
@@ -230,9 +232,20 @@ fn say_one<S: Source, E: Target>(
         Some(width) if !wish.is_json => {
             let mut text = Vec::new(wish.alloc);
             say(&mut ToWrite::new(&mut text), &finding);
-            say(faults, &CutLines { text: &text, width });
+            let style = Style {
+                width,
+                has_colours: false,
+                numbers: 0,
+            };
+            let lines = StyledLines {
+                text: &text,
+                style: &style,
+            };
+            say(faults, &lines);
         }
-        _ => say(faults, &finding),
+        _ => {
+            say(faults, &finding);
+        }
     }
     finding.may_change_credentials()
 }

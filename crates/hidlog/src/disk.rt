@@ -2,7 +2,7 @@
 ghost use Rattle.std.specs.Prelude.{◌≡◌, ◌≤◌, ℕ, Bool, true, false, List, None, Option, Some, is_some, length, take, IfOk, IfSome, OnOk};
 ghost use Rattle.hidlog.specs.Streams.{over};
 
-use std::fs::{self, File, Metadata, OpenOptions, TryLockError};
+use std::fs::{self, File, OpenOptions, TryLockError};
 use std::io::{self, Error, ErrorKind, Read, Write};
 use std::os::unix::fs::{FileExt, FileTypeExt, MetadataExt};
 
@@ -16,10 +16,6 @@ pub trait Place {
 
     /// The bytes that it has, where they are known.
     ghost bytes: { Self → Option (List ℕ) };
-
-    /// Returns how many bytes it has.
-    fn size(&self) -> io::Result<u64>
-        ensures { IfOk result (λ n. IfSome (bytes self.now) (λ has. length has ≡ n)) };
 
     /// Writes a piece whole, from a place on that isn't behind the end.
     fn put_at(&mut self, piece: &[u8], at: u64) -> io::Result<()>
@@ -60,18 +56,17 @@ pub trait Disk {
     /// Looks at what is at a path. A folder is refused, and so are the log and the file that standard output goes to.
     fn look(&self, path: &str, log: Option<&str>) -> io::Result<Found>;
 
-    /// Returns whether something is at a path.
-    fn has(&self, path: &str) -> bool;
+    /// Opens a file to write over it, and returns how many bytes it has. No other program writes to it meanwhile.
+    fn open(&self, path: &str) -> io::Result<(Self::File, u64)>
+        ensures place { IfOk result (λ opened. Self.File.is_at path.now opened.0) }
+        ensures size { IfOk result (λ opened. IfSome (Self.File.bytes opened.0) (λ has. length has ≡ opened.1)) }
+        ensures known { IfOk result (λ opened. Self.File.is_known ≡ true → is_some (Self.File.bytes opened.0) ≡ true) };
 
-    /// Opens a file to write over it. No other program does so meanwhile.
-    fn open(&self, path: &str) -> io::Result<Self::File>
+    /// Makes a new file of these bytes, to the disk. One that an earlier call was cut off at makes way; a link isn't
+    /// followed.
+    fn create(&self, path: &str, bytes: &[u8]) -> io::Result<Self::File>
         ensures place { IfOk result (λ file. Self.File.is_at path.now file) }
-        ensures known { IfOk result (λ file. Self.File.is_known ≡ true → is_some (Self.File.bytes file) ≡ true) };
-
-    /// Makes a new file. One that an earlier call was cut off at makes way; a link isn't followed.
-    fn create(&self, path: &str) -> io::Result<Self::File>
-        ensures place { IfOk result (λ file. Self.File.is_at path.now file) }
-        ensures known { IfOk result (λ file. Self.File.is_known ≡ true → is_some (Self.File.bytes file) ≡ true) };
+        ensures known { IfOk result (λ file. Self.File.is_known ≡ true → Self.File.bytes file ≡ Some bytes.now) };
 
     /// Renames a file that is open, over what is at the path.
     fn rename(&self, file: Self::File, from: &str, to: &str) -> io::Result<Self::File>
@@ -93,10 +88,6 @@ impl Place for File {
     ghost is_known = { false };
 
     ghost bytes = { λ _. None };
-
-    fn size(&self) -> io::Result<u64> {
-        Ok(self.metadata()?.len())
-    }
 
     fn put_at(&mut self, piece: &[u8], at: u64) -> io::Result<()> {
         self.write_all_at(piece, at)
@@ -122,35 +113,6 @@ pub struct HostDisk<'a>(pub &'a HostRuntime);
 /// The system's number for a folder.
 const EISDIR: i32 = 21;
 
-impl HostDisk<'_> {
-    /// Returns whether a file is the one that another path names, or a stream of the process.
-    fn is_stream(&self, found: &Metadata, stream: &str) -> bool {
-        match fs::metadata(self.0, stream) {
-            Ok(other) => other.ino() == found.ino() && other.dev() == found.dev(),
-            Err(_) => false,
-        }
-    }
-
-    /// Returns what is found, unless it is a folder, the log, or the file that standard output goes to.
-    fn sort(&self, found: &Metadata, log: Option<&str>) -> io::Result<Found> {
-        if found.is_dir() {
-            return Err(Error::from_raw_os_error(EISDIR));
-        }
-        if !found.is_file() {
-            let is_pipe = found.file_type().is_fifo();
-            return Ok(if is_pipe { Found::Pipe } else { Found::Other });
-        }
-        let message = if self.is_stream(found, log.unwrap_or("/dev/stdin")) {
-            "it is the log, which would be lost"
-        } else if self.is_stream(found, "/dev/stdout") {
-            "it is the file that standard output goes to"
-        } else {
-            return Ok(Found::File);
-        };
-        Err(Error::new(ErrorKind::InvalidInput, message))
-    }
-}
-
 impl Disk for HostDisk<'_> {
     type File = File;
 
@@ -167,38 +129,59 @@ impl Disk for HostDisk<'_> {
     }
 
     fn look(&self, path: &str, log: Option<&str>) -> io::Result<Found> {
-        match fs::metadata(self.0, path) {
-            Ok(found) => self.sort(&found, log),
-            Err(error) if !matches!(error.kind(), ErrorKind::NotFound) => Err(error),
-            Err(_) if fs::symlink_metadata(self.0, path).is_ok() => Ok(Found::Other),
-            Err(_) => Ok(Found::Nothing),
+        let found = match fs::metadata(self.0, path) {
+            Ok(found) => found,
+            Err(error) if !matches!(error.kind(), ErrorKind::NotFound) => return Err(error),
+            Err(_) if fs::symlink_metadata(self.0, path).is_ok() => return Ok(Found::Other),
+            Err(_) => return Ok(Found::Nothing),
+        };
+        if found.is_dir() {
+            return Err(Error::from_raw_os_error(EISDIR));
         }
-    }
-
-    fn has(&self, path: &str) -> bool {
-        fs::metadata(self.0, path).is_ok()
-    }
-
-    fn open(&self, path: &str) -> io::Result<File> {
-        let file = OpenOptions::new().write(true).open(self.0, path)?;
-        match file.try_lock() {
-            Err(TryLockError::WouldBlock) => {
-                let message = "another program is writing to it";
-                Err(Error::new(ErrorKind::WouldBlock, message))
+        if !found.is_file() {
+            let is_pipe = found.file_type().is_fifo();
+            return Ok(if is_pipe { Found::Pipe } else { Found::Other });
+        }
+        let streams = [
+            (
+                log.unwrap_or("/dev/stdin"),
+                "it is the log, which would be lost",
+            ),
+            ("/dev/stdout", "it is the file that standard output goes to"),
+        ];
+        for (stream, message) in streams {
+            if let Ok(other) = fs::metadata(self.0, stream)
+                && other.ino() == found.ino()
+                && other.dev() == found.dev()
+            {
+                return Err(Error::new(ErrorKind::InvalidInput, message));
             }
-            // Not each system of files has locks.
-            Ok(()) | Err(TryLockError::Error(_)) => Ok(file),
         }
+        Ok(Found::File)
     }
 
-    fn create(&self, path: &str) -> io::Result<File> {
-        match File::create_new(self.0, path) {
+    fn open(&self, path: &str) -> io::Result<(File, u64)> {
+        let file = OpenOptions::new().write(true).open(self.0, path)?;
+        // Not each system of files has locks.
+        if let Err(TryLockError::WouldBlock) = file.try_lock() {
+            let message = "another program is writing to it";
+            return Err(Error::new(ErrorKind::WouldBlock, message));
+        }
+        let size = file.metadata()?.len();
+        Ok((file, size))
+    }
+
+    fn create(&self, path: &str, bytes: &[u8]) -> io::Result<File> {
+        let mut file = match File::create_new(self.0, path) {
             Err(error) if matches!(error.kind(), ErrorKind::AlreadyExists) => {
                 fs::remove_file(self.0, path)?;
-                File::create_new(self.0, path)
+                File::create_new(self.0, path)?
             }
-            made => made,
-        }
+            made => made?,
+        };
+        file.put_at(bytes, 0)?;
+        file.cut(bytes.len() as u64)?;
+        Ok(file)
     }
 
     fn rename(&self, file: File, from: &str, to: &str) -> io::Result<File> {

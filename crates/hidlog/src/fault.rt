@@ -2,7 +2,7 @@
 ghost use Rattle.std.specs.Prelude.{◌≡◌, ◌⊎◌};
 
 use crate::files::{COPY, Unwritten};
-use crate::texts::{write_about, write_shown};
+use crate::texts::write_shown;
 use cred_table::SnapshotFault;
 use session_log::{CAPACITY, LogFault};
 use session_show::{Pen, Written, write_escaped};
@@ -74,74 +74,68 @@ pub struct FaultReason<'a> {
     pub has_copy: bool,
 }
 
-/// Writes the path of the copy beside a file.
-fn write_path_of_copy(pen: &mut Pen, path: &str) {
-    write_escaped(pen, path.as_bytes());
-    pen.text(COPY);
-}
-
 /// Writes why a snapshot of these bytes is refused.
 fn write_refusal(pen: &mut Pen, fault: SnapshotFault, bytes: &[u8]) {
-    let end = match fault {
-        SnapshotFault::TooMany => {
-            pen.number_after("it has more than ", CAPACITY as u64);
-            " credentials"
-        }
-        SnapshotFault::RowBroken(place) => {
-            pen.number_after("credential ", place.saturating_add(1) as u64);
-            " is broken, or is there twice"
-        }
+    match fault {
+        SnapshotFault::TooMany => pen.form(
+            b"it has more than %d credentials",
+            &[Some(CAPACITY as u64)],
+        ),
+        SnapshotFault::RowBroken(place) => pen.form(
+            b"credential %d is broken, or is there twice",
+            &[Some(place.saturating_add(1) as u64)],
+        ),
         SnapshotFault::NotSnapshot | SnapshotFault::Memory => match bytes {
-            [] => "it is empty",
-            [0xA2, 0x01, 0x01 | 0x02, ..] => "it begins as a snapshot, and is cut off or changed",
-            [0xA2, 0x01, version @ 0x03..=0x17, ..] => {
-                pen.number_after("it is of version ", u64::from(*version));
-                ", and 1 and 2 are read"
+            [] => pen.text("it is empty"),
+            [0xA2, 0x01, 0x01 | 0x02, ..] => {
+                pen.text("it begins as a snapshot, and is cut off or changed");
             }
-            _ => "it is no snapshot",
+            [0xA2, 0x01, version @ 0x03..=0x17, ..] => pen.form(
+                b"it is of version %d, and 1 and 2 are read",
+                &[Some(u64::from(*version))],
+            ),
+            _ => pen.text("it is no snapshot"),
         },
-    };
-    pen.text(end);
-}
-
-/// Writes why a snapshot wasn't saved at a path, and what is left there.
-fn write_unwritten(pen: &mut Pen, path: &str, unwritten: &Unwritten) {
-    match unwritten {
-        Unwritten::Kept(error) => write_shown(pen, error),
-        Unwritten::Copied(error) => {
-            write_shown(pen, error);
-            pen.text("; it may be broken now, and the new snapshot is whole in ");
-            write_path_of_copy(pen, path);
-        }
-        Unwritten::Broken(error) => {
-            write_shown(pen, error);
-            pen.text("; it may be broken now");
-        }
-        Unwritten::Left(error) => {
-            pen.text("it is saved, but its copy ");
-            write_path_of_copy(pen, path);
-            pen.text(" couldn't be removed: ");
-            write_shown(pen, error);
-        }
     }
 }
 
 impl Written for FaultReason<'_> {
     fn write(&self, pen: &mut Pen) {
-        write_about(pen, self.path);
+        let path = self.path.as_bytes();
+        pen.text("  ");
+        write_escaped(pen, path);
+        pen.text(": ");
+        // What is said before the path of the copy.
+        let mut copied = None;
         match self.fault {
             ProgramFault::Memory | ProgramFault::Log(_) => {}
-            ProgramFault::UnreadLog(_, error) | ProgramFault::UnreadSnapshot(_, error) => {
-                write_shown(pen, error);
-            }
+            ProgramFault::UnreadLog(_, error)
+            | ProgramFault::UnreadSnapshot(_, error)
+            | ProgramFault::UnsavedSnapshot(_, Unwritten::Kept(error)) => write_shown(pen, error),
             ProgramFault::RefusedSnapshot(_, fault, bytes) => write_refusal(pen, *fault, bytes),
-            ProgramFault::UnsavedSnapshot(_, unwritten) => {
-                write_unwritten(pen, self.path, unwritten);
+            ProgramFault::UnsavedSnapshot(_, Unwritten::Broken(error)) => {
+                write_shown(pen, error);
+                pen.text("; it may be broken now");
+            }
+            ProgramFault::UnsavedSnapshot(_, Unwritten::Copied(error)) => {
+                write_shown(pen, error);
+                copied = Some("; it may be broken now, and the new snapshot is whole in ");
+            }
+            ProgramFault::UnsavedSnapshot(_, Unwritten::Left(error)) => {
+                pen.text("it is saved, but its copy ");
+                write_escaped(pen, path);
+                pen.text(COPY);
+                pen.text(" couldn't be removed: ");
+                write_shown(pen, error);
             }
         }
         if self.has_copy {
-            pen.text("; what a --save that was cut off had to write is in ");
-            write_path_of_copy(pen, self.path);
+            copied = Some("; what a --save that was cut off had to write is in ");
+        }
+        if let Some(text) = copied {
+            pen.text(text);
+            write_escaped(pen, path);
+            pen.text(COPY);
         }
         pen.text("\n");
     }

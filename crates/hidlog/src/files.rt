@@ -1,5 +1,5 @@
 //! The files of snapshots.
-ghost use Rattle.std.specs.Prelude.{◌≡◌, ◌⊎◌, ◌^◌, ℕ, List, Some, IfErr, IfOk, IfSome, MatchResult, OnOk};
+ghost use Rattle.std.specs.Prelude.{◌≡◌, ◌⊎◌, ◌^◌, ℕ, List, Some, length, IfErr, IfOk, IfSome, MatchResult, OnOk};
 ghost use Rattle.std.specs.IoError.{error_kind};
 ghost use Rattle.hidlog.specs.Streams.{IsWritten};
 
@@ -59,8 +59,8 @@ pub trait Files {
 #[derive(Drop)]
 pub struct HostFiles<D>(pub D, pub Global);
 
-/// How many bytes of a snapshot are read: many more than the longest one has, so that one of a key with more capacity is
-/// refused as such.
+/// How many bytes of a snapshot are read: many more than the longest one has, so that one of a key with more capacity
+/// is refused as such.
 const MOST: u64 = 1 << 20;
 
 /// The system's number for a path where nothing is.
@@ -76,13 +76,12 @@ fn beside(alloc: Global, path: &str, ending: &str) -> io::Result<String> {
     Ok(format!(in alloc; "{path}{ending}")?)
 }
 
-/// Writes over a file that is open, to the disk, and cuts it to what was written. What the file is too short for is
-/// written first, so that a full disk leaves the old bytes.
-fn write_over<F: Place>(file: &mut F, bytes: &[u8]) -> io::Result<()>
-    ensures bytes { OnOk result (IfSome (F.bytes file.old) (λ _. F.bytes file.new ≡ Some bytes.now)) }
+/// Writes over a file that is open and has so many bytes, to the disk, and cuts it to what was written. What the file
+/// is too short for is written first, so that a full disk leaves the old bytes.
+fn write_over<F: Place>(file: &mut F, old: u64, bytes: &[u8]) -> io::Result<()>
+    ensures bytes { OnOk result (IfSome (F.bytes file.old) (λ has. length has ≡ old → F.bytes file.new ≡ Some bytes.now)) }
     ensures place { (path : List ℕ) → F.is_at path file.old → F.is_at path file.new }
 {
-    let old = file.size()?;
     let shared = usize::try_from(old).unwrap_or(bytes.len()).min(bytes.len());
     let (front, more) = bytes.split_at(shared);
     let written = file.put_at(more, old);
@@ -94,8 +93,8 @@ fn write_over<F: Place>(file: &mut F, bytes: &[u8]) -> io::Result<()>
     file.cut(bytes.len() as u64)
 }
 
-/// Writes a file beside a path to the disk, and then renames it to another path: whatever happens meanwhile, what is there
-/// is whole.
+/// Writes a file beside a path to the disk, and then renames it to another path: whatever happens meanwhile, what is
+/// there is whole.
 fn write_beside<D: Disk>(
     files: &HostFiles<D>,
     path: &str,
@@ -105,11 +104,8 @@ fn write_beside<D: Disk>(
     ensures { IfOk result (λ file. IsWritten D.File.is_at D.File.is_known D.File.bytes to.now bytes.now file) }
 {
     let part = beside(files.1, path, PART)?;
-    let written = match files.0.create(part.as_str()) {
-        Ok(mut file) => match write_over(&mut file, bytes) {
-            Ok(()) => files.0.rename(file, part.as_str(), to),
-            Err(error) => Err(error),
-        },
+    let written = match files.0.create(part.as_str(), bytes) {
+        Ok(file) => files.0.rename(file, part.as_str(), to),
         Err(error) => Err(error),
     };
     if written.is_err() {
@@ -124,8 +120,8 @@ fn replace<D: Disk>(files: &HostFiles<D>, path: &str, bytes: &[u8]) -> Result<D:
     ensures { IfOk result (λ file. IsWritten D.File.is_at D.File.is_known D.File.bytes path.now bytes.now file) }
 {
     let disk = &files.0;
-    let mut file = match disk.open(path) {
-        Ok(file) => file,
+    let (mut file, size) = match disk.open(path) {
+        Ok(opened) => opened,
         Err(error) => return Err(Unwritten::Kept(error)),
     };
     let old = disk.read(path, u64::MAX);
@@ -134,9 +130,9 @@ fn replace<D: Disk>(files: &HostFiles<D>, path: &str, bytes: &[u8]) -> Result<D:
         Err(error) => return Err(Unwritten::Kept(error)),
     };
     let is_copied = write_beside(files, path, copy.as_str(), bytes).is_ok();
-    if let Err(error) = write_over(&mut file, bytes) {
+    if let Err(error) = write_over(&mut file, size, bytes) {
         let is_back = match &old {
-            Ok(old) => write_over(&mut file, old.as_slice()).is_ok(),
+            Ok(old) => write_over(&mut file, old.len() as u64, old.as_slice()).is_ok(),
             Err(_) => false,
         };
         return Err(match (is_back, is_copied) {
@@ -170,7 +166,7 @@ impl<D: Disk> Files for HostFiles<D> {
 
     fn has_copy(&self, path: &str) -> bool {
         match beside(self.1, path, COPY) {
-            Ok(copy) => self.0.has(copy.as_str()),
+            Ok(copy) => matches!(self.0.look(copy.as_str(), None), Ok(Found::File)),
             Err(_) => false,
         }
     }
@@ -188,7 +184,7 @@ impl<D: Disk> Files for HostFiles<D> {
         }
         // Where no file is, one can be made if another one can be beside it.
         let part = beside(self.1, path, PART)?;
-        self.0.create(part.as_str())?;
+        self.0.create(part.as_str(), b"")?;
         self.0.remove(part.as_str())
     }
 

@@ -1,8 +1,10 @@
 //! What a person reads of a packet in which a log differs from what the key sends.
 use crate::objects::write_difference;
 use crate::pieces::{after, has_part};
-use crate::sides::{is_keepalive, status_in, write_first, write_sides};
+use crate::sides::{write_first, write_sides};
 use crate::wish::{FaultLine, Wish};
+use hid_packet::command::{CBOR, KEEPALIVE};
+use hid_packet::{Packet, View};
 use session_show::{Awaited, Difference, Pen, Transaction, Written};
 
 /// CTAP2_OK.
@@ -57,96 +59,99 @@ pub struct Finding<'a> {
     pub texts: &'a DifferenceTexts,
 }
 
+/// What a packet of the key is, as far as that says whether it goes on with a request.
+#[derive(Clone, Copy)]
+enum Reply {
+    /// An answer of this status.
+    Status(u8),
+    /// A KEEPALIVE.
+    Waits,
+    Other,
+}
+
+/// Returns what a packet of the key is.
+fn reply_in(packet: &Option<Packet>) -> Reply {
+    let Some(packet) = packet else {
+        return Reply::Other;
+    };
+    match packet.view() {
+        View::Start { cmd: KEEPALIVE, .. } => Reply::Waits,
+        View::Start {
+            cmd: CBOR,
+            len,
+            part: [status, ..],
+            ..
+        } if len > 0 => Reply::Status(*status),
+        _ => Reply::Other,
+    }
+}
+
 impl Finding<'_> {
-    /// Returns what may be done, where this key may lack a credential that the log's key had.
+    /// Returns what may be done, where this key may lack a credential that the log's key had: it goes on where that one
+    /// excludes a credential, or finds none where that one goes on.
     pub fn hint(&self) -> Option<&'static str> {
-        if self.has_changed || !self.may_lack_credential() {
+        let difference = self.difference;
+        // Both packets are there, on one channel.
+        let Some((4.., _, _)) = difference.byte() else {
             return None;
-        }
+        };
+        let may_lack = match (reply_in(&difference.logged), reply_in(&difference.sent)) {
+            (Reply::Status(OK) | Reply::Waits, Reply::Status(NO_CREDENTIALS)) => true,
+            (Reply::Status(EXCLUDED), Reply::Status(DENIED | STORE_FULL)) => true,
+            // It is past the excludeList only where it waits for a new key.
+            (Reply::Status(EXCLUDED), Reply::Waits) => {
+                matches!(difference.awaited, Some(Awaited::Key))
+            }
+            _ => false,
+        };
         match self.wish.load {
+            _ if self.has_changed || !may_lack => None,
             Some(_) => Some(OTHER_SNAPSHOT),
             None => Some(NO_SNAPSHOT),
         }
     }
 
-    /// Returns whether the key goes on where the log's key excludes a credential, or finds none where that one goes on.
-    fn may_lack_credential(&self) -> bool {
-        let Difference {
-            logged,
-            sent,
-            awaited,
-            ..
-        } = self.difference;
-        // Both packets are there, on one channel.
-        let Some((4.., _, _)) = self.difference.byte() else {
-            return false;
-        };
-        match (status_in(logged), status_in(sent)) {
-            (Some(OK), Some(NO_CREDENTIALS)) => true,
-            (None, Some(NO_CREDENTIALS)) => is_keepalive(logged),
-            (Some(EXCLUDED), Some(DENIED | STORE_FULL)) => true,
-            // It is past the excludeList only where it waits for a new key.
-            (Some(EXCLUDED), None) => {
-                is_keepalive(sent) && matches!(awaited, Some(Awaited::Key))
-            }
-            _ => false,
-        }
-    }
-
-    /// Returns whether the keys may have other credentials after it, for which no snapshot has to be missing. Where a hint
-    /// is said, a snapshot may be missing all the same.
+    /// Returns whether the keys may have other credentials after it, for which no snapshot has to be missing. Where a
+    /// hint is said, a snapshot may be missing all the same.
     pub fn may_change_credentials(&self) -> bool {
-        let Some(transaction) = &self.texts.transaction else {
-            return true;
-        };
-        let name = transaction.name();
-        for kept in &KEEPING {
-            if name == *kept {
-                return false;
-            }
-        }
-        self.hint().is_none()
-    }
-
-    /// Describes it: its transaction, the packets and messages, and where they differ first.
-    fn describe(&self, pen: &mut Pen) {
-        let DifferenceTexts {
-            transaction,
-            logged,
-            sent,
-            reason,
-        } = self.texts;
-        if let Some(transaction) = transaction {
-            pen.text("  in ");
-            transaction.write(pen);
-            pen.text("\n");
-        }
-        write_sides(pen, self.difference, logged, sent);
-        // What a message's own lines say isn't said again.
-        if !has_part(sent, after(reason, 2)) {
-            pen.bytes(reason);
-        }
-        write_first(pen, self.difference, logged, sent);
-        if let Some(hint) = self.hint() {
-            pen.text("  ");
-            pen.text(hint);
-            pen.text("\n");
+        match &self.texts.transaction {
+            Some(transaction) if KEEPING.contains(&transaction.name()) => false,
+            Some(_) => self.hint().is_none(),
+            None => true,
         }
     }
 }
 
 impl Written for Finding<'_> {
+    /// Describes it: its transaction, the packets and messages, and where they differ first.
     fn write(&self, pen: &mut Pen) {
-        if self.wish.is_json {
+        let (wish, difference, texts) = (self.wish, self.difference, self.texts);
+        if wish.is_json {
             write_difference(pen, self);
             return;
         }
         if !self.is_first {
-            let (wish, fault) = (self.wish, self.difference.fault());
+            let fault = difference.fault();
             FaultLine { wish, fault }.write(pen);
         }
-        if self.wish.explains {
-            self.describe(pen);
+        if !wish.explains {
+            return;
+        }
+        if let Some(transaction) = &texts.transaction {
+            pen.text("  in ");
+            transaction.write(pen);
+            pen.text("\n");
+        }
+        write_sides(pen, difference, &texts.logged, &texts.sent);
+        // What a message's own lines say isn't said again.
+        if !has_part(&texts.sent, after(&texts.reason, 2)) {
+            pen.bytes(&texts.reason);
+        }
+        write_first(pen, difference, &texts.logged, &texts.sent);
+        if let Some(hint) = self.hint() {
+            pen.text("  ");
+            pen.text(hint);
+            pen.text("\n");
         }
     }
 }

@@ -3,7 +3,7 @@ ghost use Rattle.std.specs.Prelude.{◌≡◌, ◌<◌, ◌≤◌, ◌-◌, ◌^
 ghost use Rattle.std.specs.Io.KnownBytes.{Keeps, append_known};
 ghost use Rattle.hidlog.specs.Program.{Settles};
 
-use session_log::{Failed, LogCommand, LogFault, Target};
+use session_log::{Failed, LogFault, Target};
 use std::cell::Cell;
 
 /// The most bytes that are held back.
@@ -57,30 +57,28 @@ impl LastLines {
         last
     }
 
-    /// Returns how many of the last so many bytes are handed on at most, so that the next of these lines begins what is
-    /// handed on after them.
-    pub fn most(&self, len: usize) -> usize
-        ensures { 0 < result }
-    {
-        if 0 < self.input && self.input < len {
-            len - self.input
-        } else if 0 < self.comment && self.comment < len {
-            len - self.comment
-        } else {
-            usize::MAX
-        }
-    }
-
-    /// Returns what lies ahead of the last so many bytes.
-    pub fn ahead(&self, len: usize) -> Ahead {
+    /// Returns how many of the last so many bytes come before the next of these lines, and what that is. Without one
+    /// all of them do.
+    pub fn next(&self, len: usize) -> (usize, Ahead) {
         if 0 < self.input && self.input <= len {
-            Ahead::Input
+            (len - self.input, Ahead::Input)
         } else if 0 < self.comment && self.comment <= len {
-            Ahead::Comment
+            (len - self.comment, Ahead::Comment)
         } else {
-            Ahead::Nothing
+            (len, Ahead::Nothing)
         }
     }
+}
+
+/// Which texts are held back while a line lies ahead that was read whole.
+#[derive(Clone, Copy)]
+pub enum Holding {
+    /// None: those of `live`, which answers line by line, and of `check`.
+    Nothing,
+    /// All while another input lies ahead: those of a log that is shown.
+    BeforeInputs,
+    /// All: those of a log that is played.
+    All,
 }
 
 /// A target that may hold back the end of what it takes.
@@ -90,10 +88,6 @@ pub trait Output: Target {
 
     /// The bytes that it took and didn't hand on yet.
     ghost waits: { Self → List ℕ };
-
-    /// Lets it hold back texts of a log that this command plays, or without one of a log that is shown, while another of
-    /// these lies ahead. `live` answers line by line.
-    fn hold(&self, command: Option<LogCommand>);
 
     /// Hands on all that it holds back. A call that failed isn't made again.
     fn settle(&mut self) -> Result<(), Failed>
@@ -126,24 +120,11 @@ pub fn settled<O: Output>(output: &mut O, answer: Result<(), LogFault>) -> Resul
 pub struct HeldOutput<'a, T> {
     pub inner: T,
     pub ahead: &'a Cell<Ahead>,
-    /// The command whose texts these are; `live` until one is known, so that all is handed on at once.
-    pub command: Cell<Option<LogCommand>>,
+    pub holding: Holding,
     pub bytes: Vec<u8>,
     /// How many of the bytes were handed on.
     pub at: usize,
     ghost within: { at ≤ vec_len bytes },
-}
-
-impl<T: Target> HeldOutput<'_, T> {
-    /// Returns whether so many bytes more are held back: a line lies ahead of which a text is.
-    fn holds(&self, more: usize) -> bool {
-        let lies_ahead = match (self.ahead.get(), self.command.get()) {
-            (Ahead::Nothing, _) | (_, Some(LogCommand::Live | LogCommand::Check)) => false,
-            (Ahead::Comment, None) => false,
-            _ => true,
-        };
-        lies_ahead && self.bytes.len().saturating_add(more) <= HELD
-    }
 }
 
 impl<T: Target> Target for HeldOutput<'_, T> {
@@ -152,7 +133,15 @@ impl<T: Target> Target for HeldOutput<'_, T> {
     ghost failed = { λ s. T.failed s.inner };
 
     fn put(&mut self, piece: &[u8]) -> Result<usize, Failed> {
-        if self.holds(piece.len()) && self.bytes.extend_from_slice(piece).is_ok() {
+        let lies_ahead = match (self.ahead.get(), self.holding) {
+            (Ahead::Nothing, _) | (_, Holding::Nothing) | (Ahead::Comment, Holding::BeforeInputs) =>
+                false,
+            _ => true,
+        };
+        if lies_ahead
+            && self.bytes.len().saturating_add(piece.len()) <= HELD
+            && self.bytes.extend_from_slice(piece).is_ok()
+        {
             return Ok(piece.len());
         }
         self.settle()?;
@@ -166,10 +155,6 @@ impl<T: Target> Target for HeldOutput<'_, T> {
 
 impl<T: Target> Output for HeldOutput<'_, T> {
     ghost waits = { λ s. drop s.at s.bytes.items };
-
-    fn hold(&self, command: Option<LogCommand>) {
-        self.command.set(command);
-    }
 
     fn settle(&mut self) -> Result<(), Failed> {
         'waiting: while self.at < self.bytes.len() {

@@ -1,14 +1,13 @@
 //! The logs that the program reads.
-ghost use Rattle.std.specs.Prelude.{◌≡◌, ℕ, false, List, [], IfOk, OnOk, MatchResult};
-ghost use Rattle.std.specs.Io.KnownBytes.{Keeps, IsAtEnd, prepend_known};
+ghost use Rattle.std.specs.Prelude.{◌≡◌, ℕ, false, List, [], IfOk, IfSome, MatchResult};
+ghost use Rattle.std.specs.Io.KnownBytes.{prepend_known};
 ghost use Rattle.hidlog.specs.Streams.{unread};
 
 use crate::held::{Ahead, LastLines};
 use crate::recent::Recent;
 use crate::seen::Seen;
-use crate::streams::Noting;
 use session_log::{Failed, FromRead, Source};
-use std::alloc::{AllocError, Global};
+use std::alloc::Global;
 use std::cell::Cell;
 use std::fs::{self, File};
 use std::io::{self, BufReader, Chain, Cursor, Error, IsTerminal, Read, Stdin, Write};
@@ -25,18 +24,12 @@ pub trait Logs: Source {
     /// The file at a path can't be opened.
     ghost unopenable: { Self → List ℕ → Type 0 };
 
-    /// Begins at the front of the file at a path. Where it can't be opened, the source stays as it is.
-    fn open(&mut self, path: &str) -> io::Result<()>
-        ensures opens { MatchResult result (λ _. opened self.old path.now self.new)
-            (λ _. unopenable self.old path.now × (self.new ≡ self.old)) }
+    /// Begins at the front of the file at a path, or reads standard input from now on. Where a file can't be opened,
+    /// the source stays as it is.
+    fn open(&mut self, path: Option<&str>) -> io::Result<()>
+        ensures opens { IfSome path.entry (λ path. MatchResult result (λ _. opened self.old path.now self.new)
+            (λ _. unopenable self.old path.now × (self.new ≡ self.old))) }
         ensures counted { Self.failed self.new ≡ Self.failed self.old };
-
-    /// Reads standard input from now on, whatever was read before.
-    fn restart(&mut self)
-        ensures { Self.failed self.new ≡ Self.failed self.old };
-
-    /// Returns what was seen of the log so far.
-    fn seen(&self) -> &Seen;
 
     /// Returns what is known of how the log was read.
     fn state(&self) -> LogState<'_>;
@@ -58,6 +51,8 @@ pub struct LogState<'a> {
     pub lines: &'a [u8],
     /// The error at which reading failed.
     pub failure: Option<&'a Error>,
+    /// What was seen of the log so far.
+    pub seen: &'a Seen,
 }
 
 /// What a log is read by.
@@ -65,12 +60,9 @@ pub trait Opens: Read + Drop {
     /// The file at a path is read by it, from its front.
     ghost is_at: { List ℕ → Self → Type 0 };
 
-    /// Returns that of standard input.
-    fn standard(rt: &HostRuntime) -> Self;
-
-    /// Opens a file that isn't a folder. Returns how many bytes it has, where it can be read again.
-    fn open(rt: &HostRuntime, path: &str) -> io::Result<(Self, Option<u64>)>
-        ensures { IfOk result (λ opened. is_at path.now opened.0) };
+    /// Opens a file that isn't a folder, or standard input. Returns how many bytes it has, where it can be read again.
+    fn open(rt: &HostRuntime, path: Option<&str>) -> io::Result<(Self, Option<u64>)>
+        ensures { IfOk result (λ opened. IfSome path.entry (λ path. is_at path.now opened.0)) };
 }
 
 /// Where the bytes of a log come from.
@@ -99,11 +91,14 @@ impl<I: Read, F: Read> Read for Stream<I, F> {
 impl Opens for Stream<Stdin, File> {
     ghost is_at = { λ _ _. Unit {0} };
 
-    fn standard(rt: &HostRuntime) -> Self {
-        Stream::Standard(rt.stdin())
-    }
-
-    fn open(rt: &HostRuntime, path: &str) -> io::Result<(Self, Option<u64>)> {
+    fn open(rt: &HostRuntime, path: Option<&str>) -> io::Result<(Self, Option<u64>)> {
+        let Some(path) = path else {
+            let size = match fs::metadata(rt, STANDARD_INPUT) {
+                Ok(found) if found.is_file() => Some(found.len()),
+                _ => None,
+            };
+            return Ok((Stream::Standard(rt.stdin()), size));
+        };
         let file = File::open(rt, path)?;
         let found = file.metadata()?;
         if found.is_dir() {
@@ -119,7 +114,7 @@ impl Opens for Stream<Stdin, File> {
 }
 
 /// What was kept of a log, and after it what was left to read.
-pub type FromFront<S> = FromRead<BufReader<Chain<Cursor<Vec<u8>>, Noting<S>>>>;
+pub type FromFront<S> = FromRead<BufReader<Chain<Cursor<Vec<u8>>, S>>>;
 
 /// The log of the process.
 pub type ProcessLog<'a> = HostLog<'a, Stream<Stdin, File>>;
@@ -134,7 +129,7 @@ const EISDIR: i32 = 21;
 const AWAITED: &[u8] = b"hidlog: reads a log from the terminal, up to Ctrl-D\n";
 
 /// What is said of a log to a person at a terminal while it is read.
-#[derive(Clone, Copy)]
+#[derive(Clone, Copy, Default)]
 pub struct Audience {
     /// What is awaited.
     pub is_told: bool,
@@ -148,14 +143,15 @@ pub struct HostLog<'a, S> {
     rt: &'a HostRuntime,
     /// The path of the file that was opened.
     path: Option<String>,
-    stream: Noting<S>,
-    is_new: bool,
+    stream: S,
+    /// The error at which reading it failed.
+    failure: Option<Error>,
     /// Whether what is awaited is said, to a person.
     is_told: bool,
-    /// Whether it can be read again by its path.
-    is_file: bool,
-    /// Whether it may have to be read again.
-    is_kept: bool,
+    /// Whether it is still to be said of this log.
+    is_awaited: bool,
+    /// What a log is kept in that can't be read again, where it may have to be.
+    keeps: Option<Global>,
     seen: Seen,
     recent: Recent,
     /// Those of what was read last, and what of them isn't handed on yet, which the output looks at.
@@ -165,34 +161,28 @@ pub struct HostLog<'a, S> {
     failures: u64,
 }
 
-/// Returns how many bytes standard input has, where it is a file.
-fn size_of_input(rt: &HostRuntime) -> Option<u64> {
-    match fs::metadata(rt, STANDARD_INPUT) {
-        Ok(found) if found.is_file() => Some(found.len()),
-        _ => None,
-    }
-}
-
 impl<'a, S: Opens> HostLog<'a, S> {
-    /// Returns the log on standard input, or that there is no memory. Where `is_kept`, a log that can't be read again is
-    /// kept, if it is short. A person reads what the audience says.
+    /// Returns the log on standard input, or that there is no memory. Where `is_kept`, a log that can't be read again
+    /// is kept, if it is short. A person reads what the audience says.
     pub fn new(
         rt: &'a HostRuntime,
         is_kept: bool,
         audience: Audience,
         ahead: &'a Cell<Ahead>,
-    ) -> Result<Self, AllocError>
+    ) -> io::Result<Self>
         ensures { IfOk result (λ log. ⟦<HostLog<'a, S> as Source>⟧.failed log ≡ 0) }
     {
+        let (stream, size) = S::open(rt, None)?;
+        let keeps = if is_kept { Some(rt.alloc()) } else { None };
         Ok(HostLog {
             rt,
             path: None,
-            stream: Noting::new(S::standard(rt)),
-            is_new: true,
+            stream,
+            failure: None,
             is_told: audience.is_told,
-            is_file: false,
-            is_kept,
-            seen: Seen::new(audience.sees_progress, None),
+            is_awaited: audience.is_told,
+            keeps,
+            seen: Seen::new(audience.sees_progress, size, keeps),
             recent: Recent::new(rt.alloc())?,
             last: LastLines::of(b""),
             ahead,
@@ -200,77 +190,35 @@ impl<'a, S: Opens> HostLog<'a, S> {
             failures: 0,
         })
     }
-
-    /// Begins to read a stream, of which it is said first what is awaited, where that may be a terminal.
-    fn begin(&mut self, stream: S, is_new: bool)
-        ensures counted { self.new.failures ≡ self.old.failures }
-        ensures stream { self.new.stream.inner ≡ stream }
-        ensures none { unread self.new.recent.held.items self.new.recent.at self.new.recent.end ≡ [] }
-    {
-        self.stream = Noting::new(stream);
-        self.is_new = is_new;
-        self.recent.clear();
-        self.ahead.set(Ahead::Nothing);
-        self.ended = false;
-    }
-
-    /// Begins to look at a log, which has so many bytes where it can be read again.
-    fn look(&mut self, size: Option<u64>)
-        ensures counted { self.new.failures ≡ self.old.failures }
-        ensures ends { self.new.ended ≡ self.old.ended }
-        ensures stream { self.new.stream ≡ self.old.stream }
-        ensures recent { self.new.recent ≡ self.old.recent }
-    {
-        self.seen = Seen::new(self.seen.progress.is_said, size);
-        self.is_file = size.is_some();
-        if self.is_kept && !self.is_file {
-            self.seen.kept = Some(Vec::new(self.rt.alloc()));
-        }
-    }
-
-    /// Reads more, where all that was read before was handed on.
-    fn fill(&mut self) -> Result<(), Failed>
-        ensures counted { self.new.failures ≡ self.old.failures }
-        ensures ends { self.new.ended ≡ self.old.ended }
-        ensures bytes { Keeps
-            (prepend_known (unread self.old.recent.held.items self.old.recent.at self.old.recent.end) (S.remaining self.old.stream.inner))
-            (prepend_known (unread self.new.recent.held.items self.new.recent.at self.new.recent.end) (S.remaining self.new.stream.inner)) }
-        ensures end { OnOk result (unread self.new.recent.held.items self.new.recent.at self.new.recent.end ≡ []
-            → IsAtEnd (S.remaining self.new.stream.inner)) }
-    {
-        if !self.recent.unread().is_empty() {
-            return Ok(());
-        }
-        if self.is_new {
-            self.is_new = false;
-            if self.is_told && self.rt.stdin().is_terminal() {
-                let _ = self.rt.stderr().write_all(AWAITED);
-            }
-            self.look(size_of_input(self.rt));
-        }
-        self.recent.fill(&mut self.stream)?;
-        self.seen.take(self.rt, self.recent.unread());
-        self.last = LastLines::of(self.recent.unread());
-        Ok(())
-    }
 }
 
 impl<S: Opens> Source for HostLog<'_, S> {
     // What was read and not handed on, and then what the stream has left.
-    ghost left = { λ s. prepend_known (unread s.recent.held.items s.recent.at s.recent.end) (S.remaining s.stream.inner) };
+    ghost left = { λ s. prepend_known (unread s.recent.held.items s.recent.at s.recent.end) (S.remaining s.stream) };
 
     ghost ended = { λ s. s.ended };
 
     ghost failed = { λ s. s.failures };
 
     fn get(&mut self, out: &mut [u8]) -> Result<usize, Failed> {
-        if self.fill().is_err() {
-            self.failures += 1;
-            return Err(Failed);
+        if self.recent.unread().is_empty() {
+            if self.is_awaited && self.rt.stdin().is_terminal() {
+                let _ = self.rt.stderr().write_all(AWAITED);
+            }
+            self.is_awaited = false;
+            if let Err(error) = self.recent.fill(&mut self.stream) {
+                self.failure = Some(error);
+                self.failures += 1;
+                return Err(Failed);
+            }
+            self.seen.take(self.rt, self.recent.unread());
+            self.last = LastLines::of(self.recent.unread());
         }
-        let most = self.last.most(self.recent.unread().len());
+        // The next of these lines, except one that begins here, begins what is handed on after this.
+        let behind = self.recent.unread().len().saturating_sub(1);
+        let most = self.last.next(behind).0.saturating_add(1);
         let n = self.recent.take(most, out);
-        self.ahead.set(self.last.ahead(self.recent.unread().len()));
+        self.ahead.set(self.last.next(self.recent.unread().len()).1);
         self.ended = self.ended || n == 0 && !out.is_empty();
         Ok(n)
     }
@@ -280,33 +228,30 @@ impl<S: Opens> Source for HostLog<'_, S> {
     }
 }
 
-/// Returns what was kept of a log, and after it what was left to read.
-fn from_front<S: Opens>(alloc: Global, kept: Vec<u8>, rest: Noting<S>) -> Option<FromFront<S>> {
-    match BufReader::new(alloc, Cursor::new(kept).chain(rest)) {
-        Ok(reader) => Some(FromRead::new(reader)),
-        Err(_) => None,
-    }
-}
-
 impl<S: Opens> Logs for HostLog<'_, S> {
     type Again = FromFront<S>;
 
-    ghost opened = { λ _ path s. S.is_at path s.stream.inner
+    ghost opened = { λ _ path s. S.is_at path s.stream
         × (unread s.recent.held.items s.recent.at s.recent.end ≡ []) };
 
     ghost unopenable = { λ _ _. Unit {0} };
 
-    fn open(&mut self, path: &str) -> io::Result<()> {
+    fn open(&mut self, path: Option<&str>) -> io::Result<()> {
         let (stream, size) = S::open(self.rt, path)?;
-        self.path = Some(String::from_str(self.rt.alloc(), path)?);
-        self.begin(stream, false);
-        self.look(size);
+        let alloc = self.rt.alloc();
+        let path = match path {
+            Some(path) => Some(String::from_str(alloc, path)?),
+            None => None,
+        };
+        self.recent = Recent::new(alloc)?;
+        self.is_awaited = self.is_told && path.is_none();
+        self.path = path;
+        self.stream = stream;
+        self.failure = None;
+        self.seen = Seen::new(self.seen.progress.is_said, size, self.keeps);
+        self.ahead.set(Ahead::Nothing);
+        self.ended = false;
         Ok(())
-    }
-
-    fn restart(&mut self) {
-        self.path = None;
-        self.begin(S::standard(self.rt), true);
     }
 
     fn state(&self) -> LogState<'_> {
@@ -316,34 +261,35 @@ impl<S: Opens> Logs for HostLog<'_, S> {
                 None => "standard input",
             },
             lines: self.recent.lines(),
-            failure: self.stream.failure.as_ref(),
+            failure: self.failure.as_ref(),
+            seen: &self.seen,
         }
-    }
-
-    fn seen(&self) -> &Seen {
-        &self.seen
     }
 
     fn again(&mut self, takes_rest: bool) -> Option<FromFront<S>> {
         let alloc = self.rt.alloc();
-        if self.is_file {
+        let (kept, rest) = if self.seen.progress.size.is_some() {
             let path = match &self.path {
                 Some(path) => path.as_str(),
                 None => STANDARD_INPUT,
             };
-            return match S::open(self.rt, path) {
-                Ok((stream, _)) => from_front(alloc, Vec::new(alloc), Noting::new(stream)),
-                Err(_) => None,
+            let Ok((stream, _)) = S::open(self.rt, Some(path)) else {
+                return None;
             };
-        }
-        if !takes_rest {
-            return None;
-        }
-        let Some(kept) = self.seen.kept.take() else {
-            return None;
+            (Vec::new(alloc), stream)
+        } else {
+            if !takes_rest {
+                return None;
+            }
+            let (Some(kept), Ok((spent, _))) = (self.seen.kept.take(), S::open(self.rt, None))
+            else {
+                return None;
+            };
+            (kept, mem::replace(&mut self.stream, spent))
         };
-        let spent = Noting::new(S::standard(self.rt));
-        let rest = mem::replace(&mut self.stream, spent);
-        from_front(alloc, kept, rest)
+        match BufReader::new(alloc, Cursor::new(kept).chain(rest)) {
+            Ok(reader) => Some(FromRead::new(reader)),
+            Err(_) => None,
+        }
     }
 }

@@ -41,12 +41,11 @@ use files::{Files, HostFiles};
 use held::{Ahead, HeldOutput, Output};
 use host::{Host, Modeled};
 use logs::{HostLog, Logs, ProcessLog};
-use process::{no_memory, tell, tell_written, words_of};
+use process::{no_memory, say, tell, words_of};
 use program::RunOutcome;
 use screen::Screen;
-use session_log::{LogCommand, LogFault, Target, ToWrite};
+use session_log::{LogFault, Target, ToWrite};
 use several::{note_one, say_cause};
-use std::alloc::AllocError;
 use std::cell::Cell;
 use std::io::{self, Write};
 use std::process::ExitCode;
@@ -65,13 +64,15 @@ impl<D: Files, L: Logs, O: Output, E: Target> Host<D, L, O, E> {
         let mut target = ToWrite::new(&mut more);
         let Some(fault) = &outcome.fault else {
             if let (Some(ending), Some(wish)) = (&outcome.ending, &outcome.wish) {
-                note_one(&self.files, wish, &mut self.input, ending, &mut target);
+                let input = &mut self.input;
+                note_one(&self.files, wish, input, ending, &mut target);
             }
             return more;
         };
         if let (LogFault::Differs { .. }, Some(wish)) = (fault, &outcome.wish) {
             let again = self.input.again(true);
-            tell_differences(&self.files, wish, again, outcome.fault, &mut target);
+            let told = outcome.fault;
+            tell_differences(&self.files, wish, again, told, &mut target);
         } else if outcome.explains {
             let state = self.input.state();
             say_cause(&state, Some(state.name), fault, &mut target);
@@ -106,7 +107,7 @@ fn play_to<'a, W: Write, E: Write>(
     let (alloc, around) = (rt.alloc(), surroundings_of(rt, words));
     let ahead = Cell::new(Ahead::Nothing);
     let mut faults = ToWrite::new(errors);
-    let made: Result<ProcessLog<'_>, AllocError> = HostLog::new(
+    let made: io::Result<ProcessLog<'_>> = HostLog::new(
         rt,
         around.is_check,
         around.audience,
@@ -126,7 +127,7 @@ fn play_to<'a, W: Write, E: Write>(
         output: HeldOutput {
             inner: screen,
             ahead: &ahead,
-            command: Cell::new(Some(LogCommand::Live)),
+            holding: around.holding,
             bytes: Vec::new(alloc),
             at: 0,
         },
@@ -140,7 +141,10 @@ fn play_to<'a, W: Write, E: Write>(
 
 /// Runs the program on what its process hands to it, and says why the output failed, if faults can be written.
 fn main(rt: HostRuntime) -> ExitCode {
-    let mut errors = Noting::new(rt.stderr());
+    let mut errors = Noting {
+        inner: rt.stderr(),
+        failure: None,
+    };
     let texts = match words_of(&rt, &mut ToWrite::new(&mut errors)) {
         Ok(texts) => texts,
         Err(status) => return ExitCode::from(status),
@@ -149,7 +153,10 @@ fn main(rt: HostRuntime) -> ExitCode {
     let Ok(words) = words else {
         return ExitCode::from(no_memory(&mut ToWrite::new(&mut errors)));
     };
-    let mut writer = Noting::new(io::writer(&rt));
+    let mut writer = Noting {
+        inner: io::writer(&rt),
+        failure: None,
+    };
     let outcome = play_to(&rt, words.as_slice(), &mut writer, &mut errors);
     if outcome.explains
         && errors.failure.is_none()
@@ -157,7 +164,7 @@ fn main(rt: HostRuntime) -> ExitCode {
     {
         let name = Some("standard output");
         let failure = StreamFailure { name, error };
-        tell_written(&mut ToWrite::new(&mut errors), &failure);
+        say(&mut ToWrite::new(&mut errors), &failure);
     }
     match outcome.status {
         Ok(()) => ExitCode::SUCCESS,

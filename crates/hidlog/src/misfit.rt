@@ -1,78 +1,56 @@
 //! Why a line isn't a log line.
-use crate::pieces::{Pieces, after, count_in_front, len_before};
+use crate::pieces::{DIGITS, Pieces, after, count_in_front, len_before};
 use session_log::read_line;
 use session_show::{Pen, Written};
 
 /// What is said of a carriage return.
-const CARRIAGE_RETURN: &str =
-    " is a carriage return: lines end with a line feed alone (tr -d '\\r' drops the others)\n";
+const CARRIAGE_RETURN: &[u8] =
+    b"  byte %d is a carriage return: lines end with a line feed alone (tr -d '\\r' drops the others)\n";
 
-const HEX_DIGITS: &[u8] = b"0123456789abcdefABCDEF";
+const BYTE_ORDER_MARK: &[u8] = &[0xEF, 0xBB, 0xBF];
 
 /// What lines begin with.
 const LETTERS: &[u8] = b"<>tpks";
 
-/// What comes after the moment of a line with each of these letters: a word, or fields of so many hexadecimal digits.
-static FIELDS: [(&[&str], &[usize]); 6] = [
-    (&[], &[128]),
-    (&[], &[128]),
-    (&[], &[]),
-    (&["granted", "denied", "timeout"], &[]),
-    (&["no"], &[64, 64, 64]),
-    (&["no"], &[144]),
+/// The largest moment.
+const LARGEST: &[u8] = b"18446744073709551615";
+
+/// A hexadecimal digit, in a form.
+const DIGIT: u8 = b'.';
+
+const PACKET: &[u8] = &[DIGIT; 128];
+
+const SIGNATURE: &[u8] = &[DIGIT; 144];
+
+/// Three fields of sixty-four digits.
+const KEY: &[u8] = b"\
+    ................................................................ \
+    ................................................................ \
+    ................................................................";
+
+/// The forms of what comes after the moment of a line with each of these letters.
+static FORMS: [&[&[u8]]; 6] = [
+    &[PACKET],
+    &[PACKET],
+    &[],
+    &[b"granted", b"denied", b"timeout"],
+    &[b"no", KEY],
+    &[b"no", SIGNATURE],
 ];
 
-/// Returns how many bytes in front two texts share.
-fn shared_len(field: &[u8], word: &[u8]) -> usize {
-    for (place, byte) in word.iter().enumerate() {
-        match field.get(place) {
-            Some(own) if *own == *byte => {}
-            _ => return place,
+/// Returns how many bytes in front fit a form.
+fn fitting(fields: &[u8], form: &[u8]) -> usize {
+    for (place, wanted) in form.iter().enumerate() {
+        let fits = match fields.get(place) {
+            Some(byte) if *wanted == DIGIT => byte.is_ascii_hexdigit(),
+            Some(byte) => *byte == *wanted,
+            None => false,
+        };
+        if !fits {
+            return place;
         }
     }
-    word.len()
-}
-
-/// Returns how many bytes in front are the digits of a moment.
-fn moment_len(fields: &[u8]) -> usize {
-    let mut number = 0_u64;
-    for (place, byte) in fields.iter().enumerate() {
-        let Some(digit) = char::from(*byte).to_digit(10) else {
-            return place;
-        };
-        if place > 0 && number == 0 {
-            return place;
-        }
-        let Some(longer) = number.checked_mul(10) else {
-            return place;
-        };
-        let Some(longer) = longer.checked_add(u64::from(digit)) else {
-            return place;
-        };
-        number = longer;
-    }
-    fields.len()
-}
-
-/// Returns how many bytes in front fit fields of hexadecimal digits.
-fn digits_len(fields: &[u8], most: &[usize]) -> usize {
-    let mut len = 0_usize;
-    for (place, most) in most.iter().enumerate() {
-        let mut field = after(fields, len);
-        if place > 0 {
-            let [b' ', digits @ ..] = field else {
-                return len;
-            };
-            field = digits;
-            len = len.saturating_add(1);
-        }
-        let digits = count_in_front(field, HEX_DIGITS).min(*most);
-        len = len.saturating_add(digits);
-        if digits < *most {
-            return len;
-        }
-    }
-    len
+    form.len()
 }
 
 /// Returns how many bytes in front fit a log line. The one after them fits none.
@@ -80,27 +58,36 @@ fn fitting_len(line: &[u8]) -> usize {
     let [letter, rest @ ..] = line else {
         return 0;
     };
-    let Some(known) = FIELDS.get(len_before(LETTERS, *letter)) else {
+    let Some(forms) = FORMS.get(len_before(LETTERS, *letter)) else {
         return 0;
     };
     let [b' ', fields @ ..] = rest else {
         return 1;
     };
-    if *letter == b'<' {
-        return digits_len(fields, known.1).saturating_add(2);
+    let (mut front, mut fields) = (2_usize, fields);
+    if *letter != b'<' {
+        // A moment has no zero in front.
+        let most = match fields.get(..LARGEST.len()) {
+            _ if fields.starts_with(b"0") => 1,
+            Some(number) if number <= LARGEST => LARGEST.len(),
+            _ => LARGEST.len() - 1,
+        };
+        let moment = count_in_front(fields, DIGITS).min(most);
+        front = moment.saturating_add(2);
+        let [b' ', rest @ ..] = after(fields, moment) else {
+            return front;
+        };
+        if moment == 0 || forms.is_empty() {
+            return front;
+        }
+        front = front.saturating_add(1);
+        fields = rest;
     }
-    let moment = moment_len(fields);
-    let [b' ', fields @ ..] = after(fields, moment) else {
-        return moment.saturating_add(2);
-    };
-    if moment == 0 || *letter == b't' {
-        return moment.saturating_add(2);
+    let mut most = 0;
+    for form in *forms {
+        most = most.max(fitting(fields, form));
     }
-    let mut fitting = digits_len(fields, known.1);
-    for word in known.0 {
-        fitting = fitting.max(shared_len(fields, word.as_bytes()));
-    }
-    moment.saturating_add(fitting).saturating_add(3)
+    front.saturating_add(most)
 }
 
 /// The first byte of a line that fits no log line; or that the line ends too early.
@@ -114,26 +101,32 @@ impl Written for Misfit<'_> {
     fn write(&self, pen: &mut Pen) {
         let rest = after(self.line, self.place);
         let [byte, ..] = rest else {
-            pen.number_after("  it ends after byte ", self.place as u64);
-            pen.text(", too early\n");
+            pen.form(
+                b"  it ends after byte %d, too early\n",
+                &[Some(self.place as u64)],
+            );
             return;
         };
-        pen.number_after("  byte ", self.place.saturating_add(1) as u64);
-        if self.place == 0 && rest.starts_with(&[0xEF, 0xBB, 0xBF]) {
-            pen.text(" begins a byte order mark: a log has none\n");
-            return;
-        }
+        let number = Some(self.place.saturating_add(1) as u64);
         match *byte {
-            b'\r' => pen.text(CARRIAGE_RETURN),
+            _ if self.place == 0 && rest.starts_with(BYTE_ORDER_MARK) => {
+                pen.form(
+                    b"  byte %d begins a byte order mark: a log has none\n",
+                    &[number],
+                );
+            }
+            b'\r' => pen.form(CARRIAGE_RETURN, &[number]),
             b' '..=b'~' => {
-                pen.text(" is '");
+                pen.form(b"  byte %d is '", &[number]);
                 pen.bytes(&[*byte]);
                 pen.text("', which fits no log line here\n");
             }
             _ => {
-                pen.text(" is 0x");
-                pen.hex(&[*byte]);
-                pen.text(", which fits no log line here\n");
+                let byte = Some(u64::from(*byte));
+                pen.form(
+                    b"  byte %d is 0x%x, which fits no log line here\n",
+                    &[number, byte],
+                );
             }
         }
     }
@@ -141,7 +134,11 @@ impl Written for Misfit<'_> {
 
 /// Returns why the first line that is none of a log isn't one, if there is such a line.
 pub fn first_misfit(lines: &[u8]) -> Option<Misfit<'_>> {
-    for line in Pieces::of(lines, b'\n') {
+    let lines = Pieces {
+        rest: lines,
+        end: b'\n',
+    };
+    for line in lines {
         if line.len() < 256 && read_line(line).is_none() {
             let place = fitting_len(line);
             return Some(Misfit { line, place });

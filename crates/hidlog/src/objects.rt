@@ -4,7 +4,6 @@ use crate::fault::ProgramFault;
 use crate::finding::Finding;
 use crate::sides::members_of;
 use crate::wish::Wish;
-use hid_packet::Packet;
 use session_log::ToWrite;
 use session_show::{
     Pen, Written, put_json_fault, write_hex, write_number, write_string, write_word,
@@ -13,32 +12,36 @@ use session_show::{
 /// What the object of a log's fault begins with.
 const FAULT: &[u8] = b"{\"kind\":\"fault\"";
 
-/// Writes a packet, where there is one.
-fn write_packet(pen: &mut Pen, name: &str, packet: &Option<Packet>) {
-    if let Some(packet) = packet {
-        write_hex(pen, name, &packet.0);
-    }
-}
-
 /// Writes the object of a difference.
 pub fn write_difference(pen: &mut Pen, finding: &Finding<'_>) {
-    let difference = finding.difference;
+    let (difference, texts) = (finding.difference, finding.texts);
     finding.wish.begin_object(pen, "difference");
-    write_number(pen, "input", Some(difference.input));
-    write_number(pen, "packet", Some(difference.number));
-    write_number(pen, "line", Some(difference.line));
-    if let Some(transaction) = &finding.texts.transaction {
-        write_number(pen, "transaction", Some(transaction.line));
-        write_hex(pen, "channel", &transaction.channel.to_be_bytes());
+    pen.form(
+        b",\"input\":%d,\"packet\":%d,\"line\":%d",
+        &[
+            Some(difference.input),
+            Some(difference.number),
+            Some(difference.line),
+        ],
+    );
+    if let Some(transaction) = &texts.transaction {
+        pen.form(
+            b",\"transaction\":%d,\"channel\":\"%w\"",
+            &[Some(transaction.line), Some(u64::from(transaction.channel))],
+        );
         write_word(pen, "name", Some(transaction.name()));
     }
-    write_packet(pen, "logged", &difference.logged);
-    write_packet(pen, "sent", &difference.sent);
+    if let Some(packet) = &difference.logged {
+        write_hex(pen, "logged", &packet.0);
+    }
+    if let Some(packet) = &difference.sent {
+        write_hex(pen, "sent", &packet.0);
+    }
     if let Some((at, _, _)) = difference.byte() {
         write_number(pen, "byte", Some(at as u64));
-        write_members(pen, &members_of(&finding.texts.logged, &finding.texts.sent));
+        write_members(pen, &members_of(&texts.logged, &texts.sent));
     }
-    if let Ok(reason) = std::str::from_utf8(&finding.texts.reason)
+    if let Ok(reason) = std::str::from_utf8(&texts.reason)
         && !reason.is_empty()
     {
         write_string(pen, "reason", Some(reason.trim()));

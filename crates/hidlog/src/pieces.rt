@@ -1,42 +1,31 @@
 //! Pieces of texts: their lines, and what is in front of one.
-ghost use Rattle.std.specs.Prelude.{◌≤◌, ◌+◌, length};
+ghost use Rattle.std.specs.Prelude.{◌≤◌, length};
 ghost use Rattle.std.specs.Iterator.{at_most};
-ghost use Rattle.std.specs.Option.{option_map_or};
 
 /// The digits of the number that a line may begin with.
 pub const DIGITS: &[u8] = b"0123456789";
 
-/// The pieces of a text, with bytes of one kind between them: its lines, or its words.
+/// The pieces of a text, each of which a byte of one kind or the text's end ends: its lines, or its words.
 #[derive(Clone, Copy)]
 pub struct Pieces<'a> {
-    /// What comes after the pieces so far and the byte behind them; none after the last one.
-    rest: Option<&'a [u8]>,
-    between: u8,
-}
-
-impl<'a> Pieces<'a> {
-    /// Returns those of a text.
-    pub fn of(text: &'a [u8], between: u8) -> Self {
-        Pieces {
-            rest: Some(text),
-            between,
-        }
-    }
+    /// What comes after the pieces so far.
+    pub rest: &'a [u8],
+    pub end: u8,
 }
 
 impl<'a> Iterator for Pieces<'a> {
     type Item = &'a [u8];
 
-    ghost remaining = { λ s. at_most (option_map_or (λ rest. length rest.now + 1) s.rest 0) };
+    ghost remaining = { λ s. at_most (length s.rest.now) };
 
     fn next(&mut self) -> Option<&'a [u8]> {
-        let Some(text) = self.rest else {
+        if self.rest.is_empty() {
             return None;
-        };
-        let (piece, rest) = text.split_at(len_before(text, self.between));
+        }
+        let (piece, rest) = self.rest.split_at(len_before(self.rest, self.end));
         self.rest = match rest {
-            [_, rest @ ..] => Some(rest),
-            [] => None,
+            [_, rest @ ..] => rest,
+            [] => rest,
         };
         Some(piece)
     }
@@ -56,14 +45,12 @@ pub fn len_before(text: &[u8], wanted: u8) -> usize
 
 /// Returns how many of these bytes a text begins with.
 pub fn count_in_front(text: &[u8], bytes: &[u8]) -> usize {
-    let mut count = 0_usize;
-    for byte in text {
+    for (place, byte) in text.iter().enumerate() {
         if !bytes.contains(byte) {
-            break;
+            return place;
         }
-        count = count.saturating_add(1);
     }
-    count
+    text.len()
 }
 
 /// Returns what comes after so many bytes of a text; the text, where it is shorter.

@@ -21,19 +21,15 @@ pub fn tell<E: Target>(faults: &mut E, text: &[u8])
     let _ = put_all(faults, text);
 }
 
-/// Writes what has a text to the faults. What can't be written is dropped.
-pub fn tell_written<E: Target, W: Written>(faults: &mut E, what: &W)
-    requires { E.failed faults.old < 2 ^ 64 - 1 }
-    ensures { (text : List ℕ) × IsGiven E.taken E.failed (faults.old, faults.new) text }
+/// Writes what has a text to the faults, unless too many writes failed. What can't be written is dropped. Returns
+/// whether all was written.
+pub fn say<E: Target, W: Written>(faults: &mut E, what: &W) -> bool
+    ensures { E.failed faults.old < 2 ^ 64 - 1 → (text : List ℕ) × IsGiven E.taken E.failed (faults.old, faults.new) text }
 {
-    let _ = put_written(faults, &mut Pen::new(Wording::Explained), what);
-}
-
-/// Writes what has a text, unless too many writes failed.
-pub fn say<E: Target, W: Written>(faults: &mut E, what: &W) {
-    if faults.failures() < u64::MAX {
-        tell_written(faults, what);
+    if faults.failures() == u64::MAX {
+        return false;
     }
+    put_written(faults, &mut Pen::new(Wording::Explained), what).is_ok()
 }
 
 /// Writes a text to the faults and, where it is explained, the line that says why.
@@ -46,7 +42,7 @@ pub fn tell_why<E: Target>(faults: &mut E, explains: bool, text: &[u8], why: &Fa
         return;
     }
     if put_all(faults, text).is_ok() {
-        tell_written(faults, why);
+        say(faults, why);
     }
 }
 

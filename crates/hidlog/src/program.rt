@@ -17,7 +17,7 @@ use crate::files::Files;
 use crate::held::{Output, settled};
 use crate::host::{Host, Modeled};
 use crate::logs::Logs;
-use crate::process::{WRITING_FAILED, no_memory, tell, tell_written};
+use crate::process::{WRITING_FAILED, no_memory, say, tell};
 use crate::remarks::ComparisonEnd;
 use crate::texts::EscapedLines;
 use crate::wish::Wish;
@@ -140,7 +140,7 @@ impl<D: Files, L: Logs, O: Output, E: Target> Host<D, L, O, E> {
         };
         if error.use_stderr() {
             // What they have that can't be seen is escaped.
-            tell_written(&mut self.faults, &EscapedLines(text.as_bytes()));
+            say(&mut self.faults, &EscapedLines(text.as_bytes()));
             return Err(2);
         }
         let answer = put_text(&mut self.output, text.as_bytes());
@@ -165,7 +165,6 @@ impl<D: Files, L: Logs, O: Output, E: Target> Host<D, L, O, E> {
             (came_of result) self.old self.new }
     {
         open_log(&mut self.input, log)?;
-        self.output.hold(None);
         let answer = show_in(form, is_worded, &mut self.input, &mut self.output);
         match settled(&mut self.output, answer) {
             Ok(()) => Ok(()),
@@ -242,8 +241,8 @@ impl<D: Files, L: Logs, O: Output, E: Target> Host<D, L, O, E> {
     }
 
     /// Runs the program on these words, the first of them being its own name. The exit status is 1 for a fault of the
-    /// log, 2 for words that are no command, for a snapshot's file, and for refused memory outside the log. Its text was
-    /// given to the faults, if that could be.
+    /// log, 2 for words that are no command, for a snapshot's file, and for refused memory outside the log. Its text
+    /// was given to the faults, if that could be.
     pub fn run<'a>(&mut self, words: &'a [&'a str]) -> RunOutcome<'a>
         requires { CanFail ⟦<Self as Modeled>⟧.model self.old }
         ensures status { IfErr result.status (λ code. (code ≡ 1) ⊎ (code ≡ 2)) }

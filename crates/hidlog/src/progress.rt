@@ -18,7 +18,7 @@ const ERASED: &[u8] = b"\r                              \r";
 #[derive(Clone, Copy)]
 pub struct Progress {
     pub is_said: bool,
-    /// The bytes of the whole log, where they are known.
+    /// The bytes of the whole log, where it can be read again.
     pub size: Option<u64>,
     /// At how many bytes the next line is written.
     pub next: u64,
@@ -27,8 +27,8 @@ pub struct Progress {
 }
 
 impl Progress {
-    /// Says that so many bytes were read, or erases what was written where all were. The cursor stays at the line's front,
-    /// so that what is written next is over it.
+    /// Says that so many bytes were read, or erases what was written where all were. The cursor stays at the line's
+    /// front, so that what is written next is over it.
     pub fn pass(&mut self, rt: &HostRuntime, len: Option<u64>) {
         let Some(len) = len else {
             if self.is_written {
@@ -43,13 +43,13 @@ impl Progress {
         self.next = len.saturating_add(STEP);
         self.is_written = true;
         let mut pen = Pen::new(Wording::Fixed);
-        pen.text("  ");
-        pen.decimal(len / MEGABYTE);
-        if let Some(size) = self.size {
-            pen.text(" of ");
-            pen.decimal(size / MEGABYTE);
+        match self.size {
+            Some(size) => pen.form(
+                b"  %d of %d MB\r",
+                &[Some(len / MEGABYTE), Some(size / MEGABYTE)],
+            ),
+            None => pen.form(b"  %d MB\r", &[Some(len / MEGABYTE)]),
         }
-        pen.text(" MB\r");
         let _ = rt.stderr().write_all(pen.part());
     }
 }

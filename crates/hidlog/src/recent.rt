@@ -4,9 +4,8 @@ ghost use Rattle.std.specs.Io.KnownBytes.{Consumes, Keeps, IsAtEnd, prepend_know
 ghost use Rattle.hidlog.specs.Streams.{unread};
 
 use crate::pieces::len_before;
-use session_log::Failed;
 use std::alloc::{AllocError, Global};
-use std::io::Read;
+use std::io::{self, Read};
 
 /// How many bytes are held, of those that were read last.
 const HELD: usize = 8192;
@@ -27,7 +26,7 @@ pub struct Recent {
 }
 
 /// Reads once, behind so many bytes.
-fn read_behind<R: Read>(stream: &mut R, held: &mut Vec<u8>, end: usize) -> Result<usize, Failed>
+fn read_behind<R: Read>(stream: &mut R, held: &mut Vec<u8>, end: usize) -> io::Result<usize>
     requires { end ≤ vec_len held.old }
     ensures len { vec_len held.new ≡ vec_len held.old }
     ensures bound { IfOk result (λ n. end + n ≤ vec_len held.new) }
@@ -35,10 +34,7 @@ fn read_behind<R: Read>(stream: &mut R, held: &mut Vec<u8>, end: usize) -> Resul
     ensures end { IfOk result (λ n. n ≡ 0 → end < vec_len held.old → IsAtEnd (R.remaining stream.new)) }
     ensures err { OnErr result (Keeps (R.remaining stream.old) (R.remaining stream.new)) }
 {
-    match stream.read(held.as_mut_slice().split_at_mut(end).1) {
-        Ok(n) => Ok(n),
-        Err(_) => Err(Failed),
-    }
+    stream.read(held.as_mut_slice().split_at_mut(end).1)
 }
 
 impl Recent {
@@ -54,15 +50,6 @@ impl Recent {
         })
     }
 
-    /// Forgets all.
-    pub fn clear(&mut self)
-        ensures { unread self.new.held.items self.new.at self.new.end ≡ [] }
-    {
-        self.at = 0;
-        self.end = 0;
-        self.forgot = false;
-    }
-
     /// Returns those that weren't handed on yet.
     pub fn unread(&self) -> &[u8]
         ensures { result.now ≡ unread self.now.held.items self.now.at self.now.end }
@@ -76,7 +63,7 @@ impl Recent {
     }
 
     /// Reads once, where all were handed on, after what was read before.
-    pub fn fill<R: Read>(&mut self, stream: &mut R) -> Result<(), Failed>
+    pub fn fill<R: Read>(&mut self, stream: &mut R) -> io::Result<()>
         requires { unread self.old.held.items self.old.at self.old.end ≡ [] }
         ensures bytes { Keeps (R.remaining stream.old)
             (prepend_known (unread self.new.held.items self.new.at self.new.end) (R.remaining stream.new)) }

@@ -1,8 +1,7 @@
 //! What is said beside the result of `check`.
-use crate::process::say;
 use crate::seen::Seen;
 use crate::wish::Wish;
-use session_log::{CAPACITY, Target};
+use session_log::CAPACITY;
 use session_show::{Awaited, Pen, SignedOtherwise, Written};
 use token_session::Session;
 
@@ -30,6 +29,10 @@ impl ComparisonEnd {
     }
 }
 
+/// What is said of a line that says that other bytes were signed.
+const SIGNED_OTHERWISE: &[u8] =
+    b"line %d: what was signed there isn't what this key asks to be signed: ";
+
 /// What is said of a log beside its result.
 #[derive(Clone, Copy)]
 pub enum Remark {
@@ -45,33 +48,11 @@ pub enum Remark {
     Signed(SignedOtherwise),
 }
 
-impl Remark {
-    /// Writes it without a front or a line feed. No sign of it is escaped in JSON.
-    fn write(self, pen: &mut Pen) {
-        match self {
-            Remark::Differences(text) | Remark::Doubt(text) => pen.text(text),
-            Remark::Waits(awaited) => {
-                pen.text("the log ends while the key waits for ");
-                pen.text(awaited.name());
-            }
-            Remark::EndsInside(held) => {
-                pen.number_after("the log ends inside a message, after ", u64::from(held));
-                pen.text(" bytes of it");
-            }
-            Remark::Signed(otherwise) => {
-                pen.number_after("line ", otherwise.line);
-                pen.text(": what was signed there isn't what this key asks to be signed: ");
-                pen.text(otherwise.what);
-            }
-        }
-    }
-}
-
-/// A remark as a line or an object.
+/// A remark as a line or an object. No sign of it is escaped in JSON.
 #[derive(Clone, Copy)]
-struct Remarked<'a> {
-    wish: &'a Wish<'a>,
-    remark: Remark,
+pub struct Remarked<'a> {
+    pub wish: &'a Wish<'a>,
+    pub remark: Remark,
 }
 
 impl Written for Remarked<'_> {
@@ -79,24 +60,29 @@ impl Written for Remarked<'_> {
         if self.wish.is_json {
             self.wish.begin_object(pen, "note");
             pen.text(",\"text\":\"");
-            self.remark.write(pen);
-            pen.text("\"}\n");
-            return;
-        }
-        if let Remark::Differences(_) = self.remark {
+        } else if let Remark::Differences(_) = self.remark {
             pen.text("  ");
         } else {
             self.wish.begin_line(pen);
             pen.text("note: ");
         }
-        self.remark.write(pen);
-        pen.text("\n");
+        match self.remark {
+            Remark::Differences(text) | Remark::Doubt(text) => pen.text(text),
+            Remark::Waits(awaited) => {
+                pen.text("the log ends while the key waits for ");
+                pen.text(awaited.name());
+            }
+            Remark::EndsInside(held) => pen.form(
+                b"the log ends inside a message, after %d bytes of it",
+                &[Some(u64::from(held))],
+            ),
+            Remark::Signed(otherwise) => {
+                pen.form(SIGNED_OTHERWISE, &[Some(otherwise.line)]);
+                pen.text(otherwise.what);
+            }
+        }
+        pen.text(if self.wish.is_json { "\"}\n" } else { "\n" });
     }
-}
-
-/// Says a remark.
-pub fn say_remark<E: Target>(wish: &Wish<'_>, remark: Remark, faults: &mut E) {
-    say(faults, &Remarked { wish, remark });
 }
 
 /// What may be wrong with a log in which nothing differs, by what was seen of it and how it ended.

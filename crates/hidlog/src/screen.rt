@@ -20,20 +20,19 @@ const YELLOW: &[u8] = b"\x1b[33m";
 
 const CYAN: &[u8] = b"\x1b[36m";
 
-/// The column in which the numbers of lines end.
-const NUMBERS: usize = 5;
-
 /// How lines are written at a terminal.
 #[derive(Clone, Copy)]
 pub struct Style {
-    /// The columns of a line. None: lines are whole.
-    pub width: Option<usize>,
+    /// The columns of a line. A line is never as long as `usize::MAX`.
+    pub width: usize,
     pub has_colours: bool,
+    /// The column in which the numbers of lines end, 0 where they aren't moved there.
+    pub numbers: usize,
 }
 
-/// Returns how many bytes of a line are written before two dots, where it is wider than this. A character of three or
-/// four bytes may be a wide one.
-fn cut_at(line: &[u8], width: usize) -> Option<usize> {
+/// Writes a line without its line feed; or, where it is wider than this, what fits of it and two dots. A character of
+/// three or four bytes may be a wide one.
+fn write_cut(pen: &mut Pen, line: &[u8], width: usize) {
     let (mut columns, mut end) = (0_usize, 0);
     for (place, byte) in line.iter().enumerate() {
         columns = columns.saturating_add(match *byte {
@@ -42,42 +41,15 @@ fn cut_at(line: &[u8], width: usize) -> Option<usize> {
             _ => 1,
         });
         if columns > width {
-            return Some(end);
+            pen.bytes(line.get(..end).unwrap_or(line));
+            pen.text("..");
+            return;
         }
         if columns.saturating_add(2) <= width {
             end = place.saturating_add(1);
         }
     }
-    None
-}
-
-/// Writes a line without its line feed, or what fits of it and two dots.
-fn write_cut(pen: &mut Pen, line: &[u8], width: usize) {
-    match cut_at(line, width) {
-        Some(end) => {
-            pen.bytes(line.get(..end).unwrap_or(line));
-            pen.text("..");
-        }
-        None => pen.bytes(line),
-    }
-}
-
-/// Lines that end with line feeds, cut at a width.
-#[derive(Clone, Copy)]
-pub struct CutLines<'a> {
-    pub text: &'a [u8],
-    pub width: usize,
-}
-
-impl Written for CutLines<'_> {
-    fn write(&self, pen: &mut Pen) {
-        for line in Pieces::of(self.text, b'\n') {
-            if !line.is_empty() {
-                write_cut(pen, line, self.width);
-                pen.text("\n");
-            }
-        }
-    }
+    pen.bytes(line);
 }
 
 /// Returns the colour of a line that begins with so many digits.
@@ -98,60 +70,41 @@ fn colour_of(line: &[u8], digits: usize) -> &'static [u8] {
     }
 }
 
-impl Style {
-    /// Writes a line. Its number ends in a column of its own.
-    fn write_line(&self, pen: &mut Pen, line: &[u8]) {
-        let digits = count_in_front(line, DIGITS);
-        let colour = if self.has_colours {
-            colour_of(line, digits)
-        } else {
-            b""
-        };
-        let pad = if digits == 0 {
-            0
-        } else {
-            NUMBERS.saturating_sub(digits)
-        };
-        pen.bytes(colour);
-        for _ in 0..pad {
-            pen.text(" ");
-        }
-        match self.width {
-            Some(width) => write_cut(pen, line, width.saturating_sub(pad)),
-            None => pen.bytes(line),
-        }
-        if !colour.is_empty() {
-            pen.bytes(PLAIN);
-        }
-        pen.text("\n");
-    }
-}
-
-/// Lines that end with line feeds, as the style has them.
+/// Lines that end with line feeds, as a style has them.
 #[derive(Clone, Copy)]
-struct StyledLines<'a> {
-    text: &'a [u8],
-    style: &'a Style,
+pub struct StyledLines<'a> {
+    pub text: &'a [u8],
+    pub style: &'a Style,
 }
 
 impl Written for StyledLines<'_> {
     fn write(&self, pen: &mut Pen) {
-        let lines = self.text.strip_suffix(b"\n").unwrap_or(self.text);
-        for line in Pieces::of(lines, b'\n') {
-            self.style.write_line(pen, line);
+        let style = self.style;
+        let lines = Pieces {
+            rest: self.text,
+            end: b'\n',
+        };
+        for line in lines {
+            let digits = count_in_front(line, DIGITS);
+            let pad = if digits == 0 {
+                0
+            } else {
+                style.numbers.saturating_sub(digits)
+            };
+            let colour = if style.has_colours {
+                colour_of(line, digits)
+            } else {
+                b""
+            };
+            pen.bytes(colour);
+            pen.fill(pen.place(), pad);
+            write_cut(pen, line, style.width.saturating_sub(pad));
+            if !colour.is_empty() {
+                pen.bytes(PLAIN);
+            }
+            pen.text("\n");
         }
     }
-}
-
-/// Returns how many bytes in front are whole lines.
-fn whole_len(text: &[u8]) -> usize {
-    let mut len = 0;
-    for (place, byte) in text.iter().enumerate() {
-        if *byte == b'\n' {
-            len = place.saturating_add(1);
-        }
-    }
-    len
 }
 
 /// A target over another one, which is a terminal where there is a style.
@@ -182,7 +135,13 @@ impl<T: Target> Target for Screen<T> {
         let Some(style) = &self.style else {
             return self.inner.put(piece);
         };
-        let len = whole_len(piece);
+        // How many bytes in front are whole lines.
+        let mut len = 0;
+        for (place, byte) in piece.iter().enumerate() {
+            if *byte == b'\n' {
+                len = place.saturating_add(1);
+            }
+        }
         let whole = piece.get(..len).unwrap_or(piece);
         if self.line.extend_from_slice(whole).is_err() {
             // Without memory it is written as it is.

@@ -1,5 +1,6 @@
 //! What was seen of a log that is read.
 use crate::progress::{LONG, Progress};
+use std::alloc::Global;
 
 /// The most bytes that are kept of a log that can't be read again, as of a pipe.
 const KEPT_AT_MOST: usize = 1 << 20;
@@ -17,27 +18,18 @@ pub struct Seen {
     pub progress: Progress,
 }
 
-/// Returns whether a line of these bytes begins as an input does. The first one begins a line where `is_new_line`.
-fn has_input(is_new_line: bool, bytes: &[u8]) -> bool {
-    let mut begins = is_new_line;
-    for byte in bytes {
-        if begins && matches!(*byte, b'>' | b't' | b'p' | b'k' | b's') {
-            return true;
-        }
-        begins = *byte == b'\n';
-    }
-    false
-}
-
 impl Seen {
-    /// Returns that of no bytes of a log, which has so many where that is known. Where `is_said`, it is said how much was
-    /// read.
-    pub fn new(is_said: bool, size: Option<u64>) -> Self {
+    /// Returns that of no bytes of a log, which has so many where it can be read again. A log that can't be is kept,
+    /// where there is an allocator for it. Where `is_said`, it is said how much was read.
+    pub fn new(is_said: bool, size: Option<u64>, keeps: Option<Global>) -> Self {
         Seen {
             len: 0,
             ends_line: true,
             has_input: false,
-            kept: None,
+            kept: match (size, keeps) {
+                (None, Some(alloc)) => Some(Vec::new(alloc)),
+                _ => None,
+            },
             progress: Progress {
                 is_said,
                 size,
@@ -53,7 +45,13 @@ impl Seen {
             self.progress.pass(rt, None);
             return;
         };
-        self.has_input = self.has_input || has_input(self.ends_line, bytes);
+        for byte in bytes {
+            if self.has_input {
+                break;
+            }
+            self.has_input = self.ends_line && matches!(*byte, b'>' | b't' | b'p' | b'k' | b's');
+            self.ends_line = *byte == b'\n';
+        }
         self.ends_line = *last == b'\n';
         self.len = self.len.saturating_add(bytes.len() as u64);
         self.progress.pass(rt, Some(self.len));

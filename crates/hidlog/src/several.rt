@@ -1,8 +1,8 @@
 //! Several logs that are compared, one after the other.
-ghost use Rattle.std.specs.Prelude.{◌≡◌, ◌<◌, ◌-◌, ◌^◌, ◌⊎◌, [], Some, IfErr, MatchOption, OnOk};
+ghost use Rattle.std.specs.Prelude.{◌≡◌, ◌<◌, ◌-◌, ◌^◌, ◌⊎◌, [], IfErr, OnOk};
 ghost use Rattle.session_log.specs.Command.{start_with};
 ghost use Rattle.token_session.specs.Meters.{session_of};
-ghost use Rattle.hidlog.specs.CommandLine.{named, path_of, texts_of};
+ghost use Rattle.hidlog.specs.CommandLine.{path_of, texts_of};
 ghost use Rattle.hidlog.specs.Commands.{Compares};
 ghost use Rattle.hidlog.specs.Model.{CanFail};
 ghost use Rattle.hidlog.specs.Several.{IsSameAt};
@@ -23,7 +23,7 @@ use crate::snapshots::load;
 use crate::texts::{EscapedLines, StreamFailure};
 use crate::wish::{FaultLine, Wish};
 use session_log::{CAPACITY, LogCommand, LogFault, Target, ToWrite};
-use session_show::{Pen, Wording, Written, put_written};
+use session_show::{Pen, Written};
 use token_session::Session;
 
 /// The most bytes of a log that is read once more to see whether what was signed is what the key asks for.
@@ -44,7 +44,10 @@ impl Written for SameLog<'_> {
             return;
         }
         self.wish.begin_object(pen, "same");
-        let mut words = Pieces::of(self.text, b' ');
+        let mut words = Pieces {
+            rest: self.text,
+            end: b' ',
+        };
         let _ = words.next();
         pen.text(",\"inputs\":");
         pen.bytes(words.next().unwrap_or(b"0"));
@@ -77,16 +80,6 @@ pub fn say_cause<E: Target>(
     }
 }
 
-/// Begins with standard input, where the path names that. A file is opened later.
-fn begin_with<L: Logs>(input: &mut L, path: &str)
-    ensures kept { MatchOption (named (Some path.now)) (Unit {0}) (λ _. input.new ≡ input.old) }
-    ensures counted { L.failed input.new ≡ L.failed input.old }
-{
-    if path == "-" {
-        input.restart();
-    }
-}
-
 /// Says what may be wrong with a log in which nothing differs, where that is explained or JSON is wished for.
 pub fn note_one<D: Files, L: Logs, E: Target>(
     files: &D,
@@ -100,24 +93,27 @@ pub fn note_one<D: Files, L: Logs, E: Target>(
     if !wish.explains && !wish.is_json {
         return;
     }
+    let seen = input.state().seen;
+    let len = seen.len;
     let notes = Notes {
         wish: &*wish,
-        seen: input.seen(),
+        seen,
         ending: &*ending,
     };
     say(faults, &notes);
-    if ending.has_served && input.seen().len <= READ_AGAIN_AT_MOST {
+    if ending.has_served && len <= READ_AGAIN_AT_MOST {
         let same = Wish {
             is_same: true,
             ..*wish
         };
-        tell_differences(files, &same, input.again(false), None, faults);
+        let again = input.again(false);
+        tell_differences(files, &same, again, None, faults);
     }
 }
 
 impl<D: Files, L: Logs, O: Output, E: Target> Host<D, L, O, E> {
-    /// Compares the log at a path on a session of its own. What is said of one where nothing differs is written to `same`.
-    /// Returns how the log ended.
+    /// Compares the log at a path on a session of its own. What is said of one where nothing differs is written to
+    /// `same`. Returns how the log ended.
     #[inline(never)]
     fn compare<'a>(
         &mut self,
@@ -148,7 +144,11 @@ impl<D: Files, L: Logs, O: Output, E: Target> Host<D, L, O, E> {
         ensures same { OnOk result (IsSameAt ⟦<Self as Modeled>⟧.model (path_of wish.now.load) self.old.files path.now
             (self.old.input, self.new.input)) }
     {
-        begin_with(&mut self.input, path);
+        if path == "-"
+            && let Err(error) = self.input.open(None)
+        {
+            return Err(ProgramFault::UnreadLog(path, error));
+        }
         if let Err(fault) = open_log(&mut self.input, Some(path)) {
             return Err(fault);
         }
@@ -169,47 +169,34 @@ impl<D: Files, L: Logs, O: Output, E: Target> Host<D, L, O, E> {
         ensures files { self.new.files ≡ self.old.files }
         ensures input { self.new.input ≡ self.old.input }
     {
-        let mut pen = Pen::new(Wording::Explained);
-        let said = put_written(&mut self.output, &mut pen, &SameLog { wish, text });
-        if said.is_ok() {
+        if say(&mut self.output, &SameLog { wish, text }) {
             return Ok(());
         }
         say(&mut self.faults, &EscapedLines(WRITING_FAILED));
         Err(1)
     }
 
-    /// Writes the fault of a log of this name and, where it is explained, what more is known of it.
-    fn tell_named(&mut self, wish: &Wish<'_>, fault: &ProgramFault<'_>)
-        requires { E.failed self.old.faults < 2 ^ 64 - 1 }
-        ensures { self.new ≡ record self.old { faults = self.new.faults } }
-    {
-        let fault = match fault {
-            // The others name no line.
-            ProgramFault::Log(fault)
-                if !matches!(fault, LogFault::Write | LogFault::TooManyLines) => { *fault }
-            _ => {
-                self.tell(fault, wish.explains);
-                return;
-            }
-        };
-        let line = FaultLine { wish, fault };
-        let mut pen = Pen::new(Wording::Explained);
-        let is_put = put_written(&mut self.faults, &mut pen, &line).is_ok();
-        if is_put && wish.explains {
-            say_cause(&self.input.state(), None, &fault, &mut self.faults);
-        }
-    }
-
-    /// Says what is wrong with a log, and what differs; as objects, where these are wished for.
+    /// Says what is wrong with a log: its fault and, where it is explained, what more is known of it; and what
+    /// differs. As objects too, where these are wished for.
     fn say_wrong(&mut self, wish: &Wish<'_>, fault: &ProgramFault<'_>)
         requires { E.failed self.old.faults < 2 ^ 64 - 1 }
         ensures { self.new.files ≡ self.old.files }
     {
-        self.tell_named(wish, fault);
-        if let ProgramFault::Log(LogFault::Differs { line, packet }) = fault {
-            let (line, packet) = (*line, *packet);
-            let told = Some(LogFault::Differs { line, packet });
-            let again = self.input.again(true);
+        match fault {
+            // The others name no line.
+            ProgramFault::Log(fault)
+                if !matches!(fault, LogFault::Write | LogFault::TooManyLines) => {
+                let fault = *fault;
+                if say(&mut self.faults, &FaultLine { wish, fault }) && wish.explains {
+                    say_cause(&self.input.state(), None, &fault, &mut self.faults);
+                }
+            }
+            _ => self.tell(fault, wish.explains),
+        }
+        if let ProgramFault::Log(told) = fault
+            && let LogFault::Differs { .. } = told
+        {
+            let (told, again) = (Some(*told), self.input.again(true));
             if wish.is_json {
                 tell_differences(&self.files, wish, again, told, &mut self.output);
             } else {
@@ -225,8 +212,8 @@ impl<D: Files, L: Logs, O: Output, E: Target> Host<D, L, O, E> {
         }
     }
 
-    /// Compares one of several logs, and says what came of it with its path in front; as objects, where these are wished
-    /// for. An error holds the exit status.
+    /// Compares one of several logs, and says what came of it with its path in front; as objects, where these are
+    /// wished for. An error holds the exit status.
     fn check_one<'a>(&mut self, wish: &Wish<'a>, path: &'a str) -> Result<(), u8>
         requires { CanFail ⟦<Self as Modeled>⟧.model self.old }
         ensures status { IfErr result (λ code. (code ≡ 1) ⊎ (code ≡ 2)) }

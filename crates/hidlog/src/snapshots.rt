@@ -17,8 +17,8 @@ use std::alloc::Global;
 use std::io::ErrorKind;
 use token_session::Session;
 
-/// Puts the credentials of the snapshot at the path, if there is one, into the program's session, which begins anew: its
-/// AAGUID is zero, its moment 0.
+/// Puts the credentials of the snapshot at the path, if there is one, into the program's session, which begins anew:
+/// its AAGUID is zero, its moment 0.
 #[inline(never)]
 pub fn load<'a, D: Files>(
     session: &mut Session<CAPACITY>,
@@ -44,8 +44,8 @@ pub fn load<'a, D: Files>(
     }
 }
 
-/// Looks whether a snapshot can be written to the path, if there is one. That is done for `live` alone, whose log may take
-/// long to come.
+/// Looks whether a snapshot can be written to the path, if there is one. That is done for `live` alone, whose log may
+/// take long to come.
 pub fn look<'a, D: Files>(
     files: &D,
     command: LogCommand,

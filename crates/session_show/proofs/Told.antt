@@ -1,20 +1,27 @@
 -- The text of lines that are shown one after the other.
 use Rattle.std.proofs.Common.{◌≡◌, ℕ, ◌+◌, ◌≤◌, ◌<◌, ◌^◌, List, [], ◌∷◌, ◌++◌, length, take, drop, flat_map, Option}
+use Rattle.std.proofs.Common.{Bool, true, false, cond, is_some, nat_le, nat_lt, inl}
 use Rattle.std.proofs.Common.{Some, None, Result, Ok, Err, refl, sym, ap, ◌∙◌, subst, arith, append-nil, append_assoc}
 use Rattle.std.proofs.{Common.length-append, Common.take-append-drop, lemmas.Grind.flat_map-append}
 use Rattle.std.specs.Io.KnownBytes.{Consumes, Appends, Keeps}
 use Rattle.std.proofs.KnownBytes.{Appends-trans, Appends-kept}
-use Rattle.session_log.specs.Ending.{Ending, Refused, ended_by, ending_of}
+use Rattle.session_log.specs.Ending.{Done, Ending, Refused, Unread, Unwritten, ended_by, ending_of, read_fails}
+use Rattle.session_log.specs.{Ending.write_fails, Replay.ReadsTo}
 use Rattle.session_log.specs.{Lines.lines, Said.said, Sent.SendsPackets, Text.ended, declared.line.Line.Line}
-use Rattle.session_log.specs.{Replay.IsRefused, Replay.IsUnread, Log.fault_at, Log.fault_by, Log.text_by, Log.text_of}
+use Rattle.session_log.specs.{Replay.IsRefused, Replay.IsUnread, Replay.IsPlayed, Replay.IsUnwritten}
+use Rattle.session_log.specs.Log.{Played, fault_at, fault_by, log_of, played, prefixed, text_by, text_of}
 use Rattle.session_log.specs.Window.{HasLine, IsUnfinished, Stops}
 use Rattle.session_log.specs.declared.fault.LogFault.{LogFault, TheVariants.Memory}
 use Rattle.session_log.specs.declared.fault.LogFault.TheVariants.{BadLine, TooLong, Differs, Read, Write, TooManyLines}
 use Rattle.session_log.proofs.Cutting.{last_line, some_line}
 use Rattle.session_log.proofs.{Exits.short_in_front, Exits.stops_at_line, Gathering.in_count, Through.unread}
-use Rattle.session_log.proofs.Through.{Through, played_last, refused, said_fault, through_line, too_long, too_many}
-use Rattle.session_show.specs.Shown.{AreTold, IsShownText, Shows, ShowsLine, TellsLine, Told, failures_of, reading}
-use Rattle.session_show.specs.Shown.{unknown}
+use Rattle.session_log.proofs.Through.{Through, lines_are, played_last, played_sound, refused, said_fault, through_line}
+use Rattle.session_log.proofs.Through.{too_long, too_many, unwritten}
+use Rattle.session_show.specs.Shown.{AreTold, IsShownText, Says, Shows, ShowsLine, TellsEnd, TellsLine, Told}
+use Rattle.session_show.specs.Shown.{failures_of, reading, shown_in, unknown}
+use Rattle.session_show.specs.declared.wording.Wording.{TheVariants.Fixed, TheVariants.Explained}
+use Rattle.session_show.specs.declared.log_writer.LogForm.{LogForm, TheVariants.Text, TheVariants.Page}
+use Rattle.session_show.specs.declared.log_writer.LogForm.TheVariants.{Table, Summary, Objects}
 
 -- a fault that was passed on
 pub as_err : {A : Type 0} (r : Result A LogFault) (e : LogFault) (P : Ending → Type 0) → r ≡ Err e → P (ended_by e)
@@ -22,12 +29,12 @@ pub as_err : {A : Type 0} (r : Result A LogFault) (e : LogFault) (P : Ending →
 as_err {A} r e P is h = rw is h
 
 -- no line was shown
-pub told_none : (shows : ℕ → List ℕ → List ℕ → Type 0) → (t : IsShownText shows [] []) × (1 ≡ length t.told + 1)
+pub told_none : (shows : Says) → (t : IsShownText shows [] []) × (1 ≡ length t.told + 1)
 told_none shows = (record { told = []; lines_are = refl; text_is = refl; each = tt }, refl)
 
-one_told : (shows : ℕ → List ℕ → List ℕ → Type 0) (m n : ℕ) (told : List Told) (t : Told) → n ≡ m + length told →
-    AreTold shows m told → shows n t.line t.text → AreTold shows m (told ++ t ∷ [])
-one_told shows m n [] t is all one = (subst (λ (k : ℕ). shows k t.line t.text) (omega (arith, is)) one, tt)
+one_told : (shows : Says) (m n : ℕ) (told : List Told) (t : Told) → n ≡ m + length told →
+    AreTold shows m told → shows n (Some t.line) t.text → AreTold shows m (told ++ t ∷ [])
+one_told shows m n [] t is all one = (subst (λ (k : ℕ). shows k (Some t.line) t.text) (omega (arith, is)) one, tt)
 one_told shows m n (first ∷ more) t is all one = (all.0, one_told shows (m + 1) n more t (omega (arith, is)) all.1 one)
 
 -- the text of a line that isn't faulty is the line
@@ -37,8 +44,8 @@ line_itself n line None sound = cc
 line_itself n line (Some l) sound = refl
 
 -- one more line was shown
-pub told_line : (shows : ℕ → List ℕ → List ℕ → Type 0) (shown text line piece : List ℕ) (n : ℕ) (t : IsShownText shows
-    shown text) → n ≡ length t.told + 1 → fault_by reading n tt (said line) ≡ None → shows n line piece
+pub told_line : (shows : Says) (shown text line piece : List ℕ) (n : ℕ) (t : IsShownText shows
+    shown text) → n ≡ length t.told + 1 → fault_by reading n tt (said line) ≡ None → shows n (Some line) piece
     → (u : IsShownText shows (shown ++ text_of reading tt line) (text ++ piece)) × (n + 1 ≡ length u.told + 1)
 told_line shows shown text line piece n t count sound one =
     let last : Told = record { line = line; text = piece } in (
@@ -80,7 +87,7 @@ shown_on left left' read shown w rest line n end p through has is_line is_rest s
     )
 
 -- no line could be read
-pub told_to_read : (shows : ℕ → List ℕ → List ℕ → Type 0) (left left' start taken : Option (List ℕ))
+pub told_to_read : (shows : Says) (left left' start taken : Option (List ℕ))
     (read shown text w : List ℕ) (n : ℕ) (e : LogFault)
     → Consumes left left' (read ++ w) → Through reading tt read shown tt n → Appends start taken text →
     IsShownText shows shown text → Stops n w e → Shows shows (left, left') (start, taken) (ended_by e)
@@ -99,7 +106,7 @@ told_to_read shows left left' start taken read shown text w n (Memory k) p throu
 told_to_read shows left left' start taken read shown text w n Write p through q told h = absurd h
 
 -- a line was faulty, and nothing was written for it
-told_to_fault : (shows : ℕ → List ℕ → List ℕ → Type 0) (left left' start taken taken' : Option (List ℕ))
+told_to_fault : (shows : Says) (left left' start taken taken' : Option (List ℕ))
     (read shown text w line : List ℕ) (more : List (List ℕ)) (n : ℕ) (fault : LogFault)
     → Consumes left left' (read ++ w) → Through reading tt read shown tt n → Appends start taken text →
     IsShownText shows shown text → lines w ≡ line ∷ more → length line < 256 → n < 2 ^ 32
@@ -115,7 +122,7 @@ told_to_fault shows left left' start taken taken' read shown text w line more n 
     )
 
 -- a line was faulty, or its text broke off
-pub told_to_line : (shows : ℕ → List ℕ → List ℕ → Type 0) (left left' start taken taken' : Option (List ℕ))
+pub told_to_line : (shows : Says) (left left' start taken taken' : Option (List ℕ))
     (failures : ℕ × ℕ) (read shown text w line : List ℕ) (more : List (List ℕ)) (n : ℕ) (e : LogFault)
     → Consumes left left' (read ++ w) → Through reading tt read shown tt n → Appends start taken text →
     IsShownText shows shown text → lines w ≡ line ∷ more → length line < 256 → n < 2 ^ 32
@@ -149,27 +156,195 @@ told_to_line shows left left' start taken taken' failures read shown text w line
 told_to_line shows left left' start taken taken' failures read shown text w line more n (Read k) p through q told first
     short few h tells = absurd h
 
--- the last piece was shown, or wasn't
-pub told_to_end : {A : Type 0} (shows : ℕ → List ℕ → List ℕ → Type 0) (r : Result A LogFault)
-    (left left' start taken taken' : Option (List ℕ)) (failures : ℕ × ℕ) (read shown text w : List ℕ) (n : ℕ)
-    → Consumes left left' (read ++ w) → Through reading tt read shown tt n → Appends start taken text →
-    (t : IsShownText shows shown text) → n ≡ length t.told + 1 → IsUnfinished n w → 0 < length w
-    → ShowsLine n w failures (ending_of r) → TellsLine shows n w (taken, taken') (ending_of r) →
-    Shows shows (left, left') (start, taken') (ending_of r)
-told_to_end shows (Ok x) left left' start taken taken' failures read shown text w n p through q told count u some h
-    tells =
-    let sound = said_fault reading n tt w (in_count n w u.counted some) u.short ∙ h.0 in (
-      read ++ w,
-      text ++ tells.0,
-      p,
-      Appends-trans start taken taken' text tells.0 q tells.1,
+-- behind the last line, which is line n: the text there was written, or broke off
+pub told_behind : {F : Type 0} (shows : Says) (taken : F → Option (List ℕ)) (failed : F → ℕ)
+    (r : Result (Unit {0}) LogFault) (left left' start : Option (List ℕ)) (target : F × F) (bytes shown text : List ℕ)
+    (n : ℕ) → Consumes left left' bytes → IsPlayed reading tt tt bytes shown → Appends start (taken target.0) text →
+    (t : IsShownText shows shown text) → n ≡ length t.told
+    → ((front : List ℕ) × IsUnwritten reading tt tt bytes front) → TellsEnd shows taken failed n target (ending_of r) →
+    Shows shows (left, left') (start, taken target.1) (ending_of r)
+told_behind shows taken failed (Ok x) left left' start target bytes shown text n p played q told count off tells = (
+  bytes,
+  text ++ tells.0,
+  p,
+  Appends-trans start (taken target.0) (taken target.1) text tells.0 q tells.1.0,
+  (
+    shown,
+    played,
+    record {
+      before = text;
+      behind = tells.0;
+      text_is = refl;
+      shown = told;
+      last = subst (λ (k : ℕ). shows k None tells.0) count tells.2;
+    },
+  ),
+)
+told_behind shows taken failed (Err Write) left left' start target bytes shown text n p played q told count off tells = (
+  bytes,
+  text ++ tells.0.0,
+  p,
+  Appends-trans start (taken target.0) (taken target.1) text tells.0.0 q tells.0.1,
+  (off.0, off.1, tt),
+)
+told_behind shows taken failed (Err (BadLine k)) left left' start target bytes shown text n p played q told count off
+    tells = absurd tells
+told_behind shows taken failed (Err (TooLong k)) left left' start target bytes shown text n p played q told count off
+    tells = absurd tells
+told_behind shows taken failed (Err (Differs l k)) left left' start target bytes shown text n p played q told count off
+    tells = absurd tells
+told_behind shows taken failed (Err (Read k)) left left' start target bytes shown text n p played q told count off
+    tells = absurd tells
+told_behind shows taken failed (Err TooManyLines) left left' start target bytes shown text n p played q told count off
+    tells = absurd tells
+told_behind shows taken failed (Err (Memory k)) left left' start target bytes shown text n p played q told count off
+    tells = absurd tells
+
+-- a line feed stands behind a line
+some_ended : (line : List ℕ) → 0 < length (ended line)
+some_ended line = omega (arith, length-append line (10 ∷ []))
+
+-- the last piece was shown
+pub told_last : (shows : Says) (read shown text w piece : List ℕ) (n : ℕ) → Through reading tt read shown tt n
+    → (t : IsShownText shows shown text) → n ≡ length t.told + 1 → IsUnfinished n w → 0 < length w
+    → fault_by reading n tt (said w) ≡ None → SendsPackets reading tt (said w) → shows n (Some w) piece
+    → IsPlayed reading tt tt (read ++ w) (shown ++ text_of reading tt w)
+    × ((u : IsShownText shows (shown ++ text_of reading tt w) (text ++ piece)) × (n ≡ length u.told))
+    × ((front : List ℕ) × IsUnwritten reading tt tt (read ++ w) front)
+told_last shows read shown text w piece n through told count u some sound packets one =
+    let faultless = said_fault reading n tt w (in_count n w u.counted some) u.short ∙ sound in
+    let more = told_line shows shown text w piece n told count sound one in (
+      played_last through w (last_line w u.no_feed some) faultless packets,
+      (more.0, omega (arith, more.1)),
       (
-        shown ++ text_of reading tt w,
-        played_last through w (last_line w u.no_feed some) sound h.2,
-        (told_line shows shown text w tells.0 n told count h.0 tells.2).0,
+        shown ++ [],
+        unwritten through w w [] [] (ended w) (last_line w u.no_feed some) faultless
+            (line_itself n w (said w) sound) (some_ended w),
       ),
     )
-told_to_end shows (Err e) left left' start taken taken' failures read shown text w n p through q told count u some h
-    tells =
-    told_to_line shows left left' start taken taken' failures read shown text w w [] n e p through q told
-    (last_line w u.no_feed some) u.short (in_count n w u.counted some) h tells
+
+-- ---- the last of whole lines
+
+is_sound : (o : Option LogFault) (rest : Played (Unit {0}))
+    → (cond (is_some o) (record { text = []; fault = o; state = tt }) rest).fault ≡ None → o ≡ None
+is_sound None rest h = refl
+is_sound (Some f) rest h = cc h
+
+first_sound : (n : ℕ) (line : List ℕ) (more : List (List ℕ)) → (played reading n tt (line ∷ more)).fault ≡ None →
+    fault_at reading n tt line ≡ None
+first_sound n line more h =
+    is_sound (fault_at reading n tt line) (prefixed (text_of reading tt line) (played reading (n + 1) tt more)) h
+
+is_said : (many long : Bool) (n : ℕ) (o : Option LogFault)
+    → cond many (Some TooManyLines) (cond long (Some (TooLong n)) o) ≡ None → o ≡ None
+is_said true long n o h = cc h
+is_said false true n o h = cc h
+is_said false false n o h = h
+
+said_sound : (n : ℕ) (line : List ℕ) → fault_at reading n tt line ≡ None → fault_by reading n tt (said line) ≡ None
+said_sound n line h =
+    is_said (nat_le (2 ^ 32) n) (nat_lt 255 (length line)) n (fault_by reading n tt (said line)) h
+
+-- what lines come to, and those before the last one
+played_front : (n : ℕ) (front : List (List ℕ)) (line : List ℕ)
+    → (played reading n tt (front ++ line ∷ [])).fault ≡ None
+    → ((played reading n tt front).fault ≡ None)
+    × ((m : ℕ) × (fault_by reading m tt (said line) ≡ None))
+    × ((played reading n tt (front ++ line ∷ [])).text ≡ (played reading n tt front).text ++ text_of reading tt line)
+played_front n [] line h =
+    let sound = first_sound n line [] h in (
+      refl,
+      (n, said_sound n line sound),
+      ap (λ (p : Played (Unit {0})). p.text) (played_sound reading n tt line [] sound)
+          ∙ append-nil (text_of reading tt line),
+    )
+played_front n (x ∷ xs) line h =
+    let sound = first_sound n x (xs ++ line ∷ []) h in
+    let all = played_sound reading n tt x (xs ++ line ∷ []) sound in
+    let front = played_sound reading n tt x xs sound in
+    let more = played_front (n + 1) xs line (sym (ap (λ (p : Played (Unit {0})). p.fault) all) ∙ h) in (
+      ap (λ (p : Played (Unit {0})). p.fault) front ∙ more.0,
+      more.1,
+      ap (λ (p : Played (Unit {0})). p.text) all
+          ∙ ap (λ (l : List ℕ). text_of reading tt x ++ l) more.2
+          ∙ sym (append_assoc (text_of reading tt x) (played reading (n + 1) tt xs).text (text_of reading tt line))
+          ∙ ap (λ (p : Played (Unit {0})). p.text ++ text_of reading tt line) (sym front),
+    )
+
+last_of : (x : List ℕ) (xs : List (List ℕ)) →
+    (front : List (List ℕ)) × (line : List ℕ) × (x ∷ xs ≡ front ++ line ∷ [])
+last_of x [] = ([], x, refl)
+last_of x (y ∷ ys) =
+    let more = last_of y ys in (x ∷ more.0, more.1, ap (λ (l : List (List ℕ)). x ∷ l) more.2)
+
+some_last : (done : List (List ℕ)) → 0 < length done →
+    (front : List (List ℕ)) × (line : List ℕ) × (done ≡ front ++ line ∷ [])
+some_last [] some = absurd (omega (arith, some))
+some_last (x ∷ xs) some = last_of x xs
+
+-- of whole lines that were shown the last one's text may have broken off
+pub unwritten_back : {read shown : List ℕ} {n : ℕ} → Through reading tt read shown tt n → 1 < n →
+    (front : List ℕ) × IsUnwritten reading tt tt (read ++ []) front
+unwritten_back {read} {shown} {n} t more =
+    let split = some_last t.done (omega (arith, t.count, more)) in
+    let all : played reading 1 tt (split.0 ++ split.1 ∷ []) ≡ prefixed shown (played reading n tt []) =
+    ap (played reading 1 tt) (sym split.2 ∙ sym (append-nil t.done)) ∙ t.plays [] in
+    let found = played_front 1 split.0 split.1 (ap (λ (p : Played (Unit {0})). p.fault) all) in
+    let front = (played reading 1 tt split.0).text in
+    let are : lines (read ++ []) ≡ split.0 ++ split.1 ∷ [] = lines_are t [] ∙ append-nil t.done ∙ split.2 in
+    let itself = line_itself found.1.0 split.1 (said split.1) found.1.1 in (
+      front ++ [],
+      record {
+        first = split.0;
+        others = split.1 ∷ [];
+        front = [];
+        rest = ended split.1;
+        cut = are;
+        faultless = found.0;
+        written = refl;
+        broken = itself;
+        missing = some_ended split.1;
+        stands = refl;
+        beginning = (
+          ended split.1,
+          ap (λ (l : List (List ℕ)). log_of reading (played reading 1 tt l)) are
+              ∙ ap (log_of reading) all
+              ∙ append-nil (shown ++ [])
+              ∙ sym (ap (λ (p : Played (Unit {0})). p.text) all)
+              ∙ found.2
+              ∙ ap (λ (l : List ℕ). front ++ l) itself
+              ∙ ap (λ (l : List ℕ). l ++ ended split.1) (sym (append-nil front)),
+        );
+      },
+    )
+
+-- in each form there may be nothing behind the last line
+pub behind_nothing : (form : LogForm) (n : ℕ) → shown_in form n None []
+behind_nothing (Text Fixed) n = refl
+behind_nothing (Text Explained) n = inl refl
+behind_nothing Page n = refl
+behind_nothing Table n = tt
+behind_nothing Summary n = tt
+behind_nothing Objects n = tt
+
+-- of the end of what is shown: no read failed, and no line was faulty
+module _ {F : Type 0} (shows : Says) (taken : F → Option (List ℕ)) (failed : F → ℕ) (n : ℕ) (target : F × F) where
+  pub behind_reach : (q : Ending) (a b : Option (List ℕ)) (all : Type 0) → TellsEnd shows taken failed n target q →
+      ReadsTo reading tt a b all q
+  behind_reach Done a b all h = tt
+  behind_reach (Refused fault) a b all h = absurd h
+  behind_reach (Unread m) a b all h = tt
+  behind_reach Unwritten a b all h = tt
+
+  pub behind_reads : (q : Ending) → TellsEnd shows taken failed n target q → read_fails q ≡ false
+  behind_reads Done h = refl
+  behind_reads (Refused fault) h = refl
+  behind_reads (Unread m) h = absurd h
+  behind_reads Unwritten h = refl
+
+  pub behind_writes : (q : Ending) → TellsEnd shows taken failed n target q → failed target.1
+      ≡ cond (write_fails q) (failed target.0 + 1) (failed target.0)
+  behind_writes Done h = h.1.1
+  behind_writes (Refused fault) h = absurd h
+  behind_writes (Unread m) h = absurd h
+  behind_writes Unwritten h = h.1

@@ -3,14 +3,11 @@
 use crate::escape::write_escaped;
 use crate::field::{write_bytes, write_item, write_member};
 use crate::member_names::Map;
-use crate::pairs::{Pairs, item_at};
 use crate::pen::Pen;
 use crate::words::{Flags, write_flags};
 use ctap_cbor::{Cursor, Item};
+use session_walk::{CREDENTIAL, Pairs, item_at};
 use sha2::{Digest, Sha256};
-
-/// The flag that says that a credential follows.
-pub const CREDENTIAL: u8 = 0x40;
 
 /// The flag that says that extensions come last.
 const EXTENSIONS: u8 = 0x80;
@@ -30,7 +27,14 @@ pub fn write_authenticator_data(pen: &mut Pen, number: u64, bytes: &[u8], rp_id:
     let Some((hash, rest)) = bytes.split_first_chunk::<32>() else {
         return;
     };
-    write_hash(pen, number, hash, rp_id);
+    pen.form(b"%d       rpIdHash ", &[Some(number)]);
+    pen.hex(hash.as_slice());
+    if !rp_id.is_empty() {
+        let is_its = hash.as_slice() == Sha256::digest(rp_id).as_slice();
+        pen.text(if is_its { "  " } else { "  not that of " });
+        write_escaped(pen, rp_id);
+    }
+    pen.text("\n");
     let [flags, rest @ ..] = rest else {
         return;
     };
@@ -56,18 +60,6 @@ fn write_last(pen: &mut Pen, number: u64, flags: u8, bytes: &[u8]) {
     } else if !bytes.is_empty() {
         write_bytes(pen, b"%d       bytes too many ", number, bytes);
     }
-}
-
-/// Writes the line of an RP id's hash, with the RP id that the request named.
-fn write_hash(pen: &mut Pen, number: u64, hash: &[u8; 32], rp_id: &[u8]) {
-    pen.form(b"%d       rpIdHash ", &[Some(number)]);
-    pen.hex(hash.as_slice());
-    if !rp_id.is_empty() {
-        let is_its = hash.as_slice() == Sha256::digest(rp_id).as_slice();
-        pen.text(if is_its { "  " } else { "  not that of " });
-        write_escaped(pen, rp_id);
-    }
-    pen.text("\n");
 }
 
 /// Writes lines for a credential, and for what comes after it.

@@ -1,9 +1,8 @@
 //! What a session comes to in numbers.
 
-use crate::entry::{EXCLUDED, Entry};
-use crate::exchange::{End, Ended};
+use crate::entry::EXCLUDED;
 use crate::pen::Pen;
-use crate::walk::Role;
+use session_walk::{End, Entry, Role};
 
 /// How counts are written. In each form the numbers are in the order in which `Counts::write` has them.
 pub struct CountForms {
@@ -126,29 +125,21 @@ impl Counts {
             Role::Reply => self.replies = self.replies.saturating_add(1),
         }
         for ended in entry.ended {
-            self.add(ended);
-        }
-    }
-
-    /// Counts a transaction that ended.
-    fn add(&mut self, ended: &Ended) {
-        let status = match ended.end {
-            End::Status(status) => status,
-            End::Refused(code) => {
-                self.errors.add(code);
-                return;
-            }
-            _ => return,
-        };
-        match (status, ended.exchange.transaction.command) {
-            (0, Some(0x01)) => self.made = self.made.saturating_add(1),
-            (0, Some(0x02 | 0x08)) => self.used = self.used.saturating_add(1),
-            (0, _) => {}
-            _ => {
-                if status == EXCLUDED {
-                    self.excluded = self.excluded.saturating_add(1);
+            let command = ended.exchange.transaction.command;
+            match ended.end {
+                End::Refused(code) => self.errors.add(code),
+                End::Status(0) => match command {
+                    Some(0x01) => self.made = self.made.saturating_add(1),
+                    Some(0x02 | 0x08) => self.used = self.used.saturating_add(1),
+                    _ => {}
+                },
+                End::Status(status) => {
+                    if status == EXCLUDED {
+                        self.excluded = self.excluded.saturating_add(1);
+                    }
+                    self.refused.add(status);
                 }
-                self.refused.add(status);
+                _ => {}
             }
         }
     }

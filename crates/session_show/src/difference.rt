@@ -2,17 +2,17 @@
 ghost use Rattle.std.specs.Prelude.{◌<◌, ◌-◌, ◌^◌};
 
 use crate::entry::write_message;
-use crate::exchange::Transaction;
-use crate::packet_line::{channel_of, write_packet};
+use crate::packet_line::write_packet;
 use crate::pen::{Pen, front};
 use crate::putting::{Written, put_written};
-use crate::reason::{Awaited, Reason};
+use crate::reason::Reason;
 use crate::signed::{Signed, SignedOtherwise};
-use crate::walk::{LogWalk, Role};
 use crate::wording::Wording;
-use hid_packet::{Outbox, Packet};
+use hid_packet::command::KEEPALIVE;
+use hid_packet::{Outbox, Packet, View};
 use session_log::{Failed, Line, LogFault, Source, Target, Window, next_line, read_line};
-use token_session::{Input, Session};
+use session_walk::{Awaited, LogWalk, Role, Transaction, channel_of};
+use token_session::Session;
 
 /// More than the most lines of a log.
 const LINES: u64 = 1 << 33;
@@ -39,6 +39,10 @@ pub struct Difference {
     pub reply: Option<Awaited>,
     /// Whether the input is a continuation packet of no open message.
     pub is_stray: bool,
+    /// The input's moment, 0 before any.
+    pub(crate) at: u64,
+    /// The last KEEPALIVE that the session sent, and its moment.
+    pub(crate) kept_alive: Option<(u64, Packet)>,
 }
 
 impl Difference {
@@ -89,13 +93,18 @@ struct PlayedLog {
     reply: Option<Awaited>,
     /// Whether the last input is a continuation packet of no open message.
     is_stray: bool,
+    /// The moment of the last input, and the latest moment, at which the session is.
+    at: u64,
+    now: u64,
+    /// The last KEEPALIVE that the session sent, and its moment.
+    kept_alive: Option<(u64, Packet)>,
     signed: Signed,
 }
 
 impl PlayedLog {
-    /// Takes the next line, with its number, and returns the difference that it shows. An input steps the session, unless
-    /// the log lacks a packet of the input before: then the line isn't taken. Where the line's packet differs, the walk has
-    /// yet to take it.
+    /// Takes the next line, with its number, and returns the difference that it shows. An input steps the session,
+    /// unless the log lacks a packet of the input before: then the line isn't taken. Where the line's packet differs,
+    /// the walk has yet to take it.
     fn take<const C: usize>(
         &mut self,
         number: u64,
@@ -115,10 +124,16 @@ impl PlayedLog {
                 if let Some(sent) = self.outbox.pop() {
                     return Some(self.differ(number, None, Some(sent)));
                 }
-                self.reply = self.unawaited(&timed.input);
+                self.signed.end();
+                self.signed.len = 0;
+                self.reply = match (self.awaited, Awaited::in_input(&timed.input)) {
+                    (Some(awaited), Some(reply)) if awaited as u8 == reply as u8 => None,
+                    (_, reply) => reply,
+                };
+                self.at = timed.at;
+                self.now = self.now.max(timed.at);
                 session.step(timed.at, timed.input, &mut self.outbox);
                 self.awaited = Awaited::of(&session.need());
-                self.signed.len = 0;
                 self.input = number;
                 self.compared = 0;
                 self.key.take(number, said);
@@ -129,14 +144,6 @@ impl PlayedLog {
         }
         self.walk.take(number, said);
         None
-    }
-
-    /// Returns what an input is, where it is a reply that the session doesn't wait for.
-    fn unawaited(&self, input: &Input) -> Option<Awaited> {
-        match (self.awaited, Awaited::in_input(input)) {
-            (Some(awaited), Some(reply)) if awaited as u8 == reply as u8 => None,
-            (_, reply) => reply,
-        }
     }
 
     /// Compares a packet of the log with the one that the session sent.
@@ -150,7 +157,7 @@ impl PlayedLog {
             && *sent == *packet
         {
             self.compared = self.compared.saturating_add(1);
-            self.key.take(number, &Line::Sent(*packet));
+            self.take_sent(number, packet);
             return None;
         }
         Some(self.differ(number, Some(*packet), sent))
@@ -161,8 +168,8 @@ impl PlayedLog {
         let Some(last) = self.last.take() else {
             return;
         };
-        if let Some(packet) = last.sent {
-            self.key.take(last.line, &Line::Sent(packet));
+        if let Some(packet) = &last.sent {
+            self.take_sent(last.line, packet);
         }
         if let Some(packet) = last.logged {
             self.walk.take(last.line, &Line::Sent(packet));
@@ -176,12 +183,21 @@ impl PlayedLog {
             let Some(packet) = self.outbox.pop() else {
                 break;
             };
-            self.key.take(self.input, &Line::Sent(packet));
+            self.take_sent(self.input, &packet);
         }
+    }
+
+    /// Takes a packet that the session sent, at this line.
+    fn take_sent(&mut self, line: u64, packet: &Packet) {
+        if let View::Start { cmd: KEEPALIVE, .. } = packet.view() {
+            self.kept_alive = Some((self.now, *packet));
+        }
+        self.key.take(line, &Line::Sent(*packet));
     }
 
     /// Returns the packet that is missing at the log's end, after this line.
     fn finish(&mut self, line: u64) -> Option<Difference> {
+        self.signed.end();
         if self.has_differed {
             return None;
         }
@@ -203,6 +219,8 @@ impl PlayedLog {
             awaited: self.awaited,
             reply: self.reply,
             is_stray: self.is_stray,
+            at: self.at,
+            kept_alive: self.kept_alive,
         };
         self.last = Some(difference);
         difference
@@ -221,7 +239,7 @@ struct Side<'a> {
 impl Written for Side<'_> {
     fn write(&self, pen: &mut Pen) {
         pen.text("< ");
-        write_packet(pen, self.packet);
+        write_packet(pen, self.packet, false);
         pen.text("\n");
         if let Some(message) = &self.walk.message(&self.walk.shown) {
             write_message(pen, self.line, message);
@@ -254,6 +272,9 @@ impl Comparison {
             awaited: None,
             reply: None,
             is_stray: false,
+            at: 0,
+            now: 0,
+            kept_alive: None,
             signed: Signed::default(),
         };
         Comparison {
@@ -315,13 +336,19 @@ impl Comparison {
         self.lines = self.lines.saturating_add(1);
     }
 
-    /// Returns the transaction that the session's packet belongs to, or else the log's; of one that belongs to none, the one
-    /// that holds its channel or was answered last there. It has to be asked after [`Comparison::put_reason`].
+    /// Returns the transaction that the session's packet belongs to, or else the log's; of one that belongs to none,
+    /// the one that holds its channel or was answered last there. It has to be asked after [`Comparison::put_reason`].
     pub fn transaction(&mut self, difference: &Difference) -> Option<Transaction> {
         let Some(packet) = difference.sent.or(difference.logged) else {
             return None;
         };
-        let before = transaction_on(&self.played.key, &packet);
+        let before = match self.played.key.channels.on(channel_of(&packet)) {
+            Some(channel) => match &channel.held {
+                Some(held) => Some(held.transaction),
+                None => channel.told.of(),
+            },
+            None => None,
+        };
         self.played.take_last();
         let of = if difference.sent.is_some() {
             self.played.key.of
@@ -336,9 +363,9 @@ impl Comparison {
         self.played.signed.otherwise
     }
 
-    /// Writes why the key doesn't send what the log has, `  it needs a new key; line 9 is a signature`, where that is seen
-    /// from the lines before. It has to be asked before [`Comparison::transaction`] and [`Comparison::put`], which take the
-    /// packets that differ.
+    /// Writes why the key doesn't send what the log has, `  it needs a new key; line 9 is a signature`, where that is
+    /// seen from the lines before. It has to be asked before [`Comparison::transaction`] and [`Comparison::put`],
+    /// which take the packets that differ.
     pub fn put_reason<T: Target>(
         &mut self,
         difference: &Difference,
@@ -378,7 +405,15 @@ impl Comparison {
         self.played.take_last();
         let line = difference.line;
         if let Some(packet) = &difference.sent {
-            self.follow_sent(line, packet);
+            for _ in 0..PACKETS {
+                if !is_answering(&self.played.key, packet) {
+                    break;
+                }
+                let Some(next) = self.played.outbox.pop() else {
+                    break;
+                };
+                self.played.take_sent(line, &next);
+            }
             let walk = &self.played.key;
             let side = Side { walk, packet, line };
             put_counted(sent, &mut self.pen, &side)?;
@@ -392,48 +427,22 @@ impl Comparison {
         Ok(())
     }
 
-    /// Goes on with the packets that complete a message of the session.
-    fn follow_sent(&mut self, line: u64, packet: &Packet) {
-        for _ in 0..PACKETS {
-            if !is_answering(&self.played.key, packet) {
-                return;
-            }
-            let Some(next) = self.played.outbox.pop() else {
-                return;
-            };
-            self.played.key.take(line, &Line::Sent(next));
-        }
-    }
-
-    /// Goes on with the packets that complete a message of the log.
+    /// Goes on with the packets that complete a message of the log, before any further input.
     fn follow_logged<S: Source>(&mut self, line: u64, packet: &Packet, reader: &mut S) {
-        for _ in 0..PACKETS {
+        for _ in 0..LINES {
             if !is_answering(&self.played.walk, packet) {
                 return;
             }
-            let Some(next) = self.next_logged(reader) else {
+            let Ok(Some(end)) = self.next_end(reader) else {
                 return;
             };
-            self.played.walk.take(line, &Line::Sent(next));
-        }
-    }
-
-    /// Returns the packet that the log has next, before any further input.
-    fn next_logged<S: Source>(&mut self, reader: &mut S) -> Option<Packet> {
-        for _ in 0..LINES {
-            let Ok(Some(end)) = self.next_end(reader) else {
-                return None;
-            };
             match read_line(front(self.window.as_slice(), end)) {
-                Some(Line::Sent(packet)) => {
-                    self.drop_line(end);
-                    return Some(packet);
-                }
-                Some(Line::Comment | Line::Count) => self.drop_line(end),
-                Some(Line::Input(_)) | None => return None,
+                Some(Line::Sent(next)) => self.played.walk.take(line, &Line::Sent(next)),
+                Some(Line::Comment | Line::Count) => {}
+                Some(Line::Input(_)) | None => return,
             }
+            self.drop_line(end);
         }
-        None
     }
 }
 
@@ -447,17 +456,6 @@ fn put_counted<T: Target, W: Written>(
         return Err(Failed);
     }
     put_written(writer, pen, written)
-}
-
-/// Returns the transaction that holds a packet's channel, or was answered last there.
-fn transaction_on(walk: &LogWalk, packet: &Packet) -> Option<Transaction> {
-    match walk.channels.on(channel_of(packet)) {
-        Some(channel) => match &channel.held {
-            Some(held) => Some(held.transaction),
-            None => channel.told.of(),
-        },
-        None => None,
-    }
 }
 
 /// Returns whether the message that a packet begins has further packets.

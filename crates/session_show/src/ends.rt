@@ -1,6 +1,6 @@
 //! How the end of a transaction is written: forms of a pen, for the numbers of that end.
 
-use crate::exchange::{End, Ended};
+use session_walk::{End, Ended};
 
 /// The forms for one way to end.
 pub struct EndForms {
@@ -30,31 +30,31 @@ static REFUSED: EndForms = EndForms {
     json: br#","end":"error","code":%d,"codeName":"%E"#,
     page: b" e%d:%d",
     whole: b"",
-    part: b"%d   line %d: %d of %d bytes came\n",
+    part: b"%n  line %d: %d of %d bytes came\n",
 };
 
 static DROPPED: EndForms = EndForms {
     row: b"dropped by line %d",
     json: br#","end":"dropped","by":%d"#,
     page: b" d%d:%d",
-    whole: b"%d   line %d: dropped by line %d\n",
-    part: b"%d   line %d: %d of %d bytes came, dropped by line %d\n",
+    whole: b"%n  line %d: dropped by line %d\n",
+    part: b"%n  line %d: %d of %d bytes came, dropped by line %d\n",
 };
 
 static REPLACED: EndForms = EndForms {
     row: b"replaced by line %d",
     json: br#","end":"replaced","by":%d"#,
     page: b" r%d:%d",
-    whole: b"%d   line %d: replaced by line %d\n",
-    part: b"%d   line %d: %d of %d bytes came, replaced by line %d\n",
+    whole: b"%n  line %d: replaced by line %d\n",
+    part: b"%n  line %d: %d of %d bytes came, replaced by line %d\n",
 };
 
 static CUT: EndForms = EndForms {
     row: b"answer not whole, %d of %d",
     json: br#","end":"cut","answerCame":%d,"answerLength":%d"#,
     page: b" c%d",
-    whole: b"%d   line %d: %d of %d bytes of its answer came\n",
-    part: b"%d   line %d: %d of %d bytes came %d of %d bytes of its answer came\n",
+    whole: b"%n  line %d: %d of %d bytes of its answer came\n",
+    part: b"%n  line %d: %d of %d bytes came %d of %d bytes of its answer came\n",
 };
 
 static ANSWERED: EndForms = EndForms {
@@ -69,16 +69,16 @@ static FORGOTTEN: EndForms = EndForms {
     row: b"not followed any longer",
     json: br#","end":"forgotten""#,
     page: b" f%d",
-    whole: b"%d   line %d: not followed any longer, since too much is open at once\n",
-    part: b"%d   line %d: %d of %d bytes came, not followed any longer, since too much is open at once\n",
+    whole: b"%n  line %d: not followed any longer, since too much is open at once\n",
+    part: b"%n  line %d: %d of %d bytes came, not followed any longer, since too much is open at once\n",
 };
 
 static UNKNOWN: EndForms = EndForms {
     row: b"can't be told",
     json: br#","end":"unknown""#,
     page: b" u%d",
-    whole: b"%d   line %d: whether it was answered can't be told\n",
-    part: b"%d   line %d: %d of %d bytes came, whether it was answered can't be told\n",
+    whole: b"%n  line %d: whether it was answered can't be told\n",
+    part: b"%n  line %d: %d of %d bytes came, whether it was answered can't be told\n",
 };
 
 static OPEN: EndForms = EndForms {
@@ -94,35 +94,33 @@ static UNFINISHED: EndForms = EndForms {
     json: br#","end":"open""#,
     page: b"",
     whole: b"",
-    part: b"",
+    part: b"%n  line %d: %d of %d bytes came\n",
 };
 
-impl Ended {
-    /// Returns the forms for its end, and the numbers of that.
-    pub fn forms(&self) -> (&'static EndForms, Option<u64>, Option<u64>) {
-        match &self.end {
-            End::Status(status) => {
-                let status = Some(u64::from(*status));
-                (&STATUS, status, status)
-            }
-            End::Refused(code) => {
-                let code = Some(u64::from(*code));
-                (&REFUSED, code, code)
-            }
-            End::Dropped(line) => (&DROPPED, Some(*line), None),
-            End::Replaced(line) => (&REPLACED, Some(*line), None),
-            End::Cut(extent) => (
-                &CUT,
-                Some(extent.came() as u64),
-                Some(u64::from(extent.length)),
-            ),
-            End::Answered => (&ANSWERED, None, None),
-            End::Forgotten => (&FORGOTTEN, None, None),
-            End::Unknown => (&UNKNOWN, None, None),
-            End::Open => match self.exchange.extent.missing() {
-                (None, _) => (&OPEN, None, None),
-                (came, length) => (&UNFINISHED, came, length),
-            },
+/// Returns the forms for how a transaction ended, and the numbers of that.
+pub fn forms_of_end(ended: &Ended) -> (&'static EndForms, Option<u64>, Option<u64>) {
+    match &ended.end {
+        End::Status(status) => {
+            let status = Some(u64::from(*status));
+            (&STATUS, status, status)
         }
+        End::Refused(code) => {
+            let code = Some(u64::from(*code));
+            (&REFUSED, code, code)
+        }
+        End::Dropped(line) => (&DROPPED, Some(*line), None),
+        End::Replaced(line) => (&REPLACED, Some(*line), None),
+        End::Cut(extent) => (
+            &CUT,
+            Some(extent.came() as u64),
+            Some(u64::from(extent.length)),
+        ),
+        End::Answered => (&ANSWERED, None, None),
+        End::Forgotten => (&FORGOTTEN, None, None),
+        End::Unknown => (&UNKNOWN, None, None),
+        End::Open => match ended.exchange.extent.missing() {
+            (None, _) => (&OPEN, None, None),
+            (came, length) => (&UNFINISHED, came, length),
+        },
     }
 }

@@ -1,27 +1,24 @@
 //! The text for a line of a log.
-ghost use Rattle.session_show.specs.declared.wording.Wording.TheVariants.{Explained as explained};
 
+use crate::ends::forms_of_end;
 use crate::escape::write_escaped;
-use crate::exchange::{Ended, Followed, Transaction};
 use crate::item::write_checked;
 use crate::member_names::Map;
 use crate::members::write_members;
 use crate::packet_line::write_packet;
 use crate::pen::Pen;
 use crate::putting::Written;
-use crate::walk::{LogWalk, Role};
-use crate::wording::Wording;
 use authn_core::Presence;
 use ctap_cbor::check;
 use session_log::Line;
-use token_session::{Input, Timed};
+use session_walk::{CborMessage, Ended, Entry, Excluded, Transaction};
+use token_session::Input;
 
 /// CTAP2_ERR_CREDENTIAL_EXCLUDED.
 pub const EXCLUDED: u8 = 0x19;
 
-/// What a CBOR message is, and how it is written.
-pub struct MessageKind {
-    pub is_request: bool,
+/// How a CBOR message is written.
+pub struct MessageForms {
     /// What is in front of its item.
     front: &'static [u8],
     /// What an explained text has behind its item: the name of its first byte, and what a fault means.
@@ -31,110 +28,37 @@ pub struct MessageKind {
 }
 
 /// What a host asked.
-pub static REQUEST: MessageKind = MessageKind {
-    is_request: true,
+static REQUEST: MessageForms = MessageForms {
     front: b"%d   request %x",
     names: b"  %c  %f",
     json: br#"{"line":%d,"kind":"request","transaction":%d,"channel":"%w","command":%d,"name":"%C"#,
 };
 
 /// What the key answered.
-pub static ANSWER: MessageKind = MessageKind {
-    is_request: false,
+static ANSWER: MessageForms = MessageForms {
     front: b"%d   answer %x",
     names: b"  %a  %f",
     json: br#"{"line":%d,"kind":"answer","transaction":%d,"channel":"%w","status":%d,"statusName":"%S"#,
 };
 
-/// A CBOR message that isn't empty.
-#[derive(Clone, Copy)]
-pub struct CborMessage<'a> {
-    pub kind: &'static MessageKind,
-    /// None where its bytes aren't kept, since too many are under way.
-    pub bytes: Option<&'a [u8]>,
-    /// The transaction that it answers, where that is known.
-    pub exchange: Option<&'a Followed>,
-}
-
-impl<'a> CborMessage<'a> {
-    /// Returns the map that its item is, by its first byte. That of an answer to what isn't known has no names: no command
-    /// is 0.
-    pub fn map(&self, first: u8) -> Map {
-        if self.kind.is_request {
-            return Map::Request(first);
-        }
-        match self.exchange {
-            Some(exchange) => Map::Answer(exchange.transaction.command.unwrap_or(0)),
-            None => Map::Answer(0),
-        }
+/// Returns how a message is written.
+pub fn forms_of_message(message: &CborMessage<'_>) -> &'static MessageForms {
+    if message.is_request {
+        &REQUEST
+    } else {
+        &ANSWER
     }
 }
 
-/// A line of a log, and what it is.
-#[derive(Clone, Copy)]
-pub struct Own<'a> {
-    /// The line's number.
-    pub number: u64,
-    pub line: &'a [u8],
-    /// What the line says.
-    pub said: &'a Line,
-    /// The transaction that it belongs to.
-    pub of: Option<Transaction>,
-    /// The message whose last packet it has.
-    pub message: Option<CborMessage<'a>>,
-}
-
-impl Own<'_> {
-    /// Returns the line that its transaction began at.
-    pub fn began(&self) -> Option<u64> {
-        match &self.of {
-            Some(transaction) => Some(transaction.line),
-            None => None,
-        }
+/// Returns the map that a message's item is, by its first byte. That of an answer to what isn't known has no names: no
+/// command is 0.
+pub fn map_of(message: &CborMessage<'_>, first: u8) -> Map {
+    if message.is_request {
+        return Map::Request(first);
     }
-}
-
-/// A line of a log, and what it shows of a line before it.
-#[derive(Clone, Copy)]
-pub struct Entry<'a> {
-    /// An earlier line of which only now is known what it is.
-    pub late: Option<Own<'a>>,
-    pub own: Own<'a>,
-    /// Whether only a later line shows what it is.
-    pub is_doubtful: bool,
-    /// What it is to the transactions.
-    pub part: Role,
-    /// The transactions that it ends.
-    pub ended: &'a [Ended],
-    /// The line that the message of its packet began at, 0 where it is of none: where it is written for a page.
-    pub page: Option<u64>,
-}
-
-/// What follows the lines of a log.
-pub trait Follows {
-    ghost use Rattle.std.specs.Prelude.{◌≡◌};
-    ghost use Rattle.session_show.specs.declared.wording.Wording.{Wording};
-
-    /// How its lines are worded.
-    ghost wording: { Wording };
-
-    fn wording() -> Wording
-        ensures { result ≡ wording };
-
-    /// Takes the next line, which has this number and says this, and returns what is shown for it.
-    fn next_entry<'a>(&'a mut self, number: u64, line: &'a [u8], said: &'a Line) -> Entry<'a>;
-}
-
-impl Follows for LogWalk {
-    ghost wording = { explained };
-
-    fn wording() -> Wording {
-        Wording::Explained
-    }
-
-    fn next_entry<'a>(&'a mut self, number: u64, line: &'a [u8], said: &'a Line) -> Entry<'a> {
-        self.take(number, said);
-        self.entry(number, line, said)
+    match message.exchange {
+        Some(exchange) => Map::Answer(exchange.transaction.command.unwrap_or(0)),
+        None => Map::Answer(0),
     }
 }
 
@@ -147,18 +71,19 @@ pub fn write_message(pen: &mut Pen, number: u64, message: &CborMessage<'_>) {
         return;
     };
     let code = Some(u64::from(*first));
-    pen.form(message.kind.front, &[Some(number), code]);
+    let forms = forms_of_message(message);
+    pen.form(forms.front, &[Some(number), code]);
     let fault = write_item(pen, item);
     if !pen.explains {
         pen.text("\n");
         return;
     }
-    pen.form(message.kind.names, &[code, fault]);
+    pen.form(forms.names, &[code, fault]);
     pen.text("\n");
     if fault.is_some() {
         return;
     }
-    let map = message.map(*first);
+    let map = map_of(message, *first);
     let Some(exchange) = message.exchange else {
         write_members(pen, number, map, item, b"");
         return;
@@ -196,54 +121,53 @@ fn write_item(pen: &mut Pen, item: &[u8]) -> Option<u64> {
     }
 }
 
-impl Written for Entry<'_> {
-    /// Writes what comes after the number and a space: lines that end with a line feed.
-    fn write(&self, pen: &mut Pen) {
-        if let Some(message) = self.page {
-            self.write_page(pen, message);
-            return;
-        }
-        match self.own.said {
-            Line::Input(timed) => write_input(pen, timed),
-            Line::Sent(packet) => {
-                pen.text("< ");
-                write_packet(pen, packet);
+/// Writes the lines for a line of a log, each with a line feed: what comes after its number and a space.
+pub fn write_entry(pen: &mut Pen, entry: &Entry<'_>) {
+    let number = entry.own.number;
+    match entry.own.said {
+        Line::Input(timed) => {
+            pen.form(forms_of(&timed.input).text, &[Some(timed.at)]);
+            if let Input::Packet(packet) = &timed.input {
+                write_packet(pen, packet, true);
             }
-            Line::Comment => write_escaped(pen, self.own.line),
-            Line::Count => {}
         }
-        pen.text("\n");
-        if let Some(late) = &self.late
-            && late.of.is_none()
-        {
-            let form = b"%d   line %d came too late for its message\n";
-            pen.form(form, &[Some(self.own.number), Some(late.number)]);
+        Line::Sent(packet) => {
+            pen.text("< ");
+            write_packet(pen, packet, false);
         }
-        if let Some(message) = &self.own.message {
-            write_message(pen, self.own.number, message);
-        }
-        for ended in self.ended {
-            write_ended(pen, Some(self.own.number), ended);
-        }
+        Line::Comment => write_escaped(pen, entry.own.line),
+        Line::Count => {}
+    }
+    pen.text("\n");
+    if let Some(late) = &entry.late
+        && late.of.is_none()
+    {
+        let form = b"%d   line %d came too late for its message\n";
+        pen.form(form, &[Some(number), Some(late.number)]);
+    }
+    if let Some(message) = &entry.own.message {
+        write_message(pen, number, message);
+    }
+    for ended in entry.ended {
+        write_ended(pen, Some(number), ended);
     }
 }
 
-impl Entry<'_> {
-    /// Writes the lines that its transaction and its message began at, 0 where it is of none; then an earlier line that
-    /// belongs to none after all, and the transactions that end.
-    fn write_page(&self, pen: &mut Pen, message: u64) {
-        let late = match &self.late {
-            Some(late) if late.of.is_none() => Some(late.number),
-            _ => None,
-        };
-        let began = self.own.began().unwrap_or(0);
-        pen.form(b"%d %d l%d", &[Some(began), Some(message), late]);
-        for ended in self.ended {
-            let (forms, number, _) = ended.forms();
-            pen.form(forms.page, &[Some(ended.exchange.transaction.line), number]);
-        }
-        pen.text("\n");
+/// Writes for a page the lines that a line's transaction and its message began at, 0 where it is of none; then an
+/// earlier line that belongs to none after all, and the transactions that end.
+pub fn write_page(pen: &mut Pen, entry: &Entry<'_>) {
+    let late = match &entry.late {
+        Some(late) if late.of.is_none() => Some(late.number),
+        _ => None,
+    };
+    let began = entry.own.began().unwrap_or(0);
+    let message = entry.page.unwrap_or(0);
+    pen.form(b"%d %d l%d", &[Some(began), Some(message), late]);
+    for ended in entry.ended {
+        let (forms, number, _) = forms_of_end(ended);
+        pen.form(forms.page, &[Some(ended.exchange.transaction.line), number]);
     }
+    pen.text("\n");
 }
 
 /// How an input is written, by its moment: in the fixed text, and in JSON, where the line's number is in front of that
@@ -313,23 +237,37 @@ pub fn forms_of(input: &Input) -> &'static InputForms {
     }
 }
 
-/// Writes an input: its letter, its moment and what it is.
-fn write_input(pen: &mut Pen, timed: &Timed) {
-    if let Input::Packet(packet) = &timed.input {
-        pen.number_after("> ", timed.at);
-        pen.text(" ");
-        write_packet(pen, packet);
-    } else {
-        pen.form(forms_of(&timed.input).text, &[Some(timed.at)]);
-    }
-}
-
-/// Writes a line for a transaction that ended, where that isn't by an answer or an ERROR to a whole message.
-fn write_ended(pen: &mut Pen, number: Option<u64>, ended: &Ended) {
+/// Writes a line for a transaction that ended, where that isn't by an answer or an ERROR to a whole message, with the
+/// number of the line that it ends at, if any, in front.
+pub fn write_ended(pen: &mut Pen, number: Option<u64>, ended: &Ended) {
     let line = Some(ended.exchange.transaction.line);
-    let (forms, one, two) = ended.forms();
+    let (forms, one, two) = forms_of_end(ended);
     match ended.exchange.extent.missing() {
         (None, _) => pen.form(forms.whole, &[number, line, one, two]),
         (came, length) => pen.form(forms.part, &[number, line, came, length, one, two]),
+    }
+}
+
+impl Written for Transaction {
+    /// Writes it in words, `authenticatorMakeCredential 01 on channel 00000001, from line 12`, without a line feed.
+    fn write(&self, pen: &mut Pen) {
+        pen.text(self.name());
+        let command = u64::from(self.command.unwrap_or(self.message));
+        pen.form(
+            b" %x on channel %w, from line %d",
+            &[
+                Some(command),
+                Some(u64::from(self.channel)),
+                Some(self.line),
+            ],
+        );
+    }
+}
+
+impl Written for Excluded {
+    /// Writes a line.
+    fn write(&self, pen: &mut Pen) {
+        let numbers = [Some(self.place), Some(self.line)];
+        pen.form(b"excludeList[%d] is the credential of line %d\n", &numbers);
     }
 }

@@ -2,26 +2,43 @@
 
 use crate::pen::Pen;
 
-/// Returns whether a character is seen as nothing, or moves others: a control character, one that turns the direction
-/// of writing, a line break, or one without width.
+/// The characters that are seen as nothing, or move others: control characters, line breaks, and those that a font
+/// shows by nothing (Unicode's Default_Ignorable_Code_Point, U+FFF9 to U+FFFB and the empty pattern of Braille).
+static HIDDEN: &[(char, char)] = &[
+    ('\0', '\u{1f}'),
+    ('\u{7f}', '\u{9f}'),
+    ('\u{ad}', '\u{ad}'),
+    ('\u{34f}', '\u{34f}'),
+    ('\u{61c}', '\u{61c}'),
+    ('\u{115f}', '\u{1160}'),
+    ('\u{17b4}', '\u{17b5}'),
+    ('\u{180b}', '\u{180f}'),
+    ('\u{200b}', '\u{200f}'),
+    ('\u{2028}', '\u{202e}'),
+    ('\u{2060}', '\u{206f}'),
+    ('\u{2800}', '\u{2800}'),
+    ('\u{3164}', '\u{3164}'),
+    ('\u{fe00}', '\u{fe0f}'),
+    ('\u{feff}', '\u{feff}'),
+    ('\u{ffa0}', '\u{ffa0}'),
+    ('\u{fff0}', '\u{fffb}'),
+    ('\u{1bca0}', '\u{1bca3}'),
+    ('\u{1d173}', '\u{1d17a}'),
+    ('\u{e0000}', '\u{e0fff}'),
+];
+
+/// Returns whether a character is seen as nothing, or moves others.
 pub fn is_hidden(c: char) -> bool {
-    matches!(
-        c,
-        '\0'..='\u{1f}'
-            | '\u{7f}'..='\u{9f}'
-            | '\u{ad}'
-            | '\u{61c}'
-            | '\u{200b}'..='\u{200f}'
-            | '\u{2028}'..='\u{202e}'
-            | '\u{2060}'..='\u{206f}'
-            | '\u{feff}'
-            | '\u{fff9}'..='\u{fffb}'
-            | '\u{e0000}'..='\u{e007f}'
-    )
+    for (first, last) in HIDDEN {
+        if *first <= c && c <= *last {
+            return true;
+        }
+    }
+    false
 }
 
-/// Returns whether bytes are written as they are: printable characters of ASCII, of which none is escaped in JSON either.
-/// Most texts are such.
+/// Returns whether bytes are written as they are: printable characters of ASCII, of which none is escaped in JSON
+/// either. Most texts are such.
 pub fn is_plain(bytes: &[u8]) -> bool {
     for byte in bytes {
         if !matches!(byte, b' ' | b'!' | b'#'..=b'[' | b']'..=b'~') {
@@ -65,24 +82,17 @@ pub fn write_escaped(pen: &mut Pen, line: &[u8]) {
         pen.bytes(line);
         return;
     }
-    match std::str::from_utf8(line) {
-        Ok(text) => {
-            for c in text.chars() {
-                write_char(pen, c, false);
+    let Ok(text) = std::str::from_utf8(line) else {
+        for byte in line {
+            if *byte < 128 {
+                write_char(pen, char::from(*byte), false);
+            } else {
+                pen.form(b"\\x%x", &[Some(u64::from(*byte))]);
             }
         }
-        Err(_) => write_bytes(pen, line),
-    }
-}
-
-/// Writes a line that isn't UTF-8.
-fn write_bytes(pen: &mut Pen, line: &[u8]) {
-    for byte in line {
-        if *byte < 128 {
-            write_char(pen, char::from(*byte), false);
-        } else {
-            pen.text("\\x");
-            pen.hex(&[*byte]);
-        }
+        return;
+    };
+    for c in text.chars() {
+        write_char(pen, c, false);
     }
 }

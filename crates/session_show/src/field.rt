@@ -4,8 +4,9 @@ use crate::item::{DIAGNOSTIC, Diagnostic, write_scalar, write_value};
 use crate::member_names::Map;
 use crate::pen::Pen;
 use crate::putting::Written;
-use crate::words::{name_in, write_name};
+use crate::words::write_name;
 use ctap_cbor::{Cursor, Item};
+use session_walk::name_in;
 
 /// Writes a member: its key, its name where it has one, and its value, which was checked, with what that means.
 pub fn write_member(pen: &mut Pen, map: Map, key: Item<'_>, value: &[u8]) {
@@ -44,8 +45,8 @@ pub fn write_item(pen: &mut Pen, form: &[u8], number: u64, item: &[u8]) {
     pen.text("\n");
 }
 
-/// Returns the bytes of the number in front of a signature in DER (RFC 3279, section 2.2.3), and what comes after it. The
-/// number isn't below zero, and in as few bytes as it can be.
+/// Returns the bytes of the number in front of a signature in DER (RFC 3279, section 2.2.3), and what comes after it.
+/// The number isn't below zero, and in as few bytes as it can be.
 fn first_number(bytes: &[u8]) -> Option<(&[u8], &[u8])> {
     let [2, len, rest @ ..] = bytes else {
         return None;

@@ -6,9 +6,9 @@ use crate::escape::{is_plain, write_char};
 use crate::pen::Pen;
 use crate::putting::{Written, put_written};
 use crate::wording::Wording;
-use crate::words::{Names, name_in};
 use ctap_cbor::{Cursor, Fault, Item, check};
 use session_log::{Failed, Target};
+use session_walk::{Names, name_in};
 
 /// How items are written.
 #[derive(Clone, Copy)]
@@ -69,8 +69,8 @@ pub fn show_item<T: Target>(writer: &mut T, item: &[u8]) -> Result<(), Failed>
     put_written(writer, &mut Pen::new(Wording::Explained), &Diagnostic(item))
 }
 
-/// Writes the next item, with all that is inside. The cursor's bytes were checked, so it meets no fault. Where it is a map,
-/// keys that are numbers are written by their names, where they have them.
+/// Writes the next item, with all that is inside. The cursor's bytes were checked, so it meets no fault. Where it is a
+/// map, keys that are numbers are written by their names, where they have them.
 #[cycle(write)]
 pub fn write_value(
     pen: &mut Pen,

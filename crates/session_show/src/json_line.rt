@@ -1,18 +1,16 @@
 //! The JSON objects for a line of a log.
 
-use crate::entry::{CborMessage, Own, forms_of};
-use crate::exchange::Ended;
+use crate::ends::forms_of_end;
+use crate::entry::{forms_of, forms_of_message, map_of};
 use crate::item::{Diagnostic, JSON, write_value};
 use crate::json::{write_hex, write_string, write_word};
-use crate::packet_line::channel_of;
-use crate::pen::Pen;
+use crate::pen::{Pen, front};
 use crate::putting::Written;
-use crate::rp_id::RpId;
-use crate::words::Names;
-use ctap_cbor::{Cursor, Fault, check};
+use ctap_cbor::{Cursor, check};
 use hid_packet::command::{ERROR, KEEPALIVE};
 use hid_packet::{Packet, View};
 use session_log::Line;
+use session_walk::{CborMessage, Ended, Own, RpId, channel_of};
 use token_session::Input;
 
 /// Writes the objects of a line. A comment that isn't UTF-8 is written in hexadecimal digits.
@@ -47,7 +45,7 @@ pub fn write_line(pen: &mut Pen, own: &Own<'_>) {
 fn write_packet(pen: &mut Pen, own: &Own<'_>, packet: &Packet) {
     let cid = channel_of(packet);
     let channel = Some(u64::from(cid));
-    match packet.view() {
+    let part = match packet.view() {
         View::Start { cmd, len, part, .. } => {
             let (command, length) = (Some(u64::from(cmd)), Some(u64::from(len)));
             let (error, status) = match part {
@@ -61,15 +59,15 @@ fn write_packet(pen: &mut Pen, own: &Own<'_>, packet: &Packet) {
                     channel, command, command, length, error, error, status, status,
                 ],
             );
-            let carried = part.len().min(usize::from(len));
-            write_hex(pen, "data", part.split_at(carried).0);
+            part
         }
         View::More { seq, part, .. } => {
             let form = br#","channel":"%w","sequence":%d"#;
             pen.form(form, &[channel, Some(u64::from(seq))]);
-            write_hex(pen, "data", part);
+            part
         }
-    }
+    };
+    write_hex(pen, "data", front(part, own.carried));
     pen.text("}\n");
     if let Some(message) = &own.message {
         write_message(pen, own, cid, message);
@@ -86,8 +84,11 @@ fn write_message(pen: &mut Pen, own: &Own<'_>, channel: u32, message: &CborMessa
     let checked = check(item).result;
     let code = Some(u64::from(*first));
     let channel = Some(u64::from(channel));
-    pen.form(message.kind.json, &[line, began, channel, code, code]);
-    if message.kind.is_request && checked.is_ok() {
+    pen.form(
+        forms_of_message(message).json,
+        &[line, began, channel, code, code],
+    );
+    if message.is_request && checked.is_ok() {
         write_string(pen, "rpId", RpId::of_request(*first, item).text());
     }
     if let Some(exchange) = message.exchange
@@ -97,30 +98,25 @@ fn write_message(pen: &mut Pen, own: &Own<'_>, channel: u32, message: &CborMessa
         pen.form(br#","command":%d,"name":"%C"#, &[command, command]);
         write_string(pen, "rpId", exchange.named.rp_id.text());
     }
-    write_data(pen, item, &checked, message.map(*first).names());
-    pen.text("}\n");
-}
-
-/// Writes the data item after a message's first byte: as text and as JSON, or as why it is none, and its bytes.
-fn write_data(pen: &mut Pen, item: &[u8], checked: &Result<(), Fault>, names: Names) {
-    if item.is_empty() {
-        return;
-    }
-    match checked {
+    match &checked {
+        _ if item.is_empty() => {}
         Ok(()) => {
             pen.text(",\"item\":\"");
             pen.is_quoted = true;
             Diagnostic(item).write(pen);
             pen.is_quoted = false;
             pen.text("\",\"value\":");
+            let names = map_of(message, *first).names();
             write_value(pen, &mut Cursor::new(item), 1, JSON, names);
+            write_hex(pen, "bytes", item);
         }
         Err(fault) => {
             let numbers = [Some(u64::from(fault.kind.number())), Some(fault.at as u64)];
             pen.form(br#","fault":%d,"at":%d"#, &numbers);
+            write_hex(pen, "bytes", item);
         }
     }
-    write_hex(pen, "bytes", item);
+    pen.text("}\n");
 }
 
 /// Writes the object of a transaction that ended, or is open at the log's end.
@@ -137,7 +133,7 @@ pub fn write_transaction(pen: &mut Pen, number: u64, ended: &Ended) {
     );
     write_word(pen, "name", Some(transaction.name()));
     write_string(pen, "rpId", exchange.named.rp_id.text());
-    let (forms, one, two) = ended.forms();
+    let (forms, one, two) = forms_of_end(ended);
     pen.form(forms.json, &[one, two]);
     let (came, length) = exchange.extent.missing();
     pen.form(

@@ -1,27 +1,29 @@
-//! What a log comes to: its transactions in a table, and their numbers; or all of it as JSON.
-ghost use Rattle.std.specs.Prelude.{◌<◌, ◌-◌, ◌^◌, OnOk};
+//! A log, written line by line in one of several forms.
+ghost use Rattle.std.specs.Prelude.{◌≡◌, ◌<◌, ◌-◌, ◌^◌, IfErr, OnOk};
 ghost use Rattle.session_log.specs.Ending.{ending_of, read_fails, write_fails};
-ghost use Rattle.session_log.specs.Replay.{ReadsTo};
+ghost use Rattle.session_log.specs.Replay.{IsOfLine, ReadsTo};
 ghost use Rattle.session_log.specs.Streams.{Counts as CountsFailures, IsAllRead};
-ghost use Rattle.session_show.specs.Shown.{Shows, reading, unsaid};
+ghost use Rattle.session_show.specs.Shown.{Shows, ShowsLine, TellsEnd, TellsLine, reading, shown_in, wording_of};
 ghost use Rattle.session_show.specs.Written.{Writes};
 
-use crate::channels::OPEN;
 use crate::counts::{Counts, LINES, OBJECT};
-use crate::entry::Entry;
-use crate::exchange::Ended;
+use crate::entry::{write_ended, write_entry, write_page};
 use crate::json_line::{write_line, write_transaction};
 use crate::pen::Pen;
-use crate::putting::{Written, put_written};
+use crate::putting::{Written, put_numbered, put_written};
 use crate::row::{HEAD, write_row};
-use crate::telling::{Telling, tell_all};
-use crate::walk::LogWalk;
+use crate::transcript::Transcript;
 use crate::wording::Wording;
-use session_log::{Failed, LogFault, Source, Target, read_line};
+use session_log::{Failed, Line, LogFault, Source, Target, Window, next_line, read_line};
+use session_walk::{Ended, Entry, LogWalk, OPEN};
 
-/// What is written of a log.
+/// How a log is written.
 #[derive(Clone, Copy)]
 pub enum LogForm {
+    /// As text, line by line.
+    Text(Wording),
+    /// As numbers for a page, line by line.
+    Page,
     /// As a table of transactions, and lines of counts.
     Table,
     /// As an object of JSON for each transaction, and one for the counts.
@@ -30,11 +32,49 @@ pub enum LogForm {
     Objects,
 }
 
+impl LogForm {
+    /// Returns how lines are worded, where there is a text for each.
+    fn wording(self) -> Option<Wording>
+        ensures { result ≡ wording_of self }
+    {
+        match self {
+            LogForm::Text(wording) => Some(wording),
+            LogForm::Page => Some(Wording::Fixed),
+            LogForm::Table | LogForm::Summary | LogForm::Objects => None,
+        }
+    }
+}
+
+/// What follows the lines of a log.
+#[derive(Drop)]
+enum Following {
+    /// The messages of the fixed text.
+    Messages(Transcript),
+    /// The transactions.
+    Transactions(LogWalk),
+}
+
+impl Following {
+    /// Takes the next line, which has this number and says this, and returns what it is.
+    fn next_entry<'a>(&'a mut self, number: u64, line: &'a [u8], said: &'a Line) -> Entry<'a> {
+        match self {
+            Following::Messages(transcript) => transcript.next_entry(number, line, said),
+            Following::Transactions(walk) => {
+                walk.take(number, said);
+                Entry {
+                    page: Some(walk.message_line),
+                    ..walk.entry(number, line, said)
+                }
+            }
+        }
+    }
+}
+
 /// What is kept from line to line of a log that is written in a form.
 #[derive(Drop)]
 pub struct LogWriter {
-    form: LogForm,
-    walk: LogWalk,
+    pub form: LogForm,
+    following: Following,
     counts: Counts,
     /// Whether the table has a row.
     is_begun: bool,
@@ -45,27 +85,104 @@ pub struct LogWriter {
 
 impl LogWriter {
     /// Returns that of no lines.
-    pub fn new(form: LogForm) -> Self {
+    pub fn new(form: LogForm) -> Self
+        ensures { result.form ≡ form }
+    {
+        let (following, wording) = match form {
+            LogForm::Text(Wording::Fixed) => {
+                (Following::Messages(Transcript::default()), Wording::Fixed)
+            }
+            _ => (Following::Transactions(LogWalk::new()), Wording::Explained),
+        };
         LogWriter {
             form,
-            walk: LogWalk::new(),
+            following,
             counts: Counts::new(),
             is_begun: false,
             last: 0,
-            pen: Pen::new(Wording::Explained),
+            pen: Pen::new(wording),
         }
     }
 
-    /// Writes what is left at the log's end: a packet of which no line showed what it is, the transactions that are open,
-    /// and then the counts.
+    /// Writes what is written for the next line.
+    fn tell<T: Target>(&mut self, number: u64, line: &[u8], writer: &mut T) -> Result<(), LogFault>
+        requires { T.failed writer.old < 2 ^ 64 - 1 }
+        ensures form { self.new.form ≡ self.old.form }
+        ensures shown { ShowsLine number line.now (T.failed writer.old, T.failed writer.new) (ending_of result) }
+        ensures own { IfErr result (IsOfLine number) }
+        ensures text { TellsLine (shown_in self.old.form) number line.now (T.taken writer.old, T.taken writer.new) (ending_of result) }
+    {
+        let Some(said) = read_line(line) else {
+            return Err(LogFault::BadLine(number));
+        };
+        self.last = number;
+        let form = self.form;
+        let entry = self.following.next_entry(number, line, &said);
+        let written = Lines {
+            form,
+            entry,
+            has_head: self.is_begun,
+        };
+        let Some(wording) = form.wording() else {
+            self.counts.add_line(&entry);
+            self.is_begun = self.is_begun || !entry.ended.is_empty();
+            return match put_written(writer, &mut self.pen, &written) {
+                Ok(()) => Ok(()),
+                Err(_) => Err(LogFault::Write),
+            };
+        };
+        if !wording.has_text(line, &said) {
+            return Ok(());
+        }
+        match put_numbered(writer, &mut self.pen, number, &written) {
+            Ok(()) => Ok(()),
+            Err(_) => Err(LogFault::Write),
+        }
+    }
+
+    /// Writes what comes behind the last line of a text, which has this number: explained, how much came of what isn't
+    /// whole.
+    fn tell_end<T: Target>(&mut self, number: u64, writer: &mut T) -> Result<(), LogFault>
+        requires { T.failed writer.old < 2 ^ 64 - 1 }
+        ensures { TellsEnd (shown_in self.old.form) T.taken T.failed number (writer.old, writer.new) (ending_of result) }
+    {
+        let LogForm::Text(Wording::Explained) = self.form else {
+            return Ok(());
+        };
+        let Following::Transactions(walk) = &self.following else {
+            return Ok(());
+        };
+        let left = LogEnd {
+            form: self.form,
+            walk,
+            counts: &self.counts,
+            has_head: false,
+            last: number,
+        };
+        self.pen.begin(0);
+        left.write(&mut self.pen);
+        if self.pen.part().is_empty() {
+            return Ok(());
+        }
+        match put_numbered(writer, &mut self.pen, number, &left) {
+            Ok(()) => Ok(()),
+            Err(_) => Err(LogFault::Write),
+        }
+    }
+
+    /// Writes what is left at the log's end, in a form without a text for each line: a packet of which no line showed
+    /// what it is, the transactions that are open, and then the counts.
     pub fn put<T: Target>(&mut self, writer: &mut T) -> Result<(), Failed>
         requires { T.failed writer.old < 2 ^ 64 - 1 }
         ensures { Writes T.taken T.failed (writer.old, writer.new) result }
     {
-        self.walk.finish();
+        let Following::Transactions(walk) = &mut self.following else {
+            return Ok(());
+        };
+        walk.finish();
         let left = LogEnd {
             form: self.form,
-            walk: &self.walk,
+            walk,
             counts: &self.counts,
             has_head: self.is_begun,
             last: self.last,
@@ -74,16 +191,71 @@ impl LogWriter {
     }
 }
 
-/// Writes a transaction, in a table after its head where it is the first one.
-fn write_ended(pen: &mut Pen, form: LogForm, number: u64, ended: &Ended, has_head: bool) {
-    if !matches!(form, LogForm::Table) {
-        write_transaction(pen, number, ended);
-        return;
+/// Writes a log (docs/use/EXPLAINED.md): what the form of `log_writer` says for each line. What is still to be written
+/// is kept in it. It has to be new, and where there isn't a text for each line, [`LogWriter::put`] writes that after
+/// the lines.
+///
+/// The text for a line is handed to the target before more is asked of the source; of objects only that of a
+/// continuation packet isn't which comes 100 ms or more after the one before it: whether that was too late, only the
+/// next line shows. Counts are left out of objects.
+///
+/// It allocates nothing, and what it takes doesn't grow with the log. Faults are those of [`crate::show`], and
+/// [`put_json_fault`] writes the object of one.
+pub fn write_log<S: Source, T: Target>(
+    reader: &mut S,
+    writer: &mut T,
+    log_writer: &mut LogWriter,
+) -> Result<(), LogFault>
+    requires read { S.failed reader.old < 2 ^ 64 - 1 }
+    requires write { T.failed writer.old < 2 ^ 64 - 1 }
+    // At Ok every line is a log line, and all of them were shown. A line fault is that of the first faulty line, and
+    // the lines before it were shown. A read that failed names its line, and the lines before it were shown. At a write
+    // that failed the text of a line broke off.
+    ensures shown { Shows (shown_in log_writer.old.form) (S.left reader.old, S.left reader.new)
+        (T.taken writer.old, T.taken writer.new) (ending_of result) }
+    // At a line fault at most 256 bytes were read after the lines before the faulty one.
+    ensures reach { ReadsTo reading tt (S.left reader.old) (S.left reader.new)
+        (IsAllRead S.left S.ended reader.new) (ending_of result) }
+    // At Ok it was all that the reader held.
+    ensures end { OnOk result (IsAllRead S.left S.ended reader.new) }
+    // A failure was counted exactly at Read, and exactly at Write.
+    ensures reads { CountsFailures S.failed (reader.old, reader.new) (read_fails (ending_of result)) }
+    ensures writes { CountsFailures T.failed (writer.old, writer.new) (write_fails (ending_of result)) }
+{
+    let mut window = Window::new();
+    let mut number = 1;
+    'lines: while let Some(end) = next_line(&mut window, reader, number)? {
+        let line = window.as_slice().split_at(end).0;
+        log_writer.tell(number, line, writer)?;
+        window.drop_front(end + 1);
+        number += 1;
     }
-    if !has_head {
-        pen.text(HEAD);
+    if window.is_empty() {
+        if number == 1 {
+            return Ok(());
+        }
+        return log_writer.tell_end(number - 1, writer);
     }
-    write_row(pen, ended);
+    log_writer.tell(number, window.as_slice(), writer)?;
+    log_writer.tell_end(number, writer)
+}
+
+/// Writes a transaction that ended, with the number of the line that it ends at. In a table its head is in front of the
+/// first one; in a text behind the last line that number is, except in front of the first one.
+fn write_end(pen: &mut Pen, form: LogForm, number: u64, ended: &Ended, has_head: bool) {
+    match form {
+        LogForm::Text(_) | LogForm::Page => {
+            let number = if pen.place() == 0 { None } else { Some(number) };
+            write_ended(pen, number, ended);
+        }
+        LogForm::Table => {
+            if !has_head {
+                pen.text(HEAD);
+            }
+            write_row(pen, ended);
+        }
+        LogForm::Summary | LogForm::Objects => write_transaction(pen, number, ended),
+    }
 }
 
 /// What is left to write at the log's end.
@@ -110,13 +282,13 @@ impl Written for LogEnd<'_> {
             let Some(open) = self.walk.channels.open_after(line) else {
                 break;
             };
-            write_ended(pen, self.form, self.last, &open, self.has_head || line > 0);
+            write_end(pen, self.form, self.last, &open, self.has_head || line > 0);
             line = open.exchange.transaction.line;
         }
         match self.form {
             LogForm::Table => self.counts.write(pen, &LINES),
             LogForm::Summary => self.counts.write(pen, &OBJECT),
-            LogForm::Objects => {}
+            LogForm::Text(_) | LogForm::Page | LogForm::Objects => {}
         }
     }
 }
@@ -133,132 +305,29 @@ struct Lines<'a> {
 impl Written for Lines<'_> {
     fn write(&self, pen: &mut Pen) {
         let entry = &self.entry;
-        if matches!(self.form, LogForm::Objects) {
-            if let Some(late) = &entry.late {
-                write_line(pen, late);
+        match self.form {
+            LogForm::Text(_) => {
+                write_entry(pen, entry);
+                return;
             }
-            if !entry.is_doubtful {
-                write_line(pen, &entry.own);
+            LogForm::Page => {
+                write_page(pen, entry);
+                return;
             }
+            LogForm::Objects => {
+                if let Some(late) = &entry.late {
+                    write_line(pen, late);
+                }
+                if !entry.is_doubtful {
+                    write_line(pen, &entry.own);
+                }
+            }
+            LogForm::Table | LogForm::Summary => {}
         }
         let mut has_head = self.has_head;
         for ended in entry.ended {
-            write_ended(pen, self.form, entry.own.number, ended, has_head);
+            write_end(pen, self.form, entry.own.number, ended, has_head);
             has_head = true;
         }
     }
-}
-
-impl Telling for LogWriter {
-    ghost shows = { unsaid };
-
-    fn tell<T: Target>(
-        &mut self,
-        number: u64,
-        line: &[u8],
-        writer: &mut T,
-    ) -> Result<(), LogFault> {
-        let Some(said) = read_line(line) else {
-            return Err(LogFault::BadLine(number));
-        };
-        self.walk.take(number, &said);
-        self.last = number;
-        let lines = Lines {
-            form: self.form,
-            entry: self.walk.entry(number, line, &said),
-            has_head: self.is_begun,
-        };
-        self.counts.add_line(&lines.entry);
-        self.is_begun = self.is_begun || !lines.entry.ended.is_empty();
-        match put_written(writer, &mut self.pen, &lines) {
-            Ok(()) => Ok(()),
-            Err(_) => Err(LogFault::Write),
-        }
-    }
-}
-
-/// Writes a log (docs/use/EXPLAINED.md): what the form of `log_writer` says for each line. What is still to be written is
-/// kept in it. It has to be new, and [`LogWriter::put`] writes that after the lines.
-///
-/// Objects for a line are handed to the target before more is asked of the source, except for that of a continuation packet
-/// which comes 100 ms or more after the one before it: whether that was too late, only the next line shows. Counts are left
-/// out of objects.
-///
-/// It allocates nothing, and what it takes doesn't grow with the log. Faults are those of [`crate::show`], and
-/// [`put_json_fault`] writes the object of one.
-pub fn write_log<S: Source, T: Target>(
-    reader: &mut S,
-    writer: &mut T,
-    log_writer: &mut LogWriter,
-) -> Result<(), LogFault>
-    requires read { S.failed reader.old < 2 ^ 64 - 1 }
-    requires write { T.failed writer.old < 2 ^ 64 - 1 }
-    // At Ok every line is a log line, and all of them were shown. A line fault is that of the first faulty line, and
-    // the lines before it were shown. A read that failed names its line, and the lines before it were shown. At a write
-    // that failed the text of a line broke off.
-    ensures shown { Shows unsaid (S.left reader.old, S.left reader.new) (T.taken writer.old, T.taken writer.new)
-        (ending_of result) }
-    // At a line fault at most 256 bytes were read after the lines before the faulty one.
-    ensures reach { ReadsTo reading tt (S.left reader.old) (S.left reader.new)
-        (IsAllRead S.left S.ended reader.new) (ending_of result) }
-    // At Ok it was all that the reader held.
-    ensures end { OnOk result (IsAllRead S.left S.ended reader.new) }
-    // A failure was counted exactly at Read, and exactly at Write.
-    ensures reads { CountsFailures S.failed (reader.old, reader.new) (read_fails (ending_of result)) }
-    ensures writes { CountsFailures T.failed (writer.old, writer.new) (write_fails (ending_of result)) }
-{
-    tell_all(log_writer, reader, writer)
-}
-
-/// The object of a fault.
-#[derive(Clone, Copy)]
-struct FaultObject<'a>(&'a LogFault);
-
-impl Written for FaultObject<'_> {
-    fn write(&self, pen: &mut Pen) {
-        let (form, line) = match *self.0 {
-            LogFault::BadLine(line) => (BAD_LINE, Some(line)),
-            LogFault::TooLong(line) => (TOO_LONG, Some(line)),
-            LogFault::Differs { line, packet } => {
-                pen.form(DIFFERS, &[Some(line), Some(packet)]);
-                return;
-            }
-            LogFault::Read(line) => (UNREAD, Some(line)),
-            LogFault::Write => (UNWRITTEN, None),
-            LogFault::TooManyLines => (TOO_MANY, None),
-            LogFault::Memory(line) => (NO_MEMORY, Some(line)),
-        };
-        pen.form(form, &[line]);
-    }
-}
-
-static BAD_LINE: &[u8] =
-    b"{\"kind\":\"fault\",\"number\":1,\"reason\":\"not a log line\",\"line\":%d}\n";
-
-static TOO_LONG: &[u8] =
-    b"{\"kind\":\"fault\",\"number\":2,\"reason\":\"longer than 255 bytes\",\"line\":%d}\n";
-
-static DIFFERS: &[u8] =
-    b"{\"kind\":\"fault\",\"number\":3,\"reason\":\"differs\",\"line\":%d,\"packet\":%d}\n";
-
-static UNREAD: &[u8] =
-    b"{\"kind\":\"fault\",\"number\":4,\"reason\":\"reading failed\",\"line\":%d}\n";
-
-static UNWRITTEN: &[u8] = b"{\"kind\":\"fault\",\"number\":5,\"reason\":\"writing failed\"}\n";
-
-static TOO_MANY: &[u8] = b"{\"kind\":\"fault\",\"number\":6,\"reason\":\"too many lines\"}\n";
-
-static NO_MEMORY: &[u8] =
-    b"{\"kind\":\"fault\",\"number\":7,\"reason\":\"no memory\",\"line\":%d}\n";
-
-/// Writes the object of a fault, on a line: `{"kind":"fault","number":1,"reason":"not a log line","line":3}`.
-pub fn put_json_fault<T: Target>(writer: &mut T, fault: &LogFault) -> Result<(), Failed>
-    requires { T.failed writer.old < 2 ^ 64 - 1 }
-    ensures { Writes T.taken T.failed (writer.old, writer.new) result }
-{
-    put_written(
-        writer,
-        &mut Pen::new(Wording::Explained),
-        &FaultObject(fault),
-    )
 }

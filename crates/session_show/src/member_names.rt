@@ -1,6 +1,6 @@
 //! The names that CTAP 2.1 and COSE have for the members of maps, and for some of their values.
 
-use crate::words::{Names, name_in};
+use session_walk::{Names, name_in};
 
 /// A map whose members have names.
 #[derive(Clone, Copy)]

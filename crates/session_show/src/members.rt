@@ -3,16 +3,16 @@
 use crate::authenticator_data::{write_authenticator_data, write_key};
 use crate::field::{write_member, write_signature};
 use crate::member_names::{ALGORITHMS, Map};
-use crate::pairs::{Pairs, item_at};
 use crate::pen::Pen;
-use crate::words::{name_in, write_name};
+use crate::words::write_name;
 use ctap_cbor::{Cursor, Item};
+use session_walk::{Pairs, item_at, name_in};
 
 /// What is in front of a member of a COSE key.
 const KEY: &[u8] = b"%d       ";
 
-/// Writes a line for each member of a map whose members have names, where the item is one. Of an answer the RP id is that
-/// which its request names.
+/// Writes a line for each member of a map whose members have names, where the item is one. Of an answer the RP id is
+/// that which its request names.
 pub fn write_members(pen: &mut Pen, number: u64, map: Map, item: &[u8], rp_id: &[u8]) {
     if map.names().is_empty() {
         return;
@@ -40,7 +40,8 @@ pub fn write_members(pen: &mut Pen, number: u64, map: Map, item: &[u8], rp_id: &
     }
 }
 
-/// Writes what a member of an answer to a command holds: authenticator data, a signature, a statement with one, or a key.
+/// Writes what a member of an answer to a command holds: authenticator data, a signature, a statement with one, or a
+/// key.
 fn write_inside(pen: &mut Pen, number: u64, command: u8, key: i128, value: &[u8], rp_id: &[u8]) {
     let bytes = match Cursor::new(value).item(1) {
         Ok(Item::Bytes(bytes)) => bytes,
@@ -49,21 +50,18 @@ fn write_inside(pen: &mut Pen, number: u64, command: u8, key: i128, value: &[u8]
     match (command, key) {
         (0x01 | 0x02 | 0x08, 2) => write_authenticator_data(pen, number, bytes, rp_id),
         (0x02 | 0x08, 3) => write_signature(pen, number, bytes),
-        (0x01, 3) => write_statement(pen, number, value),
+        (0x01, 3) => {
+            if let Some(Item::Int(algorithm)) = item_at(value, Item::Text("alg")) {
+                pen.form(b"%d       alg ", &[Some(number)]);
+                pen.integer(algorithm);
+                write_name(pen, name_in(ALGORITHMS, algorithm));
+                pen.text("\n");
+            }
+            if let Some(Item::Bytes(signature)) = item_at(value, Item::Text("sig")) {
+                write_signature(pen, number, signature);
+            }
+        }
         (0x06, 1) | (0x0a, 8) => write_key(pen, KEY, number, value),
         _ => {}
-    }
-}
-
-/// Writes the algorithm and the numbers of the signature in an attestation statement.
-fn write_statement(pen: &mut Pen, number: u64, statement: &[u8]) {
-    if let Some(Item::Int(algorithm)) = item_at(statement, Item::Text("alg")) {
-        pen.form(b"%d       alg ", &[Some(number)]);
-        pen.integer(algorithm);
-        write_name(pen, name_in(ALGORITHMS, algorithm));
-        pen.text("\n");
-    }
-    if let Some(Item::Bytes(signature)) = item_at(statement, Item::Text("sig")) {
-        write_signature(pen, number, signature);
     }
 }

@@ -1,64 +1,56 @@
 //! A packet as one line shows it.
 
 use crate::pen::Pen;
-use crate::words::{CAPABILITIES, ERRORS, KEEPALIVES, MESSAGES, name_in, write_flags, write_name};
+use crate::words::{CAPABILITIES, ERRORS, KEEPALIVES, write_flags, write_name};
 use hid_packet::command::{ERROR, INIT, KEEPALIVE};
 use hid_packet::{Packet, View};
+use session_walk::{MESSAGES, channel_of, name_in};
 
-/// Returns a packet's channel.
-pub fn channel_of(packet: &Packet) -> u32 {
-    match packet.view() {
-        View::Start { cid, .. } | View::More { cid, .. } => cid,
-    }
-}
-
-/// Writes a packet's channel, and then its sequence number; or its command, `0x` and two digits where it has no name, and
-/// the length of its message. Of ERROR and KEEPALIVE the first data byte follows. Explained, then comes what the data says,
-/// in words.
-pub fn write_packet(pen: &mut Pen, packet: &Packet) {
-    pen.hex(&channel_of(packet).to_be_bytes());
-    match packet.view() {
-        View::Start { cmd, len, part, .. } => {
-            pen.text(" ");
-            match name_in(MESSAGES, i128::from(cmd)) {
-                Some(name) => pen.text(name),
-                None => {
-                    pen.text("0x");
-                    pen.hex(&[cmd]);
-                }
-            }
-            pen.number_after(" ", u64::from(len));
-            let names = match cmd {
-                ERROR => ERRORS,
-                KEEPALIVE => KEEPALIVES,
-                INIT if pen.explains => {
-                    write_init(pen, len, part);
-                    return;
-                }
-                _ => return,
-            };
-            if let [code, ..] = part {
-                pen.text(" ");
-                pen.hex(&[*code]);
-                write_name(pen, name_in(names, i128::from(*code)));
-            }
+/// Writes a packet's channel, and then its sequence number; or its command, `0x` and two digits where it has no name,
+/// and the length of its message. Of ERROR and KEEPALIVE the first data byte follows. Explained, then comes what the
+/// data says, in words.
+pub fn write_packet(pen: &mut Pen, packet: &Packet, is_host: bool) {
+    let channel = Some(u64::from(channel_of(packet)));
+    let (cmd, len, part) = match packet.view() {
+        View::Start { cmd, len, part, .. } => (cmd, len, part),
+        View::More { seq, .. } => {
+            pen.form(b"%w +%d", &[channel, Some(u64::from(seq))]);
+            return;
         }
-        View::More { seq, .. } => pen.number_after(" +", u64::from(seq)),
+    };
+    let (command, length) = (Some(u64::from(cmd)), Some(u64::from(len)));
+    if name_in(MESSAGES, i128::from(cmd)).is_some() {
+        pen.form(b"%w %m %d", &[channel, command, length]);
+    } else {
+        pen.form(b"%w 0x%x %d", &[channel, command, length]);
+    }
+    let names = match cmd {
+        ERROR => ERRORS,
+        KEEPALIVE => KEEPALIVES,
+        INIT if pen.explains => {
+            write_init(pen, len, part, is_host);
+            return;
+        }
+        _ => return,
+    };
+    if let [code, ..] = part {
+        pen.form(b" %x", &[Some(u64::from(*code))]);
+        write_name(pen, name_in(names, i128::from(*code)));
     }
 }
 
 /// Writes the data of an INIT: a host sends a nonce of 8 bytes, and gets it back in an answer of 17 bytes, which says
 /// the channel, the versions of the protocol and of the device, and the capabilities.
-fn write_init(pen: &mut Pen, len: u16, part: &[u8]) {
+fn write_init(pen: &mut Pen, len: u16, part: &[u8], is_host: bool) {
+    if len != if is_host { 8 } else { 17 } {
+        return;
+    }
     let Some((nonce, rest)) = part.split_at_checked(8) else {
         return;
     };
-    if !matches!(len, 8 | 17) {
-        return;
-    }
     pen.text("  nonce ");
     pen.hex(nonce);
-    if len == 8 {
+    if is_host {
         return;
     }
     let Some((channel, [version, major, minor, build, capabilities, ..])) = rest.split_at_checked(4)

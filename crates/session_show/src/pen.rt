@@ -154,15 +154,20 @@ impl Pen {
         self.bytes(rest);
     }
 
-    /// Writes the text in front of a mark, and a number: `d` means in decimal digits, `x` and `w` its last byte and its
-    /// last four bytes in hexadecimal digits, `-` not at all. Other letters ask for its name (`name_at`), upper case ones
-    /// with a quotation mark after it: where it has none, what is less of the text is written alone.
+    /// Writes the text in front of a mark, and a number: `d` means in decimal digits, `n` too with a space behind, `x`
+    /// and `w` its last byte and its last four bytes in hexadecimal digits, `-` not at all. Other letters ask for its
+    /// name (`name_at`), upper case ones with a quotation mark after it: where it has none, what is less of the text
+    /// is written alone.
     fn mark(&mut self, mark: u8, number: u64, text: &[u8], less: &[u8]) {
         match mark {
             b'-' => self.bytes(text),
             b'd' => {
                 self.bytes(text);
                 self.decimal(number);
+            }
+            b'n' => {
+                self.decimal(number);
+                self.bytes(b" ");
             }
             b'x' => {
                 self.bytes(text);

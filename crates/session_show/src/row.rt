@@ -1,8 +1,9 @@
 //! A line of the table of transactions.
 
+use crate::ends::forms_of_end;
 use crate::escape::write_escaped;
-use crate::exchange::Ended;
 use crate::pen::Pen;
+use session_walk::Ended;
 
 /// The head of the table.
 pub static HEAD: &str =
@@ -26,30 +27,30 @@ pub fn write_row(pen: &mut Pen, ended: &Ended) {
     pen.text(exchange.transaction.name());
     pen.fill(name, 29);
     pen.text("  ");
-    let (forms, one, two) = ended.forms();
+    let (forms, one, two) = forms_of_end(ended);
     pen.form(forms.row, &[one, two]);
     // What is longer than its column takes from those after it.
     pen.fill(name, STATUS_END);
-    write_right(pen, exchange.took, name, USER_END);
-    write_right(pen, Some(exchange.keepalives), name, KEEPALIVES_END);
+    let ends = [
+        (exchange.took, USER_END),
+        (Some(exchange.keepalives), KEEPALIVES_END),
+    ];
+    for (number, end) in &ends {
+        pen.text(" ");
+        match number {
+            Some(number) => {
+                let written = pen.place().saturating_sub(name);
+                pen.column(*number, end.saturating_sub(written));
+            }
+            None => {
+                pen.fill(name, end.saturating_sub(1));
+                pen.text("-");
+            }
+        }
+    }
     if !exchange.named.rp_id.bytes().is_empty() {
         pen.text("  ");
         write_escaped(pen, exchange.named.rp_id.bytes());
     }
     pen.text("\n");
-}
-
-/// Writes a number, or `-`, after a space at least, that ends so far behind a place where there is space.
-fn write_right(pen: &mut Pen, number: Option<u64>, place: usize, end: usize) {
-    pen.text(" ");
-    match number {
-        Some(number) => {
-            let written = pen.place().saturating_sub(place);
-            pen.column(number, end.saturating_sub(written));
-        }
-        None => {
-            pen.fill(place, end.saturating_sub(1));
-            pen.text("-");
-        }
-    }
 }

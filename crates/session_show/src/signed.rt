@@ -27,6 +27,8 @@ pub struct SignedOtherwise {
 pub struct Signed {
     /// How many bytes they had so far.
     pub len: usize,
+    /// How many bytes are to be signed.
+    asked: usize,
     /// The line of the last one.
     line: u64,
     /// The first one of the log that has other bytes.
@@ -36,14 +38,9 @@ pub struct Signed {
 impl Signed {
     /// Takes a comment, where a session needs this.
     pub fn take(&mut self, number: u64, line: &[u8], need: &Need<'_>) {
-        let asked = if let Need::Sign { signed, .. } = need {
-            *signed
-        } else {
-            b""
-        };
         let Some(digits) = line.strip_prefix(FRONT) else {
-            if line.starts_with(NEED) && self.len > 0 && self.len < asked.len() {
-                self.differ(self.line, "it lacks bytes at its end");
+            if line.starts_with(NEED) {
+                self.end();
             }
             return;
         };
@@ -54,33 +51,49 @@ impl Signed {
         if hex::decode_to_slice(digits, bytes).is_err() {
             return;
         }
+        let asked = if let Need::Sign { signed, .. } = need {
+            *signed
+        } else {
+            b""
+        };
         self.line = number;
+        self.asked = asked.len();
         for byte in bytes.iter() {
             match asked.get(self.len) {
                 Some(own) if *own == *byte => {}
-                _ => self.differ(number, part_of(asked.len(), self.len)),
+                _ => self.differ(self.part()),
             }
             self.len = self.len.saturating_add(1);
         }
     }
 
-    /// Notes what isn't the same at a line, where that is the first one.
-    fn differ(&mut self, line: u64, what: &'static str) {
-        if self.otherwise.is_none() {
-            self.otherwise = Some(SignedOtherwise { line, what });
+    /// Ends those after an input, which may lack bytes.
+    pub fn end(&mut self) {
+        if self.len > 0 && self.len < self.asked {
+            self.differ("it lacks bytes at its end");
         }
     }
-}
 
-/// Returns what a byte at a place is of so many that are to be signed.
-fn part_of(len: usize, place: usize) -> &'static str {
-    if len == 0 {
-        "it asks for no signature here"
-    } else if place >= len {
-        "it has bytes too many at its end"
-    } else if place.saturating_add(CLIENT_DATA_HASH) < len {
-        "the authenticator data differ"
-    } else {
-        "clientDataHash differs"
+    /// Notes what isn't the same at the last line, where that is the first one.
+    fn differ(&mut self, what: &'static str) {
+        if self.otherwise.is_none() {
+            self.otherwise = Some(SignedOtherwise {
+                line: self.line,
+                what,
+            });
+        }
+    }
+
+    /// Returns what the next byte is of those that are to be signed.
+    fn part(&self) -> &'static str {
+        if self.asked == 0 {
+            "it asks for no signature here"
+        } else if self.len >= self.asked {
+            "it has bytes too many at its end"
+        } else if self.len.saturating_add(CLIENT_DATA_HASH) < self.asked {
+            "the authenticator data differ"
+        } else {
+            "clientDataHash differs"
+        }
     }
 }

@@ -1,11 +1,7 @@
 //! The messages of the fixed text: one is collected in each direction, whatever channel it is on.
-ghost use Rattle.session_show.specs.declared.wording.Wording.TheVariants.{Fixed as fixed};
 
-use crate::entry::{ANSWER, CborMessage, Entry, Follows, Own, REQUEST};
-use crate::message::Collector;
-use crate::walk::Role;
-use crate::wording::Wording;
 use session_log::Line;
+use session_walk::{CborMessage, Collector, Entry, Own, Role};
 use token_session::Input;
 
 /// The messages that the lines so far began.
@@ -15,25 +11,20 @@ pub struct Transcript {
     answers: Collector,
 }
 
-impl Follows for Transcript {
-    ghost wording = { fixed };
-
-    fn wording() -> Wording {
-        Wording::Fixed
-    }
-
-    fn next_entry<'a>(&'a mut self, number: u64, line: &'a [u8], said: &'a Line) -> Entry<'a> {
-        let (kind, bytes) = match said {
+impl Transcript {
+    /// Takes the next line, which has this number and says this, and returns what is shown for it.
+    pub fn next_entry<'a>(&'a mut self, number: u64, line: &'a [u8], said: &'a Line) -> Entry<'a> {
+        let (is_request, bytes) = match said {
             Line::Input(timed) => match &timed.input {
-                Input::Packet(packet) => (&REQUEST, self.requests.add(packet)),
-                _ => (&REQUEST, None),
+                Input::Packet(packet) => (true, self.requests.add(packet)),
+                _ => (true, None),
             },
-            Line::Sent(packet) => (&ANSWER, self.answers.add(packet)),
-            Line::Comment | Line::Count => (&ANSWER, None),
+            Line::Sent(packet) => (false, self.answers.add(packet)),
+            Line::Comment | Line::Count => (false, None),
         };
         let message = match bytes {
             Some(_) => Some(CborMessage {
-                kind,
+                is_request,
                 bytes,
                 exchange: None,
             }),
@@ -47,6 +38,7 @@ impl Follows for Transcript {
                 said,
                 of: None,
                 message,
+                carried: 0,
             },
             is_doubtful: false,
             part: Role::Own,

@@ -1,19 +1,7 @@
 //! The names that CTAP 2.1 has for numbers. What has no name is shown by its number alone.
 
 use crate::pen::Pen;
-
-/// Numbers and their names.
-pub type Names = &'static [(i128, &'static str)];
-
-/// Returns the name that a number has in a list.
-pub fn name_in(names: Names, number: i128) -> Option<&'static str> {
-    for (named, name) in names {
-        if *named == number {
-            return Some(*name);
-        }
-    }
-    None
-}
+use session_walk::{COMMANDS, MESSAGES, Names, name_in};
 
 /// Returns the name of a number that a form asks for by a letter (`Pen::form`).
 pub fn name_at(mark: u8, number: u64) -> Option<&'static str> {
@@ -24,7 +12,7 @@ pub fn name_at(mark: u8, number: u64) -> Option<&'static str> {
         b'E' => name_in(ERRORS, number),
         b'e' => Some(name_in(ERRORS, number).unwrap_or("ERROR")),
         b'C' | b'c' => name_in(COMMANDS, number),
-        b'M' => name_in(MESSAGES, number),
+        b'M' | b'm' => name_in(MESSAGES, number),
         b'K' => name_in(KEEPALIVES, number),
         b'f' => name_in(FAULTS, number),
         _ => None,
@@ -64,19 +52,6 @@ pub static FAULTS: Names = &[
     (10, "Memory: no memory"),
 ];
 
-/// The names of a message's commands (section 11.2.9).
-pub static MESSAGES: Names = &[
-    (0x01, "PING"),
-    (0x03, "MSG"),
-    (0x04, "LOCK"),
-    (0x06, "INIT"),
-    (0x08, "WINK"),
-    (0x10, "CBOR"),
-    (0x11, "CANCEL"),
-    (0x3b, "KEEPALIVE"),
-    (0x3f, "ERROR"),
-];
-
 /// The letters of an INIT's capabilities (section 11.2.9.1.3).
 pub static CAPABILITIES: Flags = &[(0x01, " WINK"), (0x04, " CBOR"), (0x08, " NMSG")];
 
@@ -108,21 +83,6 @@ pub static ERRORS: Names = &[
 
 /// The names of a KEEPALIVE's statuses (section 11.2.9.2.1).
 pub static KEEPALIVES: Names = &[(0x01, "STATUS_PROCESSING"), (0x02, "STATUS_UPNEEDED")];
-
-/// The names of the authenticator's commands (section 6).
-pub static COMMANDS: Names = &[
-    (0x01, "authenticatorMakeCredential"),
-    (0x02, "authenticatorGetAssertion"),
-    (0x04, "authenticatorGetInfo"),
-    (0x06, "authenticatorClientPIN"),
-    (0x07, "authenticatorReset"),
-    (0x08, "authenticatorGetNextAssertion"),
-    (0x09, "authenticatorBioEnrollment"),
-    (0x0a, "authenticatorCredentialManagement"),
-    (0x0b, "authenticatorSelection"),
-    (0x0c, "authenticatorLargeBlobs"),
-    (0x0d, "authenticatorConfig"),
-];
 
 /// The names of statuses (section 8.2).
 pub static STATUSES: Names = &[

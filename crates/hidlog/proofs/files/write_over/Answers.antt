@@ -1,11 +1,12 @@
 use Rattle.std.proofs.Common.{rules, ◌≡◌, min, length}
-use Rattle.hidlog.proofs.Over.{written_over}
+use Rattle.hidlog.proofs.Over.{where_sized, written_over}
 use Rattle.hidlog.proofs.files.write_over.Goals as goal
 
 pub returns-clause-bytes : goal.returns-clause-bytes
 returns-clause-bytes g c =
-    let shared : c.min-shared.result ≡ min c.in_ok-old.old (length c.args.bytes.now) = search rules in
-    written_over c.cut-2.result c.put_at-written.result _ _ _ _ c.args.bytes.now _ _ c.in_ok-old.old c.min-shared.result
+    let shared : c.min-shared.result ≡ min c.args.old (length c.args.bytes.now) = search rules in
+    where_sized c.cut-2.result (g.F.Place.bytes c.args.file.now) (g.F.Place.bytes c.cut-2.new.self) c.args.bytes.now c.args.old
+    (λ size. written_over c.cut-2.result c.put_at-written.result _ _ _ _ c.args.bytes.now _ _ c.args.old c.min-shared.result
     c.split_at.ensures.front
-    c.split_at.ensures.back c.in_ok-old.ensures shared (search rules) c.put_at-written.ensures.bytes
-    c.in_ok-put_at.ensures.bytes c.cut-2.ensures.bytes
+    c.split_at.ensures.back size shared (search rules) c.put_at-written.ensures.bytes
+    c.in_ok-put_at.ensures.bytes c.cut-2.ensures.bytes)

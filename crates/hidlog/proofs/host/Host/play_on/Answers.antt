@@ -4,24 +4,24 @@ use Rattle.hidlog.proofs.host.Host.play_on.Goals as goal
 
 pub returns-in-Err-load : goal.returns-in-Err-load
 returns-in-Err-load g c =
-    inr (c.open_log.new.input, c.in_default.ensures.opened, inl (refl, c.in-Err-load.ensures.fails))
+    inr (c.open_log.new.input, c.in-Ok.ensures.opened, inl (refl, c.in-Err-load.ensures.fails))
 
 pub returns-in-Err-look : goal.returns-in-Err-look
 returns-in-Err-look g c =
-    let begun = c.in_default-load.ensures.begins in
+    let begun = c.in_default.ensures.begins in
     inr (
       c.open_log.new.input,
-      c.in_default.ensures.opened,
+      c.in-Ok.ensures.opened,
       inr (begun.0, begun.1, inl (refl, c.in-Err-look.ensures)),
     )
 
 pub returns-in-Err-settled : goal.returns-in-Err-settled
 returns-in-Err-settled g c =
-    let begun = c.in_default-load.ensures.begins in
+    let begun = c.in_default.ensures.begins in
     let played = c.play-answer in
     inr (
       c.open_log.new.input,
-      c.in_default.ensures.opened,
+      c.in-Ok.ensures.opened,
       inr (
         begun.0,
         begun.1,
@@ -40,11 +40,11 @@ returns-in-Err-settled g c =
 
 pub returns-in-Err-save_rows : goal.returns-in-Err-save_rows
 returns-in-Err-save_rows g c =
-    let begun = c.in_default-load.ensures.begins in
+    let begun = c.in_default.ensures.begins in
     let played = c.play-answer in
     inr (
       c.open_log.new.input,
-      c.in_default.ensures.opened,
+      c.in-Ok.ensures.opened,
       inr (
         begun.0,
         begun.1,
@@ -61,13 +61,13 @@ returns-in-Err-save_rows g c =
       ),
     )
 
-pub returns-in-Ok : goal.returns-in-Ok
-returns-in-Ok g c =
-    let begun = c.in_default-load.ensures.begins in
+pub returns-in-Ok-save_rows : goal.returns-in-Ok-save_rows
+returns-in-Ok-save_rows g c =
+    let begun = c.in_default.ensures.begins in
     let played = c.play-answer in
     inr (
       c.open_log.new.input,
-      c.in_default.ensures.opened,
+      c.in-Ok.ensures.opened,
       inr (
         begun.0,
         begun.1,
@@ -78,7 +78,7 @@ returns-in-Ok g c =
           played.new.writer,
           played.ensures.plays (start_with begun.0) [] begun.2,
           c.settled.ensures,
-          rw c.in_default-settled.is c.in-Ok.ensures,
+          rw c.in_default-settled.is c.in-Ok-save_rows.ensures,
           refl,
         ),
       ),

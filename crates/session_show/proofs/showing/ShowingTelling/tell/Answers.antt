@@ -1,7 +1,0 @@
-use Rattle.std.proofs.Common.{◌∙◌, sym}
-use Rattle.session_show.proofs.Lines.{broken_line}
-use Rattle.session_show.proofs.showing.ShowingTelling.tell.Goals as goal
-
-pub returns-in-Err-clause-shown : goal.returns-in-Err-clause-shown
-returns-in-Err-clause-shown g c = broken_line c.args.number c.args.line.now _ _ c.in-Some.said
-    (sym c.read_line.ensures ∙ c.in-Some.is) c.in-Err.ensures.1

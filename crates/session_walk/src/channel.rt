@@ -1,0 +1,364 @@
+//! What hosts and a device do on one channel, by the transport's own rules (CTAP 2.1, sections 11.2.4 and 11.2.5).
+//! Nothing is known of the device but its packets.
+
+use crate::awaited::Awaited;
+use crate::entry::Role;
+use crate::exchange::{End, EndedTransactions, Extent, Followed, Named, Transaction};
+use crate::rp_id::RpId;
+use arrayvec::ArrayVec;
+use hid_packet::command::INIT;
+use hid_packet::{CONTINUATION_DATA, LONGEST_MESSAGE};
+
+/// The most INITs without an answer that are followed.
+const GREETINGS: usize = 4;
+
+/// An INIT without an answer. It is less than what is followed of others, since a walk has many of them.
+#[derive(Clone, Copy, Default)]
+pub struct Greeting {
+    pub line: u64,
+    /// Its moment.
+    pub at: u64,
+    pub length: u16,
+    pub nonce: u64,
+}
+
+impl Greeting {
+    /// Returns what is followed of it, on a channel.
+    fn on(&self, channel: u32) -> Followed {
+        Followed {
+            transaction: Transaction {
+                channel,
+                line: self.line,
+                message: INIT,
+                command: None,
+            },
+            extent: Extent {
+                length: self.length,
+                continuations: 0,
+            },
+            at: self.at,
+            ..Followed::default()
+        }
+    }
+}
+
+/// Returns the nonce of an INIT or of its answer, with what its first packet carries.
+pub fn nonce_in(part: &[u8]) -> u64 {
+    match part {
+        [a, b, c, d, e, f, g, h, ..] => u64::from_be_bytes([*a, *b, *c, *d, *e, *f, *g, *h]),
+        _ => 0,
+    }
+}
+
+/// A message of the device.
+#[derive(Clone, Copy, Default)]
+pub struct DeviceMessage {
+    /// The line that it began at, 0 where there is none.
+    pub line: u64,
+    pub extent: Extent,
+    /// The status of a CBOR answer.
+    pub status: Option<u8>,
+    /// What it answers, where that is known.
+    pub exchange: Option<Followed>,
+}
+
+impl DeviceMessage {
+    /// Returns the transaction that it answers.
+    pub fn of(&self) -> Option<Transaction> {
+        match &self.exchange {
+            Some(exchange) => Some(exchange.transaction),
+            None => None,
+        }
+    }
+}
+
+/// A continuation packet of a host beside a message that isn't whole.
+#[derive(Clone, Copy)]
+pub struct Continued {
+    pub of: Transaction,
+    /// How many milliseconds after the packet before it came.
+    pub gap: u64,
+    /// Whether it is the next one of the message. One with another number isn't.
+    pub is_next: bool,
+    /// Whether the message is whole with it.
+    pub is_whole: bool,
+    /// How many bytes of the message it carries.
+    pub carried: usize,
+}
+
+/// A channel, and what is open on it.
+#[derive(Drop, Default)]
+pub struct Channel {
+    pub number: u32,
+    /// The line at which it was used last, 0 where it isn't in use.
+    pub used: u64,
+    /// The message that is collected or served.
+    pub held: Option<Followed>,
+    /// A message that began after that one, until it is seen whether it is refused or took the channel.
+    pub asked: Option<Followed>,
+    /// The INITs without an answer.
+    pub greetings: ArrayVec<Greeting, GREETINGS>,
+    /// Whether the last message that began is the last greeting.
+    pub is_greeted: bool,
+    /// Whether it isn't known which of the channel's messages is served, until one of them is answered.
+    pub is_contested: bool,
+    /// Whether a host's last packet was a CANCEL, or a continuation of no message.
+    pub is_stray: bool,
+    /// How many KEEPALIVEs came after the last packet of what is asked.
+    pub since: u64,
+    /// The moment of the last KEEPALIVE.
+    pub alive: u64,
+    /// The device's last message.
+    pub told: DeviceMessage,
+    /// The RP id of the last authenticatorGetAssertion that was answered.
+    pub asserted: RpId,
+}
+
+impl Channel {
+    /// Returns whether nothing on it is open.
+    pub fn is_idle(&self) -> bool {
+        self.held.is_none()
+            && self.asked.is_none()
+            && self.greetings.is_empty()
+            && !self.is_answering()
+    }
+
+    /// Returns whether the device's last message has further packets.
+    pub fn is_answering(&self) -> bool {
+        !self.told.extent.is_whole()
+    }
+
+    /// Returns what is open, each as it ends where nothing more comes.
+    pub fn open(&self) -> EndedTransactions {
+        let mut open = EndedTransactions::default();
+        if self.is_answering()
+            && let Some(exchange) = self.told.exchange
+        {
+            open.add(exchange, End::Cut(self.told.extent));
+        }
+        for greeting in self.greetings.as_slice() {
+            open.add(greeting.on(self.number), End::Open);
+        }
+        if let Some(held) = self.held {
+            open.add(held, End::Open);
+        }
+        if let Some(asked) = self.asked {
+            open.add(asked, End::Open);
+        }
+        open
+    }
+
+    /// Ends all that is open, since the channel isn't followed any longer.
+    // Apart from its caller, which is called for each packet and would pay for the list each time.
+    pub fn forget(&self, ends: &mut EndedTransactions) {
+        for open in self.open().0.as_slice() {
+            let end = match open.end {
+                End::Open => End::Forgotten,
+                end => end,
+            };
+            ends.add(open.exchange, end);
+        }
+    }
+
+    // ---- packets of hosts
+
+    /// Takes the initialization packet of a message that isn't CANCEL, with what it carries. An INIT changes nothing
+    /// else before it is answered (section 11.2.9.1.3). Where another message holds the channel, it isn't known yet
+    /// which of them goes on.
+    pub fn begin(&mut self, begun: Followed, part: &[u8], ends: &mut EndedTransactions) {
+        self.is_stray = false;
+        self.settle(false, ends);
+        self.is_greeted = begun.transaction.message == INIT;
+        if self.is_greeted {
+            if self.greetings.is_full() {
+                let oldest = self.greetings.remove(0);
+                ends.add(oldest.on(self.number), End::Forgotten);
+            }
+            self.greetings.push(Greeting {
+                line: begun.transaction.line,
+                at: begun.at,
+                length: begun.extent.length,
+                nonce: nonce_in(part),
+            });
+            return;
+        }
+        match &self.held {
+            None => self.held = Some(begun),
+            Some(held) => {
+                let after = begun.at.saturating_sub(held.at);
+                self.asked = Some(Followed { after, ..begun });
+                self.since = 0;
+            }
+        }
+    }
+
+    /// Takes a CANCEL on this line, and returns the transaction that it is for, one that is served, and what it is
+    /// where there is none. It ends nothing: the answer to that does (section 11.2.9.1.5). Of two messages it isn't
+    /// known which one is served.
+    pub fn cancel(&mut self, line: u64) -> (Option<Transaction>, Role) {
+        self.is_stray = true;
+        let is_held = matches!(&self.held, Some(held) if held.is_served());
+        let is_asked = matches!(&self.asked, Some(asked) if asked.is_served());
+        if is_held && is_asked {
+            self.is_contested = true;
+            return (None, Role::Own);
+        }
+        let message = if is_asked {
+            &mut self.asked
+        } else {
+            &mut self.held
+        };
+        match message {
+            Some(served) if served.is_served() => {
+                served.cancelled = Some(line);
+                (Some(served.transaction), Role::Own)
+            }
+            _ => (None, Role::Cancel),
+        }
+    }
+
+    /// Returns whether it isn't known which message a packet of the device is for, behind the input of this line: of
+    /// two messages on a channel the second is refused before the next input, or has the channel.
+    pub fn is_undecided(&self, input: u64) -> bool {
+        match &self.asked {
+            Some(asked) => self.is_contested || asked.transaction.line != input,
+            None => self.is_contested,
+        }
+    }
+
+    /// Ends what is held and what was asked, since a packet may be for either: whether it was answered isn't known.
+    pub fn lose(&mut self, ends: &mut EndedTransactions) {
+        self.settle(false, ends);
+        if let Some(held) = self.held.take() {
+            ends.add(held, End::Unknown);
+        }
+        self.is_contested = false;
+    }
+
+    /// Takes the continuation packet with this number. None where it is of no message that is open.
+    pub fn go_on(&mut self, number: u8, now: u64) -> Option<Continued> {
+        let is_of_asked = matches!(&self.asked, Some(asked)
+            if asked.extent.continuations == number && !asked.extent.is_whole());
+        let message = if is_of_asked {
+            self.since = 0;
+            &mut self.asked
+        } else {
+            &mut self.held
+        };
+        let continuation = match message {
+            Some(message) if !message.extent.is_whole() => Some(message.go_on(number, now)),
+            _ => None,
+        };
+        self.is_stray = continuation.is_none();
+        continuation
+    }
+
+    /// Keeps what the open request that began at a line names.
+    pub fn name(&mut self, line: u64, named: &Named) {
+        if let Some(held) = &mut self.held
+            && held.transaction.line == line
+        {
+            held.named = *named;
+            return;
+        }
+        if let Some(asked) = &mut self.asked
+            && asked.transaction.line == line
+        {
+            asked.named = *named;
+        }
+    }
+
+    /// Takes a reply at a moment, and returns the request that waited for it, and what it is where none did. Without a
+    /// KEEPALIVE it isn't known what is waited for, and of two messages not which of them is served.
+    pub fn reply(&mut self, reply: Awaited, now: u64) -> (Option<Transaction>, Role) {
+        let Some(held) = &mut self.held else {
+            return (None, Role::Reply);
+        };
+        match held.awaited {
+            None if self.asked.is_some() => return (None, Role::Own),
+            None => {}
+            Some(awaited) if awaited as u8 != reply as u8 => return (None, Role::Reply),
+            Some(Awaited::Presence) => held.took = Some(now.saturating_sub(held.at)),
+            Some(_) => held.awaited = Some(Awaited::Signature),
+        }
+        (Some(held.transaction), Role::Own)
+    }
+
+    // ---- which message goes on
+
+    /// Lets what was asked have the channel, as a packet of the device shows, or since it wasn't refused before the
+    /// next message began.
+    pub fn settle(&mut self, is_shown: bool, ends: &mut EndedTransactions) {
+        let Some(mut asked) = self.asked.take() else {
+            return;
+        };
+        if let Some(mut held) = self.held.take() {
+            if asked.is_served() {
+                asked.keepalives = self.since;
+                held.keepalives = held.keepalives.saturating_sub(self.since);
+            }
+            self.is_contested = !is_shown && (self.is_contested || held.is_served());
+            let end = match held.cancelled {
+                _ if !is_shown => End::Unknown,
+                Some(line) => End::Dropped(line),
+                None => End::Replaced(asked.transaction.line),
+            };
+            ends.add(held, end);
+        }
+        self.held = Some(asked);
+    }
+
+    /// Takes what held the channel, of which the end is known.
+    pub fn free(&mut self, ends: &mut EndedTransactions) -> Option<Followed> {
+        let held = self.held.take();
+        self.settle(true, ends);
+        held
+    }
+
+    /// Takes the greeting at a place, where there is one.
+    pub fn take_greeting(&mut self, place: usize) -> Option<Followed> {
+        if place >= self.greetings.len() {
+            return None;
+        }
+        if place + 1 == self.greetings.len() {
+            self.is_greeted = false;
+        }
+        let greeting = self.greetings.remove(place);
+        Some(greeting.on(self.number))
+    }
+
+    /// Ends the transaction of the device's last message, if packets of that are missing. Returns the line that the
+    /// message began at, 0 where there was none.
+    pub fn cut(&mut self, ends: &mut EndedTransactions) -> u64 {
+        if self.is_answering()
+            && let Some(exchange) = self.told.exchange
+        {
+            ends.add(exchange, End::Cut(self.told.extent));
+        }
+        let line = self.told.line;
+        self.told.line = 0;
+        self.told.extent = Extent::default();
+        self.told.exchange = None;
+        line
+    }
+}
+
+impl Followed {
+    /// Goes on with its message, which isn't whole, by the packet with this number.
+    fn go_on(&mut self, number: u8, now: u64) -> Continued {
+        let mut continued = Continued {
+            of: self.transaction,
+            gap: now.saturating_sub(self.at),
+            is_next: false,
+            is_whole: false,
+            carried: CONTINUATION_DATA,
+        };
+        if self.extent.continuations == number && self.extent.length <= LONGEST_MESSAGE {
+            continued.is_next = true;
+            continued.carried = self.extent.add_continuation();
+            continued.is_whole = self.extent.is_whole();
+            self.at = now;
+        }
+        continued
+    }
+}

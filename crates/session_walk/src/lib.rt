@@ -1,0 +1,29 @@
+//! A walk over a recorded session of a security key: which transaction each line of a log belongs to, which messages
+//! and which transactions end at it (docs/use/EXPLAINED.md), and the RP ids and credentials that they name. Nothing is
+//! allocated, and nothing is known of texts.
+#![tactic(auto)]
+
+mod awaited;
+mod channel;
+mod channels;
+mod credentials;
+mod device;
+mod entry;
+mod exchange;
+mod message;
+mod names;
+mod pairs;
+mod pool;
+mod rp_id;
+mod walk;
+
+pub use awaited::Awaited;
+pub use channels::OPEN;
+pub use credentials::{CREDENTIAL, Excluded};
+pub use entry::{CborMessage, Entry, Own, Role, channel_of};
+pub use exchange::{End, Ended, Extent, Followed, Transaction};
+pub use message::Collector;
+pub use names::{COMMANDS, MESSAGES, Names, name_in};
+pub use pairs::{Pairs, item_at};
+pub use rp_id::RpId;
+pub use walk::LogWalk;
