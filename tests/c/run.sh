@@ -59,6 +59,18 @@ show_owners() {
     cmp -s "$room/shown" "$room/held" || stop "the transactions of lines differ at $1"
 }
 
+# Compares which message each packet is of with the log's own packets, where none is stray: an initialization packet
+# begins one on its channel, in its direction, and those of continuation are of the last one there: show_messages LOG
+show_messages() {
+    awk '
+        { packet = $1 == ">" ? $3 : $2; at = $1 substr(packet, 1, 8) }
+        $1 ~ /^[<>]$/ && substr(packet, 9, 1) ~ /[89a-f]/ { begun[at] = NR }
+        $1 ~ /^[<>]$/ { print NR, begun[at] }
+        $1 ~ /^[tpks]$/ { print NR, 0 }' "$1" >"$room/shown"
+    "$room/show" transactions <"$1" | cut -d" " -f1,3 >"$room/held"
+    cmp -s "$room/shown" "$room/held" || stop "the messages of packets differ at $1"
+}
+
 # Shows a log in its fixed text and explained, and its transactions: show_log LOG [WORD ..]
 show_log() {
     show_form "$1" --plain "" "${@:2}"
@@ -88,6 +100,9 @@ show_logs() {
         show_log "$log" "$@"
         head -c 700 "$log" >"$room/front"
         show_log "$room/front" "$@"
+    done
+    for log in "$top"/examples/{registration,sign_in}.log; do
+        show_messages "$log"
     done
     [ "$shown" -ge 300 ] || stop "only $shown logs were shown"
     echo "tests/c: $((shown / 2)) logs shown as the program shows them, in both forms, and their transactions"

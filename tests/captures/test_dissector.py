@@ -96,7 +96,8 @@ def packet(it: dict[str, Any]) -> tuple[object, ...]:
         it.get("command"),
         it.get("length"),
         it.get("sequence"),
-        it["data"],
+        # What fills a packet up isn't the message's.
+        it["data"].rstrip("0"),
         code if of_key and it.get("command") == 0x3F else None,
         code if of_key and it.get("command") == 0x3B else None,
     )
@@ -110,7 +111,12 @@ def packet_of_row(row: Row) -> tuple[object, ...]:
     names = ("channel", "command", "length", "sequence")
     head = [number(row[f"ctaphid.{name}"]) for name in names]
     codes = [number(row[f"ctaphid.{name}"]) for name in ("error", "keepalive")]
-    return (int(row["usb.endpoint_address"], 0) >= 0x80, *head, row["ctaphid.data"].replace(":", ""), *codes)
+    return (
+        int(row["usb.endpoint_address"], 0) >= 0x80,
+        *head,
+        row["ctaphid.data"].replace(":", "").rstrip("0"),
+        *codes,
+    )
 
 
 def message_of_row(row: Row) -> tuple[object, ...]:

@@ -276,6 +276,11 @@ def judge_fault(log, fault, run):
         cut = whole
         if command in ("replay", "live"):
             cut = b"".join(it + b"\n" for it in lines_of(whole)[:-1])
+        elif command == "show" and whole.startswith(output):
+            # Only where a log ends without a fault comes how much of a message came that isn't whole.
+            behind = rb"%d   line \d+: \d+ of \d+ bytes (?:of its answer )?came" % before.count(b"\n")
+            if all(re.fullmatch(behind, it) for it in lines_of(whole[len(output) :])):
+                cut = output
         hold(output == cut, "lines before", f"{command} wrote {len(output)} bytes and not {len(cut)}")
     for command in (*outputs, "check"):
         told = run(command, log, "--plain")[2]

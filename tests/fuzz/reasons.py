@@ -20,7 +20,7 @@ from typing import Any, Iterator, Optional
 sys.dont_write_bytecode = True
 
 import executors
-from transactions import CBOR, ERROR, EXCLUDED, TOP, Hosts, Machine, needs_in
+from transactions import CBOR, ERROR, EXCLUDED, KEEPALIVE, TOP, Hosts, Machine, needs_in
 
 BUSY = 0x06
 NEEDS = {b"presence": "the user's presence", b"key": "a new key", b"signature": "a signature"}
@@ -60,6 +60,10 @@ def reason_of(
     if not sent and need and machine.work and machine.work.channel == channel:
         reply = REPLIES.get(line[:1])
         other = f"; line {found['input']} is {reply}" if reply and reply != NEEDS.get(needed or b"") else ""
+        again = bytes([0x80 | KEEPALIVE, 0, 1, 2 if need == b"presence" else 1])
+        if not other and logged[4:8] == again and machine.alive + 100 < 1 << 64:
+            moment = line.split(b" ")[1].decode()
+            return f"its next KEEPALIVE is due at {machine.alive + 100}; line {found['input']} is at {moment}"
         return f"it needs {NEEDS[need]}{other}"
     if not sent and machine.is_stray:
         return f"line {found['input']} is a continuation packet of no open message"

@@ -116,21 +116,29 @@ CTAPHID = {
     0x3F: "ERROR 65535 a0",
 }
 
-# Texts with the characters at both ends of each range that is escaped, as bytes of CBOR.
+# Texts with the characters at both ends of each range that is escaped, as bytes of CBOR, between those beside them that
+# aren't: control characters, line breaks, Unicode's Default_Ignorable_Code_Point (DerivedCoreProperties.txt), U+2800, and
+# U+FFF9 to U+FFFB, which stand for what is beside a text.
 HIDDEN = """\
-64c280c29f \\u0080\\u009f
-62c2a0 \u00a0
-62c2ad \\u00ad
-62d89c \\u061c
-66e2808be2808f \\u200b\\u200f
-63e28090 \u2010
-66e280a8e280ae \\u2028\\u202e
-63e280af \u202f
-66e281a0e281af \\u2060\\u206f
-63efbbbf \\ufeff
-66efbfb9efbfbb \\ufff9\\ufffb
-63efbfbd \ufffd
-68f3a08080f3a081bf \\u{0e0000}\\u{0e007f}
+66c280c29fc2a0 \\u0080\\u009f\u00a0
+66c2acc2adc2ae \u00ac\\u00ad\u00ae
+66cd8ecd8fcd90 \u034e\\u034f\u0350
+66d89bd89cd89d \u061b\\u061c\u061d
+6ce1859ee1859fe185a0e185a1 \u115e\\u115f\\u1160\u1161
+6ce19eb3e19eb4e19eb5e19eb6 \u17b3\\u17b4\\u17b5\u17b6
+6ce1a08ae1a08be1a08fe1a090 \u180a\\u180b\\u180f\u1810
+6ce2808ae2808be2808fe28090 \u200a\\u200b\\u200f\u2010
+6ce280a7e280a8e280aee280af \u2027\\u2028\\u202e\u202f
+6ce2819fe281a0e281afe281b0 \u205f\\u2060\\u206f\u2070
+69e29fbfe2a080e2a081 \u27ff\\u2800\u2801
+69e385a3e385a4e385a5 \u3163\\u3164\u3165
+6cefb7bfefb880efb88fefb890 \ufdff\\ufe00\\ufe0f\ufe10
+69efbbbeefbbbfefbc80 \ufefe\\ufeff\uff00
+69efbe9fefbea0efbea1 \uff9f\\uffa0\uffa1
+6cefbfafefbfb0efbfbbefbfbc \uffef\\ufff0\\ufffb\ufffc
+70f09bb29ff09bb2a0f09bb2a3f09bb2a4 \U0001bc9f\\u{01bca0}\\u{01bca3}\U0001bca4
+70f09d85b2f09d85b3f09d85baf09d85bb \U0001d172\\u{01d173}\\u{01d17a}\U0001d17b
+70f39fbfbff3a08080f3a0bfbff3a18080 \U000dffff\\u{0e0000}\\u{0e0fff}\U000e1000
 64f09f9982 🙂
 """
 
