@@ -49,8 +49,8 @@ pub fn open_log<'a, L: Logs>(
     }
 }
 
-// A session takes 29 kB. Each command makes one in a frame of its own, and does nothing else there, so that only one
-// is on the stack at a time, and it isn't copied.
+// A session takes 29 kB. Each command makes one in a frame of its own, where it isn't copied, so that only one is on the
+// stack at a time.
 
 /// Returns the program's session at its start, without credentials.
 // By this function it is made where its caller keeps it. Of a call of `Session::bare` in its place there is a copy.
@@ -69,21 +69,7 @@ impl<D: Files, L: Logs, O: Output, E: Target> Host<D, L, O, E> {
         ensures { RunsCommand ⟦<Self as Modeled>⟧.model play.now.command (path_of play.now.load) (path_of play.now.save)
             (path_of play.now.log) (came_of result) self.old self.new }
     {
-        self.play_on(&mut fresh(), play)
-    }
-
-    /// Plays the log on a session, as [`Host::play_log`] does.
-    #[inline(never)]
-    fn play_on<'a>(
-        &mut self,
-        session: &mut Session<CAPACITY>,
-        play: &Play<'a>,
-    ) -> Result<ComparisonEnd, ProgramFault<'a>>
-        requires fresh { session.old ≡ session_of (start_with []) [] }
-        requires counts { CanFail ⟦<Self as Modeled>⟧.model self.old }
-        ensures { RunsCommand ⟦<Self as Modeled>⟧.model play.now.command (path_of play.now.load) (path_of play.now.save)
-            (path_of play.now.log) (came_of result) self.old self.new }
-    {
+        let session = &mut fresh();
         let log = match open_log(&mut self.input, play.log) {
             Ok(log) => log,
             Err(fault) => return Err(fault),

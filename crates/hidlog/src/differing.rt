@@ -1,8 +1,4 @@
 //! The packets in which a log differs from what the key sends.
-ghost use Rattle.std.specs.Prelude.{◌≡◌, []};
-ghost use Rattle.session_log.specs.Command.{start_with};
-ghost use Rattle.token_session.specs.Meters.{session_of};
-
 use crate::commands::fresh;
 use crate::fault::ProgramFault;
 use crate::files::Files;
@@ -63,7 +59,8 @@ pub fn tell_differences<D: Files, S: Source + Drop, E: Target>(
     compare_anew(files, wish, &mut reader, told, faults);
 }
 
-/// Compares the log on a session of its own. It has a frame of its own, which would hold two sessions otherwise.
+/// Compares the log on a session of its own, and says what differs. It has a frame of its own, so that the stack holds
+/// the session only here.
 #[inline(never)]
 fn compare_anew<D: Files, S: Source, E: Target>(
     files: &D,
@@ -72,21 +69,7 @@ fn compare_anew<D: Files, S: Source, E: Target>(
     told: Option<LogFault>,
     faults: &mut E,
 ) {
-    compare_on(&mut fresh(), files, wish, reader, told, faults);
-}
-
-/// Compares the log on a session, and says what differs.
-#[inline(never)]
-fn compare_on<D: Files, S: Source, E: Target>(
-    session: &mut Session<CAPACITY>,
-    files: &D,
-    wish: &Wish<'_>,
-    reader: &mut S,
-    told: Option<LogFault>,
-    faults: &mut E,
-)
-    requires { session.old ≡ session_of (start_with []) [] }
-{
+    let session = &mut fresh();
     // The snapshot was loaded before, so nothing is wrong with it.
     if load(session, files, wish.load).is_err() {
         return;

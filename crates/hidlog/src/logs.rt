@@ -268,25 +268,26 @@ impl<S: Opens> Logs for HostLog<'_, S> {
 
     fn again(&mut self, takes_rest: bool) -> Option<FromFront<S>> {
         let alloc = self.rt.alloc();
-        let (kept, rest) = if self.seen.progress.size.is_some() {
-            let path = match &self.path {
-                Some(path) => path.as_str(),
-                None => STANDARD_INPUT,
-            };
-            let Ok((stream, _)) = S::open(self.rt, Some(path)) else {
-                return None;
-            };
-            (Vec::new(alloc), stream)
-        } else {
-            if !takes_rest {
-                return None;
-            }
-            let (Some(kept), Ok((spent, _))) = (self.seen.kept.take(), S::open(self.rt, None))
-            else {
-                return None;
-            };
-            (kept, mem::replace(&mut self.stream, spent))
+        let is_file = self.seen.progress.size.is_some();
+        if !is_file && !takes_rest {
+            return None;
+        }
+        let path = match &self.path {
+            _ if !is_file => None,
+            Some(path) => Some(path.as_str()),
+            None => Some(STANDARD_INPUT),
         };
+        let Ok((mut rest, _)) = S::open(self.rt, path) else {
+            return None;
+        };
+        let mut kept = Vec::new(alloc);
+        if !is_file {
+            match self.seen.kept.take() {
+                Some(bytes) => kept = bytes,
+                None => return None,
+            }
+            rest = mem::replace(&mut self.stream, rest);
+        }
         match BufReader::new(alloc, Cursor::new(kept).chain(rest)) {
             Ok(reader) => Some(FromRead::new(reader)),
             Err(_) => None,

@@ -62,20 +62,26 @@ impl<D: Files, L: Logs, O: Output, E: Target> Host<D, L, O, E> {
     {
         let mut more = Vec::new(self.alloc);
         let mut target = ToWrite::new(&mut more);
-        let Some(fault) = &outcome.fault else {
-            if let (Some(ending), Some(wish)) = (&outcome.ending, &outcome.wish) {
-                let input = &mut self.input;
-                note_one(&self.files, wish, input, ending, &mut target);
+        match &outcome.fault {
+            None => {
+                if let Some(ending) = &outcome.ending
+                    && let Some(wish) = &outcome.wish
+                {
+                    note_one(&self.files, wish, &mut self.input, ending, &mut target);
+                }
             }
-            return more;
-        };
-        if let (LogFault::Differs { .. }, Some(wish)) = (fault, &outcome.wish) {
-            let again = self.input.again(true);
-            let told = outcome.fault;
-            tell_differences(&self.files, wish, again, told, &mut target);
-        } else if outcome.explains {
-            let state = self.input.state();
-            say_cause(&state, Some(state.name), fault, &mut target);
+            Some(LogFault::Differs { .. }) => {
+                if let Some(wish) = &outcome.wish {
+                    let again = self.input.again(true);
+                    tell_differences(&self.files, wish, again, outcome.fault, &mut target);
+                }
+            }
+            Some(fault) => {
+                if outcome.explains {
+                    let state = self.input.state();
+                    say_cause(&state, Some(state.name), fault, &mut target);
+                }
+            }
         }
         more
     }
@@ -149,10 +155,12 @@ fn main(rt: HostRuntime) -> ExitCode {
         Ok(texts) => texts,
         Err(status) => return ExitCode::from(status),
     };
-    let words: Result<Vec<&str>, _> = texts.iter().map(|text| text.as_str()).collect(rt.alloc());
-    let Ok(words) = words else {
-        return ExitCode::from(no_memory(&mut ToWrite::new(&mut errors)));
-    };
+    let mut words = Vec::new(rt.alloc());
+    for text in texts.as_slice() {
+        if words.push(text.as_str()).is_err() {
+            return ExitCode::from(no_memory(&mut ToWrite::new(&mut errors)));
+        }
+    }
     let mut writer = Noting {
         inner: io::writer(&rt),
         failure: None,

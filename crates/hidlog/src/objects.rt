@@ -5,9 +5,7 @@ use crate::finding::Finding;
 use crate::sides::members_of;
 use crate::wish::Wish;
 use session_log::ToWrite;
-use session_show::{
-    Pen, Written, put_json_fault, write_hex, write_number, write_string, write_word,
-};
+use session_show::{Pen, Written, put_json_fault, write_hex, write_string, write_text};
 
 /// What the object of a log's fault begins with.
 const FAULT: &[u8] = b"{\"kind\":\"fault\"";
@@ -29,7 +27,7 @@ pub fn write_difference(pen: &mut Pen, finding: &Finding<'_>) {
             b",\"transaction\":%d,\"channel\":\"%w\"",
             &[Some(transaction.line), Some(u64::from(transaction.channel))],
         );
-        write_word(pen, "name", Some(transaction.name()));
+        write_string(pen, "name", Some(transaction.name()));
     }
     if let Some(packet) = &difference.logged {
         write_hex(pen, "logged", &packet.0);
@@ -38,7 +36,7 @@ pub fn write_difference(pen: &mut Pen, finding: &Finding<'_>) {
         write_hex(pen, "sent", &packet.0);
     }
     if let Some((at, _, _)) = difference.byte() {
-        write_number(pen, "byte", Some(at as u64));
+        pen.form(b",\"byte\":%d", &[Some(at as u64)]);
         write_members(pen, &members_of(&texts.logged, &texts.sent));
     }
     if let Ok(reason) = std::str::from_utf8(&texts.reason)
@@ -46,7 +44,7 @@ pub fn write_difference(pen: &mut Pen, finding: &Finding<'_>) {
     {
         write_string(pen, "reason", Some(reason.trim()));
     }
-    write_word(pen, "hint", finding.hint());
+    write_string(pen, "hint", finding.hint());
     pen.text("}\n");
 }
 
@@ -55,26 +53,16 @@ fn write_members(pen: &mut Pen, names: &[&[u8]]) {
     let mut front: &[u8] = b",\"members\":[";
     let mut end: &[u8] = b"";
     for name in names {
-        if !name.is_empty() {
+        if let Ok(name) = std::str::from_utf8(name)
+            && !name.is_empty()
+        {
             pen.bytes(front);
-            write_name(pen, name);
+            write_text(pen, name, true);
             front = b",";
             end = b"]";
         }
     }
     pen.bytes(end);
-}
-
-/// Writes a name, in which what can't be seen is escaped already.
-fn write_name(pen: &mut Pen, name: &[u8]) {
-    pen.text("\"");
-    for byte in name {
-        if matches!(*byte, b'"' | b'\\') {
-            pen.text("\\");
-        }
-        pen.bytes(&[*byte]);
-    }
-    pen.text("\"");
 }
 
 /// What is wrong with a log, as an object.

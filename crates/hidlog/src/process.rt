@@ -5,10 +5,8 @@ ghost use Rattle.hidlog.specs.Program.{IsGiven, IsTold, no_memory as no_memory_t
 use crate::fault::FaultReason;
 use session_log::{Target, put_all};
 use session_show::{Pen, Wording, Written, put_written};
-use std::alloc::AllocGlobal;
 use std::env;
 use std::io::ErrorKind;
-use std::rt::Env;
 
 /// The text of a write that failed.
 pub const WRITING_FAILED: &[u8] = b"hidlog: writing failed\n";
@@ -58,7 +56,7 @@ pub fn no_memory<E: Target>(faults: &mut E) -> u8
 
 /// Returns the program's arguments, the first of them its name. Where one isn't UTF-8, or memory is refused, that is
 /// written, and an error holds the exit status, 2.
-pub fn words_of<R: Env + AllocGlobal, E: Target>(rt: &R, faults: &mut E) -> Result<Vec<String>, u8>
+pub fn words_of<E: Target>(rt: &HostRuntime, faults: &mut E) -> Result<Vec<String>, u8>
     requires { E.failed faults.old < 2 ^ 64 - 1 }
     ensures silent { OnOk result (faults.new ≡ faults.old) }
     ensures status { IfErr result (λ code. code ≡ 2) }

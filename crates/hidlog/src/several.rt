@@ -1,7 +1,5 @@
 //! Several logs that are compared, one after the other.
-ghost use Rattle.std.specs.Prelude.{◌≡◌, ◌<◌, ◌-◌, ◌^◌, ◌⊎◌, [], IfErr, OnOk};
-ghost use Rattle.session_log.specs.Command.{start_with};
-ghost use Rattle.token_session.specs.Meters.{session_of};
+ghost use Rattle.std.specs.Prelude.{◌≡◌, ◌<◌, ◌-◌, ◌^◌, ◌⊎◌, IfErr, OnOk};
 ghost use Rattle.hidlog.specs.CommandLine.{path_of, texts_of};
 ghost use Rattle.hidlog.specs.Commands.{Compares};
 ghost use Rattle.hidlog.specs.Model.{CanFail};
@@ -22,9 +20,8 @@ use crate::remarks::{ComparisonEnd, Notes};
 use crate::snapshots::load;
 use crate::texts::{EscapedLines, StreamFailure};
 use crate::wish::{FaultLine, Wish};
-use session_log::{CAPACITY, LogCommand, LogFault, Target, ToWrite};
+use session_log::{LogCommand, LogFault, Target, ToWrite};
 use session_show::{Pen, Written};
-use token_session::Session;
 
 /// The most bytes of a log that is read once more to see whether what was signed is what the key asks for.
 const READ_AGAIN_AT_MOST: u64 = 1 << 26;
@@ -126,24 +123,7 @@ impl<D: Files, L: Logs, O: Output, E: Target> Host<D, L, O, E> {
         ensures same { OnOk result (IsSameAt ⟦<Self as Modeled>⟧.model (path_of wish.now.load) self.old.files path.now
             (self.old.input, self.new.input)) }
     {
-        self.compare_on(&mut fresh(), wish, path, same)
-    }
-
-    /// Compares the log at a path on a session, as [`Host::compare`] does.
-    #[inline(never)]
-    fn compare_on<'a>(
-        &mut self,
-        session: &mut Session<CAPACITY>,
-        wish: &Wish<'a>,
-        path: &'a str,
-        same: &mut Vec<u8>,
-    ) -> Result<ComparisonEnd, ProgramFault<'a>>
-        requires fresh { session.old ≡ session_of (start_with []) [] }
-        requires reads { L.failed self.old.input < 2 ^ 64 - 1 }
-        ensures only { self.new ≡ record self.old { input = self.new.input } }
-        ensures same { OnOk result (IsSameAt ⟦<Self as Modeled>⟧.model (path_of wish.now.load) self.old.files path.now
-            (self.old.input, self.new.input)) }
-    {
+        let session = &mut fresh();
         if path == "-"
             && let Err(error) = self.input.open(None)
         {

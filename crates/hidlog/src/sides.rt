@@ -161,10 +161,11 @@ pub fn members_of<'a>(logged: &'a [u8], sent: &[u8]) -> [&'a [u8]; LEVELS] {
 }
 
 /// Writes the names of members, that of the innermost first.
-fn write_path(pen: &mut Pen, names: &[&[u8]]) {
+fn write_path(pen: &mut Pen, names: &[&[u8]; LEVELS]) {
     let mut front: &[u8] = b"  the messages differ first in ";
     let mut end: &[u8] = b"";
-    for name in names.iter().rev() {
+    for level in 0..LEVELS {
+        let name = names[LEVELS - 1 - level];
         if !name.is_empty() {
             pen.bytes(front);
             pen.bytes(name);

@@ -24,13 +24,13 @@ static FLAGS: Flags = &[
 
 /// Writes lines for what authenticator data hold, as far as the bytes reach.
 pub fn write_authenticator_data(pen: &mut Pen, number: u64, bytes: &[u8], rp_id: &[u8]) {
-    let Some((hash, rest)) = bytes.split_first_chunk::<32>() else {
+    let Some((hash, rest)) = bytes.split_at_checked(32) else {
         return;
     };
     pen.form(b"%d       rpIdHash ", &[Some(number)]);
-    pen.hex(hash.as_slice());
+    pen.hex(hash);
     if !rp_id.is_empty() {
-        let is_its = hash.as_slice() == Sha256::digest(rp_id).as_slice();
+        let is_its = hash == Sha256::digest(rp_id).as_slice();
         pen.text(if is_its { "  " } else { "  not that of " });
         write_escaped(pen, rp_id);
     }

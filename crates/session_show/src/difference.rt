@@ -126,10 +126,13 @@ impl PlayedLog {
                 }
                 self.signed.end();
                 self.signed.len = 0;
-                self.reply = match (self.awaited, Awaited::in_input(&timed.input)) {
-                    (Some(awaited), Some(reply)) if awaited as u8 == reply as u8 => None,
-                    (_, reply) => reply,
-                };
+                self.reply = Awaited::in_input(&timed.input);
+                if let Some(awaited) = self.awaited
+                    && let Some(reply) = self.reply
+                    && awaited as u8 == reply as u8
+                {
+                    self.reply = None;
+                }
                 self.at = timed.at;
                 self.now = self.now.max(timed.at);
                 session.step(timed.at, timed.input, &mut self.outbox);

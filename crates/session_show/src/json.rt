@@ -10,25 +10,7 @@ fn begin_member(pen: &mut Pen, name: &str) {
     pen.text("\":");
 }
 
-/// Writes a member that is a number, where there is one.
-pub fn write_number(pen: &mut Pen, name: &str, number: Option<u64>) {
-    if let Some(number) = number {
-        begin_member(pen, name);
-        pen.decimal(number);
-    }
-}
-
-/// Writes a member that is a word of ours, without anything to escape.
-pub fn write_word(pen: &mut Pen, name: &str, word: Option<&str>) {
-    if let Some(word) = word {
-        begin_member(pen, name);
-        pen.text("\"");
-        pen.text(word);
-        pen.text("\"");
-    }
-}
-
-/// Writes a member that is a text of other people.
+/// Writes a member that is a text.
 pub fn write_string(pen: &mut Pen, name: &str, text: Option<&str>) {
     if let Some(text) = text {
         begin_member(pen, name);

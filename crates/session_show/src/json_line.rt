@@ -3,7 +3,7 @@
 use crate::ends::forms_of_end;
 use crate::entry::{forms_of, forms_of_message, map_of};
 use crate::item::{Diagnostic, JSON, write_value};
-use crate::json::{write_hex, write_string, write_word};
+use crate::json::{write_hex, write_string};
 use crate::pen::{Pen, front};
 use crate::putting::Written;
 use ctap_cbor::{Cursor, check};
@@ -131,7 +131,7 @@ pub fn write_transaction(pen: &mut Pen, number: u64, ended: &Ended) {
             Some(u64::from(transaction.channel)),
         ],
     );
-    write_word(pen, "name", Some(transaction.name()));
+    write_string(pen, "name", Some(transaction.name()));
     write_string(pen, "rpId", exchange.named.rp_id.text());
     let (forms, one, two) = forms_of_end(ended);
     pen.form(forms.json, &[one, two]);

@@ -30,8 +30,8 @@ mod words;
 
 pub use difference::{Comparison, Difference};
 pub use escape::{is_hidden, write_escaped};
-pub use item::show_item;
-pub use json::{write_hex, write_number, write_string, write_word};
+pub use item::{show_item, write_text};
+pub use json::{write_hex, write_string};
 pub use json_fault::put_json_fault;
 pub use log_writer::{LogForm, LogWriter, write_log};
 pub use pen::Pen;

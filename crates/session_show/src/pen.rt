@@ -130,12 +130,6 @@ impl Pen {
         self.text(buffer.format(number));
     }
 
-    /// Writes a text, and a number in decimal digits after it.
-    pub fn number_after(&mut self, text: &str, number: u64) {
-        self.text(text);
-        self.decimal(number);
-    }
-
     /// Writes a form: a text with a mark where a number goes, which is `%` and a letter (see `mark`). Where there is no
     /// number or no name, the text in front of the mark ends at its last comma.
     pub fn form(&mut self, form: &[u8], numbers: &[Option<u64>]) {

@@ -5,17 +5,19 @@ use session_walk::{COMMANDS, MESSAGES, Names, name_in};
 
 /// Returns the name of a number that a form asks for by a letter (`Pen::form`).
 pub fn name_at(mark: u8, number: u64) -> Option<&'static str> {
-    let number = i128::from(number);
-    match mark {
-        b'S' | b'a' => name_in(STATUSES, number),
-        b's' => Some(name_in(STATUSES, number).unwrap_or("status")),
-        b'E' => name_in(ERRORS, number),
-        b'e' => Some(name_in(ERRORS, number).unwrap_or("ERROR")),
-        b'C' | b'c' => name_in(COMMANDS, number),
-        b'M' | b'm' => name_in(MESSAGES, number),
-        b'K' => name_in(KEEPALIVES, number),
-        b'f' => name_in(FAULTS, number),
-        _ => None,
+    let names = match mark {
+        b'S' | b'a' | b's' => STATUSES,
+        b'E' | b'e' => ERRORS,
+        b'C' | b'c' => COMMANDS,
+        b'M' | b'm' => MESSAGES,
+        b'K' => KEEPALIVES,
+        b'f' => FAULTS,
+        _ => return None,
+    };
+    match name_in(names, i128::from(number)) {
+        None if mark == b's' => Some("status"),
+        None if mark == b'e' => Some("ERROR"),
+        name => name,
     }
 }
 

@@ -1,6 +1,6 @@
 use Rattle.std.proofs.Common.{[], inl, inr, refl}
 use Rattle.session_log.specs.Command.{start_with}
-use Rattle.hidlog.proofs.host.Host.play_on.Goals as goal
+use Rattle.hidlog.proofs.host.Host.play_log.Goals as goal
 
 pub returns-in-Err-load : goal.returns-in-Err-load
 returns-in-Err-load g c =
