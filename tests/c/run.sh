@@ -60,14 +60,15 @@ show_owners() {
 }
 
 # Compares which message each packet is of with the log's own packets, where none is stray: an initialization packet
-# begins one on its channel, in its direction, and those of continuation are of the last one there: show_messages LOG
+# begins one on its channel, in its direction, and those of continuation are of the last one there:
+# show_messages LOG [WORD ..]
 show_messages() {
     awk '
         { packet = $1 == ">" ? $3 : $2; at = $1 substr(packet, 1, 8) }
         $1 ~ /^[<>]$/ && substr(packet, 9, 1) ~ /[89a-f]/ { begun[at] = NR }
         $1 ~ /^[<>]$/ { print NR, begun[at] }
         $1 ~ /^[tpks]$/ { print NR, 0 }' "$1" >"$room/shown"
-    "$room/show" transactions <"$1" | cut -d" " -f1,3 >"$room/held"
+    "${@:2}" "$room/show" transactions <"$1" | cut -d" " -f1,3 >"$room/held"
     cmp -s "$room/shown" "$room/held" || stop "the messages of packets differ at $1"
 }
 
@@ -102,7 +103,7 @@ show_logs() {
         show_log "$room/front" "$@"
     done
     for log in "$top"/examples/{registration,sign_in}.log; do
-        show_messages "$log"
+        show_messages "$log" "$@"
     done
     [ "$shown" -ge 300 ] || stop "only $shown logs were shown"
     echo "tests/c: $((shown / 2)) logs shown as the program shows them, in both forms, and their transactions"

@@ -63,10 +63,10 @@ const [ONE, TWO] = ["00000001", "00000002"];
 
 // Sessions of keys that do what ours doesn't, with what the rules say of them, by hand.
 const OTHERS = {
-    "a KEEPALIVE is of the request that has the channel so far, and of two it isn't known which one is answered": [
+    "of two requests on a channel it isn't known which one a KEEPALIVE and an answer are of": [
         [host(0, ONE, CBOR, [4]), key(ONE, KEEPALIVE, [1]), host(5, ONE, CBOR, [4]), key(ONE, KEEPALIVE, [1]),
             key(ONE, CBOR, [0])],
-        [1, 1, 3, 1, 0], ["1 unknown by 5", "3 unknown by 5"],
+        [1, 1, 3, 0, 0], ["1 unknown by 5", "3 unknown by 5"],
     ],
     "of two requests that wait none has the user's reply": [
         [host(0, ONE, CBOR, [4]), host(1, TWO, CBOR, [4]), "p 2 granted", key(ONE, CBOR, [0]), "p 3 granted",
