@@ -15,21 +15,17 @@ message of their channel, and a message that was dropped so may be said to be op
 
 from __future__ import annotations
 
-import argparse
 import collections
 import json
-import os
 import random
 import subprocess
 import sys
 from dataclasses import dataclass
-from pathlib import Path
 from typing import Optional
 
 sys.dont_write_bytecode = True
-TOP = Path(__file__).resolve().parents[2]
 
-import executors
+from judging import judge_all
 
 PING, MSG, INIT, WINK, CBOR, CANCEL, KEEPALIVE, ERROR = 0x01, 0x03, 0x06, 0x08, 0x10, 0x11, 0x3B, 0x3F
 BROADCAST, LONGEST = 0xFFFFFFFF, 7609
@@ -412,27 +408,12 @@ def judge(task: tuple[str, str, int]) -> tuple[int, Optional[str], int]:
 
 
 def main() -> int:
-    parser = argparse.ArgumentParser(description=__doc__.split("\n", maxsplit=1)[0])
-    parser.add_argument("--seed", default="1")
-    parser.add_argument("--count", type=int, default=1000)
-    parser.add_argument("--only", type=int, help="the log of this number alone, which is printed")
-    parser.add_argument("--jobs", type=int, default=2)
-    parser.add_argument("--executor", default="", metavar="dask://HOST:PORT", help="a Dask scheduler's workers judge")
-    parser.add_argument("--program", default=os.path.join(TOP, "release", "hidlog"))
-    asked = parser.parse_args()
-    numbers = range(asked.count) if asked.only is None else [asked.only]
-    if asked.only is not None:
-        print("\n".join(play(random.Random(f"{asked.seed}/{asked.only}")).lines))
-    found = told = 0
-    with executors.playing(asked.executor, asked.jobs) as played:
-        for number, finding, count in played(judge, [(asked.program, asked.seed, it) for it in numbers]):
-            told += count
-            if finding:
-                found += 1
-                if found <= 20:
-                    print(f"log {number}: {finding}")
-    print(f"{len(numbers)} logs, {told} packets and messages told apart, {found} logs of which something wrong is said")
-    return 1 if found else 0
+    return judge_all(
+        __doc__ or "",
+        judge,
+        "{} logs, {} packets and messages told apart, {} logs of which something wrong is said",
+        lambda seed, number: play(random.Random(f"{seed}/{number}")).lines,
+    )
 
 
 if __name__ == "__main__":

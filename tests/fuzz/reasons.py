@@ -9,9 +9,7 @@ steps the inputs that are left; what it needs of its caller is what `live` write
 
 from __future__ import annotations
 
-import argparse
 import json
-import os
 import random
 import subprocess
 import sys
@@ -19,8 +17,8 @@ from typing import Any, Iterator, Optional
 
 sys.dont_write_bytecode = True
 
-import executors
-from transactions import CBOR, ERROR, EXCLUDED, KEEPALIVE, TOP, Hosts, Machine, needs_in
+from judging import judge_all
+from transactions import CBOR, ERROR, EXCLUDED, KEEPALIVE, Hosts, Machine, needs_in
 
 BUSY = 0x06
 NEEDS = {b"presence": "the user's presence", b"key": "a new key", b"signature": "a signature"}
@@ -107,25 +105,7 @@ def judge(task: tuple[str, str, int]) -> tuple[int, Optional[str], int]:
 
 
 def main() -> int:
-    parser = argparse.ArgumentParser(description=__doc__.split("\n", maxsplit=1)[0])
-    parser.add_argument("--seed", default="1")
-    parser.add_argument("--count", type=int, default=1000)
-    parser.add_argument("--only", type=int)
-    parser.add_argument("--jobs", type=int, default=2)
-    parser.add_argument("--executor", default="", metavar="dask://HOST:PORT", help="a Dask scheduler's workers judge")
-    parser.add_argument("--program", default=os.path.join(TOP, "release", "hidlog"))
-    asked = parser.parse_args()
-    numbers = range(asked.count) if asked.only is None else [asked.only]
-    found = reasons = 0
-    with executors.playing(asked.executor, asked.jobs) as played:
-        for number, finding, count in played(judge, [(asked.program, asked.seed, it) for it in numbers]):
-            reasons += count
-            if finding:
-                found += 1
-                if found <= 20:
-                    print(f"log {number}: {finding}")
-    print(f"{len(numbers)} logs, {reasons} reasons, {found} wrong ones")
-    return 1 if found else 0
+    return judge_all(__doc__ or "", judge, "{} logs, {} reasons, {} wrong ones")
 
 
 if __name__ == "__main__":

@@ -11,7 +11,6 @@ stops where the log has a packet that the rules don't have. Which reply the key 
 
 from __future__ import annotations
 
-import argparse
 import collections
 import dataclasses
 import json
@@ -25,9 +24,9 @@ sys.dont_write_bytecode = True
 TOP = os.path.realpath(os.path.join(os.path.dirname(os.path.abspath(__file__)), "..", ".."))
 sys.path.insert(0, os.path.join(TOP, "conformance"))
 
-import executors
 from hidlog_conformance import ctap_cbor
 from hostile import MAKE, RESET, Maker, encode
+from judging import judge_all
 
 PING, INIT, CBOR, CANCEL, KEEPALIVE, ERROR = 0x01, 0x06, 0x10, 0x11, 0x3B, 0x3F
 BROADCAST, LONGEST = 0xFFFFFFFF, 7609
@@ -435,25 +434,7 @@ def judge(task: tuple[str, str, int]) -> tuple[int, Optional[str], int]:
 
 
 def main() -> int:
-    parser = argparse.ArgumentParser(description=__doc__.split("\n", maxsplit=1)[0])
-    parser.add_argument("--seed", default="1")
-    parser.add_argument("--count", type=int, default=1000)
-    parser.add_argument("--only", type=int)
-    parser.add_argument("--jobs", type=int, default=2)
-    parser.add_argument("--executor", default="", metavar="dask://HOST:PORT", help="a Dask scheduler's workers judge")
-    parser.add_argument("--program", default=os.path.join(TOP, "release", "hidlog"))
-    asked = parser.parse_args()
-    numbers = range(asked.count) if asked.only is None else [asked.only]
-    found = transactions = 0
-    with executors.playing(asked.executor, asked.jobs) as played:
-        for number, finding, count in played(judge, [(asked.program, asked.seed, it) for it in numbers]):
-            transactions += count
-            if finding:
-                found += 1
-                if found <= 20:
-                    print(f"log {number}: {finding}")
-    print(f"{len(numbers)} logs, {transactions} transactions, {found} logs of which something wrong is said")
-    return 1 if found else 0
+    return judge_all(__doc__ or "", judge, "{} logs, {} transactions, {} logs of which something wrong is said")
 
 
 if __name__ == "__main__":
