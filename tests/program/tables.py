@@ -118,7 +118,7 @@ CTAPHID = {
 
 # Texts with the characters at both ends of each range that is escaped, as bytes of CBOR, between those beside them that
 # aren't: control characters, line breaks, Unicode's Default_Ignorable_Code_Point (DerivedCoreProperties.txt), U+2800, and
-# U+FFF9 to U+FFFB, which stand for what is beside a text.
+# U+FFF9 to U+FFFB, which mark what is beside a text.
 HIDDEN = """\
 66c280c29fc2a0 \\u0080\\u009f\u00a0
 66c2acc2adc2ae \u00ac\\u00ad\u00ae
