@@ -18,8 +18,20 @@ python=/usr/bin/python3
     { echo "locust, flask or fido2 is missing (apt-get install python3-locust python3-flask python3-fido2)" >&2 && exit 3; }
 work=$(mktemp -d)
 started=()
+# Waits for these processes, for ten seconds at most. What is left of them then is killed, as one that was stopped.
+await() {
+    local tenths
+    for ((tenths = 0; tenths < 100; tenths++)); do
+        kill -0 "$@" 2>/dev/null || return 0
+        sleep 0.1
+    done
+    kill -KILL "$@" 2>/dev/null || true
+}
 end() {
-    [ ${#started[@]} = 0 ] || kill "${started[@]}" 2>/dev/null || true
+    if [ ${#started[@]} -gt 0 ]; then
+        kill "${started[@]}" 2>/dev/null || true
+        await "${started[@]}"
+    fi
     wait
     rm -rf "$work"
 }
@@ -52,6 +64,8 @@ load() {
     "${words[@]}" --master --master-bind-port "$master" --headless --expect-workers "$workers" --host "http://localhost:$port" \
         --users "$users" --spawn-rate "$users" --run-time "${seconds}s" --only-summary --csv "$work/$1" >"$work/said" 2>&1 ||
         { [ -n "${HIDLOG_KILL-}" ] || { cat "$work/said" "$work"/worker* && return 1; }; }
+    # Workers end with their master.
+    await "${ran[@]}"
     wait "${ran[@]}" 2>/dev/null || true
     echo "$1: the service has taken $(ps -o cputimes= -p "$service" --ppid "$service" | awk '{ sum += $1 } END { print sum }') s of the processor so far"
     "$python" "$here/figures.py" "$1" "$work/$1_stats.csv" "${@:2}"
