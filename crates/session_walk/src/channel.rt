@@ -3,8 +3,9 @@
 
 use crate::awaited::Awaited;
 use crate::entry::Role;
-use crate::exchange::{End, EndedTransactions, Extent, Followed, Named, Transaction};
+use crate::exchange::{End, EndedTransactions, Extent, Followed, Named, Transaction, is_served};
 use crate::rp_id::RpId;
+use crate::walk::NEXT;
 use arrayvec::ArrayVec;
 use hid_packet::command::INIT;
 use hid_packet::{CONTINUATION_DATA, LONGEST_MESSAGE};
@@ -165,7 +166,7 @@ impl Channel {
     /// Takes the initialization packet of a message that isn't CANCEL, with what it carries. An INIT changes nothing
     /// else before it is answered (section 11.2.9.1.3). Where another message holds the channel, it isn't known yet
     /// which of them goes on.
-    pub fn begin(&mut self, begun: Followed, part: &[u8], ends: &mut EndedTransactions) {
+    pub fn begin(&mut self, mut begun: Followed, part: &[u8], ends: &mut EndedTransactions) {
         self.is_stray = false;
         self.settle(false, ends);
         self.is_greeted = begun.transaction.message == INIT;
@@ -185,8 +186,8 @@ impl Channel {
         match &self.held {
             None => self.held = Some(begun),
             Some(held) => {
-                let after = begun.at.saturating_sub(held.at);
-                self.asked = Some(Followed { after, ..begun });
+                begun.after = begun.at.saturating_sub(held.at);
+                self.asked = Some(begun);
                 self.since = 0;
             }
         }
@@ -197,24 +198,23 @@ impl Channel {
     /// known which one is served.
     pub fn cancel(&mut self, line: u64) -> (Option<Transaction>, Role) {
         self.is_stray = true;
-        let is_held = matches!(&self.held, Some(held) if held.is_served());
-        let is_asked = matches!(&self.asked, Some(asked) if asked.is_served());
+        let is_held = is_served(&self.held);
+        let is_asked = is_served(&self.asked);
         if is_held && is_asked {
             self.is_contested = true;
             return (None, Role::Own);
         }
-        let message = if is_asked {
-            &mut self.asked
-        } else {
-            &mut self.held
-        };
-        match message {
-            Some(served) if served.is_served() => {
-                served.cancelled = Some(line);
-                (Some(served.transaction), Role::Own)
-            }
-            _ => (None, Role::Cancel),
+        if is_asked && let Some(mut asked) = self.asked {
+            asked.cancelled = Some(line);
+            self.asked = Some(asked);
+            return (Some(asked.transaction), Role::Own);
         }
+        if is_held && let Some(mut held) = self.held {
+            held.cancelled = Some(line);
+            self.held = Some(held);
+            return (Some(held.transaction), Role::Own);
+        }
+        (None, Role::Cancel)
     }
 
     /// Returns whether it isn't known which message a packet of the device is for, behind the input of this line: of
@@ -229,9 +229,7 @@ impl Channel {
     /// Ends what is held and what was asked, since a packet may be for either: whether it was answered isn't known.
     pub fn lose(&mut self, ends: &mut EndedTransactions) {
         self.settle(false, ends);
-        if let Some(held) = self.held.take() {
-            ends.add(held, End::Unknown);
-        }
+        self.end_held(End::Unknown, ends);
         self.is_contested = false;
     }
 
@@ -253,34 +251,47 @@ impl Channel {
         continuation
     }
 
-    /// Keeps what the open request that began at a line names.
-    pub fn name(&mut self, line: u64, named: &Named) {
-        if let Some(held) = &mut self.held
-            && held.transaction.line == line
+    /// Keeps what an open request names. authenticatorGetNextAssertion asks for what authenticatorGetAssertion did.
+    pub fn name(&mut self, of: &Transaction, mut named: Named) {
+        if of.command.unwrap_or(0) == NEXT {
+            named.rp_id = self.asserted;
+        }
+        if let Some(mut held) = self.held
+            && held.transaction.line == of.line
         {
-            held.named = *named;
+            held.named = named;
+            self.held = Some(held);
             return;
         }
-        if let Some(asked) = &mut self.asked
-            && asked.transaction.line == line
+        if let Some(mut asked) = self.asked
+            && asked.transaction.line == of.line
         {
-            asked.named = *named;
+            asked.named = named;
+            self.asked = Some(asked);
         }
     }
 
     /// Takes a reply at a moment, and returns the request that waited for it, and what it is where none did. Without a
     /// KEEPALIVE it isn't known what is waited for, and of two messages not which of them is served.
     pub fn reply(&mut self, reply: Awaited, now: u64) -> (Option<Transaction>, Role) {
-        let Some(held) = &mut self.held else {
+        let Some(mut held) = self.held else {
             return (None, Role::Reply);
         };
-        match held.awaited {
-            None if self.asked.is_some() => return (None, Role::Own),
-            None => {}
-            Some(awaited) if awaited as u8 != reply as u8 => return (None, Role::Reply),
-            Some(Awaited::Presence) => held.took = Some(now.saturating_sub(held.at)),
-            Some(_) => held.awaited = Some(Awaited::Signature),
+        let Some(awaited) = held.awaited else {
+            if self.asked.is_some() {
+                return (None, Role::Own);
+            }
+            return (Some(held.transaction), Role::Own);
+        };
+        if awaited as u8 != reply as u8 {
+            return (None, Role::Reply);
         }
+        if matches!(awaited, Awaited::Presence) {
+            held.took = Some(now.saturating_sub(held.at));
+        } else {
+            held.awaited = Some(Awaited::Signature);
+        }
+        self.held = Some(held);
         (Some(held.transaction), Role::Own)
     }
 
@@ -289,57 +300,49 @@ impl Channel {
     /// Lets what was asked have the channel, as a packet of the device shows, or since it wasn't refused before the
     /// next message began.
     pub fn settle(&mut self, is_shown: bool, ends: &mut EndedTransactions) {
-        let Some(mut asked) = self.asked.take() else {
+        let Some(mut asked) = self.asked else {
             return;
         };
-        if let Some(mut held) = self.held.take() {
+        self.asked = None;
+        if let Some(mut held) = self.held {
             if asked.is_served() {
                 asked.keepalives = self.since;
                 held.keepalives = held.keepalives.saturating_sub(self.since);
             }
             self.is_contested = !is_shown && (self.is_contested || held.is_served());
-            let end = match held.cancelled {
-                _ if !is_shown => End::Unknown,
-                Some(line) => End::Dropped(line),
-                None => End::Replaced(asked.transaction.line),
+            let end = if !is_shown {
+                End::Unknown
+            } else if let Some(line) = held.cancelled {
+                End::Dropped(line)
+            } else {
+                End::Replaced(asked.transaction.line)
             };
             ends.add(held, end);
         }
         self.held = Some(asked);
     }
 
-    /// Takes what held the channel, of which the end is known.
-    pub fn free(&mut self, ends: &mut EndedTransactions) -> Option<Followed> {
-        let held = self.held.take();
-        self.settle(true, ends);
-        held
+    /// Ends what held the channel, and returns its transaction. What was asked has the channel then.
+    pub fn end_held(&mut self, end: End, ends: &mut EndedTransactions) -> Option<Transaction> {
+        let Some(held) = self.held else {
+            return None;
+        };
+        self.held = self.asked;
+        self.asked = None;
+        ends.add(held, end);
+        Some(held.transaction)
     }
 
     /// Takes the greeting at a place, where there is one.
     pub fn take_greeting(&mut self, place: usize) -> Option<Followed> {
-        if place >= self.greetings.len() {
+        let Some(greeting) = self.greetings.pop_at(place) else {
             return None;
-        }
-        if place + 1 == self.greetings.len() {
+        };
+        // Those behind it moved forward.
+        if place == self.greetings.len() {
             self.is_greeted = false;
         }
-        let greeting = self.greetings.remove(place);
         Some(greeting.on(self.number))
-    }
-
-    /// Ends the transaction of the device's last message, if packets of that are missing. Returns the line that the
-    /// message began at, 0 where there was none.
-    pub fn cut(&mut self, ends: &mut EndedTransactions) -> u64 {
-        if self.is_answering()
-            && let Some(exchange) = self.told.exchange
-        {
-            ends.add(exchange, End::Cut(self.told.extent));
-        }
-        let line = self.told.line;
-        self.told.line = 0;
-        self.told.extent = Extent::default();
-        self.told.exchange = None;
-        line
     }
 }
 

@@ -1,9 +1,14 @@
 //! The credentials that the answers of a log make: which of them a request's excludeList names.
 ghost use Rattle.std.specs.Prelude.{◌<◌};
 
-use crate::exchange::Named;
+use crate::channel::DeviceMessage;
+use crate::device::OK;
+use crate::exchange::{Named, Transaction};
 use crate::pairs::{item_at, next_value, value_at};
-use ctap_cbor::{Cursor, Item};
+use crate::pool::Pool;
+use crate::rp_id::RpId;
+use crate::walk::{MAKE, RESET};
+use ctap_cbor::{Cursor, Item, check};
 use sha2::{Digest, Sha256};
 
 /// The flag of authenticator data that says that a credential follows.
@@ -56,57 +61,67 @@ impl Credentials {
         }
     }
 
+    /// Takes an answer that ends at a line: keeps the credential that it made, or forgets all at a reset.
+    pub fn learn(&mut self, answer: &DeviceMessage, line: u64, bytes: &[u8]) {
+        let (Some(exchange), [OK, item @ ..]) = (&answer.exchange, bytes) else {
+            return;
+        };
+        let command = exchange.transaction.command.unwrap_or(0);
+        if command == RESET {
+            *self = Credentials::new();
+        } else if command == MAKE && check(item).result.is_ok() {
+            self.add(line, item, exchange.named.account);
+        }
+    }
+
     /// Keeps the credential that an answer made, which ends at a line: its item follows the status. A discoverable one
     /// takes the place of that of the same account (CTAP 2.1, section 6.1.2).
-    pub fn add(&mut self, line: u64, item: &[u8], account: Option<Name>) {
+    fn add(&mut self, line: u64, item: &[u8], account: Option<Name>) {
         let Some(Item::Bytes(data)) = item_at(item, Item::Int(2)) else {
             return;
         };
-        // The hash of the relying party is in front (WebAuthn, section 6.1).
-        let Some((relying_party, [flags, rest @ ..])) = data.split_at_checked(32) else {
+        // The hash of the relying party, the flags, the counter and the AAGUID are in front of the id's length
+        // (WebAuthn, section 6.1).
+        if data.len() < 55 || data[32] & CREDENTIAL == 0 {
+            return;
+        }
+        let length = usize::from(u16::from_be_bytes([data[53], data[54]]));
+        let Some(id) = data[55..].get(..length) else {
             return;
         };
-        // The counter and the AAGUID have 20 bytes.
-        let Some((_, [high, low, rest @ ..])) = rest.split_at_checked(20) else {
-            return;
+        let made = Made {
+            line,
+            name: name_of(data.split_at(32).0, id),
+            account,
         };
-        let length = usize::from(u16::from_be_bytes([*high, *low]));
-        if let Some((id, _)) = rest.split_at_checked(length)
-            && flags & CREDENTIAL != 0
-        {
-            let name = name_of(relying_party, id);
-            let made = Made {
-                line,
-                name,
-                account,
-            };
-            match self.of_account(account) {
-                Some(replaced) => *replaced = made,
-                None => {
-                    self.made[self.count % CREDENTIALS] = made;
-                    self.count = self.count.wrapping_add(1);
+        if let Some(account) = account {
+            for place in 0..CREDENTIALS {
+                if let Some(own) = self.made[place].account
+                    && own == account
+                {
+                    self.made[place] = made;
+                    return;
                 }
             }
         }
+        self.made[self.count % CREDENTIALS] = made;
+        self.count = self.count.wrapping_add(1);
     }
 
-    /// Returns the discoverable credential of an account.
-    fn of_account(&mut self, account: Option<Name>) -> Option<&mut Made> {
-        let Some(account) = account else {
-            return None;
+    /// Returns what a whole request names, if its item is canonical.
+    pub fn named_in(&self, of: &Transaction, pool: &Pool) -> Named {
+        let mut named = Named::default();
+        let Some([_, item @ ..]) = pool.bytes(of.line) else {
+            return named;
         };
-        for made in self.made.as_mut_slice() {
-            if let Some(own) = made.account
-                && own == account
-            {
-                return Some(made);
-            }
+        if check(item).result.is_err() {
+            return named;
         }
-        None
-    }
-
-    /// Finds what the request for a credential names besides its RP id.
-    pub fn name_in(&self, item: &[u8], named: &mut Named) {
+        let command = of.command.unwrap_or(0);
+        named.rp_id = RpId::of_request(command, item);
+        if command != MAKE || named.rp_id.bytes().is_empty() {
+            return named;
+        }
         let relying_party = Sha256::digest(named.rp_id.bytes());
         named.excluded = self.excluded_in(relying_party.as_slice(), item);
         if let Some(options) = value_at(item, Item::Int(7))
@@ -116,6 +131,7 @@ impl Credentials {
         {
             named.account = Some(name_of(relying_party.as_slice(), id));
         }
+        named
     }
 
     /// Returns which entry of a request's excludeList was made last, where the log made one of them.
@@ -153,7 +169,8 @@ impl Credentials {
         };
         let name = name_of(relying_party, id);
         let mut line = 0;
-        for made in self.made.as_slice() {
+        for place in 0..CREDENTIALS {
+            let made = &self.made[place];
             if made.line > line && made.name == name {
                 line = made.line;
             }

@@ -2,10 +2,11 @@
 
 use crate::awaited::Awaited;
 use crate::channel::{Channel, DeviceMessage, nonce_in};
-use crate::exchange::{End, EndedTransactions, Extent, Followed, Transaction};
+use crate::entry::Role;
+use crate::exchange::{End, EndedTransactions, Extent, Followed, Transaction, is_served};
 use crate::walk::{Doubtful, MAKE};
 use hid_packet::BROADCAST;
-use hid_packet::command::{CBOR, INIT};
+use hid_packet::command::{ERROR, INIT, KEEPALIVE};
 
 /// The codes of ERROR (CTAP 2.1, section 11.2.9.1.6).
 const INVALID_COMMAND: u8 = 0x01;
@@ -26,7 +27,7 @@ const PROCESSING: u8 = 0x01;
 const USER_NEEDED: u8 = 0x02;
 
 /// The status of a request that was done.
-const OK: u8 = 0x00;
+pub const OK: u8 = 0x00;
 
 /// The status of a request that was cancelled.
 const CANCELLED: u8 = 0x2D;
@@ -45,7 +46,7 @@ pub struct AnswerStart<'a> {
     /// How much of it came with this packet.
     pub extent: Extent,
     pub part: &'a [u8],
-    /// The status of a CBOR answer, or of a KEEPALIVE.
+    /// The status of a CBOR answer or of a KEEPALIVE, or the code of an ERROR.
     pub status: Option<u8>,
 }
 
@@ -57,6 +58,19 @@ impl AnswerStart<'_> {
     }
 }
 
+/// What the first packet of a message of a device shows.
+#[derive(Clone, Copy)]
+pub struct Started {
+    /// The transaction that it is for.
+    pub of: Option<Transaction>,
+    /// What it is, where it is for none.
+    pub part: Role,
+    /// The line that the message before it began at, of which no further packet comes, 0 where there was none.
+    pub before: u64,
+    /// Whether the packet of a host before it came too late for its message.
+    pub is_late: bool,
+}
+
 /// An answer that a packet goes on with.
 #[derive(Clone, Copy)]
 pub struct Answered {
@@ -64,66 +78,108 @@ pub struct Answered {
     pub line: u64,
     /// The transaction that it is for.
     pub of: Option<Transaction>,
-    pub is_whole: bool,
     /// How many bytes of the answer the packet carries.
     pub carried: usize,
 }
 
 impl Channel {
+    /// Takes the first packet of a message of the device at a moment, behind the input of this line.
+    pub fn take_start(
+        &mut self,
+        answer: &AnswerStart<'_>,
+        behind: (u64, u64),
+        doubtful: &Option<Doubtful>,
+        ends: &mut EndedTransactions,
+    ) -> Started {
+        // Of the last message no further packet comes.
+        if self.is_answering()
+            && let Some(exchange) = self.told.exchange
+        {
+            ends.add(exchange, End::Cut(self.told.extent));
+        }
+        let before = self.told.line;
+        self.told.line = 0;
+        self.told.extent = Extent::default();
+        self.told.exchange = None;
+        let status = answer.status.unwrap_or(0);
+        let mut is_late = false;
+        let mut part = Role::Own;
+        let of = match answer.command {
+            ERROR => {
+                let (of, is_of_late) = self.refuse(status, behind.0, doubtful, ends);
+                is_late = is_of_late;
+                if of.is_none() {
+                    part = Role::Error;
+                }
+                of
+            }
+            KEEPALIVE => self.keep_alive(status, behind, ends),
+            _ => self.answer(answer, ends),
+        };
+        Started {
+            of,
+            part,
+            before,
+            is_late,
+        }
+    }
+
     /// Takes a KEEPALIVE with this status at a moment, behind the input of this line, and returns the transaction that
     /// is worked on, where that is known. Of two that may be, what holds the channel is, if time brought the KEEPALIVE
     /// before the second one was taken.
-    pub fn keep_alive(
+    fn keep_alive(
         &mut self,
-        status: Option<u8>,
+        status: u8,
         (input, now): (u64, u64),
         ends: &mut EndedTransactions,
     ) -> Option<Transaction> {
         if self.is_contested {
             return None;
         }
-        let is_asked = matches!(&self.asked, Some(asked) if asked.is_served());
-        match &self.held {
-            Some(held) if held.is_served() => {
-                let is_of_time = held.keepalives > 0
-                    && now.saturating_sub(self.alive) >= NO_TIME_OUT
-                    && !self.is_undecided(input);
-                if is_asked && !is_of_time {
-                    return None;
-                }
+        let keepalives = match &self.held {
+            Some(held) => held.keepalives,
+            None => 0,
+        };
+        if is_served(&self.asked) {
+            let is_of_time = keepalives > 0
+                && now.saturating_sub(self.alive) >= NO_TIME_OUT
+                && !self.is_undecided(input);
+            if !is_served(&self.held) {
+                self.settle(true, ends);
+            } else if !is_of_time {
+                return None;
             }
-            _ if is_asked => self.settle(true, ends),
-            _ => {}
         }
         self.alive = now;
-        match &mut self.held {
-            Some(held) if held.is_served() => {
-                held.keepalives = held.keepalives.saturating_add(1);
-                held.awaited = match (status, held.awaited, held.transaction.command) {
-                    (Some(USER_NEEDED), _, _) => Some(Awaited::Presence),
-                    (Some(PROCESSING), None | Some(Awaited::Presence), Some(MAKE)) => {
-                        Some(Awaited::Key)
-                    }
-                    (Some(PROCESSING), None | Some(Awaited::Presence), _) => {
-                        Some(Awaited::Signature)
-                    }
-                    (Some(PROCESSING), awaited, _) => awaited,
-                    _ => None,
-                };
-                self.since = self.since.saturating_add(1);
-                Some(held.transaction)
-            }
-            _ => None,
+        let Some(mut held) = self.held else {
+            return None;
+        };
+        if !held.is_served() {
+            return None;
         }
+        let is_made = matches!(held.transaction.command, Some(MAKE));
+        held.awaited = match status {
+            USER_NEEDED => Some(Awaited::Presence),
+            PROCESSING => match held.awaited {
+                Some(Awaited::Key | Awaited::Signature) => held.awaited,
+                _ if is_made => Some(Awaited::Key),
+                _ => Some(Awaited::Signature),
+            },
+            _ => None,
+        };
+        held.keepalives = held.keepalives.saturating_add(1);
+        self.held = Some(held);
+        self.since = self.since.saturating_add(1);
+        Some(held.transaction)
     }
 
     /// Takes an ERROR with this code, behind the input of this line, and returns the transaction that it is for, and
     /// whether it shows that the packet before it came too late for its message.
-    pub fn refuse(
+    fn refuse(
         &mut self,
         code: u8,
         input: u64,
-        doubtful: Option<&Doubtful>,
+        doubtful: &Option<Doubtful>,
         ends: &mut EndedTransactions,
     ) -> (Option<Transaction>, bool) {
         if code != TIMED_OUT {
@@ -141,41 +197,37 @@ impl Channel {
                 return (None, false);
             }
         }
-        // The packet that came too late is left out of the message.
         let mut is_late = false;
-        if let Some(doubtful) = doubtful
-            && let Some(held) = &mut self.held
-            && held.transaction.line == doubtful.of.line
-        {
-            is_late = true;
-            if doubtful.is_next {
-                held.extent.continuations = held.extent.continuations.saturating_sub(1);
+        if let Some(mut held) = self.held {
+            if let Some(doubtful) = doubtful {
+                is_late = held.transaction.line == doubtful.of.line;
+                // The packet that came too late is left out of the message.
+                if is_late && doubtful.is_next {
+                    held.extent.continuations = held.extent.continuations.saturating_sub(1);
+                    self.held = Some(held);
+                }
             }
-        }
-        if let Some(held) = &self.held
-            && !held.extent.is_whole()
-            && let Some(held) = self.free(ends)
-        {
-            ends.add(held, End::Refused(code));
-            return (Some(held.transaction), is_late);
+            if !held.extent.is_whole() {
+                return (self.end_held(End::Refused(code), ends), is_late);
+            }
         }
         (self.refuse_one(code, input, ends), is_late)
     }
 
     /// Ends the unfinished message that began before one that is refused with this code, where that ends it too.
     fn end_before(&mut self, refused: &Transaction, code: u8, ends: &mut EndedTransactions) {
+        let line = refused.line;
         let (cause, by) = if refused.message == INIT {
-            (INVALID_LENGTH, End::Dropped(refused.line))
+            (INVALID_LENGTH, End::Dropped(line))
         } else {
-            (INVALID_SEQUENCE, End::Replaced(refused.line))
+            (INVALID_SEQUENCE, End::Replaced(line))
         };
         if code == cause
             && let Some(held) = &self.held
             && !held.extent.is_whole()
-            && held.transaction.line < refused.line
-            && let Some(held) = self.free(ends)
+            && held.transaction.line < line
         {
-            ends.add(held, by);
+            self.end_held(by, ends);
         }
     }
 
@@ -198,59 +250,69 @@ impl Channel {
             self.lose(ends);
             return None;
         }
-        let is_of_stray = match &self.held {
-            None => true,
-            Some(held) => {
-                held.keepalives > 0
-                    && matches!(
-                        code,
-                        INVALID_COMMAND | INVALID_SEQUENCE | CHANNEL_BUSY | INVALID_CHANNEL
-                    )
+        if let Some(held) = &self.held {
+            let is_of_stray = held.keepalives > 0
+                && matches!(
+                    code,
+                    INVALID_COMMAND | INVALID_SEQUENCE | CHANNEL_BUSY | INVALID_CHANNEL
+                );
+            if self.is_stray && is_of_stray {
+                return None;
             }
-        };
-        if self.is_stray && is_of_stray {
+            return self.end_held(End::Refused(code), ends);
+        }
+        if self.is_stray {
             return None;
         }
-        let mut ended = self.free(ends);
-        if ended.is_none() {
-            let last = self.greetings.len().saturating_sub(1);
-            ended = self.take_greeting(last);
-        }
-        match ended {
-            Some(ended) => {
-                ends.add(ended, End::Refused(code));
-                Some(ended.transaction)
-            }
-            None => None,
-        }
+        let last = self.greetings.len().saturating_sub(1);
+        let Some(greeting) = self.take_greeting(last) else {
+            return None;
+        };
+        ends.add(greeting, End::Refused(code));
+        Some(greeting.transaction)
     }
 
     /// Takes the message that began last and isn't known to have the channel, if an ERROR can be for it: an INIT of a
     /// wrong length first.
     fn refused_start(&mut self, code: u8) -> Option<Followed> {
+        let count = self.greetings.len();
+        let mut place = count;
         if code == INVALID_LENGTH {
-            let mut place = 0_usize;
-            for greeting in self.greetings.as_slice() {
-                if greeting.length != 8 {
-                    return self.take_greeting(place);
-                }
-                place = place.saturating_add(1);
-            }
+            place = self.greeting_of(None);
         }
-        if self.is_greeted {
-            let is_busy = code == CHANNEL_BUSY && self.number != BROADCAST;
+        if place == count {
+            if !self.is_greeted {
+                return self.asked.take();
+            }
             // INIT is taken at any time on its own channel.
+            let is_busy = code == CHANNEL_BUSY && self.number != BROADCAST;
             if matches!(code, INVALID_SEQUENCE | TIMED_OUT) || is_busy {
                 return None;
             }
-            let last = self.greetings.len().saturating_sub(1);
-            return self.take_greeting(last);
+            place = count.saturating_sub(1);
         }
-        self.asked.take()
+        self.take_greeting(place)
+    }
+
+    /// Returns the place of the first INIT with this nonce, or of a wrong length where none is given, and how many
+    /// there are where there is none.
+    fn greeting_of(&self, nonce: Option<u64>) -> usize {
+        let greetings = self.greetings.as_slice();
+        for place in 0..greetings.len() {
+            let greeting = &greetings[place];
+            let is_found = match nonce {
+                Some(nonce) => greeting.length == 8 && greeting.nonce == nonce,
+                None => greeting.length != 8,
+            };
+            if is_found {
+                return place;
+            }
+        }
+        greetings.len()
     }
 
     /// Takes the first packet of an answer, and returns the transaction that it is for.
-    pub fn answer(
+    fn answer(
         &mut self,
         answer: &AnswerStart<'_>,
         ends: &mut EndedTransactions,
@@ -260,19 +322,20 @@ impl Channel {
         } else {
             self.answer_message(answer, ends)
         };
-        if let Some(exchange) = &exchange
-            && let (Some(ASSERT), Some(OK)) = (exchange.transaction.command, answer.status)
-        {
-            self.asserted = exchange.named.rp_id;
-        }
         self.told = DeviceMessage {
             line: answer.line,
             extent: answer.extent,
             status: answer.status,
             exchange,
         };
-        self.end_told(ends);
-        self.told.of()
+        let Some(exchange) = exchange else {
+            return None;
+        };
+        let of = exchange.transaction;
+        if let (Some(ASSERT), Some(OK)) = (of.command, answer.status) {
+            self.asserted = exchange.named.rp_id;
+        }
+        Some(of)
     }
 
     /// Takes the INIT with the nonce of an answer. On a channel of its own it drops what began before it (section
@@ -282,27 +345,18 @@ impl Channel {
         answer: &AnswerStart<'_>,
         ends: &mut EndedTransactions,
     ) -> Option<Followed> {
-        let nonce = nonce_in(answer.part);
-        let mut place = 0_usize;
-        for greeting in self.greetings.as_slice() {
-            if greeting.length == 8 && greeting.nonce == nonce {
-                break;
-            }
-            place = place.saturating_add(1);
-        }
+        let place = self.greeting_of(Some(nonce_in(answer.part)));
         let Some(exchange) = self.take_greeting(place) else {
             return None;
         };
-        let line = exchange.transaction.line;
         if self.number != BROADCAST {
+            let line = exchange.transaction.line;
             self.is_contested = false;
-        }
-        if self.number != BROADCAST
-            && let Some(held) = &self.held
-            && held.transaction.line < line
-            && let Some(held) = self.free(ends)
-        {
-            ends.add(held, End::Dropped(line));
+            if let Some(held) = &self.held
+                && held.transaction.line < line
+            {
+                self.end_held(End::Dropped(line), ends);
+            }
         }
         Some(exchange)
     }
@@ -314,50 +368,37 @@ impl Channel {
         answer: &AnswerStart<'_>,
         ends: &mut EndedTransactions,
     ) -> Option<Followed> {
-        let is_of_cancelled = matches!(&self.held, Some(held)
-            if held.transaction.message == CBOR && held.extent.is_whole() && held.cancelled.is_some())
-            && matches!(answer.status, Some(CANCELLED));
-        let is_of_asked = !is_of_cancelled && answer.is_of(&self.asked);
         let is_of_held = answer.is_of(&self.held);
-        if is_of_asked && is_of_held || self.is_contested && (is_of_asked || is_of_held) {
+        let mut is_of_asked = answer.is_of(&self.asked);
+        if is_of_held && is_of_asked && matches!(answer.status, Some(CANCELLED)) {
+            is_of_asked = matches!(&self.held, Some(held) if held.cancelled.is_none());
+        }
+        if !is_of_asked && !is_of_held {
+            return None;
+        }
+        if self.is_contested || is_of_asked && is_of_held {
             self.lose(ends);
             return None;
         }
         if is_of_asked {
             self.settle(true, ends);
         }
-        if answer.is_of(&self.held) {
-            self.free(ends)
-        } else {
-            None
-        }
+        let held = self.held;
+        self.held = self.asked;
+        self.asked = None;
+        held
     }
 
     /// Takes a continuation packet of the device's last message, if it is the next one.
-    pub fn answer_on(&mut self, number: u8, ends: &mut EndedTransactions) -> Option<Answered> {
+    pub fn answer_on(&mut self, number: u8) -> Option<Answered> {
         if !self.is_answering() || self.told.extent.continuations != number {
             return None;
         }
         let carried = self.told.extent.add_continuation();
-        self.end_told(ends);
         Some(Answered {
             line: self.told.line,
             of: self.told.of(),
-            is_whole: !self.is_answering(),
             carried,
         })
-    }
-
-    /// Ends the transaction of the device's last message, if that is whole now.
-    fn end_told(&mut self, ends: &mut EndedTransactions) {
-        if !self.is_answering()
-            && let Some(exchange) = self.told.exchange
-        {
-            let end = match self.told.status {
-                Some(status) => End::Status(status),
-                None => End::Answered,
-            };
-            ends.add(exchange, end);
-        }
     }
 }

@@ -112,6 +112,14 @@ impl Followed {
     }
 }
 
+/// Returns whether a key works on a message.
+pub fn is_served(message: &Option<Followed>) -> bool {
+    match message {
+        Some(message) => message.is_served(),
+        None => false,
+    }
+}
+
 /// How a transaction ended.
 #[derive(Clone, Copy, Default)]
 pub enum End {

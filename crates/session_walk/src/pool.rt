@@ -28,7 +28,11 @@ pub struct Pool {
 
 impl Pool {
     /// Begins to keep a message of so many bytes, in the place of the one that began first where there are too many.
+    /// An empty one isn't kept, nor one that is too long.
     pub fn begin(&mut self, line: u64, length: u16, part: &[u8]) {
+        if length == 0 || length > LONGEST_MESSAGE {
+            return;
+        }
         let mut first = 0;
         for place in 0..MESSAGES {
             if self.kept[place].line < self.kept[first].line {

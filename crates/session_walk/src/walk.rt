@@ -6,21 +6,19 @@ use crate::channels::Channels;
 use crate::credentials::Credentials;
 use crate::device::{AnswerStart, NO_TIME_OUT, TIMED_OUT};
 use crate::entry::{CborMessage, Entry, Own, Role, channel_of};
-use crate::exchange::{EndedTransactions, Extent, Followed, Named, Transaction};
+use crate::exchange::{End, EndedTransactions, Extent, Followed, Named, Transaction};
 use crate::pool::Pool;
-use crate::rp_id::RpId;
-use ctap_cbor::check;
 use hid_packet::command::{CANCEL, CBOR, ERROR, INIT, KEEPALIVE};
-use hid_packet::{CONTINUATION_DATA, LONGEST_MESSAGE, Packet, View};
+use hid_packet::{CONTINUATION_DATA, Packet, View};
 use session_log::Line;
 use token_session::{Input, Timed};
 
 /// authenticatorMakeCredential, authenticatorReset and authenticatorGetNextAssertion.
 pub const MAKE: u8 = 0x01;
 
-const RESET: u8 = 0x07;
+pub const RESET: u8 = 0x07;
 
-const NEXT: u8 = 0x08;
+pub const NEXT: u8 = 0x08;
 
 /// A continuation packet of a host of which it isn't known yet whether it came too late for its message. The next line
 /// that isn't a comment shows it: a device that dropped the message says so first.
@@ -40,11 +38,11 @@ pub struct Doubtful {
 
 /// A message that ends at a line.
 #[derive(Clone, Copy)]
-pub enum Shown {
-    /// That of the transaction that began at a line.
-    Request(u64),
-    /// One of the device that began at a line, on the channel at a place.
-    Answer(u64, usize),
+pub struct Shown {
+    /// The line that it began at.
+    line: u64,
+    /// Where its channel is, if the device sent it.
+    place: Option<usize>,
 }
 
 /// What became of a doubtful packet.
@@ -131,26 +129,29 @@ impl LogWalk {
 
     /// Forgets what was of the line before alone.
     fn clear(&mut self) {
-        for ended in self.ends.0.as_slice() {
-            self.pool.release(ended.exchange.transaction.line);
+        let mut shown = 0;
+        if let Some(message) = &self.shown {
+            shown = message.line;
         }
-        self.ends.0.clear();
-        if let Some(decided) = self.decided.take() {
-            self.release(decided.shown);
+        let mut late = 0;
+        if let Some(decided) = &self.decided
+            && let Some(message) = &decided.shown
+        {
+            late = message.line;
         }
-        self.release(self.shown);
         self.of = None;
         self.message_line = 0;
         self.carried = 0;
         self.part = Role::Own;
         self.shown = None;
-    }
-
-    /// Keeps the bytes of a message no longer.
-    fn release(&mut self, shown: Option<Shown>) {
-        if let Some(Shown::Request(line) | Shown::Answer(line, _)) = shown {
-            self.pool.release(line);
+        self.decided = None;
+        let pool = &mut self.pool;
+        pool.release(shown);
+        pool.release(late);
+        for ended in self.ends.0.as_slice() {
+            pool.release(ended.exchange.transaction.line);
         }
+        self.ends.0.clear();
     }
 
     // ---- what the last line is
@@ -158,15 +159,20 @@ impl LogWalk {
     /// Returns the last line, which has this number and says this, as it is shown, with what it shows of lines before
     /// it.
     pub fn entry<'a>(&'a self, number: u64, line: &'a [u8], said: &'a Line) -> Entry<'a> {
+        let mut shown = self.shown;
+        let mut is_doubtful = false;
         // A packet that may have come too late is shown with its message. If it did, the next line says so.
-        let doubtful = match &self.doubtful {
-            Some(doubtful) if doubtful.line == number => Some(doubtful),
-            _ => None,
-        };
-        let shown = match doubtful {
-            Some(doubtful) if doubtful.is_whole => Some(Shown::Request(doubtful.of.line)),
-            _ => self.shown,
-        };
+        if let Some(doubtful) = &self.doubtful
+            && doubtful.line == number
+        {
+            is_doubtful = true;
+            if doubtful.is_whole {
+                shown = Some(Shown {
+                    line: doubtful.of.line,
+                    place: None,
+                });
+            }
+        }
         Entry {
             late: self.late(),
             own: Own {
@@ -177,7 +183,7 @@ impl LogWalk {
                 message: self.message(&shown),
                 carried: self.carried,
             },
-            is_doubtful: doubtful.is_some(),
+            is_doubtful,
             part: self.part,
             ended: self.ends.0.as_slice(),
             page: None,
@@ -201,22 +207,21 @@ impl LogWalk {
 
     /// Returns a message that ends at a line.
     pub fn message(&self, shown: &Option<Shown>) -> Option<CborMessage<'_>> {
-        match shown {
-            Some(Shown::Request(line)) => Some(CborMessage {
-                is_request: true,
-                bytes: self.pool.bytes(*line),
-                exchange: None,
-            }),
-            Some(Shown::Answer(line, place)) => Some(CborMessage {
-                is_request: false,
-                bytes: self.pool.bytes(*line),
-                exchange: match self.channels.list.get(*place) {
-                    Some(channel) => channel.told.exchange.as_ref(),
-                    None => None,
-                },
-            }),
+        let Some(shown) = shown else {
+            return None;
+        };
+        let exchange = match shown.place {
+            Some(place) => match self.channels.list.get(place) {
+                Some(channel) => channel.told.exchange.as_ref(),
+                None => None,
+            },
             None => None,
-        }
+        };
+        Some(CborMessage {
+            is_request: shown.place.is_none(),
+            bytes: self.pool.bytes(shown.line),
+            exchange,
+        })
     }
 
     // ---- inputs
@@ -283,7 +288,7 @@ impl LogWalk {
         self.channels.list[place].begin(begun, part, &mut self.ends);
         self.of = Some(transaction);
         self.message_line = transaction.line;
-        if transaction.command.is_some() && length <= LONGEST_MESSAGE {
+        if transaction.command.is_some() {
             self.pool.begin(transaction.line, length, part);
             if extent.is_whole() {
                 self.shown = self.complete(place, &transaction);
@@ -321,50 +326,41 @@ impl LogWalk {
         }
     }
 
-    /// Keeps what a whole request names, if its item is canonical, and returns the request as one that is shown.
-    /// authenticatorGetNextAssertion asks for what authenticatorGetAssertion did.
+    /// Keeps what a whole request names, and returns the request as one that is shown.
     fn complete(&mut self, place: usize, of: &Transaction) -> Option<Shown>
         requires { place < 6 }
     {
-        let mut named = Named::default();
-        match (of.command, self.pool.bytes(of.line)) {
-            (Some(NEXT), _) => named.rp_id = self.channels.list[place].asserted,
-            (Some(command), Some([_, item @ ..])) if check(item).result.is_ok() => {
-                named.rp_id = RpId::of_request(command, item);
-                if command == MAKE && !named.rp_id.bytes().is_empty() {
-                    self.credentials.name_in(item, &mut named);
-                }
-            }
-            _ => {}
-        }
-        self.channels.list[place].name(of.line, &named);
-        Some(Shown::Request(of.line))
+        let named = self.credentials.named_in(of, &self.pool);
+        self.channels.list[place].name(of, named);
+        Some(Shown {
+            line: of.line,
+            place: None,
+        })
     }
 
     /// Decides on a doubtful packet, where there is one: whether it came too late.
     fn decide(&mut self, is_late: bool) {
-        let Some(doubtful) = self.doubtful.take() else {
+        let Some(doubtful) = self.doubtful else {
             return;
         };
-        let mut shown = None;
-        if doubtful.is_whole
-            && !is_late
-            && let Some(place) = self.channels.find(doubtful.of.channel)
-        {
-            shown = self.complete(place, &doubtful.of);
-        }
-        let (of, carried) = if is_late {
-            (None, CONTINUATION_DATA)
-        } else {
-            (Some(doubtful.of), doubtful.carried)
-        };
-        self.decided = Some(Decided {
+        self.doubtful = None;
+        let mut decided = Decided {
             line: doubtful.line,
             said: doubtful.said,
-            of,
-            shown,
-            carried,
-        });
+            of: None,
+            shown: None,
+            carried: CONTINUATION_DATA,
+        };
+        if !is_late {
+            decided.of = Some(doubtful.of);
+            decided.carried = doubtful.carried;
+            if doubtful.is_whole
+                && let Some(place) = self.channels.find(doubtful.of.channel)
+            {
+                decided.shown = self.complete(place, &doubtful.of);
+            }
+        }
+        self.decided = Some(decided);
     }
 
     // ---- packets of the device
@@ -377,7 +373,9 @@ impl LogWalk {
             View::Start { cmd, len, part, .. } => {
                 self.carried = part.len().min(usize::from(len));
                 let status = match part {
-                    [status, ..] if matches!(cmd, CBOR | KEEPALIVE) && len > 0 => Some(*status),
+                    [status, ..] if matches!(cmd, CBOR | KEEPALIVE) && len > 0 || cmd == ERROR => {
+                        Some(*status)
+                    }
                     _ => None,
                 };
                 let answer = AnswerStart {
@@ -396,83 +394,65 @@ impl LogWalk {
                 self.decide(false);
                 self.carried = part.len();
                 let channel = &mut self.channels.list[place];
-                let Some(answered) = channel.answer_on(seq, &mut self.ends) else {
-                    return;
-                };
-                self.of = answered.of;
-                self.message_line = answered.line;
-                self.carried = answered.carried;
-                self.pool.add(answered.line, part);
-                if answered.is_whole && self.pool.bytes(answered.line).is_some() {
-                    self.learn(place, number, answered.line);
-                    self.shown = Some(Shown::Answer(answered.line, place));
+                if let Some(answered) = channel.answer_on(seq) {
+                    self.of = answered.of;
+                    self.message_line = answered.line;
+                    self.carried = answered.carried;
+                    self.pool.add(answered.line, part);
                 }
             }
         }
+        self.end_answer(place, number);
     }
 
     /// Takes the first packet of a message of the device.
     fn take_start(&mut self, place: usize, answer: &AnswerStart<'_>)
         requires { place < 6 }
     {
-        let code = match answer.part {
-            [code, ..] if answer.command == ERROR => Some(*code),
-            _ => None,
-        };
-        if !matches!(code, Some(TIMED_OUT)) {
+        // Only at a time-out it isn't known yet whether the packet before it came too late.
+        let is_error = answer.command == ERROR;
+        if !is_error || !matches!(answer.status, Some(TIMED_OUT)) {
             self.decide(false);
         }
-        self.message_line = answer.line;
-        // Of the device's last message no further packet comes.
+        let behind = (self.input, self.now);
         let channel = &mut self.channels.list[place];
-        self.pool.release(channel.cut(&mut self.ends));
-        if let Some(code) = code {
-            // Only at a time-out it isn't known yet whether the packet before it came too late.
-            let doubtful = self.doubtful.as_ref();
-            let (of, is_late) = channel.refuse(code, self.input, doubtful, &mut self.ends);
-            self.decide(is_late);
-            self.of = of;
-            if of.is_none() {
-                self.part = Role::Error;
-            }
-            return;
-        }
-        if answer.command == KEEPALIVE {
-            let behind = (self.input, self.now);
-            self.of = channel.keep_alive(answer.status, behind, &mut self.ends);
-            return;
-        }
-        self.of = channel.answer(answer, &mut self.ends);
-        let length = answer.extent.length;
-        if answer.command == CBOR && length > 0 && length <= LONGEST_MESSAGE {
+        let started = channel.take_start(answer, behind, &self.doubtful, &mut self.ends);
+        self.pool.release(started.before);
+        self.decide(started.is_late);
+        self.of = started.of;
+        self.part = started.part;
+        self.message_line = answer.line;
+        if answer.command == CBOR {
+            let length = answer.extent.length;
             self.pool.begin(answer.line, length, answer.part);
-            if answer.extent.is_whole() {
-                self.learn(place, answer.line, answer.line);
-                self.shown = Some(Shown::Answer(answer.line, place));
-            }
         }
     }
 
-    /// Keeps the credential that an answer made, which began at a line and ends at this one; a reset forgets all.
-    fn learn(&mut self, place: usize, number: u64, line: u64)
+    /// Ends the transaction of the device's last message, if the packet on this line is its last one, and takes what
+    /// the message shows.
+    fn end_answer(&mut self, place: usize, number: u64)
         requires { place < 6 }
     {
-        let Some(of) = self.of else {
+        let told = &self.channels.list[place].told;
+        if told.line != self.message_line || !told.extent.is_whole() {
             return;
-        };
-        let account = match &self.channels.list[place].told.exchange {
-            Some(exchange) => exchange.named.account,
-            None => None,
-        };
-        let Some([0, item @ ..]) = self.pool.bytes(line) else {
-            return;
-        };
-        match of.command {
-            Some(MAKE) if check(item).result.is_ok() => {
-                self.credentials.add(number, item, account);
-            }
-            Some(RESET) => self.credentials = Credentials::new(),
-            _ => {}
+        }
+        let answer = *told;
+        if let Some(exchange) = answer.exchange {
+            let end = match answer.status {
+                Some(status) => End::Status(status),
+                None => End::Answered,
+            };
+            self.ends.add(exchange, end);
+        }
+        // Of the answers in one packet only those with CBOR are kept. Other bytes from that line are another message's.
+        let is_kept = answer.status.is_some() || answer.extent.continuations > 0;
+        if is_kept && let Some(bytes) = self.pool.bytes(answer.line) {
+            self.credentials.learn(&answer, number, bytes);
+            self.shown = Some(Shown {
+                line: answer.line,
+                place: Some(place),
+            });
         }
     }
 }
