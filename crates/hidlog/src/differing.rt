@@ -211,24 +211,23 @@ fn say_one<S: Source, E: Target>(
         has_changed: said.has_changed,
         texts: &texts,
     };
-    match wish.width {
-        Some(width) if !wish.is_json => {
-            let mut text = Vec::new(wish.alloc);
-            say(&mut ToWrite::new(&mut text), &finding);
-            let style = Style {
-                width,
-                has_colours: false,
-                numbers: 0,
-            };
-            let lines = StyledLines {
-                text: &text,
-                style: &style,
-            };
-            say(faults, &lines);
-        }
-        _ => {
-            say(faults, &finding);
-        }
+    if let Some(width) = wish.width
+        && !wish.is_json
+    {
+        let mut text = Vec::new(wish.alloc);
+        say(&mut ToWrite::new(&mut text), &finding);
+        let style = Style {
+            width,
+            has_colours: false,
+            numbers: 0,
+        };
+        let lines = StyledLines {
+            text: &text,
+            style: &style,
+        };
+        say(faults, &lines);
+    } else {
+        say(faults, &finding);
     }
     finding.may_change_credentials()
 }
@@ -240,20 +239,21 @@ fn texts_of<S: Source>(
     reader: &mut S,
     difference: &Difference,
 ) -> DifferenceTexts {
-    let mut logged = Vec::new(wish.alloc);
-    let mut sent = Vec::new(wish.alloc);
-    let mut reason = Vec::new(wish.alloc);
-    let mut transaction = None;
+    let alloc = wish.alloc;
+    let mut texts = DifferenceTexts {
+        transaction: None,
+        logged: Vec::new(alloc),
+        sent: Vec::new(alloc),
+        reason: Vec::new(alloc),
+    };
     if wish.explains || wish.is_json {
-        let _ = comparison.put_reason(difference, &mut ToWrite::new(&mut reason));
-        transaction = comparison.transaction(difference);
-        let (mut left, mut right) = (ToWrite::new(&mut logged), ToWrite::new(&mut sent));
-        let _ = comparison.put(difference, reader, &mut left, &mut right);
+        texts.transaction = comparison.tell(
+            difference,
+            reader,
+            &mut ToWrite::new(&mut texts.reason),
+            &mut ToWrite::new(&mut texts.logged),
+            &mut ToWrite::new(&mut texts.sent),
+        );
     }
-    DifferenceTexts {
-        transaction,
-        logged,
-        sent,
-        reason,
-    }
+    texts
 }

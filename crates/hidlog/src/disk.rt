@@ -2,7 +2,7 @@
 ghost use Rattle.std.specs.Prelude.{◌≡◌, ◌≤◌, ℕ, Bool, true, false, List, None, Option, Some, is_some, length, take, IfOk, IfSome, OnOk};
 ghost use Rattle.hidlog.specs.Streams.{over};
 
-use std::fs::{self, File, OpenOptions, TryLockError};
+use std::fs::{self, File, Metadata, OpenOptions, TryLockError};
 use std::io::{self, Error, ErrorKind, Read, Write};
 use std::os::unix::fs::{FileExt, FileTypeExt, MetadataExt};
 
@@ -95,14 +95,16 @@ impl Place for File {
 
     fn cut(&mut self, size: u64) -> io::Result<()> {
         self.set_len(size)?;
-        match self.sync_all() {
-            Err(error)
-                if matches!(
-                    error.kind(),
-                    ErrorKind::InvalidInput | ErrorKind::Unsupported
-                ) => Ok(()),
-            done => done,
+        let synced = self.sync_all();
+        if let Err(error) = &synced
+            && matches!(
+                error.kind(),
+                ErrorKind::InvalidInput | ErrorKind::Unsupported
+            )
+        {
+            return Ok(());
         }
+        synced
     }
 }
 
@@ -112,6 +114,14 @@ pub struct HostDisk<'a>(pub &'a HostRuntime);
 
 /// The system's number for a folder.
 const EISDIR: i32 = 21;
+
+/// Returns whether a file is the one at a path.
+fn is_at(rt: &HostRuntime, path: &str, file: &Metadata) -> bool {
+    match fs::metadata(rt, path) {
+        Ok(other) => other.ino() == file.ino() && other.dev() == file.dev(),
+        Err(_) => false,
+    }
+}
 
 impl Disk for HostDisk<'_> {
     type File = File;
@@ -131,9 +141,17 @@ impl Disk for HostDisk<'_> {
     fn look(&self, path: &str, log: Option<&str>) -> io::Result<Found> {
         let found = match fs::metadata(self.0, path) {
             Ok(found) => found,
-            Err(error) if !matches!(error.kind(), ErrorKind::NotFound) => return Err(error),
-            Err(_) if fs::symlink_metadata(self.0, path).is_ok() => return Ok(Found::Other),
-            Err(_) => return Ok(Found::Nothing),
+            Err(error) => {
+                if !matches!(error.kind(), ErrorKind::NotFound) {
+                    return Err(error);
+                }
+                let is_link = fs::symlink_metadata(self.0, path).is_ok();
+                return Ok(if is_link {
+                    Found::Other
+                } else {
+                    Found::Nothing
+                });
+            }
         };
         if found.is_dir() {
             return Err(Error::from_raw_os_error(EISDIR));
@@ -142,22 +160,14 @@ impl Disk for HostDisk<'_> {
             let is_pipe = found.file_type().is_fifo();
             return Ok(if is_pipe { Found::Pipe } else { Found::Other });
         }
-        let streams = [
-            (
-                log.unwrap_or("/dev/stdin"),
-                "it is the log, which would be lost",
-            ),
-            ("/dev/stdout", "it is the file that standard output goes to"),
-        ];
-        for (stream, message) in streams {
-            if let Ok(other) = fs::metadata(self.0, stream)
-                && other.ino() == found.ino()
-                && other.dev() == found.dev()
-            {
-                return Err(Error::new(ErrorKind::InvalidInput, message));
-            }
-        }
-        Ok(Found::File)
+        let message = if is_at(self.0, log.unwrap_or("/dev/stdin"), &found) {
+            "it is the log, which would be lost"
+        } else if is_at(self.0, "/dev/stdout", &found) {
+            "it is the file that standard output goes to"
+        } else {
+            return Ok(Found::File);
+        };
+        Err(Error::new(ErrorKind::InvalidInput, message))
     }
 
     fn open(&self, path: &str) -> io::Result<(File, u64)> {
@@ -172,13 +182,14 @@ impl Disk for HostDisk<'_> {
     }
 
     fn create(&self, path: &str, bytes: &[u8]) -> io::Result<File> {
-        let mut file = match File::create_new(self.0, path) {
-            Err(error) if matches!(error.kind(), ErrorKind::AlreadyExists) => {
-                fs::remove_file(self.0, path)?;
-                File::create_new(self.0, path)?
-            }
-            made => made?,
-        };
+        let mut made = File::create_new(self.0, path);
+        if let Err(error) = &made
+            && matches!(error.kind(), ErrorKind::AlreadyExists)
+        {
+            fs::remove_file(self.0, path)?;
+            made = File::create_new(self.0, path);
+        }
+        let mut file = made?;
         file.put_at(bytes, 0)?;
         file.cut(bytes.len() as u64)?;
         Ok(file)

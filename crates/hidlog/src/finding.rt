@@ -1,10 +1,11 @@
 //! What a person reads of a packet in which a log differs from what the key sends.
 use crate::objects::write_difference;
-use crate::pieces::{after, has_part};
+use crate::pieces::after;
 use crate::sides::{write_first, write_sides};
 use crate::wish::{FaultLine, Wish};
 use hid_packet::command::{CBOR, KEEPALIVE};
 use hid_packet::{Packet, View};
+use memchr::memmem;
 use session_show::{Awaited, Difference, Pen, Transaction, Written};
 
 /// CTAP2_OK.
@@ -114,18 +115,19 @@ impl Finding<'_> {
     /// Returns whether the keys may have other credentials after it, for which no snapshot has to be missing. Where a
     /// hint is said, a snapshot may be missing all the same.
     pub fn may_change_credentials(&self) -> bool {
-        match &self.texts.transaction {
-            Some(transaction) if KEEPING.contains(&transaction.name()) => false,
-            Some(_) => self.hint().is_none(),
-            None => true,
-        }
+        let Some(transaction) = &self.texts.transaction else {
+            return true;
+        };
+        !KEEPING.contains(&transaction.name()) && self.hint().is_none()
     }
 }
 
 impl Written for Finding<'_> {
     /// Describes it: its transaction, the packets and messages, and where they differ first.
     fn write(&self, pen: &mut Pen) {
-        let (wish, difference, texts) = (self.wish, self.difference, self.texts);
+        let wish = self.wish;
+        let difference = self.difference;
+        let texts = self.texts;
         if wish.is_json {
             write_difference(pen, self);
             return;
@@ -144,7 +146,7 @@ impl Written for Finding<'_> {
         }
         write_sides(pen, difference, &texts.logged, &texts.sent);
         // What a message's own lines say isn't said again.
-        if !has_part(&texts.sent, after(&texts.reason, 2)) {
+        if memmem::find(&texts.sent, after(&texts.reason, 2)).is_none() {
             pen.bytes(&texts.reason);
         }
         write_first(pen, difference, &texts.logged, &texts.sent);

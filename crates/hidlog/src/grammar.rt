@@ -171,7 +171,10 @@ pub fn program<'a>(alloc: Global) -> Result<Command<'a>, AllocError>
         .about(ABOUT)
         .subcommand_required(true);
     for entry in &COMMANDS {
-        program = program.subcommand(command(alloc, entry)?)?;
+        match command(alloc, entry) {
+            Ok(command) => program = program.subcommand(command)?,
+            Err(error) => return Err(error),
+        }
     }
     Ok(program)
 }

@@ -93,10 +93,12 @@ impl Opens for Stream<Stdin, File> {
 
     fn open(rt: &HostRuntime, path: Option<&str>) -> io::Result<(Self, Option<u64>)> {
         let Some(path) = path else {
-            let size = match fs::metadata(rt, STANDARD_INPUT) {
-                Ok(found) if found.is_file() => Some(found.len()),
-                _ => None,
-            };
+            let mut size = None;
+            if let Ok(found) = fs::metadata(rt, STANDARD_INPUT)
+                && found.is_file()
+            {
+                size = Some(found.len());
+            }
             return Ok((Stream::Standard(rt.stdin()), size));
         };
         let file = File::open(rt, path)?;
@@ -201,24 +203,28 @@ impl<S: Opens> Source for HostLog<'_, S> {
     ghost failed = { λ s. s.failures };
 
     fn get(&mut self, out: &mut [u8]) -> Result<usize, Failed> {
-        if self.recent.unread().is_empty() {
-            if self.is_awaited && self.rt.stdin().is_terminal() {
-                let _ = self.rt.stderr().write_all(AWAITED);
+        let rt = self.rt;
+        let recent = &mut self.recent;
+        if recent.unread().is_empty() {
+            if self.is_awaited && rt.stdin().is_terminal() {
+                let _ = rt.stderr().write_all(AWAITED);
             }
             self.is_awaited = false;
-            if let Err(error) = self.recent.fill(&mut self.stream) {
+            if let Err(error) = recent.fill(&mut self.stream) {
                 self.failure = Some(error);
                 self.failures += 1;
                 return Err(Failed);
             }
-            self.seen.take(self.rt, self.recent.unread());
-            self.last = LastLines::of(self.recent.unread());
+            let read = recent.unread();
+            self.seen.take(rt, read);
+            self.last = LastLines::of(read);
         }
+        let last = self.last;
         // The next of these lines, except one that begins here, begins what is handed on after this.
-        let behind = self.recent.unread().len().saturating_sub(1);
-        let most = self.last.next(behind).0.saturating_add(1);
-        let n = self.recent.take(most, out);
-        self.ahead.set(self.last.next(self.recent.unread().len()).1);
+        let behind = recent.unread().len().saturating_sub(1);
+        let most = last.next(behind).0.saturating_add(1);
+        let n = recent.take(most, out);
+        self.ahead.set(last.next(recent.unread().len()).1);
         self.ended = self.ended || n == 0 && !out.is_empty();
         Ok(n)
     }
@@ -272,11 +278,11 @@ impl<S: Opens> Logs for HostLog<'_, S> {
         if !is_file && !takes_rest {
             return None;
         }
-        let path = match &self.path {
-            _ if !is_file => None,
-            Some(path) => Some(path.as_str()),
-            None => Some(STANDARD_INPUT),
+        let named = match &self.path {
+            Some(path) => path.as_str(),
+            None => STANDARD_INPUT,
         };
+        let path = if is_file { Some(named) } else { None };
         let Ok((mut rest, _)) = S::open(self.rt, path) else {
             return None;
         };

@@ -40,14 +40,14 @@ use disk::HostDisk;
 use files::{Files, HostFiles};
 use held::{Ahead, HeldOutput, Output};
 use host::{Host, Modeled};
-use logs::{HostLog, Logs, ProcessLog};
+use logs::{Logs, ProcessLog};
 use process::{no_memory, say, tell, words_of};
 use program::RunOutcome;
 use screen::Screen;
 use session_log::{LogFault, Target, ToWrite};
 use several::{note_one, say_cause};
 use std::cell::Cell;
-use std::io::{self, Write};
+use std::io::{self, Printer, Stderr};
 use std::process::ExitCode;
 use streams::Noting;
 use terminal::surroundings_of;
@@ -104,22 +104,17 @@ impl<D: Files, L: Logs, O: Output, E: Target> Host<D, L, O, E> {
 }
 
 /// Runs the program on the streams and files of its process.
-fn play_to<'a, W: Write, E: Write>(
+fn play_to<'a>(
     rt: &HostRuntime,
     words: &'a [&'a str],
-    writer: &mut Noting<W>,
-    errors: &mut Noting<E>,
+    writer: &mut Noting<Printer<'_, HostRuntime>>,
+    errors: &mut Noting<Stderr>,
 ) -> RunOutcome<'a> {
-    let (alloc, around) = (rt.alloc(), surroundings_of(rt, words));
+    let alloc = rt.alloc();
+    let around = surroundings_of(rt, words);
     let ahead = Cell::new(Ahead::Nothing);
     let mut faults = ToWrite::new(errors);
-    let made: io::Result<ProcessLog<'_>> = HostLog::new(
-        rt,
-        around.is_check,
-        around.audience,
-        &ahead,
-    );
-    let Ok(input) = made else {
+    let Ok(input) = ProcessLog::new(rt, around.is_check, around.audience, &ahead) else {
         return RunOutcome::of(Err(no_memory(&mut faults)), false);
     };
     let screen = Screen {
@@ -151,14 +146,15 @@ fn main(rt: HostRuntime) -> ExitCode {
         inner: rt.stderr(),
         failure: None,
     };
-    let texts = match words_of(&rt, &mut ToWrite::new(&mut errors)) {
+    let mut faults = ToWrite::new(&mut errors);
+    let texts = match words_of(&rt, &mut faults) {
         Ok(texts) => texts,
         Err(status) => return ExitCode::from(status),
     };
     let mut words = Vec::new(rt.alloc());
     for text in texts.as_slice() {
         if words.push(text.as_str()).is_err() {
-            return ExitCode::from(no_memory(&mut ToWrite::new(&mut errors)));
+            return ExitCode::from(no_memory(&mut faults));
         }
     }
     let mut writer = Noting {

@@ -40,48 +40,53 @@ static FORMS: [&[&[u8]]; 6] = [
 
 /// Returns how many bytes in front fit a form.
 fn fitting(fields: &[u8], form: &[u8]) -> usize {
-    for (place, wanted) in form.iter().enumerate() {
-        let fits = match fields.get(place) {
-            Some(byte) if *wanted == DIGIT => byte.is_ascii_hexdigit(),
-            Some(byte) => *byte == *wanted,
-            None => false,
+    let len = fields.len().min(form.len());
+    for place in 0..len {
+        let (byte, wanted) = (fields[place], form[place]);
+        let fits = if wanted == DIGIT {
+            byte.is_ascii_hexdigit()
+        } else {
+            byte == wanted
         };
         if !fits {
             return place;
         }
     }
-    form.len()
+    len
 }
 
 /// Returns how many bytes in front fit a log line. The one after them fits none.
 fn fitting_len(line: &[u8]) -> usize {
-    let [letter, rest @ ..] = line else {
+    let Some(letter) = line.first() else {
         return 0;
     };
     let Some(forms) = FORMS.get(len_before(LETTERS, *letter)) else {
         return 0;
     };
-    let [b' ', fields @ ..] = rest else {
+    if !after(line, 1).starts_with(b" ") {
         return 1;
-    };
-    let (mut front, mut fields) = (2_usize, fields);
+    }
+    let mut fields = after(line, 2);
+    let mut front = 2;
     if *letter != b'<' {
+        let mut most = LARGEST.len() - 1;
+        if let Some(number) = fields.get(..LARGEST.len())
+            && number <= LARGEST
+        {
+            most = LARGEST.len();
+        }
         // A moment has no zero in front.
-        let most = match fields.get(..LARGEST.len()) {
-            _ if fields.starts_with(b"0") => 1,
-            Some(number) if number <= LARGEST => LARGEST.len(),
-            _ => LARGEST.len() - 1,
-        };
+        if fields.starts_with(b"0") {
+            most = 1;
+        }
         let moment = count_in_front(fields, DIGITS).min(most);
         front = moment.saturating_add(2);
-        let [b' ', rest @ ..] = after(fields, moment) else {
-            return front;
-        };
-        if moment == 0 || forms.is_empty() {
+        fields = after(fields, moment);
+        if moment == 0 || forms.is_empty() || !fields.starts_with(b" ") {
             return front;
         }
         front = front.saturating_add(1);
-        fields = rest;
+        fields = after(fields, 1);
     }
     let mut most = 0;
     for form in *forms {

@@ -2,6 +2,8 @@
 ghost use Rattle.std.specs.Prelude.{◌≤◌, length};
 ghost use Rattle.std.specs.Iterator.{at_most};
 
+use memchr::memchr;
+
 /// The digits of the number that a line may begin with.
 pub const DIGITS: &[u8] = b"0123456789";
 
@@ -35,18 +37,13 @@ impl<'a> Iterator for Pieces<'a> {
 pub fn len_before(text: &[u8], wanted: u8) -> usize
     ensures { result ≤ length text.now }
 {
-    for (place, byte) in text.iter().enumerate() {
-        if *byte == wanted {
-            return place;
-        }
-    }
-    text.len()
+    memchr(wanted, text).unwrap_or(text.len())
 }
 
 /// Returns how many of these bytes a text begins with.
 pub fn count_in_front(text: &[u8], bytes: &[u8]) -> usize {
-    for (place, byte) in text.iter().enumerate() {
-        if !bytes.contains(byte) {
+    for place in 0..text.len() {
+        if !bytes.contains(&text[place]) {
             return place;
         }
     }
@@ -56,14 +53,4 @@ pub fn count_in_front(text: &[u8], bytes: &[u8]) -> usize {
 /// Returns what comes after so many bytes of a text; the text, where it is shorter.
 pub fn after(text: &[u8], len: usize) -> &[u8] {
     text.get(len..).unwrap_or(text)
-}
-
-/// Returns whether a text has a part.
-pub fn has_part(text: &[u8], wanted: &[u8]) -> bool {
-    for place in 0..text.len() {
-        if after(text, place).starts_with(wanted) {
-            return true;
-        }
-    }
-    false
 }

@@ -68,8 +68,10 @@ pub fn words_of<E: Target>(rt: &HostRuntime, faults: &mut E) -> Result<Vec<Strin
             Ok(words) => Ok(words),
             Err(_) => Err(no_memory(faults)),
         },
-        Err(error) if error.kind() == ErrorKind::OutOfMemory => Err(no_memory(faults)),
-        Err(_) => {
+        Err(error) => {
+            if error.kind() == ErrorKind::OutOfMemory {
+                return Err(no_memory(faults));
+            }
             tell(faults, b"hidlog: an argument is not UTF-8\n");
             Err(2)
         }

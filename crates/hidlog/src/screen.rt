@@ -2,7 +2,8 @@
 ghost use Rattle.std.specs.Prelude.{◌≡◌, ◌<◌, ◌-◌, ◌^◌, None, is_none, if◌then◌else◌};
 ghost use Rattle.session_show.specs.Written.{Writes};
 
-use crate::pieces::{DIGITS, Pieces, after, count_in_front, has_part};
+use crate::pieces::{DIGITS, Pieces, after, count_in_front};
+use memchr::{memmem, memrchr};
 use session_log::{Failed, Target, put_all};
 use session_show::{Pen, Wording, Written, put_written};
 
@@ -34,8 +35,8 @@ pub struct Style {
 /// three or four bytes may be a wide one.
 fn write_cut(pen: &mut Pen, line: &[u8], width: usize) {
     let (mut columns, mut end) = (0_usize, 0);
-    for (place, byte) in line.iter().enumerate() {
-        columns = columns.saturating_add(match *byte {
+    for place in 0..line.len() {
+        columns = columns.saturating_add(match line[place] {
             0x80..=0xBF => 0,
             0xE0..=0xFF => 2,
             _ => 1,
@@ -55,9 +56,14 @@ fn write_cut(pen: &mut Pen, line: &[u8], width: usize) {
 /// Returns the colour of a line that begins with so many digits.
 fn colour_of(line: &[u8], digits: usize) -> &'static [u8] {
     let text = after(line, digits);
+    if digits == 0 {
+        return if memmem::find(text, b"ERR_").is_some() {
+            RED
+        } else {
+            b""
+        };
+    }
     match text {
-        _ if digits == 0 && has_part(text, b"ERR_") => RED,
-        _ if digits == 0 => b"",
         // An ERROR of the key, ` < 00000001 ERROR 1 06`.
         [b' ', b'<', ..] if after(text, 12).starts_with(b"ERROR ") => RED,
         [b' ', b'<', ..] => GREEN,
@@ -136,12 +142,10 @@ impl<T: Target> Target for Screen<T> {
             return self.inner.put(piece);
         };
         // How many bytes in front are whole lines.
-        let mut len = 0;
-        for (place, byte) in piece.iter().enumerate() {
-            if *byte == b'\n' {
-                len = place.saturating_add(1);
-            }
-        }
+        let len = match memrchr(b'\n', piece) {
+            Some(place) => place.saturating_add(1),
+            None => 0,
+        };
         let whole = piece.get(..len).unwrap_or(piece);
         if self.line.extend_from_slice(whole).is_err() {
             // Without memory it is written as it is.

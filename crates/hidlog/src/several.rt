@@ -99,10 +99,8 @@ pub fn note_one<D: Files, L: Logs, E: Target>(
     };
     say(faults, &notes);
     if ending.has_served && len <= READ_AGAIN_AT_MOST {
-        let same = Wish {
-            is_same: true,
-            ..*wish
-        };
+        let mut same = *wish;
+        same.is_same = true;
         let again = input.again(false);
         tell_differences(files, &same, again, None, faults);
     }
@@ -124,19 +122,20 @@ impl<D: Files, L: Logs, O: Output, E: Target> Host<D, L, O, E> {
             (self.old.input, self.new.input)) }
     {
         let session = &mut fresh();
+        let input = &mut self.input;
         if path == "-"
-            && let Err(error) = self.input.open(None)
+            && let Err(error) = input.open(None)
         {
             return Err(ProgramFault::UnreadLog(path, error));
         }
-        if let Err(fault) = open_log(&mut self.input, Some(path)) {
+        if let Err(fault) = open_log(input, Some(path)) {
             return Err(fault);
         }
         if let Err(fault) = load(session, &self.files, wish.load) {
             return Err(fault);
         }
         let mut writer = ToWrite::new(&mut *same);
-        match LogCommand::Check.play(session, &mut self.input, &mut writer) {
+        match LogCommand::Check.play(session, input, &mut writer) {
             Ok(()) => Ok(ComparisonEnd::of(session)),
             Err(fault) => Err(ProgramFault::Log(fault)),
         }
@@ -162,33 +161,32 @@ impl<D: Files, L: Logs, O: Output, E: Target> Host<D, L, O, E> {
         requires { E.failed self.old.faults < 2 ^ 64 - 1 }
         ensures { self.new.files ≡ self.old.files }
     {
-        match fault {
-            // The others name no line.
-            ProgramFault::Log(fault)
-                if !matches!(fault, LogFault::Write | LogFault::TooManyLines) => {
-                let fault = *fault;
-                if say(&mut self.faults, &FaultLine { wish, fault }) && wish.explains {
-                    say_cause(&self.input.state(), None, &fault, &mut self.faults);
+        // The others name no line.
+        if let ProgramFault::Log(told) = fault
+            && !matches!(told, LogFault::Write | LogFault::TooManyLines)
+        {
+            let fault = *told;
+            let faults = &mut self.faults;
+            if say(faults, &FaultLine { wish, fault }) && wish.explains {
+                say_cause(&self.input.state(), None, told, faults);
+            }
+            if let LogFault::Differs { .. } = told {
+                let again = self.input.again(true);
+                if wish.is_json {
+                    tell_differences(&self.files, wish, again, Some(fault), &mut self.output);
+                } else {
+                    tell_differences(&self.files, wish, again, Some(fault), faults);
                 }
             }
-            _ => self.tell(fault, wish.explains),
+        } else {
+            self.tell(fault, wish.explains);
         }
-        if let ProgramFault::Log(told) = fault
-            && let LogFault::Differs { .. } = told
-        {
-            let (told, again) = (Some(*told), self.input.again(true));
-            if wish.is_json {
-                tell_differences(&self.files, wish, again, told, &mut self.output);
-            } else {
-                tell_differences(&self.files, wish, again, told, &mut self.faults);
+        if wish.is_json {
+            let output = &mut self.output;
+            say(output, &ProgramFaultObject { wish, fault });
+            if output.failures() > 0 {
+                say(&mut self.faults, &EscapedLines(WRITING_FAILED));
             }
-        }
-        if !wish.is_json {
-            return;
-        }
-        say(&mut self.output, &ProgramFaultObject { wish, fault });
-        if self.output.failures() > 0 {
-            say(&mut self.faults, &EscapedLines(WRITING_FAILED));
         }
     }
 
@@ -240,8 +238,10 @@ impl<D: Files, L: Logs, O: Output, E: Target> Host<D, L, O, E> {
     {
         let mut has_failed = false;
         for path in paths {
-            let is_spent = self.input.failures() == u64::MAX || self.faults.failures() == u64::MAX;
-            if is_spent || self.output.failures() > 0 {
+            if self.input.failures() == u64::MAX
+                || self.faults.failures() == u64::MAX
+                || self.output.failures() > 0
+            {
                 return Err(1);
             }
             let wish = Wish {

@@ -33,7 +33,8 @@ fn write_side(pen: &mut Pen, own: &[u8], other: &[u8]) {
         rest: other,
         end: b'\n',
     };
-    let (mut front, mut is_packet): (&[u8], bool) = (b"    ", true);
+    let mut front: &[u8] = b"    ";
+    let mut is_packet = true;
     let lines = Pieces {
         rest: own,
         end: b'\n',

@@ -35,8 +35,12 @@ pub fn load<'a, D: Files>(
     };
     let bytes = match files.read(path) {
         Ok(bytes) => bytes,
-        Err(error) if error.kind() == ErrorKind::OutOfMemory => return Err(ProgramFault::Memory),
-        Err(error) => return Err(ProgramFault::UnreadSnapshot(path, error)),
+        Err(error) => {
+            if error.kind() == ErrorKind::OutOfMemory {
+                return Err(ProgramFault::Memory);
+            }
+            return Err(ProgramFault::UnreadSnapshot(path, error));
+        }
     };
     match session.load(Config { aaguid: [0; 16] }, &bytes, 0) {
         Ok(()) => Ok(()),

@@ -10,7 +10,7 @@ use crate::signed::{Signed, SignedOtherwise};
 use crate::wording::Wording;
 use hid_packet::command::KEEPALIVE;
 use hid_packet::{Outbox, Packet, View};
-use session_log::{Failed, Line, LogFault, Source, Target, Window, next_line, read_line};
+use session_log::{CAPACITY, Failed, Line, LogFault, Source, Target, Window, next_line, read_line};
 use session_walk::{Awaited, LogWalk, Role, Transaction, channel_of};
 use token_session::Session;
 
@@ -105,12 +105,12 @@ impl PlayedLog {
     /// Takes the next line, with its number, and returns the difference that it shows. An input steps the session,
     /// unless the log lacks a packet of the input before: then the line isn't taken. Where the line's packet differs,
     /// the walk has yet to take it.
-    fn take<const C: usize>(
+    fn take(
         &mut self,
         number: u64,
         line: &[u8],
         said: &Line,
-        session: &mut Session<C>,
+        session: &mut Session<CAPACITY>,
     ) -> Option<Difference> {
         match said {
             Line::Sent(packet) => {
@@ -290,10 +290,10 @@ impl Comparison {
 
     /// Plays a log on a session up to the next input with a difference, and returns the first one there; none at the
     /// log's end. The log is read on from where the last call ended, by the same reader and on the same session.
-    pub fn find<S: Source, const C: usize>(
+    pub fn find<S: Source>(
         &mut self,
         reader: &mut S,
-        session: &mut Session<C>,
+        session: &mut Session<CAPACITY>,
     ) -> Result<Option<Difference>, LogFault> {
         self.played.pass_last();
         for _ in 0..LINES {
@@ -339,9 +339,35 @@ impl Comparison {
         self.lines = self.lines.saturating_add(1);
     }
 
+    /// Tells what is known of the difference that was found last. To `reason` it writes why the key doesn't send what
+    /// the log has, `  it needs a new key; line 9 is a signature`, where that is seen from the lines before; to
+    /// `logged` and `sent` the packet that the log has and the one that the session sends, each as
+    /// `< 00000001 CBOR 181`. Where those after it complete a CBOR message, [`crate::show`]'s lines for it follow. The
+    /// log is read on for them. What can't be written is left out.
+    ///
     /// Returns the transaction that the session's packet belongs to, or else the log's; of one that belongs to none,
-    /// the one that holds its channel or was answered last there. It has to be asked after [`Comparison::put_reason`].
-    pub fn transaction(&mut self, difference: &Difference) -> Option<Transaction> {
+    /// the one that holds its channel or was answered last there.
+    pub fn tell<S: Source, T: Target>(
+        &mut self,
+        difference: &Difference,
+        reader: &mut S,
+        reason: &mut T,
+        logged: &mut T,
+        sent: &mut T,
+    ) -> Option<Transaction> {
+        // What the key waits for is seen before the packets that differ are taken.
+        let why = Reason {
+            walk: &self.played.key,
+            difference,
+        };
+        let _ = put_counted(reason, &mut self.pen, &why);
+        let transaction = self.transaction(difference);
+        let _ = self.put(difference, reader, logged, sent);
+        transaction
+    }
+
+    /// Takes the packets that differ, and returns their transaction.
+    fn transaction(&mut self, difference: &Difference) -> Option<Transaction> {
         let Some(packet) = difference.sent.or(difference.logged) else {
             return None;
         };
@@ -366,21 +392,6 @@ impl Comparison {
         self.played.signed.otherwise
     }
 
-    /// Writes why the key doesn't send what the log has, `  it needs a new key; line 9 is a signature`, where that is
-    /// seen from the lines before. It has to be asked before [`Comparison::transaction`] and [`Comparison::put`],
-    /// which take the packets that differ.
-    pub fn put_reason<T: Target>(
-        &mut self,
-        difference: &Difference,
-        writer: &mut T,
-    ) -> Result<(), Failed> {
-        let reason = Reason {
-            walk: &self.played.key,
-            difference,
-        };
-        put_counted(writer, &mut self.pen, &reason)
-    }
-
     /// Returns whether the log has a packet of the key. It is read on up to the first one, and not compared.
     pub fn has_sent<S: Source>(&mut self, reader: &mut S) -> bool {
         for _ in 0..LINES {
@@ -396,16 +407,14 @@ impl Comparison {
         false
     }
 
-    /// Writes the packet that the log has and the one that the session sends, each as `< 00000001 CBOR 181`. Where
-    /// those after it complete a CBOR message, [`crate::show`]'s lines for it follow. The log is read on for them.
-    pub fn put<S: Source, T: Target>(
+    /// Writes the packets that differ, which were taken, and the messages that they begin.
+    fn put<S: Source, T: Target>(
         &mut self,
         difference: &Difference,
         reader: &mut S,
         logged: &mut T,
         sent: &mut T,
     ) -> Result<(), Failed> {
-        self.played.take_last();
         let line = difference.line;
         if let Some(packet) = &difference.sent {
             for _ in 0..PACKETS {

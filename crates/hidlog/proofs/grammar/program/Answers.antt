@@ -7,8 +7,8 @@ loop-entry-init c = search rules
 
 pub loop-entry-preserved : goal.loop-entry-preserved
 loop-entry-preserved c =
-    one_command_more c.loop-entry.program c.in_ok-command.field-0 c.in_ok-program.program _
-    c.loop-entry.entry-index _ c.in_ok-program.ensures c.in_ok-command.ensures.local c.in_ok-command.ensures.shape
+    one_command_more c.loop-entry.program c.in-Ok.command c.in_ok-program-in-Ok.program _
+    c.loop-entry.entry-index _ c.in_ok-program-in-Ok.ensures c.in-Ok.ensures.local c.in-Ok.ensures.shape
     c.loop-entry-test.true c.loop-entry.invariant
 
 pub returns : goal.returns
