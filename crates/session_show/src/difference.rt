@@ -196,6 +196,12 @@ impl PlayedLog {
             self.kept_alive = Some((self.now, *packet));
         }
         self.key.take(line, &Line::Sent(*packet));
+        // Where time ended the message before its packet came, the session says so first.
+        if let Some(late) = self.key.late()
+            && late.of.is_none()
+        {
+            self.is_stray = true;
+        }
     }
 
     /// Returns the packet that is missing at the log's end, after this line.
