@@ -1,5 +1,6 @@
 //! What hosts and a device do on one channel, by the transport's own rules (CTAP 2.1, sections 11.2.4 and 11.2.5).
 //! Nothing is known of the device but its packets.
+ghost use Rattle.std.specs.Prelude.{◌≡◌, true, IfSome};
 
 use crate::awaited::Awaited;
 use crate::entry::Role;
@@ -234,7 +235,9 @@ impl Channel {
     }
 
     /// Takes the continuation packet with this number. None where it is of no message that is open.
-    pub fn go_on(&mut self, number: u8, now: u64) -> Option<Continued> {
+    pub fn go_on(&mut self, number: u8, now: u64) -> Option<Continued>
+        ensures { IfSome result (λ continued. continued.is_whole ≡ true → continued.is_next ≡ true) }
+    {
         let is_of_asked = matches!(&self.asked, Some(asked)
             if asked.extent.continuations == number && !asked.extent.is_whole());
         let message = if is_of_asked {
@@ -348,7 +351,9 @@ impl Channel {
 
 impl Followed {
     /// Goes on with its message, which isn't whole, by the packet with this number.
-    fn go_on(&mut self, number: u8, now: u64) -> Continued {
+    fn go_on(&mut self, number: u8, now: u64) -> Continued
+        ensures { result.is_whole ≡ true → result.is_next ≡ true }
+    {
         let mut continued = Continued {
             of: self.transaction,
             gap: now.saturating_sub(self.at),

@@ -2,9 +2,10 @@
 
 use crate::awaited::Awaited;
 use crate::channel::{Channel, DeviceMessage, nonce_in};
+use crate::doubtful::Doubtful;
 use crate::entry::Role;
 use crate::exchange::{End, EndedTransactions, Extent, Followed, Transaction, is_served};
-use crate::walk::{Doubtful, MAKE};
+use crate::walk::MAKE;
 use hid_packet::BROADCAST;
 use hid_packet::command::{ERROR, INIT, KEEPALIVE};
 

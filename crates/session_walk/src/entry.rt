@@ -1,4 +1,6 @@
 //! The lines of a log, and what each of them is.
+ghost use Rattle.std.specs.Prelude.{◌≡◌, option_map};
+ghost use Rattle.hid_packet.specs.Packet.{channel_of, fields};
 
 use crate::exchange::{Ended, Followed, Transaction};
 use hid_packet::{Packet, View};
@@ -48,7 +50,9 @@ pub struct Own<'a> {
 
 impl Own<'_> {
     /// Returns the line that its transaction began at.
-    pub fn began(&self) -> Option<u64> {
+    pub fn began(&self) -> Option<u64>
+        ensures { result ≡ option_map (λ transaction. transaction.line) self.now.of }
+    {
         match &self.of {
             Some(transaction) => Some(transaction.line),
             None => None,
@@ -73,7 +77,9 @@ pub struct Entry<'a> {
 }
 
 /// Returns a packet's channel.
-pub fn channel_of(packet: &Packet) -> u32 {
+pub fn channel_of(packet: &Packet) -> u32
+    ensures { result ≡ channel_of (fields packet.now.0) }
+{
     match packet.view() {
         View::Start { cid, .. } | View::More { cid, .. } => cid,
     }

@@ -1,4 +1,7 @@
 //! Transactions: what a host asks on a channel, until it is answered (CTAP 2.1, section 11.2.5.1).
+ghost use Rattle.std.specs.Prelude.{◌≡◌, ◌<◌, ◌+◌, ◌-◌, ◌++◌, ◌↔◌, min, Some, None, true, [], ◌∷◌, if◌then◌else◌};
+ghost use Rattle.arrayvec.specs.ArrayVec.{array_vec_len};
+ghost use Rattle.session_walk.specs.Extents.{came, is_whole};
 
 use crate::awaited::Awaited;
 use crate::credentials::{Excluded, Name};
@@ -46,25 +49,36 @@ pub struct Extent {
 
 impl Extent {
     /// Returns how many bytes its packets carried.
-    pub fn came(&self) -> usize {
+    pub fn came(&self) -> usize
+        ensures { result ≡ came self.now.length self.now.continuations }
+    {
         let most = INITIALIZATION_DATA + CONTINUATION_DATA * usize::from(self.continuations);
         usize::from(self.length).min(most)
     }
 
     /// Takes its next continuation packet, and returns how many bytes of the message that carries.
-    pub fn add_continuation(&mut self) -> usize {
+    pub fn add_continuation(&mut self) -> usize
+        ensures state { self.new ≡ record self.old { continuations = min 255 (self.old.continuations + 1) } }
+        ensures carried { result + came self.old.length self.old.continuations
+            ≡ came self.new.length self.new.continuations }
+    {
         let before = self.came();
         self.continuations = self.continuations.saturating_add(1);
         self.came().saturating_sub(before)
     }
 
     /// Returns whether it is whole. A message of more than 7609 bytes never is.
-    pub fn is_whole(&self) -> bool {
+    pub fn is_whole(&self) -> bool
+        ensures { result ≡ is_whole self.now.length self.now.continuations }
+    {
         self.length <= LONGEST_MESSAGE && self.came() == usize::from(self.length)
     }
 
     /// Returns how many bytes came and how many it has, for a form; none where it is whole.
-    pub fn missing(&self) -> (Option<u64>, Option<u64>) {
+    pub fn missing(&self) -> (Option<u64>, Option<u64>)
+        ensures { result ≡ (if is_whole self.now.length self.now.continuations then (None, None)
+            else (Some (came self.now.length self.now.continuations), Some self.now.length)) }
+    {
         if self.is_whole() {
             (None, None)
         } else {
@@ -157,7 +171,11 @@ pub struct EndedTransactions(pub ArrayVec<Ended, ENDS>);
 
 impl EndedTransactions {
     /// Adds one.
-    pub fn add(&mut self, exchange: Followed, end: End) {
+    pub fn add(&mut self, exchange: Followed, end: End)
+        ensures space { array_vec_len self.old.0 < 8
+            → self.new.0.items ≡ self.old.0.items ++ record { exchange = exchange; end = end } ∷ [] }
+        ensures full { array_vec_len self.old.0 ≡ 8 → self.new ≡ self.old }
+    {
         let _ = self.0.try_push(Ended { exchange, end });
     }
 

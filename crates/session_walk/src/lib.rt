@@ -8,6 +8,7 @@ mod channel;
 mod channels;
 mod credentials;
 mod device;
+mod doubtful;
 mod entry;
 mod exchange;
 mod message;

@@ -1,85 +1,170 @@
 //! The bytes of messages whose packets came, a few messages at a time.
-ghost use Rattle.std.specs.Prelude.{◌<◌, IfSome};
+ghost use Rattle.std.specs.Prelude.{◌≡◌, ◌≢◌, ◌<◌, ◌≤◌, ◌==◌, ℕ, Some, None, length, take, option_map, if◌then◌else◌};
+ghost use Rattle.session_walk.specs.Messages.{KeptMessage, released, continued, kept_at, oldest};
+ghost use Rattle.session_walk.specs.Messages.{Brings, CanBeKept, KeepsOnly};
+ghost use Rattle.hid_packet.specs.Limits.{LONGEST_MESSAGE};
 
 use arrayvec::ArrayVec;
 use hid_packet::LONGEST_MESSAGE;
+use std::marker::Model;
 
 /// The longest message, in bytes.
 pub const LONGEST: usize = LONGEST_MESSAGE as usize;
 
-/// How many messages are kept at once. A key serves one, and refuses others as they come.
-pub const MESSAGES: usize = 2;
-
-/// The bytes of a message that came so far.
-#[derive(Drop, Default)]
+/// A message whose packets come.
+#[derive(Drop)]
 struct Kept {
-    /// The line that the message began at, 0 where there is none.
+    /// The line that it began at, 0 where there is none.
     line: u64,
     /// How many bytes it has when it is whole.
-    length: usize,
+    size: usize,
     bytes: ArrayVec<u8, LONGEST>,
 }
 
-/// The bytes of the messages that began last, by the lines that they began at.
-#[derive(Drop, Default)]
+impl Model for Kept {
+    ghost use Rattle.std.specs.Prelude.{◌≤◌, length};
+    ghost use Rattle.hid_packet.specs.Limits.{LONGEST_MESSAGE};
+    ghost use Rattle.session_walk.specs.Messages.{KeptMessage};
+
+    ghost Value = { KeptMessage };
+
+    ghost view = { λ k. record { line = k.line; size = k.size; bytes = k.bytes.items } };
+
+    ghost invariant = { λ k. (k.size ≤ LONGEST_MESSAGE) × (length k.bytes.items ≤ k.size) };
+}
+
+impl Kept {
+    /// Returns that of no message.
+    fn none() -> Self
+        ensures { result.line ≡ 0 }
+    {
+        Kept {
+            line: 0,
+            size: 0,
+            bytes: ArrayVec::new(),
+        }
+    }
+
+    /// Begins to keep a message of so many bytes.
+    fn begin(&mut self, line: u64, length: u16, part: &[u8])
+        requires { length ≤ LONGEST_MESSAGE }
+        ensures { self.new ≡ record { line = line; size = length; bytes = take length part.now } }
+    {
+        self.line = line;
+        self.size = usize::from(length);
+        self.bytes.clear();
+        self.add(part);
+    }
+
+    /// Takes what a packet carries, as far as the message goes.
+    fn add(&mut self, part: &[u8])
+        ensures { self.new ≡ continued part.now self.old }
+    {
+        let missing = self.size.saturating_sub(self.bytes.len());
+        let more = part.split_at(missing.min(part.len())).0;
+        let _ = self.bytes.try_extend_from_slice(more);
+    }
+
+    /// Keeps it no longer, if it began at this line.
+    fn release(&mut self, line: u64)
+        ensures { self.new ≡ released line self.old }
+    {
+        if self.line == line {
+            self.line = 0;
+        }
+    }
+}
+
+/// The messages that began last, by the lines that they began at. A key serves one, and refuses others as they come.
+#[derive(Drop)]
 pub struct Pool {
-    kept: [Kept; MESSAGES],
+    first: Kept,
+    second: Kept,
+}
+
+impl Model for Pool {
+    ghost use Rattle.std.specs.Prelude.{◌≡◌};
+    ghost use Rattle.session_walk.specs.Messages.{KeptMessage};
+
+    ghost Value = { KeptMessage × KeptMessage };
+
+    ghost view = { λ p. (p.first, p.second) };
+
+    ghost invariant = { λ p. p.first.line ≡ p.second.line → p.first.line ≡ 0 };
 }
 
 impl Pool {
-    /// Begins to keep a message of so many bytes, in the place of the one that began first where there are too many.
-    /// An empty one isn't kept, nor one that is too long.
-    pub fn begin(&mut self, line: u64, length: u16, part: &[u8]) {
+    /// Returns that of no messages.
+    pub fn new() -> Self
+        ensures { (line : ℕ) → kept_at result line ≡ None }
+    {
+        Pool {
+            first: Kept::none(),
+            second: Kept::none(),
+        }
+    }
+
+    /// Begins to keep a message of so many bytes, in the place of the one that began first. An empty one isn't kept,
+    /// nor one that is too long.
+    pub fn begin(&mut self, line: u64, length: u16, part: &[u8])
+        ensures kept { 0 < line → CanBeKept length
+            → kept_at self.new line ≡ Some (record { line = line; size = length; bytes = take length part.now }) }
+        ensures others { CanBeKept length → (other : ℕ) → other ≢ line
+            → kept_at self.new other ≡ (if other == oldest line self.old then None else kept_at self.old other) }
+        ensures brings { kept_at self.old line ≡ None → Brings line length part.now line self.old self.new }
+        ensures neither { (CanBeKept length → ⊥) → self.new ≡ self.old }
+    {
         if length == 0 || length > LONGEST_MESSAGE {
             return;
         }
-        let mut first = 0;
-        for place in 0..MESSAGES {
-            if self.kept[place].line < self.kept[first].line {
-                first = place;
-            }
+        self.first.release(line);
+        self.second.release(line);
+        if self.second.line < self.first.line {
+            self.second.begin(line, length, part);
+        } else {
+            self.first.begin(line, length, part);
         }
-        let kept = &mut self.kept[first];
-        kept.line = line;
-        kept.length = usize::from(length);
-        kept.bytes.clear();
-        self.add(line, part);
-    }
-
-    /// Returns where a message is kept.
-    fn place(&self, line: u64) -> Option<usize>
-        ensures { IfSome result (λ place. place < 2) }
-    {
-        for place in 0..MESSAGES {
-            if line > 0 && self.kept[place].line == line {
-                return Some(place);
-            }
-        }
-        None
     }
 
     /// Takes what a packet of a message carries, as far as the message goes.
-    pub fn add(&mut self, line: u64, part: &[u8]) {
-        if let Some(place) = self.place(line) {
-            let kept = &mut self.kept[place];
-            let missing = kept.length.saturating_sub(kept.bytes.len());
-            let more = part.split_at(missing.min(part.len())).0;
-            let _ = kept.bytes.try_extend_from_slice(more);
+    pub fn add(&mut self, line: u64, part: &[u8])
+        ensures value { (other : ℕ) → kept_at self.new other
+            ≡ (if other == line then option_map (continued part.now) (kept_at self.old line)
+            else kept_at self.old other) }
+        ensures brings { (number size : ℕ) → Brings number size part.now line self.old self.new }
+    {
+        if line == 0 {
+            return;
+        }
+        if self.first.line == line {
+            self.first.add(part);
+        } else if self.second.line == line {
+            self.second.add(part);
         }
     }
 
     /// Keeps a message no longer.
-    pub fn release(&mut self, line: u64) {
-        if let Some(place) = self.place(line) {
-            self.kept[place].line = 0;
-        }
+    pub fn release(&mut self, line: u64)
+        ensures value { (other : ℕ) → kept_at self.new other
+            ≡ (if other == line then None else kept_at self.old other) }
+        ensures only { KeepsOnly self.old self.new }
+    {
+        self.first.release(line);
+        self.second.release(line);
     }
 
     /// Returns the bytes of a message, where it is kept.
-    pub fn bytes(&self, line: u64) -> Option<&[u8]> {
-        match self.place(line) {
-            Some(place) => Some(self.kept[place].bytes.as_slice()),
-            None => None,
+    pub fn bytes(&self, line: u64) -> Option<&[u8]>
+        ensures { option_map (λ bytes. bytes.now) result ≡ option_map (λ m. m.bytes) (kept_at self.now line) }
+    {
+        if line == 0 {
+            None
+        } else if self.first.line == line {
+            Some(self.first.bytes.as_slice())
+        } else if self.second.line == line {
+            Some(self.second.bytes.as_slice())
+        } else {
+            None
         }
     }
 }

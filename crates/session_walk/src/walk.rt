@@ -1,10 +1,14 @@
 //! One walk over a log: which transaction each line belongs to, which message ends at it, and which transactions end.
-ghost use Rattle.std.specs.Prelude.{◌<◌};
+ghost use Rattle.std.specs.Prelude.{◌≡◌, ◌<◌, None, IfSome};
+ghost use Rattle.hid_packet.specs.Packet.{fields};
+ghost use Rattle.session_walk.specs.Messages.{Brings, KeepsOnly, kept_at};
+ghost use Rattle.session_walk.specs.Lines.{BringsWith, LineBrings};
 
 use crate::awaited::Awaited;
 use crate::channels::Channels;
 use crate::credentials::Credentials;
 use crate::device::{AnswerStart, NO_TIME_OUT, TIMED_OUT};
+use crate::doubtful::{Decided, Doubtful, Shown};
 use crate::entry::{CborMessage, Entry, Own, Role, channel_of};
 use crate::exchange::{End, EndedTransactions, Extent, Followed, Named, Transaction};
 use crate::pool::Pool;
@@ -19,42 +23,6 @@ pub const MAKE: u8 = 0x01;
 pub const RESET: u8 = 0x07;
 
 pub const NEXT: u8 = 0x08;
-
-/// A continuation packet of a host of which it isn't known yet whether it came too late for its message. The next line
-/// that isn't a comment shows it: a device that dropped the message says so first.
-#[derive(Clone, Copy)]
-pub struct Doubtful {
-    pub line: u64,
-    /// What its line says.
-    said: Line,
-    pub of: Transaction,
-    /// Whether it is the next one of the message.
-    pub is_next: bool,
-    /// Whether the message is whole with it.
-    is_whole: bool,
-    /// How many bytes of the message it carries.
-    carried: usize,
-}
-
-/// A message that ends at a line.
-#[derive(Clone, Copy)]
-pub struct Shown {
-    /// The line that it began at.
-    line: u64,
-    /// Where its channel is, if the device sent it.
-    place: Option<usize>,
-}
-
-/// What became of a doubtful packet.
-#[derive(Clone, Copy)]
-struct Decided {
-    line: u64,
-    said: Line,
-    /// The transaction that it belongs to.
-    of: Option<Transaction>,
-    shown: Option<Shown>,
-    carried: usize,
-}
 
 /// What the lines of a log so far began.
 #[derive(Drop)]
@@ -88,7 +56,7 @@ impl LogWalk {
     pub fn new() -> Self {
         LogWalk {
             channels: Channels::default(),
-            pool: Pool::default(),
+            pool: Pool::new(),
             credentials: Credentials::new(),
             now: 0,
             input: 0,
@@ -103,8 +71,13 @@ impl LogWalk {
         }
     }
 
-    /// Takes the log's next line, which has this number and says this.
-    pub fn take(&mut self, number: u64, said: &Line) {
+    /// Takes the log's next line, which has this number and says this. A packet begins or continues one message at
+    /// most, with the bytes that it carries, and each other one that is kept stays as it was.
+    pub fn take(&mut self, number: u64, said: &Line)
+        ensures bytes { kept_at self.old.pool number ≡ None
+            → LineBrings number said.now self.new.message_line self.old.pool self.new.pool }
+        ensures shown { IfSome self.new.shown (λ message. message.line ≡ self.new.message_line) }
+    {
         self.clear();
         match said {
             Line::Input(timed) => {
@@ -122,13 +95,19 @@ impl LogWalk {
     }
 
     /// Takes the log's end: what is doubtful belongs to its message.
-    pub fn finish(&mut self) {
+    pub fn finish(&mut self)
+        ensures { KeepsOnly self.old.pool self.new.pool }
+    {
         self.clear();
         self.decide(false);
     }
 
     /// Forgets what was of the line before alone.
-    fn clear(&mut self) {
+    fn clear(&mut self)
+        ensures only { KeepsOnly self.old.pool self.new.pool }
+        ensures line { self.new.message_line ≡ 0 }
+        ensures shown { self.new.shown ≡ None }
+    {
         let mut shown = 0;
         if let Some(message) = &self.shown {
             shown = message.line;
@@ -158,7 +137,15 @@ impl LogWalk {
 
     /// Returns the last line, which has this number and says this, as it is shown, with what it shows of lines before
     /// it.
-    pub fn entry<'a>(&'a self, number: u64, line: &'a [u8], said: &'a Line) -> Entry<'a> {
+    pub fn entry<'a>(&'a self, number: u64, line: &'a [u8], said: &'a Line) -> Entry<'a>
+        ensures number { result.own.number ≡ number }
+        ensures line { result.own.line.now ≡ line.now }
+        ensures said { result.own.said.now ≡ said.now }
+        ensures of { result.own.of ≡ self.entry.now.of }
+        ensures part { result.part ≡ self.entry.now.part }
+        ensures ended { result.ended.now ≡ self.entry.now.ends.0.items }
+        ensures page { result.page ≡ None }
+    {
         let mut shown = self.shown;
         let mut is_doubtful = false;
         // A packet that may have come too late is shown with its message. If it did, the next line says so.
@@ -227,7 +214,10 @@ impl LogWalk {
     // ---- inputs
 
     /// Takes an input, if it is a reply: it is of the one request that waits for its answer, if exactly one does.
-    fn take_reply(&mut self, input: &Input) {
+    fn take_reply(&mut self, input: &Input)
+        ensures pool { self.new.pool ≡ self.old.pool }
+        ensures shown { self.new.shown ≡ self.old.shown }
+    {
         let Some(reply) = Awaited::in_input(input) else {
             return;
         };
@@ -240,7 +230,13 @@ impl LogWalk {
     }
 
     /// Takes a packet of a host.
-    fn take_packet(&mut self, number: u64, timed: &Timed, packet: &Packet) {
+    fn take_packet(&mut self, number: u64, timed: &Timed, packet: &Packet)
+        requires line { self.old.message_line ≡ 0 }
+        requires none { self.old.shown ≡ None }
+        ensures bytes { kept_at self.old.pool number ≡ None
+            → BringsWith number (fields packet.now.0) self.new.message_line self.old.pool self.new.pool }
+        ensures shown { IfSome self.new.shown (λ message. message.line ≡ self.new.message_line) }
+    {
         let channel = channel_of(packet);
         let place = self.channels.place(channel, number, &mut self.ends);
         match packet.view() {
@@ -273,7 +269,11 @@ impl LogWalk {
 
     /// Takes the first packet of a host's message.
     fn begin(&mut self, place: usize, transaction: Transaction, length: u16, part: &[u8])
-        requires { place < 6 }
+        requires place { place < 6 }
+        requires none { self.old.shown ≡ None }
+        ensures bytes { kept_at self.old.pool transaction.line ≡ None
+            → Brings transaction.line length part.now self.new.message_line self.old.pool self.new.pool }
+        ensures shown { IfSome self.new.shown (λ message. message.line ≡ self.new.message_line) }
     {
         let extent = Extent {
             length,
@@ -298,7 +298,11 @@ impl LogWalk {
 
     /// Takes a continuation packet of a host, which an input has.
     fn go_on(&mut self, place: usize, number: u64, timed: &Timed, sequence: u8, part: &[u8])
-        requires { place < 6 }
+        requires place { place < 6 }
+        requires line { self.old.message_line ≡ 0 }
+        requires none { self.old.shown ≡ None }
+        ensures bytes { Brings number 0 part.now self.new.message_line self.old.pool self.new.pool }
+        ensures shown { IfSome self.new.shown (λ message. message.line ≡ self.new.message_line) }
     {
         let Some(continuation) = self.channels.list[place].go_on(sequence, self.now) else {
             self.part = Role::Stray;
@@ -328,7 +332,11 @@ impl LogWalk {
 
     /// Keeps what a whole request names, and returns the request as one that is shown.
     fn complete(&mut self, place: usize, of: &Transaction) -> Option<Shown>
-        requires { place < 6 }
+        requires place { place < 6 }
+        ensures pool { self.new.pool ≡ self.old.pool }
+        ensures line { self.new.message_line ≡ self.old.message_line }
+        ensures shown { self.new.shown ≡ self.old.shown }
+        ensures value { IfSome result (λ message. message.line ≡ of.now.line) }
     {
         let named = self.credentials.named_in(of, &self.pool);
         self.channels.list[place].name(of, named);
@@ -339,7 +347,11 @@ impl LogWalk {
     }
 
     /// Decides on a doubtful packet, where there is one: whether it came too late.
-    fn decide(&mut self, is_late: bool) {
+    fn decide(&mut self, is_late: bool)
+        ensures pool { self.new.pool ≡ self.old.pool }
+        ensures line { self.new.message_line ≡ self.old.message_line }
+        ensures shown { self.new.shown ≡ self.old.shown }
+    {
         let Some(doubtful) = self.doubtful else {
             return;
         };
@@ -366,7 +378,13 @@ impl LogWalk {
     // ---- packets of the device
 
     /// Takes a packet of the device.
-    fn take_sent(&mut self, number: u64, packet: &Packet) {
+    fn take_sent(&mut self, number: u64, packet: &Packet)
+        requires line { self.old.message_line ≡ 0 }
+        requires none { self.old.shown ≡ None }
+        ensures bytes { kept_at self.old.pool number ≡ None
+            → BringsWith number (fields packet.now.0) self.new.message_line self.old.pool self.new.pool }
+        ensures shown { IfSome self.new.shown (λ message. message.line ≡ self.new.message_line) }
+    {
         let channel = channel_of(packet);
         let place = self.channels.place(channel, number, &mut self.ends);
         match packet.view() {
@@ -407,7 +425,13 @@ impl LogWalk {
 
     /// Takes the first packet of a message of the device.
     fn take_start(&mut self, place: usize, answer: &AnswerStart<'_>)
-        requires { place < 6 }
+        requires place { place < 6 }
+        requires none { self.old.shown ≡ None }
+        ensures bytes { kept_at self.old.pool answer.now.line ≡ None
+            → Brings answer.now.line answer.now.extent.length answer.now.part.now self.new.message_line
+            self.old.pool self.new.pool }
+        ensures line { self.new.message_line ≡ answer.now.line }
+        ensures none { self.new.shown ≡ None }
     {
         // Only at a time-out it isn't known yet whether the packet before it came too late.
         let is_error = answer.command == ERROR;
@@ -431,7 +455,11 @@ impl LogWalk {
     /// Ends the transaction of the device's last message, if the packet on this line is its last one, and takes what
     /// the message shows.
     fn end_answer(&mut self, place: usize, number: u64)
-        requires { place < 6 }
+        requires place { place < 6 }
+        requires none { self.old.shown ≡ None }
+        ensures pool { self.new.pool ≡ self.old.pool }
+        ensures line { self.new.message_line ≡ self.old.message_line }
+        ensures shown { IfSome self.new.shown (λ message. message.line ≡ self.new.message_line) }
     {
         let told = &self.channels.list[place].told;
         if told.line != self.message_line || !told.extent.is_whole() {

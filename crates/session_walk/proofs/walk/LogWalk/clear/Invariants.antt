@@ -1,0 +1,5 @@
+use Rattle.session_walk.specs.Messages.{KeepsOnly}
+use Rattle.session_walk.proofs.walk.LogWalk.clear.Given as goal
+
+abbrev pub invariant-loop-ended : goal.invariant-loop-ended
+invariant-loop-ended l = KeepsOnly l.fn.self.pool l.pool
