@@ -57,11 +57,7 @@ pub fn surroundings_of(rt: &HostRuntime, words: &[&str]) -> Surroundings {
         holding,
         audience: Audience::default(),
         style: None,
-        width: if terminals.faults {
-            Some(columns)
-        } else {
-            None
-        },
+        width: terminals.faults.then_some(columns),
     };
     // Where no stream is a terminal, nothing depends on the words.
     if (terminals.output || terminals.faults || rt.stdin().is_terminal())

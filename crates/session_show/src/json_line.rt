@@ -10,7 +10,7 @@ use ctap_cbor::{Cursor, check};
 use hid_packet::command::{ERROR, KEEPALIVE};
 use hid_packet::{Packet, View};
 use session_log::Line;
-use session_walk::{CborMessage, Ended, Own, RpId, channel_of};
+use session_walk::{CborMessage, Ended, Names, Own, RpId, channel_of};
 use token_session::Input;
 
 /// Writes the objects of a line. A comment that isn't UTF-8 is written in hexadecimal digits.
@@ -100,16 +100,7 @@ fn write_message(pen: &mut Pen, own: &Own<'_>, channel: u32, message: &CborMessa
     }
     match &checked {
         _ if item.is_empty() => {}
-        Ok(()) => {
-            pen.text(",\"item\":\"");
-            pen.is_quoted = true;
-            Diagnostic(item).write(pen);
-            pen.is_quoted = false;
-            pen.text("\",\"value\":");
-            let names = map_of(message, *first).names();
-            write_value(pen, &mut Cursor::new(item), 1, JSON, names);
-            write_hex(pen, "bytes", item);
-        }
+        Ok(()) => write_item(pen, map_of(message, *first).names(), item),
         Err(fault) => {
             let numbers = [Some(u64::from(fault.kind.number())), Some(fault.at as u64)];
             pen.form(br#","fault":%d,"at":%d"#, &numbers);
@@ -117,6 +108,17 @@ fn write_message(pen: &mut Pen, own: &Own<'_>, channel: u32, message: &CborMessa
         }
     }
     pen.text("}\n");
+}
+
+/// Writes a canonical item: its diagnostic notation, its value and its bytes.
+fn write_item(pen: &mut Pen, names: Names, item: &[u8]) {
+    pen.text(",\"item\":\"");
+    pen.is_quoted = true;
+    Diagnostic(item).write(pen);
+    pen.is_quoted = false;
+    pen.text("\",\"value\":");
+    write_value(pen, &mut Cursor::new(item), 1, JSON, names);
+    write_hex(pen, "bytes", item);
 }
 
 /// Writes the object of a transaction that ended, or is open at the log's end.

@@ -92,9 +92,10 @@ impl Reason<'_> {
             return;
         };
         let found = self.walk.channels.on(channel_of(logged));
-        let held = match found {
-            Some(found) => found.held.as_ref(),
-            None => None,
+        let (held, last) = match found {
+            Some(found) if found.is_answering() => (found.held.as_ref(), 0),
+            Some(found) => (found.held.as_ref(), found.told.line),
+            None => (None, 0),
         };
         let input = Some(self.difference.input);
         match (held, self.difference.awaited) {
@@ -119,16 +120,12 @@ impl Reason<'_> {
                 let form = b"  line %d is a continuation packet of no open message\n";
                 pen.form(form, &[input]);
             }
-            _ => {
-                if let Some(found) = found
-                    && found.told.line > 0
-                    && !found.is_answering()
-                {
-                    let form =
-                        b"  nothing waits on this channel: its last answer there is that of line %d\n";
-                    pen.form(form, &[Some(found.told.line)]);
-                }
+            _ if last > 0 => {
+                let form =
+                    b"  nothing waits on this channel: its last answer there is that of line %d\n";
+                pen.form(form, &[Some(last)]);
             }
+            _ => {}
         }
     }
 }
