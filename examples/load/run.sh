@@ -37,8 +37,21 @@ end() {
 }
 trap end EXIT
 export PYTHONPATH=$here/../../python/src PYTHONDONTWRITEBYTECODE=1
-port=$("$python" -c 'import socket; s = socket.socket(); s.bind(("127.0.0.1", 0)); print(s.getsockname()[1])')
-master=$((port < 60000 ? port + 1 : port - 1000))
+# Prints a port that nobody has, below those that the system hands out to whoever connects.
+free_port() {
+    "$python" -c '
+import random, socket
+while True:
+    port = random.randrange(20000, 32768)
+    try:
+        with socket.socket() as listener:
+            listener.bind(("", port))
+    except OSError:
+        continue
+    print(port)
+    break'
+}
+port=$(free_port)
 database=$work/service.db
 [ -z "${PGHOST-}" ] || database=postgresql:
 "$python" "$here/service.py" --port "$port" --database "$database" --processes "${HIDLOG_PROCESSES:-1}" &
@@ -52,7 +65,8 @@ done
 # Runs Locust once: load NAME [USERS BEFORE AFTER], with the words of figures.py
 load() {
     local words=("$python" -W ignore -m locust -f "$here/locustfile.py" --loglevel WARNING --security-keys "$work/keys.db"
-        --failed-logs "$work/failed") each ran=()
+        --failed-logs "$work/failed") each ran=() master
+    master=$(free_port)
     for ((each = 0; each < workers; each++)); do
         "${words[@]}" --worker --master-port "$master" >"$work/worker$each" 2>&1 &
         ran+=($!)
