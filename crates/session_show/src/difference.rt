@@ -171,8 +171,9 @@ impl PlayedLog {
         let Some(last) = self.last.take() else {
             return;
         };
+        // What the log hasn't is said to be of the input that brought it.
         if let Some(packet) = &last.sent {
-            self.take_sent(last.line, packet);
+            self.take_sent(last.input, packet);
         }
         if let Some(packet) = last.logged {
             self.walk.take(last.line, &Line::Sent(packet));
@@ -430,7 +431,7 @@ impl Comparison {
                 let Some(next) = self.played.outbox.pop() else {
                     break;
                 };
-                self.played.take_sent(line, &next);
+                self.played.take_sent(difference.input, &next);
             }
             let walk = &self.played.key;
             let side = Side { walk, packet, line };

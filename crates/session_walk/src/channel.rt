@@ -6,10 +6,9 @@ use crate::awaited::Awaited;
 use crate::entry::Role;
 use crate::exchange::{End, EndedTransactions, Extent, Followed, Named, Transaction, is_served};
 use crate::rp_id::RpId;
-use crate::walk::NEXT;
 use arrayvec::ArrayVec;
+use hid_packet::CONTINUATION_DATA;
 use hid_packet::command::INIT;
-use hid_packet::{CONTINUATION_DATA, LONGEST_MESSAGE};
 
 /// The most INITs without an answer that are followed.
 const GREETINGS: usize = 4;
@@ -106,8 +105,6 @@ pub struct Channel {
     pub is_contested: bool,
     /// Whether a host's last packet was a CANCEL, or a continuation of no message.
     pub is_stray: bool,
-    /// How many KEEPALIVEs came after the last packet of what is asked.
-    pub since: u64,
     /// The moment of the last KEEPALIVE.
     pub alive: u64,
     /// The device's last message.
@@ -154,11 +151,7 @@ impl Channel {
     // Apart from its caller, which is called for each packet and would pay for the list each time.
     pub fn forget(&self, ends: &mut EndedTransactions) {
         for open in self.open().0.as_slice() {
-            let end = match open.end {
-                End::Open => End::Forgotten,
-                end => end,
-            };
-            ends.add(open.exchange, end);
+            ends.add(open.exchange, End::Forgotten);
         }
     }
 
@@ -189,7 +182,6 @@ impl Channel {
             Some(held) => {
                 begun.after = begun.at.saturating_sub(held.at);
                 self.asked = Some(begun);
-                self.since = 0;
             }
         }
     }
@@ -232,6 +224,7 @@ impl Channel {
         self.settle(false, ends);
         self.end_held(End::Unknown, ends);
         self.is_contested = false;
+        self.asserted = RpId::default();
     }
 
     /// Takes the continuation packet with this number. None where it is of no message that is open.
@@ -241,7 +234,6 @@ impl Channel {
         let is_of_asked = matches!(&self.asked, Some(asked)
             if asked.extent.continuations == number && !asked.extent.is_whole());
         let message = if is_of_asked {
-            self.since = 0;
             &mut self.asked
         } else {
             &mut self.held
@@ -254,11 +246,8 @@ impl Channel {
         continuation
     }
 
-    /// Keeps what an open request names. authenticatorGetNextAssertion asks for what authenticatorGetAssertion did.
-    pub fn name(&mut self, of: &Transaction, mut named: Named) {
-        if of.command.unwrap_or(0) == NEXT {
-            named.rp_id = self.asserted;
-        }
+    /// Keeps what an open request names.
+    pub fn name(&mut self, of: &Transaction, named: Named) {
         if let Some(mut held) = self.held
             && held.transaction.line == of.line
         {
@@ -280,10 +269,10 @@ impl Channel {
         let Some(mut held) = self.held else {
             return (None, Role::Reply);
         };
+        if self.asked.is_some() {
+            return (None, Role::Own);
+        }
         let Some(awaited) = held.awaited else {
-            if self.asked.is_some() {
-                return (None, Role::Own);
-            }
             return (Some(held.transaction), Role::Own);
         };
         if awaited as u8 != reply as u8 {
@@ -303,15 +292,11 @@ impl Channel {
     /// Lets what was asked have the channel, as a packet of the device shows, or since it wasn't refused before the
     /// next message began.
     pub fn settle(&mut self, is_shown: bool, ends: &mut EndedTransactions) {
-        let Some(mut asked) = self.asked else {
+        let Some(asked) = self.asked else {
             return;
         };
         self.asked = None;
-        if let Some(mut held) = self.held {
-            if asked.is_served() {
-                asked.keepalives = self.since;
-                held.keepalives = held.keepalives.saturating_sub(self.since);
-            }
+        if let Some(held) = self.held {
             self.is_contested = !is_shown && (self.is_contested || held.is_served());
             let end = if !is_shown {
                 End::Unknown
@@ -361,7 +346,7 @@ impl Followed {
             is_whole: false,
             carried: CONTINUATION_DATA,
         };
-        if self.extent.continuations == number && self.extent.length <= LONGEST_MESSAGE {
+        if self.extent.continuations == number {
             continued.is_next = true;
             continued.carried = self.extent.add_continuation();
             continued.is_whole = self.extent.is_whole();

@@ -2,7 +2,9 @@
 ghost use Rattle.std.specs.Prelude.{◌<◌, IfSome};
 
 use crate::channel::Channel;
+use crate::entry::Role;
 use crate::exchange::{Ended, EndedTransactions, Followed};
+use crate::rp_id::RpId;
 use hid_packet::command::CBOR;
 
 /// How many channels are followed at once.
@@ -15,6 +17,8 @@ pub const OPEN: usize = 7 * CHANNELS;
 #[derive(Drop, Default)]
 pub struct Channels {
     pub list: [Channel; CHANNELS],
+    /// Whether one on which something was open made way.
+    has_forgotten: bool,
 }
 
 impl Channels {
@@ -28,7 +32,10 @@ impl Channels {
             return place;
         }
         let place = self.oldest();
-        self.list[place].forget(ends);
+        if !self.list[place].is_idle() {
+            self.has_forgotten = true;
+            self.list[place].forget(ends);
+        }
         self.list[place] = Channel {
             number,
             used: line,
@@ -74,24 +81,42 @@ impl Channels {
         }
     }
 
-    /// Returns where the one request is that waits for its answer, if exactly one does.
-    pub fn waiting(&self) -> Option<usize>
-        ensures { IfSome result (λ place. place < 6) }
+    /// Returns how many messages wait for a reply, and where the last of them is: those of which a KEEPALIVE says so,
+    /// or the requests that wait for their answers.
+    pub fn waiting(&self, is_said: bool) -> (usize, usize)
+        ensures { result.1 < 6 }
     {
-        let mut waiting = CHANNELS;
+        let mut last = 0;
         let mut count = 0_usize;
         for place in 0..CHANNELS {
-            if matches!(&self.list[place].held, Some(held)
-                if held.transaction.message == CBOR && held.extent.is_whole())
-            {
+            let Some(held) = &self.list[place].held else {
+                continue;
+            };
+            let is_waiting = if is_said {
+                held.awaited.is_some()
+            } else {
+                held.transaction.message == CBOR && held.extent.is_whole()
+            };
+            if is_waiting {
                 count = count.saturating_add(1);
-                waiting = place;
+                last = place;
             }
         }
-        if count == 1 && waiting < CHANNELS {
-            Some(waiting)
-        } else {
-            None
+        (count, last)
+    }
+
+    /// Returns what is of no transaction that is followed: of none, unless it may be of one that made way.
+    pub fn without(&self, part: Role) -> Role {
+        if self.has_forgotten { Role::Own } else { part }
+    }
+
+    /// Forgets what was asserted on the channels beside that of a place: a key goes on with the last assertion alone
+    /// (CTAP 2.1, section 6.3).
+    pub fn forget_asserted(&mut self, place: usize) {
+        for other in 0..CHANNELS {
+            if other != place {
+                self.list[other].asserted = RpId::default();
+            }
         }
     }
 

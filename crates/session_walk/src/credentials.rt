@@ -11,6 +11,11 @@ use crate::walk::{MAKE, RESET};
 use ctap_cbor::{Cursor, Item, check};
 use sha2::{Digest, Sha256};
 
+/// authenticatorCredentialManagement, and the command that keys had for it before.
+const MANAGEMENT: u8 = 0x0A;
+
+const MANAGEMENT_BEFORE: u8 = 0x41;
+
 /// The flag of authenticator data that says that a credential follows.
 pub const CREDENTIAL: u8 = 0x40;
 
@@ -61,13 +66,14 @@ impl Credentials {
         }
     }
 
-    /// Takes an answer that ends at a line: keeps the credential that it made, or forgets all at a reset.
+    /// Takes an answer that ends at a line: keeps the credential that it made, or forgets all where it may have deleted
+    /// one.
     pub fn learn(&mut self, answer: &DeviceMessage, line: u64, bytes: &[u8]) {
         let (Some(exchange), [OK, item @ ..]) = (&answer.exchange, bytes) else {
             return;
         };
         let command = exchange.transaction.command.unwrap_or(0);
-        if command == RESET {
+        if matches!(command, RESET | MANAGEMENT | MANAGEMENT_BEFORE) {
             *self = Credentials::new();
         } else if command == MAKE && check(item).result.is_ok() {
             self.add(line, item, exchange.named.account);

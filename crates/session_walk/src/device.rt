@@ -5,7 +5,7 @@ use crate::channel::{Channel, DeviceMessage, nonce_in};
 use crate::doubtful::Doubtful;
 use crate::entry::Role;
 use crate::exchange::{End, EndedTransactions, Extent, Followed, Transaction, is_served};
-use crate::walk::MAKE;
+use crate::walk::{MAKE, NEXT};
 use hid_packet::BROADCAST;
 use hid_packet::command::{ERROR, INIT, KEEPALIVE};
 
@@ -34,7 +34,7 @@ pub const OK: u8 = 0x00;
 const CANCELLED: u8 = 0x2D;
 
 /// authenticatorGetAssertion.
-const ASSERT: u8 = 0x02;
+pub const ASSERT: u8 = 0x02;
 
 /// The milliseconds within which no device drops a message.
 pub const NO_TIME_OUT: u64 = 100;
@@ -170,7 +170,6 @@ impl Channel {
         };
         held.keepalives = held.keepalives.saturating_add(1);
         self.held = Some(held);
-        self.since = self.since.saturating_add(1);
         Some(held.transaction)
     }
 
@@ -312,17 +311,26 @@ impl Channel {
         greetings.len()
     }
 
-    /// Takes the first packet of an answer, and returns the transaction that it is for.
+    /// Takes the first packet of an answer, and returns the transaction that it is for. authenticatorGetNextAssertion
+    /// goes on with what authenticatorGetAssertion asked for, if something is found.
     fn answer(
         &mut self,
         answer: &AnswerStart<'_>,
         ends: &mut EndedTransactions,
     ) -> Option<Transaction> {
-        let exchange = if answer.command == INIT {
+        let mut exchange = if answer.command == INIT {
             self.answer_greeting(answer, ends)
         } else {
             self.answer_message(answer, ends)
         };
+        let is_done = matches!(answer.status, Some(OK));
+        if is_done
+            && let Some(mut next) = exchange
+            && matches!(next.transaction.command, Some(NEXT))
+        {
+            next.named.rp_id = self.asserted;
+            exchange = Some(next);
+        }
         self.told = DeviceMessage {
             line: answer.line,
             extent: answer.extent,
@@ -333,7 +341,7 @@ impl Channel {
             return None;
         };
         let of = exchange.transaction;
-        if let (Some(ASSERT), Some(OK)) = (of.command, answer.status) {
+        if is_done && matches!(of.command, Some(ASSERT)) {
             self.asserted = exchange.named.rp_id;
         }
         Some(of)

@@ -7,7 +7,7 @@ ghost use Rattle.session_walk.specs.Lines.{BringsWith, LineBrings};
 use crate::awaited::Awaited;
 use crate::channels::Channels;
 use crate::credentials::Credentials;
-use crate::device::{AnswerStart, NO_TIME_OUT, TIMED_OUT};
+use crate::device::{ASSERT, AnswerStart, NO_TIME_OUT, OK, TIMED_OUT};
 use crate::doubtful::{Decided, Doubtful, Shown};
 use crate::entry::{CborMessage, Entry, Own, Role, channel_of};
 use crate::exchange::{End, EndedTransactions, Extent, Followed, Named, Transaction};
@@ -213,7 +213,8 @@ impl LogWalk {
 
     // ---- inputs
 
-    /// Takes an input, if it is a reply: it is of the one request that waits for its answer, if exactly one does.
+    /// Takes an input, if it is a reply: it is of the one message of which a KEEPALIVE says that it waits for one, or
+    /// else of the one request that waits for its answer. Of two it isn't known which.
     fn take_reply(&mut self, input: &Input)
         ensures pool { self.new.pool ≡ self.old.pool }
         ensures shown { self.new.shown ≡ self.old.shown }
@@ -221,11 +222,18 @@ impl LogWalk {
         let Some(reply) = Awaited::in_input(input) else {
             return;
         };
-        self.part = Role::Reply;
-        if let Some(place) = self.channels.waiting() {
+        let requests = self.channels.waiting(false);
+        let mut waiting = self.channels.waiting(true);
+        if waiting.0 == 0 {
+            waiting = requests;
+        }
+        let (count, place) = waiting;
+        if count == 0 {
+            self.part = self.channels.without(Role::Reply);
+        } else if count == 1 {
             let (of, part) = self.channels.list[place].reply(reply, self.now);
             self.of = of;
-            self.part = part;
+            self.part = if requests.0 > 1 { Role::Own } else { part };
         }
     }
 
@@ -245,7 +253,7 @@ impl LogWalk {
                 if cmd == CANCEL {
                     let (of, part) = self.channels.list[place].cancel(number);
                     self.of = of;
-                    self.part = part;
+                    self.part = self.channels.without(part);
                     return;
                 }
                 let command = match part {
@@ -305,7 +313,7 @@ impl LogWalk {
         ensures shown { IfSome self.new.shown (λ message. message.line ≡ self.new.message_line) }
     {
         let Some(continuation) = self.channels.list[place].go_on(sequence, self.now) else {
-            self.part = Role::Stray;
+            self.part = self.channels.without(Role::Stray);
             return;
         };
         let of = continuation.of;
@@ -441,10 +449,15 @@ impl LogWalk {
         let behind = (self.input, self.now);
         let channel = &mut self.channels.list[place];
         let started = channel.take_start(answer, behind, &self.doubtful, &mut self.ends);
+        if let Some(of) = &started.of
+            && matches!((of.command, answer.status), (Some(ASSERT), Some(OK)))
+        {
+            self.channels.forget_asserted(place);
+        }
         self.pool.release(started.before);
         self.decide(started.is_late);
         self.of = started.of;
-        self.part = started.part;
+        self.part = self.channels.without(started.part);
         self.message_line = answer.line;
         if answer.command == CBOR {
             let length = answer.extent.length;
