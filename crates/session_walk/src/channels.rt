@@ -110,11 +110,11 @@ impl Channels {
         if self.has_forgotten { Role::Own } else { part }
     }
 
-    /// Forgets what was asserted on the channels beside that of a place: a key goes on with the last assertion alone
-    /// (CTAP 2.1, section 6.3).
-    pub fn forget_asserted(&mut self, place: usize) {
+    /// Takes whether something was asserted on the channel of a place: then what was on others is forgotten, since a
+    /// key goes on with the last assertion alone (CTAP 2.1, section 6.3).
+    pub fn take_assertion(&mut self, place: usize, is_asserted: bool) {
         for other in 0..CHANNELS {
-            if other != place {
+            if is_asserted && other != place {
                 self.list[other].asserted = RpId::default();
             }
         }

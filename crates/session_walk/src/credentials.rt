@@ -2,12 +2,11 @@
 ghost use Rattle.std.specs.Prelude.{◌<◌};
 
 use crate::channel::DeviceMessage;
-use crate::device::OK;
+use crate::device::{MAKE, OK, RESET};
 use crate::exchange::{Named, Transaction};
 use crate::pairs::{item_at, next_value, value_at};
 use crate::pool::Pool;
 use crate::rp_id::RpId;
-use crate::walk::{MAKE, RESET};
 use ctap_cbor::{Cursor, Item, check};
 use sha2::{Digest, Sha256};
 

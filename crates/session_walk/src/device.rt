@@ -5,7 +5,6 @@ use crate::channel::{Channel, DeviceMessage, nonce_in};
 use crate::doubtful::Doubtful;
 use crate::entry::Role;
 use crate::exchange::{End, EndedTransactions, Extent, Followed, Transaction, is_served};
-use crate::walk::{MAKE, NEXT};
 use hid_packet::BROADCAST;
 use hid_packet::command::{ERROR, INIT, KEEPALIVE};
 
@@ -33,8 +32,15 @@ pub const OK: u8 = 0x00;
 /// The status of a request that was cancelled.
 const CANCELLED: u8 = 0x2D;
 
-/// authenticatorGetAssertion.
-pub const ASSERT: u8 = 0x02;
+/// Commands of the authenticator: authenticatorMakeCredential, authenticatorGetAssertion, authenticatorReset and
+/// authenticatorGetNextAssertion.
+pub const MAKE: u8 = 0x01;
+
+const ASSERT: u8 = 0x02;
+
+pub const RESET: u8 = 0x07;
+
+const NEXT: u8 = 0x08;
 
 /// The milliseconds within which no device drops a message.
 pub const NO_TIME_OUT: u64 = 100;
@@ -56,6 +62,12 @@ impl AnswerStart<'_> {
     fn is_of(&self, message: &Option<Followed>) -> bool {
         matches!(message, Some(message)
             if message.extent.is_whole() && message.transaction.message == self.command)
+    }
+
+    /// Returns whether it says that authenticatorGetAssertion found something, if it is for this transaction.
+    pub fn has_assertion(&self, of: &Option<Transaction>) -> bool {
+        matches!(self.status, Some(OK))
+            && matches!(of, Some(of) if matches!(of.command, Some(ASSERT)))
     }
 }
 
@@ -323,10 +335,11 @@ impl Channel {
         } else {
             self.answer_message(answer, ends)
         };
-        let is_done = matches!(answer.status, Some(OK));
-        if is_done
-            && let Some(mut next) = exchange
-            && matches!(next.transaction.command, Some(NEXT))
+        if let Some(mut next) = exchange
+            && matches!(
+                (next.transaction.command, answer.status),
+                (Some(NEXT), Some(OK))
+            )
         {
             next.named.rp_id = self.asserted;
             exchange = Some(next);
@@ -340,11 +353,11 @@ impl Channel {
         let Some(exchange) = exchange else {
             return None;
         };
-        let of = exchange.transaction;
-        if is_done && matches!(of.command, Some(ASSERT)) {
+        let of = Some(exchange.transaction);
+        if answer.has_assertion(&of) {
             self.asserted = exchange.named.rp_id;
         }
-        Some(of)
+        of
     }
 
     /// Takes the INIT with the nonce of an answer. On a channel of its own it drops what began before it (section

@@ -1,6 +1,6 @@
 //! The bytes of messages whose packets came, a few messages at a time.
 ghost use Rattle.std.specs.Prelude.{◌≡◌, ◌≢◌, ◌<◌, ◌≤◌, ◌==◌, ℕ, Some, None, length, take, option_map, if◌then◌else◌};
-ghost use Rattle.session_walk.specs.Messages.{KeptMessage, released, continued, kept_at, oldest};
+ghost use Rattle.session_walk.specs.Messages.{KeptMessage, released, continued, kept_at, making_way};
 ghost use Rattle.session_walk.specs.Messages.{Brings, CanBeKept, KeepsOnly};
 ghost use Rattle.hid_packet.specs.Limits.{LONGEST_MESSAGE};
 
@@ -75,20 +75,23 @@ impl Kept {
     }
 }
 
-/// The messages that began last, by the lines that they began at. A key serves one, and refuses others as they come.
+/// The messages of which packets came last, by the lines that they began at. A key serves one, and refuses others as
+/// they come.
 #[derive(Drop)]
 pub struct Pool {
     first: Kept,
     second: Kept,
+    /// Whether a packet of the first came last.
+    is_first_last: bool,
 }
 
 impl Model for Pool {
     ghost use Rattle.std.specs.Prelude.{◌≡◌};
-    ghost use Rattle.session_walk.specs.Messages.{KeptMessage};
+    ghost use Rattle.session_walk.specs.Messages.{KeptMessages};
 
-    ghost Value = { KeptMessage × KeptMessage };
+    ghost Value = { KeptMessages };
 
-    ghost view = { λ p. (p.first, p.second) };
+    ghost view = { λ p. record { first = p.first; second = p.second; is_first_last = p.is_first_last } };
 
     ghost invariant = { λ p. p.first.line ≡ p.second.line → p.first.line ≡ 0 };
 }
@@ -101,16 +104,17 @@ impl Pool {
         Pool {
             first: Kept::none(),
             second: Kept::none(),
+            is_first_last: false,
         }
     }
 
-    /// Begins to keep a message of so many bytes, in the place of the one that began first. An empty one isn't kept,
-    /// nor one that is too long.
+    /// Begins to keep a message of so many bytes, in the place of the one of which no packet came last. An empty one
+    /// isn't kept, nor one that is too long.
     pub fn begin(&mut self, line: u64, length: u16, part: &[u8])
         ensures kept { 0 < line → CanBeKept length
             → kept_at self.new line ≡ Some (record { line = line; size = length; bytes = take length part.now }) }
         ensures others { CanBeKept length → (other : ℕ) → other ≢ line
-            → kept_at self.new other ≡ (if other == oldest line self.old then None else kept_at self.old other) }
+            → kept_at self.new other ≡ (if other == making_way line self.old then None else kept_at self.old other) }
         ensures brings { kept_at self.old line ≡ None → Brings line length part.now line self.old self.new }
         ensures neither { (CanBeKept length → ⊥) → self.new ≡ self.old }
     {
@@ -119,10 +123,12 @@ impl Pool {
         }
         self.first.release(line);
         self.second.release(line);
-        if self.second.line < self.first.line {
+        if self.second.line == 0 || self.first.line > 0 && self.is_first_last {
             self.second.begin(line, length, part);
+            self.is_first_last = false;
         } else {
             self.first.begin(line, length, part);
+            self.is_first_last = true;
         }
     }
 
@@ -138,8 +144,10 @@ impl Pool {
         }
         if self.first.line == line {
             self.first.add(part);
+            self.is_first_last = true;
         } else if self.second.line == line {
             self.second.add(part);
+            self.is_first_last = false;
         }
     }
 

@@ -7,7 +7,7 @@ ghost use Rattle.session_walk.specs.Lines.{BringsWith, LineBrings};
 use crate::awaited::Awaited;
 use crate::channels::Channels;
 use crate::credentials::Credentials;
-use crate::device::{ASSERT, AnswerStart, NO_TIME_OUT, OK, TIMED_OUT};
+use crate::device::{AnswerStart, NO_TIME_OUT, TIMED_OUT};
 use crate::doubtful::{Decided, Doubtful, Shown};
 use crate::entry::{CborMessage, Entry, Own, Role, channel_of};
 use crate::exchange::{End, EndedTransactions, Extent, Followed, Named, Transaction};
@@ -16,13 +16,6 @@ use hid_packet::command::{CANCEL, CBOR, ERROR, INIT, KEEPALIVE};
 use hid_packet::{CONTINUATION_DATA, Packet, View};
 use session_log::Line;
 use token_session::{Input, Timed};
-
-/// authenticatorMakeCredential, authenticatorReset and authenticatorGetNextAssertion.
-pub const MAKE: u8 = 0x01;
-
-pub const RESET: u8 = 0x07;
-
-pub const NEXT: u8 = 0x08;
 
 /// What the lines of a log so far began.
 #[derive(Drop)]
@@ -383,6 +376,16 @@ impl LogWalk {
         self.decided = Some(decided);
     }
 
+    /// Decides on a doubtful packet before an answer: only at a time-out it isn't known yet whether it came too late.
+    fn decide_before(&mut self, answer: &AnswerStart<'_>)
+        ensures pool { self.new.pool ≡ self.old.pool }
+        ensures shown { self.new.shown ≡ self.old.shown }
+    {
+        if answer.command != ERROR || !matches!(answer.status, Some(TIMED_OUT)) {
+            self.decide(false);
+        }
+    }
+
     // ---- packets of the device
 
     /// Takes a packet of the device.
@@ -441,19 +444,12 @@ impl LogWalk {
         ensures line { self.new.message_line ≡ answer.now.line }
         ensures none { self.new.shown ≡ None }
     {
-        // Only at a time-out it isn't known yet whether the packet before it came too late.
-        let is_error = answer.command == ERROR;
-        if !is_error || !matches!(answer.status, Some(TIMED_OUT)) {
-            self.decide(false);
-        }
+        self.decide_before(answer);
         let behind = (self.input, self.now);
         let channel = &mut self.channels.list[place];
         let started = channel.take_start(answer, behind, &self.doubtful, &mut self.ends);
-        if let Some(of) = &started.of
-            && matches!((of.command, answer.status), (Some(ASSERT), Some(OK)))
-        {
-            self.channels.forget_asserted(place);
-        }
+        self.channels
+            .take_assertion(place, answer.has_assertion(&started.of));
         self.pool.release(started.before);
         self.decide(started.is_late);
         self.of = started.of;
