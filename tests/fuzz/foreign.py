@@ -21,7 +21,7 @@ import random
 import subprocess
 import sys
 from dataclasses import dataclass
-from typing import Optional
+from typing import Any, Iterator, Optional
 
 sys.dont_write_bytecode = True
 
@@ -87,6 +87,10 @@ class Message:
     end: tuple[object, ...] = ("open",)
     due: int = 0
     alive: int = 0
+    is_asking: bool = False
+    """Whether its last KEEPALIVE says that the user is needed."""
+    took: Optional[int] = None
+    """Milliseconds from its last packet to the user's reply."""
 
     @property
     def is_whole(self) -> bool:
@@ -113,6 +117,8 @@ class Log:
         """The messages of hosts, by their channels."""
         self.allowed: dict[int, list[int]] = {}
         """What else a packet may be said to be for."""
+        self.replies = 0
+        """The replies, each of which a message asked for."""
 
     def add(self, text: str, owner: Optional[int] = None) -> int:
         self.lines.append(text)
@@ -209,7 +215,17 @@ class Key:
             self.answer(message)
         else:
             message.alive = self.now
-            self.send(message, KEEPALIVE, b"\x02" if message.data[:1] in (MAKE, ASSERT) else b"\x01")
+            message.is_asking = message.data[:1] in (MAKE, ASSERT) and message.took is None
+            self.send(message, KEEPALIVE, b"\x02" if message.is_asking else b"\x01")
+
+    def reply(self) -> None:
+        """Has the user's reply, where a message asks for it."""
+        message = self.held
+        if message and message.is_asking:
+            self.log.add(f"p {self.now} granted", message.line)
+            self.log.replies += 1
+            message.is_asking = False
+            message.took = self.now - message.last
 
     # ---- packets of hosts
 
@@ -359,6 +375,8 @@ def play(chance: random.Random) -> Log:
         some = chance.choice([it for it in flows if it]).popleft()
         if isinstance(some, int):
             key.pass_to(key.now + some)
+            if chance.random() < 0.5:
+                key.reply()
         else:
             key.take(some)
     key.pass_to(key.now + chance.choice([0, 5000]))
@@ -387,21 +405,37 @@ def wrong_end(message: Message, said: dict[str, object]) -> Optional[str]:
     return f"the message of line {message.line} ended by {message.end}, not by {end}"
 
 
+def wrong_reply(message: Message, said: dict[str, object]) -> Optional[str]:
+    """What is wrong with how long the user is said to have taken."""
+    took = said.get("userTook")
+    if took in (None, message.took):
+        return None
+    return f"the user took {message.took} for the message of line {message.line}, not {took}"
+
+
 def judge(task: tuple[str, str, int]) -> tuple[int, Optional[str], int]:
     """Plays the log of a number. What was found, and how many packets and messages were told apart."""
     program, seed, number = task
     log = play(random.Random(f"{seed}/{number}"))
     text = "".join(f"{line}\n" for line in log.lines).encode()
-    shown = subprocess.run([program, "show", "--json"], input=text, capture_output=True, check=True, timeout=60).stdout
+
+    def show(*words: str) -> Iterator[dict[str, Any]]:
+        words = (program, "show", *words, "--json")
+        shown = subprocess.run(words, input=text, capture_output=True, check=True, timeout=60).stdout
+        return map(json.loads, shown.splitlines())
+
     told = 0
-    for it in map(json.loads, shown.splitlines()):
+    if log.replies and any(it.get("strayReplies") for it in show("--summary")):
+        return number, "a reply that was asked for is said to be noise", told
+    for it in show():
         wrong = None
-        if it["kind"] == "packet":
+        if it["kind"] in ("packet", "presence"):
             told += "transaction" in it
             wrong = wrong_owner(log, it["line"], it.get("transaction"))
         elif it["kind"] == "transaction":
             told += it["end"] not in ("unknown", "forgotten")
-            wrong = wrong_end(log.messages[it["transaction"]], it)
+            message = log.messages[it["transaction"]]
+            wrong = wrong_end(message, it) or wrong_reply(message, it)
         if wrong:
             return number, wrong, told
     return number, None, told

@@ -8,7 +8,7 @@ use crate::exchange::{End, EndedTransactions, Extent, Followed, Named, Transacti
 use crate::rp_id::RpId;
 use arrayvec::ArrayVec;
 use hid_packet::CONTINUATION_DATA;
-use hid_packet::command::INIT;
+use hid_packet::command::{CBOR, INIT};
 
 /// The most INITs without an answer that are followed.
 const GREETINGS: usize = 4;
@@ -49,6 +49,12 @@ pub fn nonce_in(part: &[u8]) -> u64 {
         [a, b, c, d, e, f, g, h, ..] => u64::from_be_bytes([*a, *b, *c, *d, *e, *f, *g, *h]),
         _ => 0,
     }
+}
+
+/// Returns whether a message is a request that is whole.
+fn is_whole_request(message: &Option<Followed>) -> bool {
+    matches!(message, Some(message)
+        if message.transaction.message == CBOR && message.extent.is_whole())
 }
 
 /// A message of the device.
@@ -105,6 +111,8 @@ pub struct Channel {
     pub is_contested: bool,
     /// Whether a host's last packet was a CANCEL, or a continuation of no message.
     pub is_stray: bool,
+    /// Whether the device's last packet is a KEEPALIVE of which it isn't known which message it is for.
+    pub is_kept_alive: bool,
     /// The moment of the last KEEPALIVE.
     pub alive: u64,
     /// The device's last message.
@@ -263,15 +271,28 @@ impl Channel {
         }
     }
 
+    /// Returns whether a message of which a KEEPALIVE says so waits for a reply, or a request that may wait for its
+    /// answer.
+    pub fn is_waiting(&self, is_said: bool) -> bool {
+        if is_said {
+            matches!(&self.held, Some(held) if held.awaited.is_some())
+        } else {
+            self.is_contested
+                || self.is_kept_alive
+                || is_whole_request(&self.held)
+                || is_whole_request(&self.asked)
+        }
+    }
+
     /// Takes a reply at a moment, and returns the request that waited for it, and what it is where none did. Without a
     /// KEEPALIVE it isn't known what is waited for, and of two messages not which of them is served.
     pub fn reply(&mut self, reply: Awaited, now: u64) -> (Option<Transaction>, Role) {
+        if self.asked.is_some() || self.is_contested || self.is_kept_alive {
+            return (None, Role::Own);
+        }
         let Some(mut held) = self.held else {
             return (None, Role::Reply);
         };
-        if self.asked.is_some() {
-            return (None, Role::Own);
-        }
         let Some(awaited) = held.awaited else {
             return (Some(held.transaction), Role::Own);
         };

@@ -5,7 +5,6 @@ use crate::channel::Channel;
 use crate::entry::Role;
 use crate::exchange::{Ended, EndedTransactions, Followed};
 use crate::rp_id::RpId;
-use hid_packet::command::CBOR;
 
 /// How many channels are followed at once.
 const CHANNELS: usize = 6;
@@ -81,23 +80,15 @@ impl Channels {
         }
     }
 
-    /// Returns how many messages wait for a reply, and where the last of them is: those of which a KEEPALIVE says so,
-    /// or the requests that wait for their answers.
+    /// Returns on how many channels a message waits for a reply, and where the last of them is: one of which a KEEPALIVE
+    /// says so, or a request that may wait for its answer.
     pub fn waiting(&self, is_said: bool) -> (usize, usize)
         ensures { result.1 < 6 }
     {
         let mut last = 0;
         let mut count = 0_usize;
         for place in 0..CHANNELS {
-            let Some(held) = &self.list[place].held else {
-                continue;
-            };
-            let is_waiting = if is_said {
-                held.awaited.is_some()
-            } else {
-                held.transaction.message == CBOR && held.extent.is_whole()
-            };
-            if is_waiting {
+            if self.list[place].is_waiting(is_said) {
                 count = count.saturating_add(1);
                 last = place;
             }

@@ -129,6 +129,7 @@ impl Channel {
             KEEPALIVE => self.keep_alive(status, behind, ends),
             _ => self.answer(answer, ends),
         };
+        self.is_kept_alive = answer.command == KEEPALIVE && of.is_none();
         Started {
             of,
             part,
