@@ -219,7 +219,7 @@ class Key:
             self.send(message, KEEPALIVE, b"\x02" if message.is_asking else b"\x01")
 
     def reply(self) -> None:
-        """Has the user's reply, where a message asks for it."""
+        """Takes the user's reply, where a message asks for it."""
         message = self.held
         if message and message.is_asking:
             self.log.add(f"p {self.now} granted", message.line)
