@@ -48,7 +48,8 @@ class Ways:
     unfinished: str
     """What a second message comes to beside one that isn't whole: `refused`, and the first one ends; or `taken`."""
     worked_on: str
-    """What it comes to beside one that is worked on: `refused`, `ignored`, or `taken`."""
+    """What it comes to beside one that is worked on: `refused`, `ignored`, or `taken`; `queued` with all else until that
+    one is answered; or `beside`, where PING and WINK are answered meanwhile, and others are refused."""
     cancelled: str
     """What a CANCEL comes to: `answered`, `ignored`, or `silent`."""
     says_sequence: bool
@@ -65,7 +66,7 @@ class Ways:
             says_time_out=chance.random() < 0.6,
             says_busy=chance.random() < 0.7,
             unfinished=chance.choice(["refused", "refused", "taken"]),
-            worked_on=chance.choice(["refused", "refused", "ignored", "taken"]),
+            worked_on=chance.choice(["refused", "refused", "ignored", "taken", "queued", "beside"]),
             cancelled=chance.choice(["answered", "answered", "ignored", "silent"]),
             says_sequence=chance.random() < 0.7,
             interval=chance.choice([100, 100, 50]),
@@ -137,6 +138,8 @@ class Key:
         self.held: Optional[Message] = None
         self.channels = 0
         self.is_behind_start = False
+        self.queue: collections.deque[tuple[int, int, bytes]] = collections.deque()
+        """The packets that wait until what is worked on is answered, with their lines and moments."""
 
     # ---- what it sends
 
@@ -197,6 +200,8 @@ class Key:
         while (then := self.next_moment()) is not None and then <= moment:
             self.now = max(self.now, then)
             self.bring()
+            while self.queue and not self.is_working:
+                self.serve(*self.queue.popleft())
         self.now = max(self.now, moment)
 
     def bring(self) -> None:
@@ -229,23 +234,37 @@ class Key:
 
     # ---- packets of hosts
 
+    @property
+    def is_working(self) -> bool:
+        return self.held is not None and self.held.is_whole
+
     def take(self, packet: bytes) -> None:
         line = self.log.add(f"> {self.now} {packet.hex()}")
         channel = int.from_bytes(packet[:4], "big")
         self.is_behind_start = False
         if packet[4] < 0x80 or packet[4] == 0x80 | CANCEL:
             self.log.allowed[line] = list(self.log.of_channel[channel])
-        if packet[4] < 0x80:
-            self.take_more(line, channel, packet)
-        elif packet[4] == 0x80 | CANCEL:
-            self.cancel(line, channel)
         else:
             length = int.from_bytes(packet[5:7], "big")
             data = packet[7 : 7 + min(57, length)]
-            message = Message(line, channel, packet[4] & 0x7F, length, data, self.now)
-            self.log.messages[line] = message
+            self.log.messages[line] = Message(line, channel, packet[4] & 0x7F, length, data, self.now)
             self.log.owners[line] = line
-            self.start(message)
+            if packet[4] != 0x80 | INIT:
+                self.log.of_channel[channel].append(line)
+        if self.ways.worked_on == "queued" and self.is_working:
+            self.queue.append((line, self.now, packet))
+        else:
+            self.serve(line, self.now, packet)
+
+    def serve(self, line: int, at: int, packet: bytes) -> None:
+        """Serves a packet that came at a moment."""
+        channel = int.from_bytes(packet[:4], "big")
+        if packet[4] < 0x80:
+            self.take_more(line, at, channel, packet)
+        elif packet[4] == 0x80 | CANCEL:
+            self.cancel(line, channel)
+        else:
+            self.start(self.log.messages[line])
 
     def cancel(self, line: int, channel: int) -> None:
         message = self.held
@@ -260,7 +279,7 @@ class Key:
             message.end = ("silent",)
             self.held = None
 
-    def take_more(self, line: int, channel: int, packet: bytes) -> None:
+    def take_more(self, line: int, at: int, channel: int, packet: bytes) -> None:
         message = self.held
         if message is None or message.is_whole or message.channel != channel:
             return
@@ -273,7 +292,7 @@ class Key:
                 message.end = ("silent",)
             return
         message.next += 1
-        message.last = self.now
+        message.last = at
         message.data += packet[5 : 5 + min(59, message.length - len(message.data))]
         if message.is_whole:
             self.begin(message)
@@ -297,9 +316,12 @@ class Key:
         if message.command == INIT:
             self.greet(message)
             return
-        self.log.of_channel[message.channel].append(message.line)
         self.is_behind_start = True
-        if self.is_taken(message):
+        if self.is_beside(message):
+            held = self.held
+            self.answer(message)
+            self.held = held
+        elif self.is_taken(message):
             if message.command not in (PING, MSG, WINK, CBOR):
                 self.refuse(message, INVALID_COMMAND)
             elif message.length > LONGEST or message.command == CBOR and not message.length:
@@ -308,6 +330,18 @@ class Key:
                 self.held = message
                 if message.is_whole:
                     self.begin(message)
+
+    def is_beside(self, message: Message) -> bool:
+        """Whether a message is answered while another one of its channel is worked on."""
+        held = self.held
+        is_short = message.command in (PING, WINK) and message.is_whole
+        return (
+            self.ways.worked_on == "beside"
+            and is_short
+            and held is not None
+            and held.is_whole
+            and held.channel == message.channel
+        )
 
     def is_taken(self, message: Message) -> bool:
         """Whether a start is taken, beside what is held; else it was refused or ignored."""
@@ -325,7 +359,7 @@ class Key:
             self.held = None
             return True
         else:
-            refused = CHANNEL_BUSY if self.ways.worked_on == "refused" else None
+            refused = CHANNEL_BUSY if self.ways.worked_on in ("refused", "beside") else None
         if refused is None:
             message.end = ("silent",)
         else:

@@ -113,7 +113,7 @@ def cases_of_the_file(room: Path) -> None:
 def cases_of_logs(room: Path) -> None:
     """What each command makes of logs."""
     files = sorted((HERE / "logs").glob("*.txt"))
-    assert len(files) == 10, f"there are {len(files)} files of cases"
+    assert len(files) == 11, f"there are {len(files)} files of cases"
     for file in files:
         for case in cases_of(file):
             case.run(room)

@@ -69,7 +69,7 @@ def was_beside(log: Path) -> bool:
         if "(INJECTED)" in line:
             number = re.search(r"\((\d+)", line)
             about = line if '"/' in line or number is None else opened.get(number[1], "")
-            return ".hidlog" in about or "O_RDONLY" in about
+            return ".hidlog-copy" in about or "O_RDONLY" in about
     return False
 
 

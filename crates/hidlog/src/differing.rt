@@ -247,7 +247,7 @@ fn texts_of<S: Source>(
         reason: Vec::new(alloc),
     };
     if wish.explains || wish.is_json {
-        texts.transaction = comparison.tell(
+        texts.transaction = comparison.explain(
             difference,
             reader,
             &mut ToWrite::new(&mut texts.reason),

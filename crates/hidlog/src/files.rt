@@ -66,10 +66,11 @@ const MOST: u64 = 1 << 20;
 /// The system's number for a path where nothing is.
 const ENOENT: i32 = 2;
 
-/// What is behind the path of a file in that of the copy beside it, and of the part of one.
-pub const COPY: &str = ".hidlog";
+/// What is behind the path of a file in that of the copy beside it, and of the part of one. What is there is removed, so
+/// nobody else should name a file so.
+pub const COPY: &str = ".hidlog-copy";
 
-const PART: &str = ".hidlog.part";
+const PART: &str = ".hidlog-copy.part";
 
 /// Returns the path of a file beside another one.
 fn beside(alloc: Global, path: &str, ending: &str) -> io::Result<String> {

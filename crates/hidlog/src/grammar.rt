@@ -47,7 +47,7 @@ const SAVE: CommandParameter = CommandParameter {
     form: ParameterForm::PathOption,
     word: "save",
     help: "Writes a snapshot of the credentials to F at the end, unless the log has a fault; until that is \
-           done, a whole copy of it is in F.hidlog",
+           done, a whole copy of it is in F.hidlog-copy",
 };
 
 const ALL: CommandParameter = CommandParameter {

@@ -346,15 +346,15 @@ impl Comparison {
         self.lines = self.lines.saturating_add(1);
     }
 
-    /// Tells what is known of the difference that was found last. To `reason` it writes why the key doesn't send what
-    /// the log has, `  it needs a new key; line 9 is a signature`, where that is seen from the lines before; to
-    /// `logged` and `sent` the packet that the log has and the one that the session sends, each as
-    /// `< 00000001 CBOR 181`. Where those after it complete a CBOR message, [`crate::show`]'s lines for it follow. The
-    /// log is read on for them. What can't be written is left out.
+    /// Writes what is known of the difference that was found last: to `reason` why the key doesn't send what the log
+    /// has, `  it needs a new key; line 9 is a signature`, where that is seen from the lines before; to `logged` and
+    /// `sent` the packet that the log has and the one that the session sends, each as `< 00000001 CBOR 181`. Where
+    /// those after it complete a CBOR message, [`crate::show`]'s lines for it follow. The log is read on for them. What
+    /// can't be written is left out.
     ///
     /// Returns the transaction that the session's packet belongs to, or else the log's; of one that belongs to none,
     /// the one that holds its channel or was answered last there.
-    pub fn tell<S: Source, T: Target>(
+    pub fn explain<S: Source, T: Target>(
         &mut self,
         difference: &Difference,
         reader: &mut S,

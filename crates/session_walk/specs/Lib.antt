@@ -1,3 +1,4 @@
 pub mod Extents
 pub mod Messages
 pub mod Lines
+pub mod Shown

@@ -1,6 +1,7 @@
--- The messages whose bytes are kept: two at once.
+-- The messages whose bytes are kept, two at once (CTAP 2.1, section 11.2.4, "Message and packet structure").
 use Rattle.std.specs.Prelude.{◌≡◌, ◌≢◌, ℕ, ◌≤◌, ◌<◌, ◌-◌, ◌==◌, ◌++◌, ◌⊎◌, ◌||◌, Bool, List, length, take, Option, None}
 use Rattle.std.specs.Prelude.{Some, IfSome, option_map, if◌then◌else◌}
+use Rattle.std.specs.Option.{option_and_then}
 use Rattle.hid_packet.specs.Limits.{LONGEST_MESSAGE}
 
 -- A message: the line that it began at, 0 where there is none, how many bytes it has, and those that came.
@@ -15,6 +16,10 @@ pub record KeptMessages : Type 0 where
   pub second : KeptMessage
   pub is_first_last : Bool
 
+-- the message of this size that begins at a line with what its first packet carries
+abbrev pub begun : (number size : ℕ) (part : List ℕ) → KeptMessage
+begun number size part = record { line = number; size = size; bytes = take size part }
+
 -- the message with what one more packet carries, as far as the message goes
 abbrev pub continued : List ℕ → KeptMessage → KeptMessage
 continued part m = record m { bytes = m.bytes ++ take (m.size - length m.bytes) part }
@@ -26,6 +31,14 @@ kept_at kept line =
     else if kept.first.line == line then Some kept.first
     else if kept.second.line == line then Some kept.second
     else None
+
+-- a message's bytes, where all of them came
+abbrev pub all_bytes : KeptMessage → Option (List ℕ)
+all_bytes m = if length m.bytes == m.size then Some m.bytes else None
+
+-- those of the message that began at a line, where it is kept
+abbrev pub whole_at : KeptMessages → ℕ → Option (List ℕ)
+whole_at kept line = option_and_then all_bytes (kept_at kept line)
 
 -- the message, kept no longer where it began at this line
 abbrev pub released : (line : ℕ) → KeptMessage → KeptMessage
@@ -55,7 +68,7 @@ abbrev pub Continues : (part : List ℕ) → Option KeptMessage → KeptMessage 
 Continues part before m = option_map (continued part) before ≡ Some m
 
 abbrev pub Begins : (number size : ℕ) (part : List ℕ) → KeptMessage → Type 0
-Begins number size part m = CanBeKept size × (m ≡ record { line = number; size = size; bytes = take size part })
+Begins number size part m = CanBeKept size × (m ≡ begun number size part)
 
 -- It does so with the message that began at line `of`, where that is kept; each other one that is kept after it was so
 -- before it.

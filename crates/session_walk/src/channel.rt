@@ -8,10 +8,14 @@ use crate::exchange::{End, EndedTransactions, Extent, Followed, Named, Transacti
 use crate::rp_id::RpId;
 use arrayvec::ArrayVec;
 use hid_packet::CONTINUATION_DATA;
-use hid_packet::command::{CBOR, INIT};
+use hid_packet::command::INIT;
 
 /// The most INITs without an answer that are followed.
 const GREETINGS: usize = 4;
+
+/// The milliseconds without a packet after which a device works on nothing: while it does, it sends a KEEPALIVE each 100
+/// (section 11.2.9.2.1).
+const SILENCE: u64 = 500;
 
 /// An INIT without an answer. It is less than what is followed of others, since a walk has many of them.
 #[derive(Clone, Copy, Default)]
@@ -49,12 +53,6 @@ pub fn nonce_in(part: &[u8]) -> u64 {
         [a, b, c, d, e, f, g, h, ..] => u64::from_be_bytes([*a, *b, *c, *d, *e, *f, *g, *h]),
         _ => 0,
     }
-}
-
-/// Returns whether a message is a request that is whole.
-fn is_whole_request(message: &Option<Followed>) -> bool {
-    matches!(message, Some(message)
-        if message.transaction.message == CBOR && message.extent.is_whole())
 }
 
 /// A message of the device.
@@ -111,8 +109,12 @@ pub struct Channel {
     pub is_contested: bool,
     /// Whether a host's last packet was a CANCEL, or a continuation of no message.
     pub is_stray: bool,
-    /// Whether the device's last packet is a KEEPALIVE of which it isn't known which message it is for.
-    pub is_kept_alive: bool,
+    /// How many messages may wait here still of which it isn't known which ones they are.
+    pub lost: u8,
+    /// The line that the last of them began at, or that says of it.
+    pub last_lost: u64,
+    /// The moment of the device's last packet.
+    pub heard: u64,
     /// The moment of the last KEEPALIVE.
     pub alive: u64,
     /// The device's last message.
@@ -127,7 +129,18 @@ impl Channel {
         self.held.is_none()
             && self.asked.is_none()
             && self.greetings.is_empty()
+            && self.lost == 0
             && !self.is_answering()
+    }
+
+    /// Returns whether it isn't known which message is served.
+    pub fn is_unclear(&self) -> bool {
+        self.is_contested || self.lost > 0
+    }
+
+    /// Returns what a packet is of no message that is open: of none, unless it may be of one of which nothing is known.
+    pub fn without(&self, part: Role) -> Role {
+        if self.lost > 0 { Role::Own } else { part }
     }
 
     /// Returns whether the device's last message has further packets.
@@ -170,6 +183,9 @@ impl Channel {
     /// which of them goes on.
     pub fn begin(&mut self, mut begun: Followed, part: &[u8], ends: &mut EndedTransactions) {
         self.is_stray = false;
+        if begun.at.saturating_sub(self.heard) >= SILENCE {
+            self.lost = 0;
+        }
         self.settle(false, ends);
         self.is_greeted = begun.transaction.message == INIT;
         if self.is_greeted {
@@ -199,6 +215,9 @@ impl Channel {
     /// known which one is served.
     pub fn cancel(&mut self, line: u64) -> (Option<Transaction>, Role) {
         self.is_stray = true;
+        if self.lost > 0 {
+            return (None, Role::Own);
+        }
         let is_held = is_served(&self.held);
         let is_asked = is_served(&self.asked);
         if is_held && is_asked {
@@ -222,17 +241,26 @@ impl Channel {
     /// two messages on a channel the second is refused before the next input, or has the channel.
     pub fn is_undecided(&self, input: u64) -> bool {
         match &self.asked {
-            Some(asked) => self.is_contested || asked.transaction.line != input,
-            None => self.is_contested,
+            Some(asked) => self.is_unclear() || asked.transaction.line != input,
+            None => self.is_unclear(),
         }
     }
 
-    /// Ends what is held and what was asked, since a packet may be for either: whether it was answered isn't known.
+    /// Ends what is held and what was asked, since a packet may be for either: whether it was answered isn't known, and
+    /// the other one may wait still.
     pub fn lose(&mut self, ends: &mut EndedTransactions) {
         self.settle(false, ends);
-        self.end_held(End::Unknown, ends);
+        if let Some(lost) = self.end_held(End::Unknown, ends) {
+            self.lose_one(lost.line);
+        }
         self.is_contested = false;
         self.asserted = RpId::default();
+    }
+
+    /// Takes that a message of this line may wait still of which it isn't known which one it is.
+    pub fn lose_one(&mut self, line: u64) {
+        self.lost = self.lost.saturating_add(1);
+        self.last_lost = self.last_lost.max(line);
     }
 
     /// Takes the continuation packet with this number. None where it is of no message that is open.
@@ -271,38 +299,36 @@ impl Channel {
         }
     }
 
-    /// Returns whether a message of which a KEEPALIVE says so waits for a reply, or a request that may wait for its
-    /// answer.
+    /// Returns whether a message of which a KEEPALIVE says so waits for a reply, and no CANCEL came for it, or whether one
+    /// may wait.
     pub fn is_waiting(&self, is_said: bool) -> bool {
         if is_said {
-            matches!(&self.held, Some(held) if held.awaited.is_some())
+            matches!(&self.held, Some(held)
+                if held.awaited.is_some() && held.cancelled.is_none())
         } else {
-            self.is_contested
-                || self.is_kept_alive
-                || is_whole_request(&self.held)
-                || is_whole_request(&self.asked)
+            self.is_unclear() || is_served(&self.held) || is_served(&self.asked)
         }
     }
 
     /// Takes a reply at a moment, and returns the request that waited for it, and what it is where none did. Without a
     /// KEEPALIVE it isn't known what is waited for, and of two messages not which of them is served.
     pub fn reply(&mut self, reply: Awaited, now: u64) -> (Option<Transaction>, Role) {
-        if self.asked.is_some() || self.is_contested || self.is_kept_alive {
+        if self.asked.is_some() || self.is_unclear() {
             return (None, Role::Own);
         }
         let Some(mut held) = self.held else {
             return (None, Role::Reply);
         };
-        let Some(awaited) = held.awaited else {
-            return (Some(held.transaction), Role::Own);
-        };
-        if awaited as u8 != reply as u8 {
-            return (None, Role::Reply);
-        }
-        if matches!(awaited, Awaited::Presence) {
-            held.took = Some(now.saturating_sub(held.at));
-        } else {
-            held.awaited = Some(Awaited::Signature);
+        match (held.awaited, reply) {
+            (Some(Awaited::Presence), Awaited::Presence) => {
+                held.took = Some(now.saturating_sub(held.at));
+                held.awaited = None;
+            }
+            (Some(Awaited::Key), Awaited::Key) => held.awaited = Some(Awaited::Signature),
+            (None, _) | (Some(Awaited::Signature), Awaited::Signature) => {}
+            // A key may say that it works on a request while it waits for the user.
+            (Some(_), Awaited::Presence) if held.took.is_none() && held.asks_user() => {}
+            (Some(_), _) => return (None, Role::Reply),
         }
         self.held = Some(held);
         (Some(held.transaction), Role::Own)
@@ -318,11 +344,14 @@ impl Channel {
         };
         self.asked = None;
         if let Some(held) = self.held {
-            self.is_contested = !is_shown && (self.is_contested || held.is_served());
+            self.is_contested = false;
             let end = if !is_shown {
+                self.lose_one(held.transaction.line);
                 End::Unknown
             } else if let Some(line) = held.cancelled {
                 End::Dropped(line)
+            } else if held.extent.is_whole() {
+                End::Unknown
             } else {
                 End::Replaced(asked.transaction.line)
             };

@@ -1,10 +1,14 @@
 //! The channels of a log that are followed: a few at once.
-ghost use Rattle.std.specs.Prelude.{◌<◌, IfSome};
+ghost use Rattle.std.specs.Prelude.{◌≡◌, ◌<◌, IfSome, if◌then◌else◌};
+ghost use Rattle.session_walk.specs.declared.entry.Role.TheVariants.{Own};
 
+use crate::answer::AnswerStart;
 use crate::channel::Channel;
 use crate::entry::Role;
-use crate::exchange::{Ended, EndedTransactions, Followed};
+use crate::exchange::{End, Ended, EndedTransactions, Followed, Transaction};
 use crate::rp_id::RpId;
+use hid_packet::BROADCAST;
+use hid_packet::command::INIT;
 
 /// How many channels are followed at once.
 const CHANNELS: usize = 6;
@@ -81,7 +85,7 @@ impl Channels {
     }
 
     /// Returns on how many channels a message waits for a reply, and where the last of them is: one of which a KEEPALIVE
-    /// says so, or a request that may wait for its answer.
+    /// says so, or one that may wait.
     pub fn waiting(&self, is_said: bool) -> (usize, usize)
         ensures { result.1 < 6 }
     {
@@ -97,17 +101,55 @@ impl Channels {
     }
 
     /// Returns what is of no transaction that is followed: of none, unless it may be of one that made way.
-    pub fn without(&self, part: Role) -> Role {
+    pub fn without(&self, part: Role) -> Role
+        ensures { result ≡ (if self.now.has_forgotten then Own else part) }
+    {
         if self.has_forgotten { Role::Own } else { part }
     }
 
-    /// Takes whether something was asserted on the channel of a place: then what was on others is forgotten, since a
-    /// key goes on with the last assertion alone (CTAP 2.1, section 6.3).
-    pub fn take_assertion(&mut self, place: usize, is_asserted: bool) {
+    /// Takes what the first packet of an answer on the channel of a place shows of others.
+    pub fn take_answer(
+        &mut self,
+        place: usize,
+        answer: &AnswerStart<'_>,
+        of: &Option<Transaction>,
+        ends: &mut EndedTransactions,
+    ) {
+        if let Some(of) = of
+            && answer.command == INIT
+            && of.channel == BROADCAST
+        {
+            self.give_out(answer.given(), of.line, ends);
+        } else if answer.is_success() && (of.is_none() || answer.has_assertion(of)) {
+            self.forget_assertions(place, of.is_none());
+        }
+    }
+
+    /// Forgets what was asserted on other channels than that of a place, since a key goes on with the last assertion
+    /// alone (CTAP 2.1, section 6.3), and on that one too, if it isn't known what was.
+    fn forget_assertions(&mut self, place: usize, is_unknown: bool) {
         for other in 0..CHANNELS {
-            if is_asserted && other != place {
+            if is_unknown || other != place {
                 self.list[other].asserted = RpId::default();
             }
+        }
+    }
+
+    /// Takes the channel that the answer to the INIT of this line gives out. Where it was in use, as before a key was
+    /// plugged in anew, what was open on it is dropped.
+    fn give_out(&mut self, number: u32, line: u64, ends: &mut EndedTransactions) {
+        if number == BROADCAST {
+            return;
+        }
+        if let Some(place) = self.find(number) {
+            for open in self.list[place].open().0.as_slice() {
+                ends.add(open.exchange, End::Dropped(line));
+            }
+            self.list[place] = Channel {
+                number,
+                used: line,
+                ..Channel::default()
+            };
         }
     }
 

@@ -2,7 +2,7 @@
 ghost use Rattle.std.specs.Prelude.{◌<◌};
 
 use crate::channel::DeviceMessage;
-use crate::device::{MAKE, OK, RESET};
+use crate::device::{ASSERT, MAKE, OK, RESET};
 use crate::exchange::{Named, Transaction};
 use crate::pairs::{item_at, next_value, value_at};
 use crate::pool::Pool;
@@ -124,6 +124,12 @@ impl Credentials {
         }
         let command = of.command.unwrap_or(0);
         named.rp_id = RpId::of_request(command, item);
+        if command == ASSERT
+            && let Some(options) = value_at(item, Item::Int(5))
+            && let Some(Item::Bool(false)) = item_at(options, Item::Text("up"))
+        {
+            named.is_silent = true;
+        }
         if command != MAKE || named.rp_id.bytes().is_empty() {
             return named;
         }

@@ -1,5 +1,6 @@
 //! What a device sends on a channel: which transaction it is for, and what it ends.
 
+use crate::answer::{AnswerStart, Answered, Started};
 use crate::awaited::Awaited;
 use crate::channel::{Channel, DeviceMessage, nonce_in};
 use crate::doubtful::Doubtful;
@@ -21,6 +22,8 @@ const CHANNEL_BUSY: u8 = 0x06;
 
 const INVALID_CHANNEL: u8 = 0x0B;
 
+const OTHER: u8 = 0x7F;
+
 /// What KEEPALIVEs say (CTAP 2.1, section 11.2.9.2.1).
 const PROCESSING: u8 = 0x01;
 
@@ -32,68 +35,20 @@ pub const OK: u8 = 0x00;
 /// The status of a request that was cancelled.
 const CANCELLED: u8 = 0x2D;
 
-/// Commands of the authenticator: authenticatorMakeCredential, authenticatorGetAssertion, authenticatorReset and
-/// authenticatorGetNextAssertion.
+/// Commands of the authenticator: authenticatorMakeCredential, authenticatorGetAssertion, authenticatorReset,
+/// authenticatorGetNextAssertion and authenticatorSelection.
 pub const MAKE: u8 = 0x01;
 
-const ASSERT: u8 = 0x02;
+pub const ASSERT: u8 = 0x02;
 
 pub const RESET: u8 = 0x07;
 
 const NEXT: u8 = 0x08;
 
+pub const SELECT: u8 = 0x0B;
+
 /// The milliseconds within which no device drops a message.
 pub const NO_TIME_OUT: u64 = 100;
-
-/// A packet of a device that begins an answer.
-#[derive(Clone, Copy)]
-pub struct AnswerStart<'a> {
-    pub line: u64,
-    pub command: u8,
-    /// How much of it came with this packet.
-    pub extent: Extent,
-    pub part: &'a [u8],
-    /// The status of a CBOR answer or of a KEEPALIVE, or the code of an ERROR.
-    pub status: Option<u8>,
-}
-
-impl AnswerStart<'_> {
-    /// Returns whether it can be that of a message: of a whole one with its command.
-    fn is_of(&self, message: &Option<Followed>) -> bool {
-        matches!(message, Some(message)
-            if message.extent.is_whole() && message.transaction.message == self.command)
-    }
-
-    /// Returns whether it says that authenticatorGetAssertion found something, if it is for this transaction.
-    pub fn has_assertion(&self, of: &Option<Transaction>) -> bool {
-        matches!(self.status, Some(OK))
-            && matches!(of, Some(of) if matches!(of.command, Some(ASSERT)))
-    }
-}
-
-/// What the first packet of a message of a device shows.
-#[derive(Clone, Copy)]
-pub struct Started {
-    /// The transaction that it is for.
-    pub of: Option<Transaction>,
-    /// What it is, where it is for none.
-    pub part: Role,
-    /// The line that the message before it began at, of which no further packet comes, 0 where there was none.
-    pub before: u64,
-    /// Whether the packet of a host before it came too late for its message.
-    pub is_late: bool,
-}
-
-/// An answer that a packet goes on with.
-#[derive(Clone, Copy)]
-pub struct Answered {
-    /// The line that the answer began at.
-    pub line: u64,
-    /// The transaction that it is for.
-    pub of: Option<Transaction>,
-    /// How many bytes of the answer the packet carries.
-    pub carried: usize,
-}
 
 impl Channel {
     /// Takes the first packet of a message of the device at a moment, behind the input of this line.
@@ -129,7 +84,13 @@ impl Channel {
             KEEPALIVE => self.keep_alive(status, behind, ends),
             _ => self.answer(answer, ends),
         };
-        self.is_kept_alive = answer.command == KEEPALIVE && of.is_none();
+        self.heard = behind.1;
+        match answer.command {
+            KEEPALIVE if of.is_none() && self.lost == 0 => self.lose_one(answer.line),
+            KEEPALIVE | ERROR | INIT => {}
+            _ if of.is_none() => self.lost = self.lost.saturating_sub(1),
+            _ => {}
+        }
         Started {
             of,
             part,
@@ -147,7 +108,7 @@ impl Channel {
         (input, now): (u64, u64),
         ends: &mut EndedTransactions,
     ) -> Option<Transaction> {
-        if self.is_contested {
+        if self.is_unclear() {
             return None;
         }
         let keepalives = match &self.held {
@@ -198,33 +159,70 @@ impl Channel {
         if code != TIMED_OUT {
             return (self.refuse_one(code, input, ends), false);
         }
-        // It may be that of the message that was asked, so that this has the channel.
+        // It may be that of the message that was asked.
         if let Some(asked) = &self.asked
             && let Some(held) = &self.held
             && !asked.extent.is_whole()
         {
-            if held.extent.is_whole() || asked.after < NO_TIME_OUT {
+            if held.extent.is_whole() {
+                return self.time_out_asked(input, doubtful, ends);
+            }
+            if asked.after < NO_TIME_OUT {
                 self.settle(true, ends);
             } else if self.is_undecided(input) {
                 self.lose(ends);
                 return (None, false);
             }
         }
-        let mut is_late = false;
-        if let Some(mut held) = self.held {
-            if let Some(doubtful) = doubtful {
-                is_late = held.transaction.line == doubtful.of.line;
-                // The packet that came too late is left out of the message.
-                if is_late && doubtful.is_next {
-                    held.extent.continuations = held.extent.continuations.saturating_sub(1);
-                    self.held = Some(held);
-                }
-            }
-            if !held.extent.is_whole() {
-                return (self.end_held(End::Refused(code), ends), is_late);
-            }
+        let (timed_out, is_late) = self.time_out(doubtful, ends);
+        if timed_out.is_some() {
+            return (timed_out, is_late);
         }
         (self.refuse_one(code, input, ends), is_late)
+    }
+
+    /// Ends what holds the channel by a time-out, if it isn't whole, and returns its transaction, and whether the packet
+    /// before came too late for it.
+    fn time_out(
+        &mut self,
+        doubtful: &Option<Doubtful>,
+        ends: &mut EndedTransactions,
+    ) -> (Option<Transaction>, bool) {
+        let Some(mut held) = self.held else {
+            return (None, false);
+        };
+        let mut is_late = false;
+        if let Some(doubtful) = doubtful {
+            is_late = held.transaction.line == doubtful.of.line;
+            // The packet that came too late is left out of the message.
+            if is_late && doubtful.is_next {
+                held.extent.continuations = held.extent.continuations.saturating_sub(1);
+                self.held = Some(held);
+            }
+        }
+        if held.extent.is_whole() {
+            return (None, is_late);
+        }
+        (self.end_held(End::Refused(TIMED_OUT), ends), is_late)
+    }
+
+    /// Ends what was asked by a time-out, beside a message that is served: that may go on.
+    fn time_out_asked(
+        &mut self,
+        input: u64,
+        doubtful: &Option<Doubtful>,
+        ends: &mut EndedTransactions,
+    ) -> (Option<Transaction>, bool) {
+        if self.is_unclear() {
+            self.lose(ends);
+            return (None, false);
+        }
+        let served = self.held;
+        self.held = self.asked;
+        self.asked = None;
+        let refused = self.time_out(doubtful, ends);
+        self.held = served;
+        refused
     }
 
     /// Ends the unfinished message that began before one that is refused with this code, where that ends it too.
@@ -252,9 +250,15 @@ impl Channel {
         ends: &mut EndedTransactions,
     ) -> Option<Transaction> {
         let is_undecided = self.is_undecided(input);
-        if (!is_undecided || self.is_greeted)
-            && let Some(refused) = self.refused_start(code)
-        {
+        let mut refused = None;
+        if code == INVALID_LENGTH {
+            let place = self.greeting_of(None);
+            refused = self.take_greeting(place);
+        }
+        if refused.is_none() && (!is_undecided || self.is_greeted) {
+            refused = self.refused_start(code);
+        }
+        if let Some(refused) = refused {
             ends.add(refused, End::Refused(code));
             self.end_before(&refused.transaction, code, ends);
             return Some(refused.transaction);
@@ -285,26 +289,30 @@ impl Channel {
         Some(greeting.transaction)
     }
 
-    /// Takes the message that began last and isn't known to have the channel, if an ERROR can be for it: an INIT of a
-    /// wrong length first.
+    /// Takes the message that began last and isn't known to have the channel, if an ERROR can be for it.
     fn refused_start(&mut self, code: u8) -> Option<Followed> {
-        let count = self.greetings.len();
-        let mut place = count;
-        if code == INVALID_LENGTH {
-            place = self.greeting_of(None);
+        if !self.is_greeted {
+            return self.asked.take();
         }
-        if place == count {
-            if !self.is_greeted {
-                return self.asked.take();
-            }
-            // INIT is taken at any time on its own channel.
-            let is_busy = code == CHANNEL_BUSY && self.number != BROADCAST;
-            if matches!(code, INVALID_SEQUENCE | TIMED_OUT) || is_busy {
-                return None;
-            }
-            place = count.saturating_sub(1);
+        let last = self.greetings.len().saturating_sub(1);
+        if self.may_be_refused(last, code) {
+            self.take_greeting(last)
+        } else {
+            None
         }
-        self.take_greeting(place)
+    }
+
+    /// Returns whether an ERROR with this code can be for the INIT at a place. On its own channel one of 8 bytes is taken
+    /// at any time, so the ERROR is for what else is open there.
+    fn may_be_refused(&self, place: usize, code: u8) -> bool {
+        if matches!(code, INVALID_SEQUENCE | TIMED_OUT) {
+            return false;
+        }
+        if self.number == BROADCAST {
+            return matches!(code, CHANNEL_BUSY | OTHER) || self.held.is_none();
+        }
+        let is_right = matches!(self.greetings.get(place), Some(greeting) if greeting.length == 8);
+        code != CHANNEL_BUSY && !(is_right && self.held.is_some())
     }
 
     /// Returns the place of the first INIT with this nonce, or of a wrong length where none is given, and how many
@@ -375,6 +383,9 @@ impl Channel {
         if self.number != BROADCAST {
             let line = exchange.transaction.line;
             self.is_contested = false;
+            if self.last_lost < line {
+                self.lost = 0;
+            }
             if let Some(held) = &self.held
                 && held.transaction.line < line
             {
@@ -399,11 +410,17 @@ impl Channel {
         if !is_of_asked && !is_of_held {
             return None;
         }
-        if self.is_contested || is_of_asked && is_of_held {
+        if self.is_unclear() || is_of_asked && is_of_held {
             self.lose(ends);
             return None;
         }
         if is_of_asked {
+            // What is served may go on.
+            if matches!(&self.held, Some(held)
+                if held.extent.is_whole() && held.cancelled.is_none())
+            {
+                return self.asked.take();
+            }
             self.settle(true, ends);
         }
         let held = self.held;

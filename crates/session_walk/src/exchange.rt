@@ -5,6 +5,7 @@ ghost use Rattle.session_walk.specs.Extents.{came, is_whole};
 
 use crate::awaited::Awaited;
 use crate::credentials::{Excluded, Name};
+use crate::device::{ASSERT, MAKE, RESET, SELECT};
 use crate::names::{COMMANDS, MESSAGES, name_in};
 use crate::rp_id::RpId;
 use arrayvec::ArrayVec;
@@ -95,6 +96,8 @@ pub struct Named {
     pub excluded: Option<Excluded>,
     /// The account that it asks a discoverable credential for.
     pub account: Option<Name>,
+    /// Whether it asks for no user: its option `up` is false.
+    pub is_silent: bool,
 }
 
 /// A transaction and what came for it so far.
@@ -119,6 +122,15 @@ pub struct Followed {
 }
 
 impl Followed {
+    /// Returns whether it asks for the user's presence.
+    pub fn asks_user(&self) -> bool {
+        match self.transaction.command {
+            Some(MAKE | RESET | SELECT) => true,
+            Some(ASSERT) => !self.named.is_silent,
+            _ => false,
+        }
+    }
+
     /// Returns whether a key works on it, and may say so by a KEEPALIVE: its message is whole, and neither PING nor
     /// INIT.
     pub fn is_served(&self) -> bool {

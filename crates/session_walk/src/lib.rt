@@ -3,6 +3,7 @@
 //! allocated, and nothing is known of texts.
 #![tactic(auto)]
 
+mod answer;
 mod awaited;
 mod channel;
 mod channels;
@@ -11,6 +12,7 @@ mod device;
 mod doubtful;
 mod entry;
 mod exchange;
+mod last_line;
 mod message;
 mod names;
 mod pairs;

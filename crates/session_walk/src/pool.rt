@@ -1,7 +1,7 @@
 //! The bytes of messages whose packets came, a few messages at a time.
-ghost use Rattle.std.specs.Prelude.{◌≡◌, ◌≢◌, ◌<◌, ◌≤◌, ◌==◌, ℕ, Some, None, length, take, option_map, if◌then◌else◌};
-ghost use Rattle.session_walk.specs.Messages.{KeptMessage, released, continued, kept_at, making_way};
-ghost use Rattle.session_walk.specs.Messages.{Brings, CanBeKept, KeepsOnly};
+ghost use Rattle.std.specs.Prelude.{◌≡◌, ◌≢◌, ◌<◌, ◌≤◌, ◌==◌, ℕ, Some, None, length, option_map, if◌then◌else◌};
+ghost use Rattle.session_walk.specs.Messages.{KeptMessage, all_bytes, begun, continued, kept_at, making_way, released};
+ghost use Rattle.session_walk.specs.Messages.{Brings, CanBeKept, KeepsOnly, whole_at};
 ghost use Rattle.hid_packet.specs.Limits.{LONGEST_MESSAGE};
 
 use arrayvec::ArrayVec;
@@ -48,7 +48,7 @@ impl Kept {
     /// Begins to keep a message of so many bytes.
     fn begin(&mut self, line: u64, length: u16, part: &[u8])
         requires { length ≤ LONGEST_MESSAGE }
-        ensures { self.new ≡ record { line = line; size = length; bytes = take length part.now } }
+        ensures { self.new ≡ begun line length part.now }
     {
         self.line = line;
         self.size = usize::from(length);
@@ -63,6 +63,17 @@ impl Kept {
         let missing = self.size.saturating_sub(self.bytes.len());
         let more = part.split_at(missing.min(part.len())).0;
         let _ = self.bytes.try_extend_from_slice(more);
+    }
+
+    /// Returns its bytes, where all of them came.
+    fn all_bytes(&self) -> Option<&[u8]>
+        ensures { option_map (λ bytes. bytes.now) result ≡ all_bytes self.now }
+    {
+        if self.bytes.len() == self.size {
+            Some(self.bytes.as_slice())
+        } else {
+            None
+        }
     }
 
     /// Keeps it no longer, if it began at this line.
@@ -112,7 +123,7 @@ impl Pool {
     /// isn't kept, nor one that is too long.
     pub fn begin(&mut self, line: u64, length: u16, part: &[u8])
         ensures kept { 0 < line → CanBeKept length
-            → kept_at self.new line ≡ Some (record { line = line; size = length; bytes = take length part.now }) }
+            → kept_at self.new line ≡ Some (begun line length part.now) }
         ensures others { CanBeKept length → (other : ℕ) → other ≢ line
             → kept_at self.new other ≡ (if other == making_way line self.old then None else kept_at self.old other) }
         ensures brings { kept_at self.old line ≡ None → Brings line length part.now line self.old self.new }
@@ -161,16 +172,16 @@ impl Pool {
         self.second.release(line);
     }
 
-    /// Returns the bytes of a message, where it is kept.
+    /// Returns the bytes of a message, where it is kept and all of them came.
     pub fn bytes(&self, line: u64) -> Option<&[u8]>
-        ensures { option_map (λ bytes. bytes.now) result ≡ option_map (λ m. m.bytes) (kept_at self.now line) }
+        ensures { option_map (λ bytes. bytes.now) result ≡ whole_at self.now line }
     {
         if line == 0 {
             None
         } else if self.first.line == line {
-            Some(self.first.bytes.as_slice())
+            self.first.all_bytes()
         } else if self.second.line == line {
-            Some(self.second.bytes.as_slice())
+            self.second.all_bytes()
         } else {
             None
         }

@@ -1,15 +1,18 @@
 //! One walk over a log: which transaction each line belongs to, which message ends at it, and which transactions end.
-ghost use Rattle.std.specs.Prelude.{◌≡◌, ◌<◌, None, IfSome};
+ghost use Rattle.std.specs.Prelude.{◌≡◌, ◌<◌, ◌==◌, ℕ, None, Some, IfSome, option_map, if◌then◌else◌};
 ghost use Rattle.hid_packet.specs.Packet.{fields};
-ghost use Rattle.session_walk.specs.Messages.{Brings, KeepsOnly, kept_at};
-ghost use Rattle.session_walk.specs.Lines.{BringsWith, LineBrings};
+ghost use Rattle.hid_packet.specs.Commands.{CBOR as CBOR_COMMAND};
+ghost use Rattle.session_walk.specs.Messages.{Brings, CanBeKept, KeepsOnly, begun, continued, kept_at};
+ghost use Rattle.session_walk.specs.Lines.{BringsWith, GoesOn, KeepsAll, KeepsFirst, LineBrings, LineGoesOn, LineKeeps};
+ghost use Rattle.session_walk.specs.Shown.{EndsNothing};
 
+use crate::answer::AnswerStart;
 use crate::awaited::Awaited;
 use crate::channels::Channels;
 use crate::credentials::Credentials;
-use crate::device::{AnswerStart, NO_TIME_OUT, TIMED_OUT};
+use crate::device::{NO_TIME_OUT, TIMED_OUT};
 use crate::doubtful::{Decided, Doubtful, Shown};
-use crate::entry::{CborMessage, Entry, Own, Role, channel_of};
+use crate::entry::{Role, channel_of};
 use crate::exchange::{End, EndedTransactions, Extent, Followed, Named, Transaction};
 use crate::pool::Pool;
 use hid_packet::command::{CANCEL, CBOR, ERROR, INIT, KEEPALIVE};
@@ -21,13 +24,13 @@ use token_session::{Input, Timed};
 #[derive(Drop)]
 pub struct LogWalk {
     pub channels: Channels,
-    pool: Pool,
+    pub(crate) pool: Pool,
     credentials: Credentials,
     /// The latest moment.
     now: u64,
     /// The line of the last input.
     input: u64,
-    doubtful: Option<Doubtful>,
+    pub(crate) doubtful: Option<Doubtful>,
     /// Of the last line: the transactions that it ends, ..
     pub ends: EndedTransactions,
     /// .. the one that it belongs to, ..
@@ -35,13 +38,13 @@ pub struct LogWalk {
     /// .. the line that the message began at which its packet is of, 0 where it is of none, ..
     pub message_line: u64,
     /// .. how many bytes of that its packet carries, ..
-    carried: usize,
+    pub(crate) carried: usize,
     /// .. or what it is, where it belongs to none, ..
     pub part: Role,
     /// .. the message that ends at it, ..
     pub shown: Option<Shown>,
     /// .. and what it shows of a doubtful one before it.
-    decided: Option<Decided>,
+    pub(crate) decided: Option<Decided>,
 }
 
 impl LogWalk {
@@ -69,6 +72,9 @@ impl LogWalk {
     pub fn take(&mut self, number: u64, said: &Line)
         ensures bytes { kept_at self.old.pool number ≡ None
             → LineBrings number said.now self.new.message_line self.old.pool self.new.pool }
+        ensures kept { 0 < number → LineKeeps number said.now self.new.pool }
+        ensures goes_on { EndsNothing self.old
+            → LineGoesOn said.now self.new.message_line self.old.pool self.new.pool }
         ensures shown { IfSome self.new.shown (λ message. message.line ≡ self.new.message_line) }
     {
         self.clear();
@@ -98,6 +104,7 @@ impl LogWalk {
     /// Forgets what was of the line before alone.
     fn clear(&mut self)
         ensures only { KeepsOnly self.old.pool self.new.pool }
+        ensures all { EndsNothing self.old → KeepsAll self.old.pool self.new.pool }
         ensures line { self.new.message_line ≡ 0 }
         ensures shown { self.new.shown ≡ None }
     {
@@ -126,88 +133,10 @@ impl LogWalk {
         self.ends.0.clear();
     }
 
-    // ---- what the last line is
-
-    /// Returns the last line, which has this number and says this, as it is shown, with what it shows of lines before
-    /// it.
-    pub fn entry<'a>(&'a self, number: u64, line: &'a [u8], said: &'a Line) -> Entry<'a>
-        ensures number { result.own.number ≡ number }
-        ensures line { result.own.line.now ≡ line.now }
-        ensures said { result.own.said.now ≡ said.now }
-        ensures of { result.own.of ≡ self.entry.now.of }
-        ensures part { result.part ≡ self.entry.now.part }
-        ensures ended { result.ended.now ≡ self.entry.now.ends.0.items }
-        ensures page { result.page ≡ None }
-    {
-        let mut shown = self.shown;
-        let mut is_doubtful = false;
-        // A packet that may have come too late is shown with its message. If it did, the next line says so.
-        if let Some(doubtful) = &self.doubtful
-            && doubtful.line == number
-        {
-            is_doubtful = true;
-            if doubtful.is_whole {
-                shown = Some(Shown {
-                    line: doubtful.of.line,
-                    place: None,
-                });
-            }
-        }
-        Entry {
-            late: self.late(),
-            own: Own {
-                number,
-                line,
-                said,
-                of: self.of,
-                message: self.message(&shown),
-                carried: self.carried,
-            },
-            is_doubtful,
-            part: self.part,
-            ended: self.ends.0.as_slice(),
-            page: None,
-        }
-    }
-
-    /// Returns the packet that was doubtful before it, as it is shown.
-    pub fn late(&self) -> Option<Own<'_>> {
-        match &self.decided {
-            Some(decided) => Some(Own {
-                number: decided.line,
-                line: b"",
-                said: &decided.said,
-                of: decided.of,
-                message: self.message(&decided.shown),
-                carried: decided.carried,
-            }),
-            None => None,
-        }
-    }
-
-    /// Returns a message that ends at a line.
-    pub fn message(&self, shown: &Option<Shown>) -> Option<CborMessage<'_>> {
-        let Some(shown) = shown else {
-            return None;
-        };
-        let exchange = match shown.place {
-            Some(place) => match self.channels.list.get(place) {
-                Some(channel) => channel.told.exchange.as_ref(),
-                None => None,
-            },
-            None => None,
-        };
-        Some(CborMessage {
-            is_request: shown.place.is_none(),
-            bytes: self.pool.bytes(shown.line),
-            exchange,
-        })
-    }
-
     // ---- inputs
 
     /// Takes an input, if it is a reply: it is of the one message of which a KEEPALIVE says that it waits for one, or
-    /// else of the one request that waits for its answer. Of two it isn't known which.
+    /// else of the one that waits for its answer. Of two it isn't known which.
     fn take_reply(&mut self, input: &Input)
         ensures pool { self.new.pool ≡ self.old.pool }
         ensures shown { self.new.shown ≡ self.old.shown }
@@ -236,6 +165,8 @@ impl LogWalk {
         requires none { self.old.shown ≡ None }
         ensures bytes { kept_at self.old.pool number ≡ None
             → BringsWith number (fields packet.now.0) self.new.message_line self.old.pool self.new.pool }
+        ensures kept { 0 < number → KeepsFirst number (fields packet.now.0) self.new.pool }
+        ensures goes_on { GoesOn (fields packet.now.0) self.new.message_line self.old.pool self.new.pool }
         ensures shown { IfSome self.new.shown (λ message. message.line ≡ self.new.message_line) }
     {
         let channel = channel_of(packet);
@@ -274,6 +205,8 @@ impl LogWalk {
         requires none { self.old.shown ≡ None }
         ensures bytes { kept_at self.old.pool transaction.line ≡ None
             → Brings transaction.line length part.now self.new.message_line self.old.pool self.new.pool }
+        ensures kept { IfSome transaction.command (λ command. 0 < transaction.line → CanBeKept length
+            → kept_at self.new.pool transaction.line ≡ Some (begun transaction.line length part.now)) }
         ensures shown { IfSome self.new.shown (λ message. message.line ≡ self.new.message_line) }
     {
         let extent = Extent {
@@ -303,10 +236,14 @@ impl LogWalk {
         requires line { self.old.message_line ≡ 0 }
         requires none { self.old.shown ≡ None }
         ensures bytes { Brings number 0 part.now self.new.message_line self.old.pool self.new.pool }
+        ensures goes_on { (line : ℕ) → kept_at self.new.pool line ≡ (if line == self.new.message_line
+            then option_map (continued part.now) (kept_at self.old.pool self.new.message_line)
+            else kept_at self.old.pool line) }
         ensures shown { IfSome self.new.shown (λ message. message.line ≡ self.new.message_line) }
     {
         let Some(continuation) = self.channels.list[place].go_on(sequence, self.now) else {
-            self.part = self.channels.without(Role::Stray);
+            let part = self.channels.list[place].without(Role::Stray);
+            self.part = self.channels.without(part);
             return;
         };
         let of = continuation.of;
@@ -394,6 +331,8 @@ impl LogWalk {
         requires none { self.old.shown ≡ None }
         ensures bytes { kept_at self.old.pool number ≡ None
             → BringsWith number (fields packet.now.0) self.new.message_line self.old.pool self.new.pool }
+        ensures kept { 0 < number → KeepsFirst number (fields packet.now.0) self.new.pool }
+        ensures goes_on { GoesOn (fields packet.now.0) self.new.message_line self.old.pool self.new.pool }
         ensures shown { IfSome self.new.shown (λ message. message.line ≡ self.new.message_line) }
     {
         let channel = channel_of(packet);
@@ -441,6 +380,9 @@ impl LogWalk {
         ensures bytes { kept_at self.old.pool answer.now.line ≡ None
             → Brings answer.now.line answer.now.extent.length answer.now.part.now self.new.message_line
             self.old.pool self.new.pool }
+        ensures kept { answer.now.command ≡ CBOR_COMMAND → 0 < answer.now.line → CanBeKept answer.now.extent.length
+            → kept_at self.new.pool answer.now.line
+            ≡ Some (begun answer.now.line answer.now.extent.length answer.now.part.now) }
         ensures line { self.new.message_line ≡ answer.now.line }
         ensures none { self.new.shown ≡ None }
     {
@@ -449,7 +391,7 @@ impl LogWalk {
         let channel = &mut self.channels.list[place];
         let started = channel.take_start(answer, behind, &self.doubtful, &mut self.ends);
         self.channels
-            .take_assertion(place, answer.has_assertion(&started.of));
+            .take_answer(place, answer, &started.of, &mut self.ends);
         self.pool.release(started.before);
         self.decide(started.is_late);
         self.of = started.of;
