@@ -3,6 +3,7 @@ use crate::commands::fresh;
 use crate::fault::ProgramFault;
 use crate::files::Files;
 use crate::finding::{DifferenceTexts, Finding};
+use crate::misfit::first_misfit;
 use crate::objects::ProgramFaultObject;
 use crate::process::say;
 use crate::remarks::{Remark, Remarked};
@@ -147,10 +148,15 @@ fn say_end<S: Source, E: Target>(
         return;
     }
     if wish.is_all {
-        let wish = &*wish;
-        say(faults, &DifferenceCount { wish, count, fault });
+        let counted = DifferenceCount {
+            wish: &*wish,
+            count,
+            fault,
+            ahead: comparison.window.as_slice(),
+        };
+        say(faults, &counted);
     }
-    if (wish.explains || wish.is_json) && !comparison.has_sent(reader) {
+    if (wish.explains || wish.is_json) && comparison.has_inputs_alone(reader) {
         let (wish, remark) = (&*wish, INPUTS_ALONE);
         say(faults, &Remarked { wish, remark });
     }
@@ -162,6 +168,8 @@ struct DifferenceCount<'a> {
     wish: &'a Wish<'a>,
     count: u64,
     fault: Option<LogFault>,
+    /// What was read of the log from the line of the fault on.
+    ahead: &'a [u8],
 }
 
 impl Written for DifferenceCount<'_> {
@@ -179,6 +187,12 @@ impl Written for DifferenceCount<'_> {
         }
         if let Some(fault) = self.fault {
             FaultLine { wish, fault }.write(pen);
+            if wish.explains
+                && matches!(fault, LogFault::BadLine(_))
+                && let Some(misfit) = first_misfit(self.ahead)
+            {
+                misfit.write(pen);
+            }
         }
         wish.begin_line(pen);
         let form: &[u8] = match self.count {
@@ -245,6 +259,7 @@ fn texts_of<S: Source>(
         logged: Vec::new(alloc),
         sent: Vec::new(alloc),
         reason: Vec::new(alloc),
+        can_name_former: false,
     };
     if wish.explains || wish.is_json {
         texts.transaction = comparison.explain(
@@ -254,6 +269,7 @@ fn texts_of<S: Source>(
             &mut ToWrite::new(&mut texts.logged),
             &mut ToWrite::new(&mut texts.sent),
         );
+        texts.can_name_former = comparison.can_name_former;
     }
     texts
 }

@@ -46,6 +46,8 @@ pub struct DifferenceTexts {
     pub logged: Vec<u8>,
     pub sent: Vec<u8>,
     pub reason: Vec<u8>,
+    /// Whether the packets are for a request that can name a credential which the log's key had before the log.
+    pub can_name_former: bool,
 }
 
 /// A difference as lines or an object.
@@ -88,8 +90,8 @@ fn reply_in(packet: &Option<Packet>) -> Reply {
 }
 
 impl Finding<'_> {
-    /// Returns what may be done, where this key may lack a credential that the log's key had: it goes on where that one
-    /// excludes a credential, or finds none where that one goes on.
+    /// Returns what may be done, where this key may lack a credential that the log's key had before the log: it goes on
+    /// where that one excludes a credential, or finds none where that one goes on.
     pub fn hint(&self) -> Option<&'static str> {
         let difference = self.difference;
         // Both packets are there, on one channel.
@@ -106,7 +108,7 @@ impl Finding<'_> {
             _ => false,
         };
         match self.wish.load {
-            _ if self.has_changed || !may_lack => None,
+            _ if self.has_changed || !may_lack || !self.texts.can_name_former => None,
             Some(_) => Some(OTHER_SNAPSHOT),
             None => Some(NO_SNAPSHOT),
         }

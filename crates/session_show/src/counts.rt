@@ -134,7 +134,7 @@ impl Counts {
                     _ => {}
                 },
                 End::Status(status) => {
-                    if status == EXCLUDED {
+                    if status == EXCLUDED && matches!(command, Some(0x01)) {
                         self.excluded = self.excluded.saturating_add(1);
                     }
                     self.refused.add(status);

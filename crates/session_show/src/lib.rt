@@ -19,6 +19,7 @@ mod member_names;
 mod members;
 mod packet_line;
 mod pen;
+mod played_log;
 mod putting;
 mod reason;
 mod row;

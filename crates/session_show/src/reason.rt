@@ -6,7 +6,7 @@ use crate::pen::Pen;
 use crate::putting::Written;
 use hid_packet::View;
 use hid_packet::command::{CBOR, ERROR};
-use session_walk::{LogWalk, channel_of};
+use session_walk::{Followed, LogWalk, Transaction, channel_of};
 
 /// The code of an ERROR that refuses a message since another one is served.
 const CHANNEL_BUSY: u8 = 0x06;
@@ -19,6 +19,8 @@ const KEEPALIVE_PERIOD: u64 = 100;
 pub struct Reason<'a> {
     pub walk: &'a LogWalk,
     pub difference: &'a Difference,
+    /// The transaction that it is said to be in, where the key sends nothing.
+    pub transaction: Option<Transaction>,
 }
 
 impl Written for Reason<'_> {
@@ -27,8 +29,9 @@ impl Written for Reason<'_> {
     fn write(&self, pen: &mut Pen) {
         let Some(sent) = &self.difference.sent else {
             match self.due() {
-                Some(due) => {
-                    let form = b"  its next KEEPALIVE is due at %d; line %d is at %d\n";
+                Some((due, served)) => {
+                    self.begin(pen, &served, "");
+                    let form = b"its next KEEPALIVE is due at %d; line %d is at %d\n";
                     let (input, at) = (self.difference.input, self.difference.at);
                     pen.form(form, &[Some(due), Some(input), Some(at)]);
                 }
@@ -66,8 +69,36 @@ impl Written for Reason<'_> {
 }
 
 impl Reason<'_> {
-    /// Returns the moment at which the key's last KEEPALIVE is due again, where the log has it before that.
-    fn due(&self) -> Option<u64> {
+    /// Begins a line about the transaction that the key serves: with its subject, or with its name, where the difference
+    /// is said to be in another one.
+    fn begin(&self, pen: &mut Pen, served: &Transaction, subject: &str) {
+        pen.text("  ");
+        if matches!(&self.transaction, Some(of) if of.line == served.line) {
+            pen.text(subject);
+        } else {
+            pen.text("it serves ");
+            served.write(pen);
+            pen.text(", and ");
+        }
+    }
+
+    /// Writes which packet of a message is missing.
+    fn write_unfinished(&self, pen: &mut Pen, open: &Followed) {
+        let next = Some(u64::from(open.extent.continuations));
+        pen.form(b"  it still waits for packet +%d of ", &[next]);
+        let line = Some(open.transaction.line);
+        if matches!(&self.transaction, Some(of) if Some(of.line) == line) {
+            pen.form(b"the message from line %d", &[line]);
+        } else {
+            open.transaction.write(pen);
+        }
+        let (came, length) = open.extent.missing();
+        pen.form(b": %d of %d bytes came\n", &[came, length]);
+    }
+
+    /// Returns the moment at which the key's last KEEPALIVE is due again, and the transaction that it is for, where the
+    /// log has it before that.
+    fn due(&self) -> Option<(u64, Transaction)> {
         let (Some((last, packet)), None, Some(logged)) = (
             self.difference.kept_alive,
             self.difference.reply,
@@ -80,7 +111,10 @@ impl Reason<'_> {
         };
         match &found.held {
             Some(held) if held.is_served() && packet == *logged => {
-                last.checked_add(KEEPALIVE_PERIOD)
+                match last.checked_add(KEEPALIVE_PERIOD) {
+                    Some(due) => Some((due, held.transaction)),
+                    None => None,
+                }
             }
             _ => None,
         }
@@ -100,15 +134,11 @@ impl Reason<'_> {
         let input = Some(self.difference.input);
         match (held, self.difference.awaited) {
             (Some(open), _) if !open.extent.is_whole() => {
-                let (came, length) = open.extent.missing();
-                let next = Some(u64::from(open.extent.continuations));
-                pen.form(
-                    b"  it still waits for packet +%d of the message from line %d: %d of %d bytes came\n",
-                    &[next, Some(open.transaction.line), came, length],
-                );
+                self.write_unfinished(pen, open);
             }
             (Some(served), Some(awaited)) if served.is_served() => {
-                pen.text("  it needs ");
+                self.begin(pen, &served.transaction, "it ");
+                pen.text("needs ");
                 pen.text(awaited.name());
                 if let Some(reply) = self.difference.reply {
                     pen.form(b"; line %d is ", &[input]);

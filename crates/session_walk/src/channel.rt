@@ -109,6 +109,8 @@ pub struct Channel {
     pub is_contested: bool,
     /// Whether a host's last packet was a CANCEL, or a continuation of no message.
     pub is_stray: bool,
+    /// Whether the device's last packet is a KEEPALIVE of which it isn't known which message it is for.
+    pub is_kept_alive: bool,
     /// How many messages may wait here still of which it isn't known which ones they are.
     pub lost: u8,
     /// The line that the last of them began at, or that says of it.
@@ -138,9 +140,18 @@ impl Channel {
         self.is_contested || self.lost > 0
     }
 
+    /// Returns whether one of which nothing is known may be what is served now.
+    pub fn may_be_served(&self, now: u64) -> bool {
+        self.is_unclear() && now.saturating_sub(self.heard) < SILENCE
+    }
+
     /// Returns what a packet is of no message that is open: of none, unless it may be of one of which nothing is known.
     pub fn without(&self, part: Role) -> Role {
-        if self.lost > 0 { Role::Own } else { part }
+        if self.lost > 0 || self.is_kept_alive {
+            Role::Own
+        } else {
+            part
+        }
     }
 
     /// Returns whether the device's last message has further packets.
@@ -234,7 +245,7 @@ impl Channel {
             self.held = Some(held);
             return (Some(held.transaction), Role::Own);
         }
-        (None, Role::Cancel)
+        (None, self.without(Role::Cancel))
     }
 
     /// Returns whether it isn't known which message a packet of the device is for, behind the input of this line: of
@@ -306,14 +317,17 @@ impl Channel {
             matches!(&self.held, Some(held)
                 if held.awaited.is_some() && held.cancelled.is_none())
         } else {
-            self.is_unclear() || is_served(&self.held) || is_served(&self.asked)
+            self.is_unclear()
+                || self.is_kept_alive
+                || is_served(&self.held)
+                || is_served(&self.asked)
         }
     }
 
     /// Takes a reply at a moment, and returns the request that waited for it, and what it is where none did. Without a
     /// KEEPALIVE it isn't known what is waited for, and of two messages not which of them is served.
     pub fn reply(&mut self, reply: Awaited, now: u64) -> (Option<Transaction>, Role) {
-        if self.asked.is_some() || self.is_unclear() {
+        if self.asked.is_some() || self.is_unclear() || self.is_kept_alive {
             return (None, Role::Own);
         }
         let Some(mut held) = self.held else {

@@ -100,6 +100,16 @@ impl Channels {
         (count, last)
     }
 
+    /// Returns whether a message of which nothing is known may be what is served now.
+    pub fn is_unclear(&self, now: u64) -> bool {
+        for place in 0..CHANNELS {
+            if self.list[place].may_be_served(now) {
+                return true;
+            }
+        }
+        false
+    }
+
     /// Returns what is of no transaction that is followed: of none, unless it may be of one that made way.
     pub fn without(&self, part: Role) -> Role
         ensures { result ≡ (if self.now.has_forgotten then Own else part) }
@@ -160,6 +170,39 @@ impl Channels {
             first = channel.open().first_after(line, first);
         }
         first
+    }
+
+    /// Returns what holds a channel, or was answered last there.
+    pub fn last_on(&self, number: u32) -> Option<&Followed> {
+        match self.on(number) {
+            Some(found) if found.held.is_some() => found.held.as_ref(),
+            Some(found) => found.told.exchange.as_ref(),
+            None => None,
+        }
+    }
+
+    /// Returns whether the device's last message on a channel has further packets.
+    pub fn is_answering(&self, number: u32) -> bool {
+        match self.on(number) {
+            Some(found) => found.is_answering(),
+            None => false,
+        }
+    }
+
+    /// Names the credential that the request which holds a channel excludes as another walk does, if that has the same
+    /// request there.
+    pub fn name_excluded(&mut self, number: u32, other: &Channels) {
+        if let Some(named) = other.last_on(number)
+            && let Some(excluded) = named.named.excluded
+            && let Some(place) = self.find(number)
+            && let Some(mut held) = self.list[place].held
+            && let Some(own) = held.named.excluded
+            && held.transaction.line == named.transaction.line
+            && own.place == excluded.place
+        {
+            held.named.excluded = Some(excluded);
+            self.list[place].held = Some(held);
+        }
     }
 
     /// Returns a message that holds another channel than this one, or else the one that holds it.

@@ -34,6 +34,12 @@ struct Made {
     account: Option<Name>,
 }
 
+/// The keys of the lists of credentials: excludeList of authenticatorMakeCredential, allowList of
+/// authenticatorGetAssertion.
+const EXCLUDE_LIST: i128 = 5;
+
+const ALLOW_LIST: i128 = 3;
+
 /// An entry of an excludeList that is a credential which the log made.
 #[derive(Clone, Copy)]
 pub struct Excluded {
@@ -49,6 +55,8 @@ pub struct Credentials {
     made: [Made; CREDENTIALS],
     /// How many were made, without those that took another one's place.
     count: usize,
+    /// Whether a reset was done, which left none that the key had before the log.
+    pub is_reset: bool,
 }
 
 impl Credentials {
@@ -62,6 +70,7 @@ impl Credentials {
         Credentials {
             made: [none; CREDENTIALS],
             count: 0,
+            is_reset: false,
         }
     }
 
@@ -73,7 +82,9 @@ impl Credentials {
         };
         let command = exchange.transaction.command.unwrap_or(0);
         if matches!(command, RESET | MANAGEMENT | MANAGEMENT_BEFORE) {
+            let is_reset = self.is_reset || command == RESET;
             *self = Credentials::new();
+            self.is_reset = is_reset;
         } else if command == MAKE && check(item).result.is_ok() {
             self.add(line, item, exchange.named.account);
         }
@@ -124,6 +135,11 @@ impl Credentials {
         }
         let command = of.command.unwrap_or(0);
         named.rp_id = RpId::of_request(command, item);
+        named.names_one = match command {
+            MAKE => names_one(item, EXCLUDE_LIST, false),
+            ASSERT => names_one(item, ALLOW_LIST, true),
+            _ => false,
+        };
         if command == ASSERT
             && let Some(options) = value_at(item, Item::Int(5))
             && let Some(Item::Bool(false)) = item_at(options, Item::Text("up"))
@@ -147,7 +163,7 @@ impl Credentials {
 
     /// Returns which entry of a request's excludeList was made last, where the log made one of them.
     fn excluded_in(&self, relying_party: &[u8], item: &[u8]) -> Option<Excluded> {
-        let Some(list) = value_at(item, Item::Int(5)) else {
+        let Some(list) = value_at(item, Item::Int(EXCLUDE_LIST)) else {
             return None;
         };
         let mut cursor = Cursor::new(list);
@@ -188,6 +204,26 @@ impl Credentials {
         }
         line
     }
+}
+
+/// Returns whether the list at this key of a request names a credential, which no entry of another type does (WebAuthn,
+/// section 5.8.3), or else, where there are no entries, whether that names any.
+fn names_one(item: &[u8], key: i128, is_any: bool) -> bool {
+    let Some(list) = value_at(item, Item::Int(key)) else {
+        return is_any;
+    };
+    let mut cursor = Cursor::new(list);
+    let Ok(Item::Array(count)) = cursor.item(1) else {
+        return is_any;
+    };
+    for _ in 0..count {
+        if let Some(entry) = next_value(&mut cursor, list)
+            && let Some(Item::Text("public-key")) = item_at(entry, Item::Text("type"))
+        {
+            return true;
+        }
+    }
+    is_any && count == 0
 }
 
 /// Returns the name of what has an id with a relying party of this hash.

@@ -85,8 +85,9 @@ impl Channel {
             _ => self.answer(answer, ends),
         };
         self.heard = behind.1;
+        self.is_kept_alive = answer.command == KEEPALIVE && of.is_none();
         match answer.command {
-            KEEPALIVE if of.is_none() && self.lost == 0 => self.lose_one(answer.line),
+            KEEPALIVE if of.is_none() && self.is_idle() => self.lose_one(answer.line),
             KEEPALIVE | ERROR | INIT => {}
             _ if of.is_none() => self.lost = self.lost.saturating_sub(1),
             _ => {}
@@ -294,25 +295,22 @@ impl Channel {
         if !self.is_greeted {
             return self.asked.take();
         }
-        let last = self.greetings.len().saturating_sub(1);
-        if self.may_be_refused(last, code) {
-            self.take_greeting(last)
-        } else {
-            None
+        if !self.may_be_of_init(code) {
+            return None;
         }
+        let last = self.greetings.len().saturating_sub(1);
+        self.take_greeting(last)
     }
 
-    /// Returns whether an ERROR with this code can be for the INIT at a place. On its own channel one of 8 bytes is taken
-    /// at any time, so the ERROR is for what else is open there.
-    fn may_be_refused(&self, place: usize, code: u8) -> bool {
-        if matches!(code, INVALID_SEQUENCE | TIMED_OUT) {
-            return false;
+    /// Returns whether an ERROR with this code can be for an INIT of 8 bytes. On a channel of its own that is taken at
+    /// any time, so the ERROR is for what else is open there.
+    fn may_be_of_init(&self, code: u8) -> bool {
+        match code {
+            INVALID_SEQUENCE | TIMED_OUT => false,
+            CHANNEL_BUSY => self.number == BROADCAST,
+            OTHER if self.number == BROADCAST => true,
+            _ => self.held.is_none(),
         }
-        if self.number == BROADCAST {
-            return matches!(code, CHANNEL_BUSY | OTHER) || self.held.is_none();
-        }
-        let is_right = matches!(self.greetings.get(place), Some(greeting) if greeting.length == 8);
-        code != CHANNEL_BUSY && !(is_right && self.held.is_some())
     }
 
     /// Returns the place of the first INIT with this nonce, or of a wrong length where none is given, and how many

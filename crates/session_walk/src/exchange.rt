@@ -98,6 +98,9 @@ pub struct Named {
     pub account: Option<Name>,
     /// Whether it asks for no user: its option `up` is false.
     pub is_silent: bool,
+    /// Whether it can name a credential that the key had before the log: one of its list, or any where
+    /// authenticatorGetAssertion has none.
+    pub names_one: bool,
 }
 
 /// A transaction and what came for it so far.

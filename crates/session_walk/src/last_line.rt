@@ -5,6 +5,7 @@ ghost use Rattle.session_walk.specs.Shown.{ShowsDecided, ended_bytes, shown_byte
 
 use crate::doubtful::Shown;
 use crate::entry::{CborMessage, Entry, Own};
+use crate::exchange::Transaction;
 use crate::walk::LogWalk;
 use session_log::Line;
 
@@ -74,6 +75,17 @@ impl LogWalk {
                 carried: decided.carried,
             }),
             None => None,
+        }
+    }
+
+    /// Returns whether a request that holds its channel, or was answered last there, can name a credential that the key
+    /// had before the log. A reset leaves none.
+    pub fn can_name_former(&self, of: &Transaction) -> bool {
+        match self.channels.last_on(of.channel) {
+            Some(last) if last.transaction.line == of.line => {
+                last.named.names_one && !self.credentials.is_reset
+            }
+            _ => false,
         }
     }
 

@@ -25,7 +25,7 @@ use token_session::{Input, Timed};
 pub struct LogWalk {
     pub channels: Channels,
     pub(crate) pool: Pool,
-    credentials: Credentials,
+    pub(crate) credentials: Credentials,
     /// The latest moment.
     now: u64,
     /// The line of the last input.
@@ -152,7 +152,7 @@ impl LogWalk {
         let (count, place) = waiting;
         if count == 0 {
             self.part = self.channels.without(Role::Reply);
-        } else if count == 1 {
+        } else if count == 1 && !self.channels.is_unclear(self.now) {
             let (of, part) = self.channels.list[place].reply(reply, self.now);
             self.of = of;
             self.part = if requests.0 > 1 { Role::Own } else { part };
