@@ -309,7 +309,7 @@ impl Channel {
             INVALID_SEQUENCE | TIMED_OUT => false,
             CHANNEL_BUSY => self.number == BROADCAST,
             OTHER if self.number == BROADCAST => true,
-            _ => self.held.is_none(),
+            _ => self.held.is_none() && !self.is_unclear(),
         }
     }
 
