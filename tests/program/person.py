@@ -174,9 +174,10 @@ def all_differences_are_counted(room: Path) -> None:
     faults = [line for line in said.stderr.decode().splitlines() if line.startswith("hidlog: ")]
     assert len(faults) == 21 and faults[-1] == "hidlog: 25 inputs with differences, the first 20 are said", faults
     assert said.stderr.decode().count("  the key sends:\n") == 20
-    # A bad line ends it, and several logs are counted each.
+    # A bad line ends it, with its reason, and several logs are counted each.
     said = explained(["check", "--all"], many + b"t 5x\n")
-    assert said.stderr.decode().splitlines()[-2:] == ["hidlog: line 53: not a log line", faults[-1]], said
+    bad = ["hidlog: line 53: not a log line", "  byte 4 is 'x', which fits no log line here"]
+    assert said.stderr.decode().splitlines()[-3:] == [*bad, faults[-1]], said
     (room / "log").write_bytes(many)
     said = explained(["check", "--all", str(room / "log"), str(AGAIN), str(EXAMPLES / "registration.log")])
     assert f"{room}/log: 25 inputs with differences, the first 20 are said\n" in said.stderr.decode(), said
