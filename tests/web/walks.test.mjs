@@ -126,9 +126,13 @@ const TEXTS = {
     ],
     "an INIT that drops a message, and a message that takes the channel": [
         [whole(host(0, ONE, CBOR, FIRST), 300), host(1, ONE, 6, [1, 2, 3, 4, 5, 6, 7, 8]),
-            key(ONE, 6, [1, 2, 3, 4, 5, 6, 7, 8, 0, 0, 0, 1, 2, 1, 0, 0, 4]), host(2, ONE, CBOR, [4]),
+            key(ONE, 6, [1, 2, 3, 4, 5, 6, 7, 8, 0, 0, 0, 1, 2, 1, 0, 0, 4]), whole(host(2, ONE, CBOR, FIRST), 300),
             host(3, ONE, PING, [4]), key(ONE, PING, [4])],
         ["1 1 1", "2 2 2", "3 2 3 d1:2 a2", "4 4 4", "5 5 5", "6 5 6 r4:5 a5"],
+    ],
+    "a message that is answered while another one is worked on": [
+        [host(0, ONE, CBOR, [4]), host(1, ONE, PING, [4]), key(ONE, PING, [4]), key(ONE, CBOR, [0])],
+        ["1 1 1", "2 2 2", "3 2 3 a2", "4 1 4 s1:0"],
     ],
     "two messages of one command, and one answer": [
         [host(0, ONE, CBOR, [4]), host(1, ONE, CBOR, [7]), key(ONE, CBOR, [0])],
