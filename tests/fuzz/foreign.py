@@ -5,9 +5,10 @@
 
 A key serves one message at a time, as CTAP 2.1 (section 11.2) has it, and what that leaves open it does in a way of its
 own: how long it waits for a message, whether it says that it gave one up, whether it refuses or ignores a message of
-another host or a second one of the same, whether a second one takes the place of what it works on, what a CANCEL comes
-to, how often it sends a KEEPALIVE. Hosts lose packets, send some twice, and don't always wait for an answer. What each
-packet is for is noted as it is sent. `show --json` has to say the same, or that it can't be told.
+another host or a second one of the same, whether a second one takes the place of what it works on, waits, or is answered
+meanwhile, what a CANCEL comes to, how often it sends a KEEPALIVE. Hosts lose packets, send some twice, and don't always
+wait for an answer. What each packet is for is noted as it is sent. `show --json` has to say the same, or that it can't be
+told.
 
 A log doesn't show when a key drops a message in silence. So a continuation packet and a CANCEL may be said to be of any
 message of their channel, and a message that was dropped so may be said to be open, dropped or replaced.
