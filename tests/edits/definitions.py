@@ -21,7 +21,10 @@ from pathlib import Path
 
 from edits import CRATES, PARTS, TOP, Crate, Edit, below
 
-LAWS = {"authn_core": "authn_core::laws::answers_follow_history"}
+LAWS = {
+    "authn_core": "authn_core::laws::answers_follow_history",
+    "hid_assemble": "hid_assemble::laws::noise_is_turned_away",
+}
 SLIPS = TOP / "tests" / "edits" / "definitions"
 PLACE = re.compile(r"\./(\S+?):\d+:\d+: error: (.*)")
 

@@ -6,3 +6,4 @@ pub mod Lawful
 pub mod Receiving
 pub mod Foreign
 mod Rows
+pub mod Turned

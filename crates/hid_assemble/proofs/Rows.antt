@@ -1,8 +1,8 @@
 -- The reply table at worked packets: each row, and which of two rows that apply comes first.
-use Rattle.std.proofs.Common.{◌≡◌, ℕ, [], Option, Some, None, refl}
+use Rattle.std.proofs.Common.{◌≡◌, ℕ, Bool, true, false, [], Option, Some, None, refl}
 use Rattle.hid_packet.specs.Commands.{PING, INIT, CBOR, CANCEL, BROADCAST}
 use Rattle.hid_packet.specs.Packet.{Fields, initialization, continuation}
-use Rattle.hid_assemble.specs.Table.{Open, Ruling, Begins, Continues, LAST_CHANNEL, initialization_row}
+use Rattle.hid_assemble.specs.Table.{Open, Ruling, Begins, Continues, LAST_CHANNEL, initialization_row, is_noise}
 use Rattle.hid_assemble.specs.Table.{continuation_row, ruling_of}
 use Rattle.hid_assemble.specs.declared.table.ReplyRow.TheVariants.{CancelsWork, CancelsNothing, NoSuchChannel}
 use Rattle.hid_assemble.specs.declared.table.ReplyRow.TheVariants.{InitLength, InitFull, InitNew, InitAgain}
@@ -142,3 +142,87 @@ last_one = refl
 nothing_open : row 2 None (Some 1) (continuation 1 0 []) ≡ Continues Stray
 unfolding row
 nothing_open = refl
+
+-- ---- noise
+
+noise : ℕ → Option Open → Option ℕ → Fields → Bool
+unfolding row
+noise given current work f = is_noise (row given current work f)
+
+-- each row of noise, and beside it the packet or the state that makes it count
+cancel_for_nothing : noise 2 None None (initialization 1 CANCEL 0 []) ≡ true
+unfolding noise row
+cancel_for_nothing = refl
+
+cancel_for_work : noise 2 None (Some 1) (initialization 1 CANCEL 0 []) ≡ false
+unfolding noise row
+cancel_for_work = refl
+
+on_no_channel : noise 2 None None (initialization 3 PING 0 []) ≡ true
+unfolding noise row
+on_no_channel = refl
+
+on_the_last_channel : noise 2 None None (initialization 2 PING 0 []) ≡ false
+unfolding noise row
+on_the_last_channel = refl
+
+init_on_no_channel : noise 2 None None (initialization 3 INIT 8 []) ≡ true
+unfolding noise row
+init_on_no_channel = refl
+
+init_on_broadcast : noise 2 None None (initialization BROADCAST INIT 8 []) ≡ false
+unfolding noise row
+init_on_broadcast = refl
+
+while_another_is_open : noise 2 (Some open_1) None (initialization 2 PING 0 []) ≡ true
+unfolding noise row
+while_another_is_open = refl
+
+while_its_own_is_open : noise 2 (Some open_1) None (initialization 1 PING 0 []) ≡ false
+unfolding noise row
+while_its_own_is_open = refl
+
+init_while_another_is_open : noise 2 (Some open_1) None (initialization 2 INIT 8 []) ≡ false
+unfolding noise row
+init_while_another_is_open = refl
+
+while_another_works : noise 2 None (Some 1) (initialization 2 PING 0 []) ≡ true
+unfolding noise row
+while_another_works = refl
+
+while_it_works : noise 2 None (Some 1) (initialization 1 PING 0 []) ≡ true
+unfolding noise row
+while_it_works = refl
+
+while_none_works : noise 2 None None (initialization 1 PING 0 []) ≡ false
+unfolding noise row
+while_none_works = refl
+
+continues_another : noise 2 (Some open_1) None (continuation 2 0 []) ≡ true
+unfolding noise row
+continues_another = refl
+
+continues_nothing : noise 2 None None (continuation 1 0 []) ≡ true
+unfolding noise row
+continues_nothing = refl
+
+continues_it : noise 2 (Some open_1) None (continuation 1 0 []) ≡ false
+unfolding noise row
+continues_it = refl
+
+breaks_it : noise 2 (Some open_1) None (continuation 1 1 []) ≡ false
+unfolding noise row
+breaks_it = refl
+
+-- refused for what it asks, though nothing changes
+refused_command : noise 2 None None (initialization 1 3 0 []) ≡ false
+unfolding noise row
+refused_command = refl
+
+refused_length : noise 2 None None (initialization 1 PING 7610 []) ≡ false
+unfolding noise row
+refused_length = refl
+
+refused_init : noise 2 None None (initialization 1 INIT 7 []) ≡ false
+unfolding noise row
+refused_init = refl

@@ -1,5 +1,5 @@
 -- What the reply table answers to a packet.
-use Rattle.std.specs.Prelude.{ℕ, ◌+◌, List, take, Option, Some, None, if◌then◌else◌}
+use Rattle.std.specs.Prelude.{ℕ, ◌+◌, Bool, true, false, List, take, Option, Some, None, if◌then◌else◌}
 use Rattle.hid_packet.specs.{Commands.BROADCAST, Packet.Fields, Packet.channel_of, Packet.data_of}
 use Rattle.hid_assemble.specs.Table.{Ruling, Begins, Continues, is_on, ruling_of}
 use Rattle.hid_assemble.specs.Assembly.{Assembly, Message, message_after}
@@ -12,6 +12,13 @@ use Rattle.hid_assemble.specs.declared.table.ReplyRow.TheVariants.{BadLength, Sh
 use Rattle.hid_assemble.specs.declared.table.Continuation.TheVariants.{Stray, WrongNumber, Kept as KeptOn, Whole}
 use Rattle.hid_assemble.specs.declared.verdict.Verdict.{Verdict, TheVariants.GreetAndDrop, TheVariants.CancelWork}
 use Rattle.hid_assemble.specs.declared.verdict.Verdict.TheVariants.{Ignored, Kept, Finished, Refuse, Greet}
+
+-- What turns a packet away: silence, or an ERROR that its channel wasn't given out or is busy.
+abbrev pub is_turned_away : Verdict → Bool
+is_turned_away Ignored = true
+is_turned_away (Refuse cid InvalidChannel) = true
+is_turned_away (Refuse cid ChannelBusy) = true
+is_turned_away _ = false
 
 abbrev pub finished_verdict : Option Message → Verdict
 finished_verdict None = Ignored

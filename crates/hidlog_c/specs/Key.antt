@@ -1,8 +1,8 @@
 -- A key that C holds: what it is before and after a call, and what the call returns.
 use Rattle.std.specs.Prelude.{◌≡◌, ℕ, ℤ, pos, List, [], ◌∷◌, length, Option, Some, None}
 use Rattle.authn_core.specs.Turn.{Start}
-use Rattle.token_session.specs.{declared.input.Timed.Timed, Law.sent_now}
-use Rattle.token_session.specs.Meters.{SessionState, StandsAfter, stepped, sent_by}
+use Rattle.token_session.specs.{declared.input.Timed.Timed, Answered.told_now}
+use Rattle.token_session.specs.Meters.{SessionState, FollowsFrom, stepped, sent_by}
 use Rattle.hidlog_c.specs.declared.fault.TheConstants.{NOT_MADE, PACKETS_WAIT, NO_PACKET}
 
 -- a session of an authenticator with an AAGUID, and the packets of its latest input that wait to be sent
@@ -32,11 +32,10 @@ abbrev pub input_answer : Option DeviceState → Timed → ℤ
 input_answer None x = NOT_MADE
 input_answer (Some d) x = answer_of d d.waiting x
 
--- After each history that the session is after, it is after the longer one, and just what the history names for
--- the input waits.
+-- After each history that the session follows, it follows the longer one, and just what is told of the input waits.
 abbrev pub FollowsHistory : DeviceState → Timed → Type 0
-FollowsHistory d x = (start : Start) (h : List Timed) → StandsAfter d.session start h
-    → StandsAfter (served d x).session start (x ∷ h) × ((served d x).waiting ≡ sent_now start h x)
+FollowsHistory d x = (start : Start) (h : List Timed) → FollowsFrom d.session start h
+    → FollowsFrom (served d x).session start (x ∷ h) × ((served d x).waiting ≡ told_now start h x)
 
 -- What a call with an input does to what the key holds, and what it returns.
 pub record Answers (before after : Option DeviceState) (x : Timed) (result : ℤ) : Type 0 where

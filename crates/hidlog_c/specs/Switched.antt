@@ -3,7 +3,7 @@ use Rattle.std.specs.Prelude.{◌≡◌, ◌≢◌, ◌⊎◌, ℕ, ℤ, pos, Li
 use Rattle.authn_core.specs.Turn.{Start}
 use Rattle.cred_table.specs.{declared.fault.SnapshotFault.SnapshotFault, declared.row.Row.Row, Snapshots.Refuses}
 use Rattle.cred_table.specs.declared.fault.SnapshotFault.TheVariants.{NotSnapshot, TooMany, RowBroken, Memory}
-use Rattle.token_session.specs.Meters.{StandsAfter}
+use Rattle.token_session.specs.Meters.{FollowsFrom}
 use Rattle.hidlog_c.specs.{Begin.Opens, declared.capacity.TheConstants.CAPACITY, Key.DeviceState}
 use Rattle.hidlog_c.specs.declared.fault.TheConstants.{ALREADY_MADE, NOT_SNAPSHOT, TOO_MANY_ROWS, ROW_BROKEN, NO_MEMORY}
 
@@ -24,7 +24,7 @@ refusal Memory = NO_MEMORY
 -- The device holds a session at its start with these credentials, and no packet waits.
 abbrev pub IsStarted : DeviceState → (aaguid : List ℕ) → (moment : ℕ) → List Row → Type 0
 IsStarted d aaguid moment rows =
-    (d.aaguid ≡ aaguid) × (d.waiting ≡ []) × StandsAfter d.session (start_of aaguid moment rows) []
+    (d.aaguid ≡ aaguid) × (d.waiting ≡ []) × FollowsFrom d.session (start_of aaguid moment rows) []
 
 -- The key holds a session at its start with the credentials of the snapshot.
 abbrev pub Begins : (aaguid : List ℕ) → (moment : ℕ) → (snapshot : List ℕ) → Option DeviceState → Type 0

@@ -2,7 +2,7 @@
 ghost use Rattle.std.specs.Prelude.{◌≡◌, ◌≢◌, [], List, IfOk, IfErr, OnOk};
 ghost use Rattle.cred_table.specs.declared.row.Row.{Row as AnyRow};
 ghost use Rattle.cred_table.specs.Snapshots.{Refuses};
-ghost use Rattle.token_session.specs.Meters.{StandsAfter, session_of};
+ghost use Rattle.token_session.specs.Meters.{FollowsFrom, StandsAfter, session_of};
 ghost use Rattle.hidlog_c.specs.Begin.{Opens};
 ghost use Rattle.hidlog_c.specs.Switched.{start_of, start_with};
 
@@ -13,7 +13,7 @@ use token_session::Session;
 
 /// Returns a session at its start with these credentials.
 pub fn session_with(aaguid: [u8; 16], start: u64, rows: Store<CAPACITY>) -> Session<CAPACITY>
-    ensures { StandsAfter result (start_of aaguid start (⟦<Store<CAPACITY> as Table<CAPACITY>>⟧.rows rows)) [] }
+    ensures { FollowsFrom result (start_of aaguid start (⟦<Store<CAPACITY> as Table<CAPACITY>>⟧.rows rows)) [] }
 {
     Session::new(Config { aaguid }, rows, start)
 }

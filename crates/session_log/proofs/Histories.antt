@@ -1,7 +1,10 @@
 -- A session after a history sends and counts what the history names.
-use Rattle.std.proofs.Common.{◌≡◌, ℕ, Bool, List, [], Option, Result, refl, sym, ap, arith}
+use Rattle.std.proofs.Common.{◌≡◌, ℕ, Bool, List, [], ◌∷◌, Option, Result, refl, sym, ap, ◌∙◌, arith}
 use Rattle.authn_core.specs.Turn.{Start}
 use Rattle.token_session.specs.declared.input.{Timed.Timed, Meters.Meters}
+use Rattle.cred_table.specs.Rows.{Lawful}
+use Rattle.token_session.specs.{Answered.IsTold, Answered.told_now, Meters.FollowsFrom, Meters.stepped, Meters.sent_by}
+use Rattle.token_session.proofs.Answered.{told_now_is}
 use Rattle.token_session.specs.{History.judged, Law.named, Meters.SessionState, Meters.StandsAfter, Meters.session_of}
 use Rattle.token_session.proofs.Metering.{stands_longer, machine_after}
 use Rattle.token_session.proofs.{Noise.noise_is_named, Follows.step_sends}
@@ -11,7 +14,7 @@ use Rattle.session_log.specs.declared.command.LogCommand.TheVariants.{Check, Qui
 use Rattle.session_log.specs.Check.{Compared, compared, begun, missing, stops_compared, moves_compared, check_machine}
 use Rattle.session_log.specs.{Check.check_history, Streams.Moves, Text.ended, World.World, World.writes_again}
 use Rattle.session_log.specs.Replay.{Logs, Makes, Plays, ReadsTo, Writes}
-use Rattle.session_log.specs.Session.{sessions, histories, machine, history, quiet_machine, quiet_history, live_machine}
+use Rattle.session_log.specs.Session.{sessions, histories, tellings, told_history, machine, history, quiet_machine, quiet_history, live_machine}
 use Rattle.session_log.specs.Session.{live_history, session_needs, history_needs}
 use Rattle.session_log.proofs.Worlds.{Follows, makes_alike, logs_alike, plays_alike, reads_alike}
 
@@ -49,6 +52,28 @@ module _ (start : Start) where
   pub live_follows : Follows live_machine (live_history start) (λ s h. StandsAfter s start h)
   live_follows = search (arith, told, counted, stands_longer)
 
+-- What is told of a history, likewise.
+
+module _ (start : Start) (is : (h : List Timed) → IsTold start h) where
+  told_stays : (s : SessionState) (h : List Timed) (x : Timed) → FollowsFrom s start h
+      → FollowsFrom (stepped s x) start (x ∷ h)
+  told_stays s h x f = record { lawful = f.lawful; stands = stands_longer s start h x f.stands }
+
+  told_sends : (s : SessionState) (h : List Timed) (x : Timed) → FollowsFrom s start h
+      → sent_by s x ≡ told_now start h x
+  told_sends s h x f = step_sends s.machine start h x (machine_after s start h f.stands)
+      ∙ told_now_is start h x (is h) (is (x ∷ h))
+
+  retold : (s : SessionState) (h : List Timed) (line : List ℕ) (l : Line) → FollowsFrom s start h
+      → writes_again sessions s line l ≡ writes_again (tellings start) h line l
+  retold s h line l f = search (arith, told_sends)
+
+  told_counts : (s : SessionState) (h : List Timed) → FollowsFrom s start h → s.meters ≡ (tellings start).counts h
+  told_counts s h f = counted start s h f.stands
+
+  pub tells : Follows machine (told_history start) (λ s h. FollowsFrom s start h)
+  tells = search (arith, retold, told_counts, told_stays)
+
 pub lines_history : (left left' taken taken' : Option (List ℕ)) (s t : SessionState) (ending : Ending) (all : Type 0)
     → Moves left left' taken taken' (λ bytes text. Plays live_machine s t bytes text ending)
     → ReadsTo live_machine s left left' all ending → (start : Start) (h : List Timed) → StandsAfter s start h
@@ -74,6 +99,20 @@ module _ {I O : Type 0} (left : I → Option (List ℕ)) (unread : I → ℕ) (e
       there (f start) s h stands (λ bytes text. Logs v s t bytes text r) (StandsAfter t start)
       (λ later bytes text. Logs (w start) h later bytes text r)
       (λ bytes text m. logs_alike (f start) s t h stands bytes text r m)
+      left unread ended taken unwritten r input output through
+
+  pub logs_told : ((start : Start) (h : List Timed) → Lawful start.capacity start.rows → IsTold start h)
+      → (s t : SessionState) (r : Result Meters LogFault)
+      → PlaysThrough machine s (λ bytes text. Logs machine s t bytes text r) left unread ended taken unwritten r input
+      output
+      → (start : Start) (h : List Timed) → FollowsFrom s start h → (later : List Timed) × FollowsFrom t start later
+      × PlaysThrough (told_history start) h (λ bytes text. Logs (told_history start) h later bytes text r) left unread
+      ended taken unwritten r input output
+  logs_told law s t r through start h f =
+      let told = tells start (λ k. law start k f.lawful) in
+      there told s h f (λ bytes text. Logs machine s t bytes text r) (FollowsFrom t start)
+      (λ later bytes text. Logs (told_history start) h later bytes text r)
+      (λ bytes text m. logs_alike told s t h f bytes text r m)
       left unread ended taken unwritten r input output through
 
   pub quiets_history : {A : Type 0} (s t : SessionState) (r : Result A LogFault)

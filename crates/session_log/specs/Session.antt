@@ -2,7 +2,7 @@
 use Rattle.std.specs.Prelude.{◌≡◌, ℕ, ◌<◌, ◌^◌, List, ◌∷◌, length, Option}
 use Rattle.std.specs.Io.KnownBytes.{Appends}
 use Rattle.authn_core.specs.{Turn.Start, Views.Needed, Views.needs}
-use Rattle.token_session.specs.{declared.input.Timed.Timed, Law.sent_now, Noise.is_noise_at, Noise.is_noise_after}
+use Rattle.token_session.specs.{Answered.told_now, declared.input.Timed.Timed, Law.sent_now, Noise.is_noise_at, Noise.is_noise_after}
 use Rattle.token_session.specs.History.{core, judge, judged}
 use Rattle.token_session.specs.Meters.{SessionState, stepped, sent_by, meters_of}
 use Rattle.session_log.specs.{Lines.lines, Log.log}
@@ -26,6 +26,17 @@ machine = replaying sessions
 
 abbrev pub history : Start → World (List Timed)
 history start = replaying (histories start)
+
+-- the same by what is told of the history, with no state of the authenticator
+abbrev pub tellings : Start → Course (List Timed)
+tellings start = record {
+  turned = λ h x. x ∷ h;
+  sends = λ h x. told_now start h x;
+  counts = λ h. meters_of start (judged start h);
+}
+
+abbrev pub told_history : Start → World (List Timed)
+told_history start = replaying (tellings start)
 
 -- a log made quiet on them
 abbrev pub quiet_machine : World SessionState

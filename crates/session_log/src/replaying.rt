@@ -3,10 +3,10 @@ ghost use Rattle.std.specs.Prelude.{◌≡◌, ◌<◌, ◌-◌, ◌^◌, List, 
 ghost use Rattle.session_log.specs.Command.{PlaysThrough};
 ghost use Rattle.session_log.specs.Replay.{Logs};
 ghost use Rattle.session_log.specs.Sent.{FitsMeters};
-ghost use Rattle.session_log.specs.Session.{history, machine, Repeats};
+ghost use Rattle.session_log.specs.Session.{history, machine, told_history, Repeats};
 ghost use Rattle.token_session.specs.declared.input.Timed.{Timed as OneInput};
 ghost use Rattle.authn_core.specs.Turn.{Start};
-ghost use Rattle.token_session.specs.Meters.{SessionState, StandsAfter};
+ghost use Rattle.token_session.specs.Meters.{FollowsFrom, SessionState, StandsAfter};
 
 use crate::fault::LogFault;
 use crate::line::Line;
@@ -15,6 +15,7 @@ use crate::source::Source;
 use crate::target::Target;
 use crate::text::{Text, put_input, put_meters, put_text};
 use hid_packet::Outbox;
+use token_session::laws::answers_follow_history;
 use token_session::{Meters, Session};
 
 /// Returns what a session counted, in numbers of at most 64 bits.
@@ -107,7 +108,13 @@ pub fn replay<S: Source, T: Target, const C: usize>(
         → (later : List OneInput) × StandsAfter session.new start later
         × PlaysThrough (history start) h (λ bytes text. Logs (history start) h later bytes text result)
         S.left S.failed S.ended T.taken T.failed result (reader.old, reader.new) (writer.old, writer.new) }
+    // Likewise of what is told of the history, with no state of the authenticator.
+    ensures told { (start : Start) (h : List OneInput) → FollowsFrom session.old start h
+        → (later : List OneInput) × FollowsFrom session.new start later
+        × PlaysThrough (told_history start) h (λ bytes text. Logs (told_history start) h later bytes text result)
+        S.left S.failed S.ended T.taken T.failed result (reader.old, reader.new) (writer.old, writer.new) }
 {
+    answers_follow_history();
     let mut player = Replaying::new();
     play_log(&mut player, reader, writer, session)?;
     Ok(meters_of(session))

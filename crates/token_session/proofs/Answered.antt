@@ -1,5 +1,6 @@
 -- What a history sends is what is told of it without a state: by the law of the authenticator's answers.
-use Rattle.std.proofs.Common.{arith, rules, ◌≡◌, ℕ, List, [], ◌∷◌, ◌++◌, Option, refl, ap}
+use Rattle.std.proofs.Common.{arith, rules, ◌≡◌, ℕ, List, [], ◌∷◌, ◌++◌, Option, refl, ap, sym, ◌∙◌, ◌+◌}
+use mathlib.Core.List.{append_cancel_left}
 use Rattle.authn_core.specs.{Answers.answer_to, Answers.exchanges, Exchanges.Exchange, State.Event}
 use Rattle.authn_core.specs.Turn.{Start, CoreState, core_answer, first_state, waiting, working}
 use Rattle.authn_core.specs.Marks.{Step, Orderly, core_at}
@@ -9,7 +10,8 @@ use Rattle.token_session.specs.{Messages.open_at, Messages.finished, History.tab
 use Rattle.token_session.specs.History.{core, judge, judged, last_keepalive, sent, sent_at, service_packets}
 use Rattle.token_session.specs.Credentials.{step_of, steps}
 use Rattle.token_session.specs.Answered.{judge_told, judged_told, waits_in, with_event, happened, answered_packets}
-use Rattle.token_session.specs.Answered.{service_told, time_told, keepalive_told, sent_told}
+use Rattle.token_session.specs.Answered.{service_told, time_told, keepalive_told, sent_told, told_now, told_from, IsTold}
+use Rattle.token_session.specs.Law.{numbered, sent_from, sent_now}
 use Rattle.token_session.proofs.Credentials.{core_is, orderly}
 
 -- the law of the authenticator, of its histories of events
@@ -87,3 +89,19 @@ pub judged_told_so : (start : Start) (law : Law start) (h : List Timed) → judg
 unfolding judged judged_told judge judge_told
 judged_told_so start law [] = refl
 judged_told_so start law (x ∷ h) = search (rules, arith, waits_told, judged_told_so start law h)
+
+-- What one input sends is told too: what is sent before it, and with it, are.
+pub told_now_is : (start : Start) (h : List Timed) (x : Timed) → IsTold start h → IsTold start (x ∷ h)
+    → sent_now start h x ≡ told_now start h x
+unfolding sent judged sent_now sent_told judged_told told_now
+told_now_is start h x before after =
+    append_cancel_left (sent_told start (judged_told start h)) _ _
+    (ap (λ ps. ps ++ sent_now start h x) (sym before.packets) ∙ after.packets)
+
+pub told_from_is : (start : Start) (told : (h : List Timed) → IsTold start h) (xs : List Timed) (n : ℕ)
+    (h : List Timed) → sent_from n start h xs ≡ told_from n start h xs
+unfolding told_from
+told_from_is start told [] n h = refl
+told_from_is start told (x ∷ xs) n h =
+    rw (told_now_is start h x (told h) (told (x ∷ h)))
+    (ap (λ ps. numbered n (told_now start h x) ++ ps) (told_from_is start told xs (n + 1) (x ∷ h)))

@@ -58,7 +58,7 @@ whole_onto : (xs h : List Timed) → ArriveWhole xs → ArriveWhole h → Arrive
 whole_onto [] h ws w = w
 whole_onto (x ∷ xs) h ws w = whole_onto xs (x ∷ h) ws.1 (ws.0, w)
 
-whole_reverse : (xs : List Timed) → ArriveWhole xs → ArriveWhole (reverse xs)
+pub whole_reverse : (xs : List Timed) → ArriveWhole xs → ArriveWhole (reverse xs)
 whole_reverse xs w = subst ArriveWhole (onto_reverse xs [] ∙ append-nil (reverse xs)) (whole_onto xs [] w tt)
 
 packets_pairs : (sent : List Sent) → map packet_of sent ≡ map (λ (p : ℕ × List ℕ). p.1) (map as_pair sent)
@@ -66,11 +66,11 @@ packets_pairs [] = refl
 packets_pairs (s ∷ sent) = ap (λ ps. packet_of s ∷ ps) (packets_pairs sent)
 
 -- A list of sent packets that are those of a start's inputs answers the history of these inputs.
-pub run_answered : (start : Start) (xs : List Timed) (out : List Sent) → ArriveWhole xs
+pub run_answered : (start : Start) (xs : List Timed) (out : List Sent)
     → map as_pair out ≡ sent_from 0 start [] xs
-    → (ArriveWhole (reverse xs) → IsAnswered start (reverse xs) (turns_send start (reverse xs)))
+    → IsAnswered start (reverse xs) (turns_send start (reverse xs))
     → IsAnswered start (reverse xs) (map packet_of out)
-run_answered start xs out w is answers = grind (arith, packets_pairs, sent_reverse, turns_send_sent, whole_reverse)
+run_answered start xs out is answers = grind (arith, packets_pairs, sent_reverse, turns_send_sent)
 
 -- A drive of a new session that stepped all inputs returns the meters that their history names.
 pub meters_named : (start : Start) (xs : List Timed) (result : Result Meters DriveFault) (s : SessionState)

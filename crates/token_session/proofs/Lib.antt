@@ -18,3 +18,4 @@ pub mod Credentials
 pub mod Arriving
 pub mod Answered
 pub mod Headline
+pub mod Turned

@@ -1,6 +1,6 @@
 -- What a history of inputs sends, from what happened alone: no state of the authenticator is kept, and none of its
 -- turns is looked at. Its events have the answers that what came before them names.
-use Rattle.std.specs.Prelude.{◌≡◌, ℕ, max, List, [], ◌∷◌, ◌++◌, ◌&&◌, Option, Some, None, option_map, is_some, is_none}
+use Rattle.std.specs.Prelude.{◌≡◌, ℕ, ◌+◌, max, List, [], ◌∷◌, ◌++◌, ◌&&◌, Option, Some, None, option_map, is_some, is_none}
 use Rattle.std.specs.{Prelude.if◌then◌else◌, List.list_any}
 use Rattle.hid_packet.specs.{Commands.KEEPALIVE, Packet.is_command}
 use Rattle.authn_core.specs.{Answers.answer_to, Answers.exchange, State.Event, Turn.Start, Turn.Work}
@@ -9,6 +9,7 @@ use Rattle.token_session.specs.{declared.input.Timed.Timed, Events.keepalive_due
 use Rattle.token_session.specs.Inputs.{Judged, end, given, is_packet}
 use Rattle.token_session.specs.Messages.{open_at, finished, finished_at}
 use Rattle.token_session.specs.History.{judged, sent, core, admits, cut_packets, event, table_packets}
+use Rattle.token_session.specs.Law.{numbered}
 use Rattle.token_session.specs.Replies.{asker, status_of, answer_packets, ping_packets}
 
 -- the channel of what waits
@@ -85,6 +86,15 @@ sent_told_at start e past = time_told start past (keepalive_told start past) e.a
 unfoldable pub sent_told : Start → List Judged → List (List ℕ)
 sent_told start [] = []
 sent_told start (e ∷ past) = sent_told start past ++ sent_told_at start e past
+
+-- the packets that x sends after h, as they are told
+unfoldable pub told_now : Start → List Timed → Timed → List (List ℕ)
+told_now start h x = let past = judged_told start h in sent_told_at start (judge_told start x past) past
+
+-- what the inputs of a list send after a history, in order, with the number of the input
+unfoldable pub told_from : ℕ → Start → List Timed → List Timed → List (ℕ × List ℕ)
+told_from n start h [] = []
+told_from n start h (x ∷ xs) = numbered n (told_now start h x) ++ told_from (n + 1) start (x ∷ h) xs
 
 -- What is told of a history is what the headline says of it: its inputs are judged alike, it sends the same, and the
 -- credentials are those that were made and are left.

@@ -3,7 +3,7 @@ use Rattle.std.specs.Prelude.{◌≡◌, ◌≤◌, ℕ, ◌+◌, ◌-◌, ◌*�
 use Rattle.std.specs.List.{cons_option}
 use Rattle.hid_assemble.specs.Assembly.{held_bytes}
 use Rattle.authn_core.specs.Turn.{Start}
-use Rattle.cred_table.specs.Waiting.{pending_count}
+use Rattle.cred_table.specs.{Rows.Lawful, Waiting.pending_count}
 use Rattle.ctap_message.specs.Requests.{steps_of, LARGEST}
 use Rattle.token_session.specs.declared.input.{Timed.Timed, Meters.Meters}
 use Rattle.token_session.specs.{Effects.request_in, Inputs.Judged, Law.named}
@@ -88,3 +88,8 @@ session_of start h = record { machine = named start h; meters = meters_of start 
 -- The session is after a history.
 abbrev pub StandsAfter : SessionState → Start → List Timed → Type 0
 StandsAfter s start h = s ≡ session_of start (judged start h)
+
+-- It is after a history of a start whose credentials are lawful, as those of each table are.
+pub record FollowsFrom (s : SessionState) (start : Start) (h : List Timed) : Type 0 where
+  pub lawful : Lawful start.capacity start.rows
+  pub stands : StandsAfter s start h

@@ -5,7 +5,9 @@ use Rattle.std.specs.Prelude.{if◌then◌else◌}
 use Rattle.hid_packet.specs.Packet.{fields}
 use Rattle.hid_assemble.specs.Table as table
 use Rattle.hid_assemble.specs.Table.{Open, ruling_of}
-use Rattle.authn_core.specs.Turn.{Start, CoreState, working}
+use Rattle.hid_assemble.specs.{Assembly.Assembly, Verdicts.is_turned_away, Verdicts.verdict}
+use Rattle.authn_core.specs.State.{Answer, Ignored, PresenceIs, KeyIs, SignatureIs}
+use Rattle.authn_core.specs.Turn.{Start, CoreState, core_answer, working}
 use Rattle.authn_core.specs.Views.{wants_presence, wants_key, wants_signature}
 use Rattle.token_session.specs.declared.input.{Input.Input, Timed.Timed}
 use Rattle.token_session.specs.declared.input.Input.TheVariants.{Packet, Tick, Presence, Key, Signature}
@@ -33,6 +35,18 @@ is_noise_at s x = is_noise_to (time_passed s (max s.now x.at)).state x.input
 unfoldable pub is_noise_after : Start → Judged → List Judged → Bool
 is_noise_after start e past = is_noise_among (given past) (option_map as_open (open_at past e.at))
     (core start past) e.input
+
+-- the same by what it is answered: a packet that is turned away, a reply that is ignored
+abbrev pub is_ignored : Answer → Bool
+is_ignored Ignored = true
+is_ignored answer = false
+
+abbrev pub is_turned_away_by : Assembly → CoreState → (now : ℕ) → Input → Bool
+is_turned_away_by a core now (Packet p) = is_turned_away (verdict a (working core) (fields p.0))
+is_turned_away_by a core now (Presence reply) = is_ignored (core_answer core now (PresenceIs reply))
+is_turned_away_by a core now (Key key) = is_ignored (core_answer core now (KeyIs key))
+is_turned_away_by a core now (Signature signature) = is_ignored (core_answer core now (SignatureIs signature))
+is_turned_away_by a core now Tick = false
 
 abbrev pub tick_at : ℕ → Timed
 tick_at at = record { at = at; input = Tick }

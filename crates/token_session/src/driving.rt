@@ -5,15 +5,16 @@ ghost use Rattle.authn_core.specs.Turn.{Start};
 ghost use Rattle.token_session.specs.declared.input.Timed.{Timed as OneInput};
 ghost use Rattle.token_session.specs.Carried.{ArriveWhole, IsWhole};
 ghost use Rattle.token_session.specs.Drive.{as_pair, packet_of, both_number, drive_number, done_of, first_done, second_done, HadCapacity, IsDriven};
-ghost use Rattle.token_session.specs.Headline.{IsAnswered, start_of};
+ghost use Rattle.token_session.specs.Headline.{IsAnswered, IsBounded, start_of};
+ghost use Rattle.token_session.specs.Answered.{told_from};
 ghost use Rattle.token_session.specs.Law.{numbered, onto, sent_from};
 ghost use Rattle.token_session.specs.History.{judged};
-ghost use Rattle.token_session.specs.Meters.{StandsAfter, meters_of, session_of};
+ghost use Rattle.token_session.specs.Meters.{FollowsFrom, StandsAfter, meters_of, session_of};
 ghost use Rattle.token_session.specs.Noise.{Quiet, quiet_from};
 ghost use Rattle.hid_packet.specs.Limits.{OUTBOX_CAPACITY};
 
 use crate::input::{Input, Meters, Sent, Timed};
-use crate::laws::every_history_is_answered;
+use crate::laws::{answers_follow_history, every_history_is_answered};
 use crate::session::Session;
 use arrayvec::ArrayVec;
 use authn_core::Config;
@@ -111,7 +112,13 @@ pub fn drive<const C: usize, const N: usize>(
     ensures sent { (start : Start) (h : List OneInput) → StandsAfter session.old start h
         → map as_pair sent.new.items ≡ map as_pair sent.old.items
         ++ sent_from 0 start h (take (done_of (length inputs.now) result) inputs.now) }
+    ensures follows { (start : Start) (h : List OneInput) → FollowsFrom session.old start h
+        → FollowsFrom session.new start (onto (take (done_of (length inputs.now) result) inputs.now) h) }
+    ensures told { (start : Start) (h : List OneInput) → FollowsFrom session.old start h
+        → map as_pair sent.new.items ≡ map as_pair sent.old.items
+        ++ told_from 0 start h (take (done_of (length inputs.now) result) inputs.now) }
 {
+    answers_follow_history();
     let mut outbox = Outbox::new();
     for (i, timed) in inputs.iter().enumerate() {
         if sent.remaining_capacity() < OUTBOX_CAPACITY {
@@ -136,9 +143,11 @@ pub fn drive_new<const C: usize, const N: usize>(
 ) -> Result<Meters, DriveFault>
     ensures answered { IsAnswered (start_of config.aaguid start C (⟦<Store<C> as Table<C>>⟧.rows rows.entry))
         (reverse (take (done_of (length inputs.now) result) inputs.now)) (map packet_of sent.new.items) }
+    ensures bounded { IsBounded (start_of config.aaguid start C (⟦<Store<C> as Table<C>>⟧.rows rows.entry))
+        (reverse (take (done_of (length inputs.now) result) inputs.now)) }
     // Each packet has the number of its input.
     ensures numbers { map as_pair sent.new.items
-        ≡ sent_from 0 (start_of config.aaguid start C (⟦<Store<C> as Table<C>>⟧.rows rows.entry)) []
+        ≡ told_from 0 (start_of config.aaguid start C (⟦<Store<C> as Table<C>>⟧.rows rows.entry)) []
         (take (done_of (length inputs.now) result) inputs.now) }
     ensures meters { IfOk result (λ meters. meters
         ≡ meters_of (start_of config.aaguid start C (⟦<Store<C> as Table<C>>⟧.rows rows.entry))

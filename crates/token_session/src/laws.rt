@@ -5,7 +5,7 @@ ghost use Rattle.std.specs.Prelude.{◌≡◌, ◌≤◌, ◌⊎◌, ◌+◌, �
 ghost use Rattle.token_session.specs.declared.input.Timed.{Timed as OneInput};
 ghost use Rattle.authn_core.specs.State.{Request};
 ghost use Rattle.cred_table.specs.Rows.{Lawful};
-ghost use Rattle.authn_core.specs.Turn.{Start, working, first_state, waiting};
+ghost use Rattle.authn_core.specs.Turn.{CoreState, Start, working, first_state, waiting};
 ghost use Rattle.authn_core.specs.Marks.{marks, rows_of, signs_by, texts, all_differ};
 ghost use Rattle.authn_core.specs.Rising.{all_rise, IsNewest};
 ghost use Rattle.authn_core.specs.Signed.{IsNeeded};
@@ -16,7 +16,8 @@ ghost use Rattle.hid_packet.specs.Message.{written};
 ghost use Rattle.hid_packet.specs.declared.packet.Packet.{Packet as AnyPacket};
 ghost use Rattle.token_session.specs.declared.input.Input.TheVariants.{Packet as PacketCame, Signature as SignatureCame};
 ghost use Rattle.hid_packet.specs.Carries.{CarriesMessage};
-ghost use Rattle.hid_assemble.specs.Assembly.{Message};
+ghost use Rattle.hid_assemble.specs.Assembly.{Assembly, Message};
+ghost use Rattle.token_session.specs.declared.input.Input.{Input};
 ghost use Rattle.token_session.specs.Arriving.{Arrives};
 ghost use Rattle.token_session.specs.Carried.{ArriveWhole, carriers_at};
 ghost use Rattle.token_session.specs.Inputs.{end, given};
@@ -28,9 +29,9 @@ ghost use Rattle.token_session.specs.Law.{all_open, IsAfter, sent_now, onto, sen
 ghost use Rattle.token_session.specs.Credentials.{steps};
 ghost use Rattle.token_session.specs.Signing.{came, IsAnsweredBy};
 ghost use Rattle.token_session.specs.Answered.{IsTold, happened, waits_in};
-ghost use Rattle.token_session.specs.Headline.{IsAnswered};
+ghost use Rattle.token_session.specs.Headline.{IsAnswered, IsBounded};
 ghost use Rattle.token_session.specs.Meters.{SessionState, meters_of, session_of, stepped};
-ghost use Rattle.token_session.specs.Noise.{Quiet, is_noise_at, is_noise_after, quiet_from, quiet_sent, tick_at};
+ghost use Rattle.token_session.specs.Noise.{Quiet, is_noise_among, is_turned_away_by, is_noise_at, is_noise_after, quiet_from, quiet_sent, tick_at};
 ghost use Rattle.hid_packet.specs.Limits.{LONGEST_HELD, OUTBOX_CAPACITY};
 
 use authn_core::laws::{
@@ -135,6 +136,10 @@ pub fn finished_messages_were_carried()
 pub fn noise_is_a_tick()
     ensures step { (s : SessionState) (x : OneInput) → is_noise_at s.machine x ≡ true
         → stepped s x ≡ stepped s (tick_at x.at) }
+    // It is just what is turned away: a packet silently, or by an ERROR that its channel wasn't given out or is busy; a
+    // reply where the authenticator ignores it. A tick never is.
+    ensures answered { (a : Assembly) (core : CoreState) (now : ℕ) (i : Input)
+        → is_noise_among a.given a.current core i ≡ is_turned_away_by a core now i }
     ensures packets { (s : MachineState) (at : ℕ) → (turn s (tick_at at)).packets ≡ (time_passed s (max s.now at)).packets }
     ensures named { (s : MachineState) (start : Start) (h : List OneInput) (x : OneInput) → IsAfter s start h
         → is_noise_at s x ≡ is_noise_after start (judged_after start h x) (judged start h) }
@@ -209,9 +214,12 @@ pub fn answers_follow_history()
 /// calls.) Its premises: the start's rows are lawful, and each packet has 64 bytes, as each packet and each table of
 /// this program do.
 pub fn every_history_is_answered()
-    ensures { (start : Start) (h : List OneInput) → Lawful start.capacity start.rows → ArriveWhole h
+    ensures answered { (start : Start) (h : List OneInput) → Lawful start.capacity start.rows
         → IsAnswered start h (turns_send start h) }
+    ensures bounded { (start : Start) (h : List OneInput) → Lawful start.capacity start.rows → ArriveWhole h
+        → IsBounded start h }
 {
     rows_follow_history();
     steps_are_bounded();
+    answers_follow_history();
 }

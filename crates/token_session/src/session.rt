@@ -1,4 +1,4 @@
-ghost use Rattle.std.specs.Prelude.{◌≡◌, ◌≤◌, [], ◌∷◌, List, Ok, length, MatchResult};
+ghost use Rattle.std.specs.Prelude.{◌≡◌, ◌≤◌, [], ◌∷◌, List, Ok, length, MatchResult, OnOk};
 ghost use Rattle.hid_assemble.specs.Assembly.{held_bytes};
 ghost use Rattle.authn_core.specs.Needs.{IsNeed};
 ghost use Rattle.authn_core.specs.Views.{first_held, needs, needed};
@@ -8,14 +8,16 @@ ghost use Rattle.cred_table.specs.Waiting.{pending_count};
 ghost use Rattle.authn_core.specs.Turn.{Start};
 ghost use Rattle.token_session.specs.declared.input.Timed.{Timed as OneInput};
 ghost use Rattle.token_session.specs.History.{judged_after, judged, held};
+ghost use Rattle.token_session.specs.Answered.{told_now};
 ghost use Rattle.token_session.specs.Law.{sent_now};
 ghost use Rattle.token_session.specs.Effects.{request_in};
-ghost use Rattle.token_session.specs.Meters.{AreBounded, SessionState, StandsAfter, counted, stepped, sent_by, session_of};
+ghost use Rattle.token_session.specs.Meters.{AreBounded, FollowsFrom, SessionState, StandsAfter, counted, stepped, sent_by, session_of};
 ghost use Rattle.token_session.specs.Machine.{time_passed, served};
 ghost use Rattle.token_session.specs.Noise.{is_noise_at, is_noise_after};
 ghost use Rattle.hid_packet.specs.Limits.{LONGEST_HELD, OUTBOX_CAPACITY};
 
 use crate::input::{Input, Meters};
+use crate::laws::answers_follow_history;
 use crate::service::{KEEPALIVE_PERIOD, Keeper, greet, is_noise};
 use authn_core::{Config, Core, Event, Need};
 use cred_table::{SnapshotFault, Store, Table};
@@ -83,7 +85,13 @@ impl<const C: usize> Session<C> {
     /// Returns a session that begins at the moment `start`, in milliseconds, with these credentials. No channel is
     /// given out, and no work waits.
     pub fn new(config: Config, rows: Store<C>, start: u64) -> Self
-        ensures { result ≡ session_of (record {
+        ensures value { result ≡ session_of (record {
+          aaguid = config.aaguid;
+          moment = start;
+          capacity = C;
+          rows = ⟦<Store<C> as Table<C>>⟧.rows rows.entry;
+        }) [] }
+        ensures follows { FollowsFrom result (record {
           aaguid = config.aaguid;
           moment = start;
           capacity = C;
@@ -109,7 +117,8 @@ impl<const C: usize> Session<C> {
     pub fn bare(aaguid: [u8; 16], start: u64) -> Self
         requires some { 1 ≤ C }
         requires few { C ≤ 256 }
-        ensures { result ≡ session_of (record { aaguid = aaguid; moment = start; capacity = C; rows = [] }) [] }
+        ensures value { result ≡ session_of (record { aaguid = aaguid; moment = start; capacity = C; rows = [] }) [] }
+        ensures follows { FollowsFrom result (record { aaguid = aaguid; moment = start; capacity = C; rows = [] }) [] }
     {
         Session {
             latest: start,
@@ -125,10 +134,12 @@ impl<const C: usize> Session<C> {
     /// Begins anew at the moment `start`, in milliseconds, with the credentials of a snapshot in place of its own. No
     /// channel is given out, and no work waits. A snapshot that is refused leaves the session as it was.
     pub fn load(&mut self, config: Config, snapshot: &[u8], start: u64) -> Result<(), SnapshotFault>
-        ensures { MatchResult result
+        ensures value { MatchResult result
             (λ _. (rows : List AnyRow) × Loads C snapshot.now (Ok tt) rows
             × (self.new ≡ session_of (record { aaguid = config.aaguid; moment = start; capacity = C; rows = rows }) []))
             (λ fault. Refuses C snapshot.now fault × (self.new ≡ self.old)) }
+        ensures follows { OnOk result ((rows : List AnyRow) × Loads C snapshot.now (Ok tt) rows
+            × FollowsFrom self.new (record { aaguid = config.aaguid; moment = start; capacity = C; rows = rows }) []) }
     {
         self.keeper.core.load(config, snapshot, start)?;
         self.latest = start;
@@ -152,7 +163,14 @@ impl<const C: usize> Session<C> {
             → StandsAfter self.new start (record { at = at; input = input } ∷ h) }
         ensures sent { (start : Start) (h : List OneInput) → StandsAfter self.old start h
             → outbox.new ≡ sent_now start h (record { at = at; input = input }) }
+        // Where it follows such a history, it follows the longer one, and it sent what is told of the input without a
+        // state of the authenticator.
+        ensures follows { (start : Start) (h : List OneInput) → FollowsFrom self.old start h
+            → FollowsFrom self.new start (record { at = at; input = input } ∷ h) }
+        ensures told { (start : Start) (h : List OneInput) → FollowsFrom self.old start h
+            → outbox.new ≡ told_now start h (record { at = at; input = input }) }
     {
+        answers_follow_history();
         let now = self.latest.max(at);
         self.pass_time(now, outbox);
         self.serve(input, outbox);

@@ -23,7 +23,7 @@ returns-then-is_empty-clause-begins c =
 pub returns-in-Ok-clause-begins : goal.returns-in-Ok-clause-begins
 returns-in-Ok-clause-begins c =
     let s : List ℕ = c.args.snapshot.now in
-    let e = c.in-Ok.ensures in (
+    let e = c.in-Ok.ensures.value in (
       e.0,
       opens s e.0 (λ n. eqb-false (length s) 0 (sym c.if-is_empty.ensures) (ap length n)) e.1,
       begins c.load.new.self _ e.2,

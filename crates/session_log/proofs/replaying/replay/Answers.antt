@@ -2,7 +2,7 @@ use Rattle.std.proofs.Common.{◌≡◌, Ok, Err, ap, ◌∙◌, subst}
 use Rattle.std.proofs.lemmas.Result.{err_from_is_err_and}
 use Rattle.session_log.specs.{Sent.FitsMeters, Session.history, Session.machine, Session.sessions}
 use Rattle.session_log.proofs.{Failures.on_err, Whole.logs_fault, Whole.logs_whole}
-use Rattle.session_log.proofs.Histories.{follows, logs_history}
+use Rattle.session_log.proofs.Histories.{follows, logs_history, logs_told}
 use Rattle.session_log.proofs.Again.{repeats_in, replay_again, replay_logs}
 use Rattle.session_log.proofs.replaying.replay.Goals as goal
 
@@ -23,6 +23,9 @@ returns-in_err-play_log g c =
       history = logs_history g.S.Source.left g.S.Source.failed g.S.Source.ended g.T.Target.taken g.T.Target.failed
           (c.args.reader.now, new.reader) (c.args.writer.now, new.writer) machine history follows s new.session r
           through;
+      told = logs_told g.S.Source.left g.S.Source.failed g.S.Source.ended g.T.Target.taken g.T.Target.failed
+          (c.args.reader.now, new.reader) (c.args.writer.now, new.writer)
+          (λ start h l. c.answers_follow_history.ensures.told start h l) s new.session r through;
     }
 
 pub returns : goal.returns
@@ -41,6 +44,9 @@ returns g c =
       history = logs_history g.S.Source.left g.S.Source.failed g.S.Source.ended g.T.Target.taken g.T.Target.failed
           (c.args.reader.now, new.reader) (c.args.writer.now, new.writer) machine history follows s new.session
           (Ok c.meters_of.result) through;
+      told = logs_told g.S.Source.left g.S.Source.failed g.S.Source.ended g.T.Target.taken g.T.Target.failed
+          (c.args.reader.now, new.reader) (c.args.writer.now, new.writer)
+          (λ start h l. c.answers_follow_history.ensures.told start h l) s new.session (Ok c.meters_of.result) through;
     }
 
 pub meters_of-requires : goal.meters_of-requires

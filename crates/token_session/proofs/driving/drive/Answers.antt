@@ -1,7 +1,7 @@
 use Rattle.std.proofs.Common.{◌≡◌, ◌++◌, length, take, map, ◌∙◌, ap, refl, sym, append-nil, arith, below_more}
 use Rattle.std.proofs.lemmas.List.{length-map}
 use Rattle.arrayvec.specs.ArrayVec.{array_vec_len}
-use Rattle.token_session.{specs.Drive.as_pair, proofs.Drives.driven_follows}
+use Rattle.token_session.{specs.Drive.as_pair, proofs.Drives.driven_follows, proofs.Answered.told_from_is}
 use Rattle.token_session.proofs.Drives.{driven_more, whole_more, sends_more, capacity_here, driven_stands}
 use Rattle.token_session.proofs.driving.drive.Goals as goal
 
@@ -14,6 +14,13 @@ returns-then-remaining_capacity-lt-OUTBOX_CAPACITY g c = record {
   after = λ start h b. c.loop-i.invariant.state ∙ driven_stands (take c.loop-i.i c.args.inputs.now) _ start h b;
   sent = λ start h b. c.loop-i.invariant.packets ∙ ap (λ q. map as_pair c.args.sent.now.items ++ q)
       (driven_follows (take c.loop-i.i c.args.inputs.now) _ start 0 h b);
+  follows = λ start h f. record {
+    lawful = f.lawful;
+    stands = c.loop-i.invariant.state ∙ driven_stands (take c.loop-i.i c.args.inputs.now) _ start h f.stands;
+  };
+  told = λ start h f. c.loop-i.invariant.packets ∙ ap (λ q. map as_pair c.args.sent.now.items ++ q)
+      (driven_follows (take c.loop-i.i c.args.inputs.now) _ start 0 h f.stands
+      ∙ told_from_is start (λ k. c.answers_follow_history.ensures.told start k f.lawful) (take c.loop-i.i c.args.inputs.now) 0 h);
 }
 
 pub returns : goal.returns
@@ -29,6 +36,15 @@ returns g c =
       sent = λ start h b. rw (← e) (c.loop-i.invariant.packets
           ∙ ap (λ q. map as_pair c.args.sent.now.items ++ q)
           (driven_follows (take c.loop-i.i c.args.inputs.now) _ start 0 h b));
+      follows = λ start h f. record {
+        lawful = f.lawful;
+        stands = rw (← e) (c.loop-i.invariant.state
+            ∙ driven_stands (take c.loop-i.i c.args.inputs.now) _ start h f.stands);
+      };
+      told = λ start h f. rw (← e) (c.loop-i.invariant.packets
+          ∙ ap (λ q. map as_pair c.args.sent.now.items ++ q)
+          (driven_follows (take c.loop-i.i c.args.inputs.now) _ start 0 h f.stands
+          ∙ told_from_is start (λ k. c.answers_follow_history.ensures.told start k f.lawful) (take c.loop-i.i c.args.inputs.now) 0 h));
     }
 
 pub loop-i-preserved : goal.loop-i-preserved

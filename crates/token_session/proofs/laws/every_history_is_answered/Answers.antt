@@ -1,16 +1,29 @@
-use Rattle.std.proofs.Common.{arith}
-use Rattle.token_session.{specs.History.judged, proofs.Bounds.held_few}
+use Rattle.std.proofs.Common.{arith, length, ◌≤◌, ◌∙◌, subst, List}
+use Rattle.token_session.specs.Inputs.{Judged}
+use Rattle.hid_packet.specs.Limits.{LONGEST_MESSAGE}
+use Rattle.cred_table.specs.declared.row.Row.{Row}
+use Rattle.token_session.{specs.History.judged, specs.History.held, specs.History.core, proofs.Bounds.held_few}
 use Rattle.token_session.proofs.Credentials.{core_is, first_ready}
 use Rattle.token_session.proofs.Headline.{turns_send_sent, all_carried, all_few}
 use Rattle.token_session.proofs.laws.every_history_is_answered.Goals as goal
 
 pub returns : goal.returns
-returns c = λ start h lawful packets. record {
-  sent = turns_send_sent start h;
-  carried = all_carried start h packets;
-  held = let few = held_few start (judged start h) in omega (arith, few);
-  rows = rw (core_is start (judged start h)) (c.rows_follow_history.ensures.lawful _ _ (first_ready start) lawful).few;
-  pending = rw (core_is start (judged start h)) (c.rows_follow_history.ensures.pending _ _ (first_ready start) lawful
-      (omega arith));
-  steps = all_few c.steps_are_bounded.ensures start (judged start h);
+returns c = record {
+  answered = λ start h lawful.
+      let told = c.answers_follow_history.ensures.told start h lawful in
+      let least = held_few start (judged start h) in
+      let few : held start (judged start h) ≤ LONGEST_MESSAGE = omega (arith, least) in
+      let kept : length (core start (judged start h)).state.rows ≤ start.capacity =
+      rw (core_is start (judged start h)) (c.rows_follow_history.ensures.lawful _ _ (first_ready start) lawful).few in
+      record {
+        sent = turns_send_sent start h ∙ told.packets;
+        held = subst (λ (j : List Judged). held start j ≤ LONGEST_MESSAGE) told.inputs few;
+        rows = subst (λ (r : List Row). length r ≤ start.capacity) told.rows kept;
+      };
+  bounded = λ start h lawful packets. record {
+    carried = all_carried start h packets;
+    pending = rw (core_is start (judged start h)) (c.rows_follow_history.ensures.pending _ _ (first_ready start) lawful
+        (omega arith));
+    steps = all_few c.steps_are_bounded.ensures start (judged start h);
+  };
 }

@@ -1,19 +1,18 @@
 use Rattle.std.proofs.Common.{◌≡◌, ◌∙◌, ap, subst, List, ℕ, []}
-use Rattle.session_log.proofs.Histories.{begins}
-use Rattle.token_session.specs.Meters.{StandsAfter}
+use Rattle.token_session.specs.Meters.{FollowsFrom}
 use Rattle.hidlog_c.specs.{Key.DeviceState, Switched.start_of}
 use Rattle.hidlog_c.proofs.device.Device.load.Goals as goal
 
 pub returns-clause-started : goal.returns-clause-started
 returns-clause-started c =
-    let loaded = c.in_ok-load.ensures in
+    let loaded = c.in_ok-load.ensures.follows in
     let same = ap (λ (d : DeviceState). d.aaguid) c.self.view_is in (
       loaded.0,
       loaded.1,
       (
         same,
         ap (λ (d : DeviceState). d.waiting) c.self.view_is ∙ c.requires.idle,
-        subst (λ (aaguid : List ℕ). StandsAfter c.load.new.self (start_of aaguid c.args.at loaded.0) []) same
-            (begins c.load.new.self _ loaded.2),
+        subst (λ (aaguid : List ℕ). FollowsFrom c.load.new.self (start_of aaguid c.args.at loaded.0) []) same
+            loaded.2,
       ),
     )

@@ -1,19 +1,20 @@
 use Rattle.std.proofs.Common.{ap, arith}
 use Rattle.authn_core.specs.Turn.{Held}
-use Rattle.token_session.specs.Machine.{start_state}
+use Rattle.token_session.specs.{History.judged, Machine.start_state}
 use Rattle.token_session.proofs.{Metering.begins, Metering.bounded_first, Passing.whole, Serving.at_most}
 use Rattle.token_session.proofs.Sizes.{core_within, table_within}
 use Rattle.token_session.proofs.session.Session.load.Goals as goal
 
 pub returns : goal.returns
-unfolding start_state
+unfolding start_state judged
 returns g c =
-    let e = c.in_ok-load.ensures in (
-      e.0,
-      e.1,
-      begins _ _ _ _ (λ i. whole c.args.start (c.new-self-inside.ensures.value i) (e.2 i).core 0)
-          c.first_meters-self-inside.ensures c.credentials.ensures.value,
-    )
+    let e = c.in_ok-load.ensures in
+    let begun = begins _ _ _ _ (λ i. whole c.args.start (c.new-self-inside.ensures.value i) (e.2 i).core 0)
+    c.first_meters-self-inside.ensures c.credentials.ensures.value in
+    record {
+      value = (e.0, e.1, begun);
+      follows = (e.0, e.1, record { lawful = e.1.1.lawful; stands = begun });
+    }
 
 pub load-requires-room-T-Table : goal.load-requires-room-T-Table
 load-requires-room-T-Table g c κs = search table_within

@@ -1,16 +1,20 @@
 use Rattle.std.proofs.Common.{ap, length, sym, ◌∙◌}
 use Rattle.authn_core.specs.Turn.{Held}
-use Rattle.token_session.specs.Machine.{start_state}
+use Rattle.token_session.specs.{History.judged, Machine.start_state}
 use Rattle.token_session.proofs.{Metering.begins, Metering.bounded_first, Passing.whole, Serving.at_most}
 use Rattle.token_session.proofs.Sizes.{core_within, table_within}
 use Rattle.token_session.proofs.session.Session.new.Goals as goal
 
-pub returns : goal.returns
+pub returns-clause-value : goal.returns-clause-value
 unfolding start_state
-returns g c =
+returns-clause-value g c =
     begins _ _ _ _ (λ i. whole c.args.start (c.new.ensures.value i) (c.new-2.ensures i).core 0)
     c.first_meters.ensures (c.len-credentials.ensures ∙ ap (λ (h : Held). length h.core.state.rows)
     (sym c.new-2.ensures))
+
+pub returns-clause-follows : goal.returns-clause-follows
+unfolding judged
+returns-clause-follows g c = record { lawful = c.args.rows.lawful; stands = returns-clause-value g c }
 
 pub invariant_of-result : goal.invariant_of-result
 invariant_of-result g c =

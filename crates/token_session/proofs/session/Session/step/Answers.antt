@@ -1,5 +1,6 @@
-use Rattle.std.proofs.Common.{◌≡◌, ℕ, ◌≤◌, max, refl, ap, ◌∙◌, arith}
+use Rattle.std.proofs.Common.{◌≡◌, ℕ, ◌≤◌, ◌∷◌, max, refl, ap, ◌∙◌, arith}
 use Rattle.token_session.proofs.{Few.time_few, Few.turn_few, Follows.step_sends, Serving.step_turn}
+use Rattle.token_session.proofs.Answered.{told_now_is}
 use Rattle.token_session.proofs.Metering.{stepped_is, stands_longer, machine_after}
 use Rattle.token_session.specs.{declared.input.Timed.Timed, Effects.request_in, Machine.MachineTurn}
 use Rattle.token_session.specs.Meters.{SessionState, counted}
@@ -48,6 +49,17 @@ returns-clause-sent g c = λ start h b.
     returns-clause-packets g c
     ∙ step_sends (c.args.self.now).machine start h (record { at = c.args.at; input = c.args.input })
     (machine_after _ start h b)
+
+pub returns-clause-follows : goal.returns-clause-follows
+returns-clause-follows g c = λ start h f.
+    record { lawful = f.lawful; stands = returns-clause-after g c start h f.stands }
+
+pub returns-clause-told : goal.returns-clause-told
+returns-clause-told g c = λ start h f.
+    let x : Timed = record { at = c.args.at; input = c.args.input } in
+    returns-clause-sent g c start h f.stands
+    ∙ told_now_is start h x (c.answers_follow_history.ensures.told start h f.lawful)
+    (c.answers_follow_history.ensures.told start (x ∷ h) f.lawful)
 
 later : (latest at now to : ℕ) → latest ≡ now → to ≡ max latest at → now ≤ to
 later latest at now to e m = omega arith
