@@ -2,3 +2,7 @@ pub mod Extents
 pub mod Messages
 pub mod Lines
 pub mod Shown
+pub mod Owners
+pub mod Walks
+pub mod Ends
+pub mod Whole

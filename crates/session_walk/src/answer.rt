@@ -1,5 +1,8 @@
 //! Packets of a device, and what they show.
 
+ghost use Rattle.std.specs.Prelude.{◌≡◌};
+ghost use Rattle.session_walk.specs.Ends.{can_answer};
+
 use crate::device::{ASSERT, OK};
 use crate::entry::Role;
 use crate::exchange::{Extent, Followed, Transaction};
@@ -20,7 +23,9 @@ pub struct AnswerStart<'a> {
 
 impl AnswerStart<'_> {
     /// Returns whether it can be that of a message: of a whole one with its command.
-    pub fn is_of(&self, message: &Option<Followed>) -> bool {
+    pub fn is_of(&self, message: &Option<Followed>) -> bool
+        ensures { result ≡ can_answer self.now message.now }
+    {
         matches!(message, Some(message)
             if message.extent.is_whole() && message.transaction.message == self.command)
     }

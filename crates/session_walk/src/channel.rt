@@ -1,6 +1,14 @@
 //! What hosts and a device do on one channel, by the transport's own rules (CTAP 2.1, sections 11.2.4 and 11.2.5).
 //! Nothing is known of the device but its packets.
-ghost use Rattle.std.specs.Prelude.{◌≡◌, true, IfSome};
+ghost use Rattle.std.specs.Prelude.{◌≡◌, true, false, IfSome, None, Some};
+ghost use Rattle.session_walk.specs.Owners.{added_held, cancels, channel_cancelled, channel_continued, continued_in};
+ghost use Rattle.session_walk.specs.Owners.{addressed, freed, gone_on, goes_on_by, is_known_not, lost_one, message_begun};
+ghost use Rattle.session_walk.specs.Owners.{nonce_of, settled, settling, heard_of, slot_after, transaction_of};
+ghost use Rattle.hid_packet.specs.Commands.{INIT as INIT_COMMAND};
+ghost use Rattle.session_walk.specs.Ends.{is_open_question, losing, lost_both};
+ghost use Rattle.session_walk.specs.Extents.{is_whole};
+ghost use Rattle.std.specs.Prelude.{◌≤◌, length, not};
+ghost use Rattle.session_walk.specs.Walks.{at_of, waits};
 
 use crate::awaited::Awaited;
 use crate::entry::Role;
@@ -48,7 +56,9 @@ impl Greeting {
 }
 
 /// Returns the nonce of an INIT or of its answer, with what its first packet carries.
-pub fn nonce_in(part: &[u8]) -> u64 {
+pub fn nonce_in(part: &[u8]) -> u64
+    ensures { result ≡ nonce_of part.now }
+{
     match part {
         [a, b, c, d, e, f, g, h, ..] => u64::from_be_bytes([*a, *b, *c, *d, *e, *f, *g, *h]),
         _ => 0,
@@ -136,7 +146,9 @@ impl Channel {
     }
 
     /// Returns whether it isn't known which message is served.
-    pub fn is_unclear(&self) -> bool {
+    pub fn is_unclear(&self) -> bool
+        ensures { result ≡ is_known_not self.now }
+    {
         self.is_contested || self.lost > 0
     }
 
@@ -155,7 +167,9 @@ impl Channel {
     }
 
     /// Returns whether the device's last message has further packets.
-    pub fn is_answering(&self) -> bool {
+    pub fn is_answering(&self) -> bool
+        ensures { result ≡ not (is_whole self.now.told.extent.length self.now.told.extent.continuations) }
+    {
         !self.told.extent.is_whole()
     }
 
@@ -192,7 +206,11 @@ impl Channel {
     /// Takes the initialization packet of a message that isn't CANCEL, with what it carries. An INIT changes nothing
     /// else before it is answered (section 11.2.9.1.3). Where another message holds the channel, it isn't known yet
     /// which of them goes on.
-    pub fn begin(&mut self, mut begun: Followed, part: &[u8], ends: &mut EndedTransactions) {
+    pub fn begin(&mut self, mut begun: Followed, part: &[u8], ends: &mut EndedTransactions)
+        ensures message { (begun.transaction.message ≡ INIT_COMMAND → ⊥) → self.new ≡ message_begun begun self.old }
+        ensures ends { (begun.transaction.message ≡ INIT_COMMAND → ⊥)
+            → ends.new.0.items ≡ settling false (heard_of begun.at self.old) ends.old.0.items }
+    {
         self.is_stray = false;
         if begun.at.saturating_sub(self.heard) >= SILENCE {
             self.lost = 0;
@@ -224,7 +242,10 @@ impl Channel {
     /// Takes a CANCEL on this line, and returns the transaction that it is for, one that is served, and what it is
     /// where there is none. It ends nothing: the answer to that does (section 11.2.9.1.5). Of two messages it isn't
     /// known which one is served.
-    pub fn cancel(&mut self, line: u64) -> (Option<Transaction>, Role) {
+    pub fn cancel(&mut self, line: u64) -> (Option<Transaction>, Role)
+        ensures state { self.new ≡ channel_cancelled line self.old }
+        ensures of { result.0 ≡ cancels self.old }
+    {
         self.is_stray = true;
         if self.lost > 0 {
             return (None, Role::Own);
@@ -250,7 +271,9 @@ impl Channel {
 
     /// Returns whether it isn't known which message a packet of the device is for, behind the input of this line: of
     /// two messages on a channel the second is refused before the next input, or has the channel.
-    pub fn is_undecided(&self, input: u64) -> bool {
+    pub fn is_undecided(&self, input: u64) -> bool
+        ensures { result ≡ is_open_question input self.now }
+    {
         match &self.asked {
             Some(asked) => self.is_unclear() || asked.transaction.line != input,
             None => self.is_unclear(),
@@ -259,7 +282,10 @@ impl Channel {
 
     /// Ends what is held and what was asked, since a packet may be for either: whether it was answered isn't known, and
     /// the other one may wait still.
-    pub fn lose(&mut self, ends: &mut EndedTransactions) {
+    pub fn lose(&mut self, ends: &mut EndedTransactions)
+        ensures state { self.new ≡ record (lost_both self.old) { asserted = self.new.asserted } }
+        ensures ends { ends.new.0.items ≡ losing self.old ends.old.0.items }
+    {
         self.settle(false, ends);
         if let Some(lost) = self.end_held(End::Unknown, ends) {
             self.lose_one(lost.line);
@@ -269,32 +295,34 @@ impl Channel {
     }
 
     /// Takes that a message of this line may wait still of which it isn't known which one it is.
-    pub fn lose_one(&mut self, line: u64) {
+    pub fn lose_one(&mut self, line: u64)
+        ensures { self.new ≡ lost_one line self.old }
+    {
         self.lost = self.lost.saturating_add(1);
         self.last_lost = self.last_lost.max(line);
     }
 
     /// Takes the continuation packet with this number. None where it is of no message that is open.
     pub fn go_on(&mut self, number: u8, now: u64) -> Option<Continued>
-        ensures { IfSome result (λ continued. continued.is_whole ≡ true → continued.is_next ≡ true) }
+        ensures next { IfSome result (λ continued. continued.is_whole ≡ true → continued.is_next ≡ true) }
+        ensures value { result ≡ continued_in number now (addressed number self.old) }
+        ensures state { self.new ≡ channel_continued number now self.old }
     {
         let is_of_asked = matches!(&self.asked, Some(asked)
             if asked.extent.continuations == number && !asked.extent.is_whole());
-        let message = if is_of_asked {
-            &mut self.asked
+        let continuation = if is_of_asked {
+            go_on_with(&mut self.asked, number, now)
         } else {
-            &mut self.held
-        };
-        let continuation = match message {
-            Some(message) if !message.extent.is_whole() => Some(message.go_on(number, now)),
-            _ => None,
+            go_on_with(&mut self.held, number, now)
         };
         self.is_stray = continuation.is_none();
         continuation
     }
 
     /// Keeps what an open request names.
-    pub fn name(&mut self, of: &Transaction, named: Named) {
+    pub fn name(&mut self, of: &Transaction, named: Named)
+        ensures at { at_of self.new.held ≡ at_of self.old.held }
+    {
         if let Some(mut held) = self.held
             && held.transaction.line == of.line
         {
@@ -312,7 +340,9 @@ impl Channel {
 
     /// Returns whether a message of which a KEEPALIVE says so waits for a reply, and no CANCEL came for it, or whether one
     /// may wait.
-    pub fn is_waiting(&self, is_said: bool) -> bool {
+    pub fn is_waiting(&self, is_said: bool) -> bool
+        ensures { result ≡ waits is_said self.now }
+    {
         if is_said {
             matches!(&self.held, Some(held)
                 if held.awaited.is_some() && held.cancelled.is_none())
@@ -352,7 +382,10 @@ impl Channel {
 
     /// Lets what was asked have the channel, as a packet of the device shows, or since it wasn't refused before the
     /// next message began.
-    pub fn settle(&mut self, is_shown: bool, ends: &mut EndedTransactions) {
+    pub fn settle(&mut self, is_shown: bool, ends: &mut EndedTransactions)
+        ensures state { self.new ≡ settled is_shown self.old }
+        ensures ends { ends.new.0.items ≡ settling is_shown self.old ends.old.0.items }
+    {
         let Some(asked) = self.asked else {
             return;
         };
@@ -375,7 +408,11 @@ impl Channel {
     }
 
     /// Ends what held the channel, and returns its transaction. What was asked has the channel then.
-    pub fn end_held(&mut self, end: End, ends: &mut EndedTransactions) -> Option<Transaction> {
+    pub fn end_held(&mut self, end: End, ends: &mut EndedTransactions) -> Option<Transaction>
+        ensures state { self.new ≡ freed self.old }
+        ensures ends { ends.new.0.items ≡ added_held ends.old.0.items self.old.held end }
+        ensures of { result ≡ transaction_of self.old.held }
+    {
         let Some(held) = self.held else {
             return None;
         };
@@ -386,7 +423,10 @@ impl Channel {
     }
 
     /// Takes the greeting at a place, where there is one.
-    pub fn take_greeting(&mut self, place: usize) -> Option<Followed> {
+    pub fn take_greeting(&mut self, place: usize) -> Option<Followed>
+        ensures none { length self.old.greetings.items ≤ place → self.new ≡ self.old }
+        ensures nothing { length self.old.greetings.items ≤ place → result ≡ None }
+    {
         let Some(greeting) = self.greetings.pop_at(place) else {
             return None;
         };
@@ -398,10 +438,28 @@ impl Channel {
     }
 }
 
+/// Goes on with a message that isn't whole by the continuation packet with this number.
+fn go_on_with(message: &mut Option<Followed>, number: u8, now: u64) -> Option<Continued>
+    ensures value { result ≡ continued_in number now message.old }
+    ensures state { message.new ≡ slot_after number now message.old }
+{
+    let Some(mut held) = *message else {
+        return None;
+    };
+    if held.extent.is_whole() {
+        return None;
+    }
+    let continued = held.go_on(number, now);
+    *message = Some(held);
+    Some(continued)
+}
+
 impl Followed {
     /// Goes on with its message, which isn't whole, by the packet with this number.
     fn go_on(&mut self, number: u8, now: u64) -> Continued
-        ensures { result.is_whole ≡ true → result.is_next ≡ true }
+        ensures next { result.is_whole ≡ true → result.is_next ≡ true }
+        ensures value { result ≡ gone_on number now self.old }
+        ensures state { self.new ≡ goes_on_by number now self.old }
     {
         let mut continued = Continued {
             of: self.transaction,

@@ -1,5 +1,7 @@
 //! The channels of a log that are followed: a few at once.
-ghost use Rattle.std.specs.Prelude.{◌≡◌, ◌<◌, IfSome, if◌then◌else◌};
+ghost use Rattle.session_walk.specs.declared.channel.Channel.{Channel as AnyChannel};
+ghost use Rattle.session_walk.specs.Walks.{channel_on, is_on, place_on, waits};
+ghost use Rattle.std.specs.Prelude.{count_by, option_map, position, slice_get, Some, ◌≡◌, ◌<◌, IfSome, if◌then◌else◌};
 ghost use Rattle.session_walk.specs.declared.entry.Role.TheVariants.{Own};
 
 use crate::answer::AnswerStart;
@@ -28,7 +30,9 @@ impl Channels {
     /// Returns where a channel is, which is used on this line. Where there are too many, the one that was used least
     /// lately makes way, one on which nothing is open first.
     pub fn place(&mut self, number: u32, line: u64, ends: &mut EndedTransactions) -> usize
-        ensures { result < 6 }
+        ensures within { result < 6 }
+        ensures found { (c : AnyChannel) → channel_on number self.old.list ≡ Some c
+            → slice_get self.new.list result ≡ Some (record c { used = line }) }
     {
         if let Some(place) = self.find(number) {
             self.list[place].used = line;
@@ -49,14 +53,23 @@ impl Channels {
 
     /// Returns where a channel is that is in use.
     pub fn find(&self, number: u32) -> Option<usize>
-        ensures { IfSome result (λ place. place < 6) }
+        ensures within { IfSome result (λ place. place < 6) }
+        ensures value { result ≡ place_on number self.now.list }
     {
-        for place in 0..CHANNELS {
-            if self.list[place].used > 0 && self.list[place].number == number {
-                return Some(place);
-            }
+        match self.first_on(number) {
+            Some(place) if place < CHANNELS => Some(place),
+            _ => None,
         }
-        None
+    }
+
+    /// Returns the first place of a channel.
+    fn first_on(&self, number: u32) -> Option<usize>
+        ensures { result ≡ position (is_on number) self.now.list }
+    {
+        self.list
+            .as_slice()
+            .iter()
+            .position(|channel| channel.used > 0 && channel.number == number)
     }
 
     /// Returns the place of the channel that makes way.
@@ -87,17 +100,24 @@ impl Channels {
     /// Returns on how many channels a message waits for a reply, and where the last of them is: one of which a KEEPALIVE
     /// says so, or one that may wait.
     pub fn waiting(&self, is_said: bool) -> (usize, usize)
-        ensures { result.1 < 6 }
+        ensures place { result.1 < 6 }
+        ensures count { result.0 ≡ count_by (waits is_said) self.now.list }
     {
-        let mut last = 0;
-        let mut count = 0_usize;
-        for place in 0..CHANNELS {
-            if self.list[place].is_waiting(is_said) {
-                count = count.saturating_add(1);
-                last = place;
-            }
+        let count = self
+            .list
+            .as_slice()
+            .iter()
+            .filter(|channel| channel.is_waiting(is_said))
+            .count();
+        match self
+            .list
+            .as_slice()
+            .iter()
+            .position(|channel| channel.is_waiting(is_said))
+        {
+            Some(place) if place < CHANNELS => (count, place),
+            _ => (count, 0),
         }
-        (count, last)
     }
 
     /// Returns whether a message of which nothing is known may be what is served now.

@@ -1,5 +1,11 @@
 //! What a device sends on a channel: which transaction it is for, and what it ends.
 
+ghost use Rattle.std.specs.Prelude.{◌≡◌, [], true, false, if◌then◌else◌, Some, None};
+ghost use Rattle.session_walk.specs.Owners.{added_held, freed};
+ghost use Rattle.session_walk.specs.Ends.{also_ends, answered_message, cause_of, is_late_by, is_of_one, of_time_out};
+ghost use Rattle.session_walk.specs.Ends.{awaited_by, if_worked_on, is_of_time, is_open_question, kept_alive, worked_on_by, of_keep_alive, of_refused, refused_by, refusing_by};
+ghost use Rattle.session_walk.specs.Ends.{timed_out, timing_out_by, told_on};
+
 use crate::answer::{AnswerStart, Answered, Started};
 use crate::awaited::Awaited;
 use crate::channel::{Channel, DeviceMessage, nonce_in};
@@ -106,26 +112,42 @@ impl Channel {
     fn keep_alive(
         &mut self,
         status: u8,
-        (input, now): (u64, u64),
+        behind: (u64, u64),
         ends: &mut EndedTransactions,
-    ) -> Option<Transaction> {
+    ) -> Option<Transaction>
+        ensures state { self.new ≡ kept_alive status behind.0 behind.1 self.old }
+        ensures of { result ≡ of_keep_alive behind.0 behind.1 self.old }
+    {
+        let (input, now) = behind;
         if self.is_unclear() {
             return None;
         }
+        if is_served(&self.asked) {
+            if !is_served(&self.held) {
+                self.settle(true, ends);
+            } else if !self.is_of_time(input, now) {
+                return None;
+            }
+        }
+        self.work_on(status, now)
+    }
+
+    /// Returns whether time brought a KEEPALIVE at a moment, before the second message was taken.
+    fn is_of_time(&self, input: u64, now: u64) -> bool
+        ensures { result ≡ is_of_time input now self.now }
+    {
         let keepalives = match &self.held {
             Some(held) => held.keepalives,
             None => 0,
         };
-        if is_served(&self.asked) {
-            let is_of_time = keepalives > 0
-                && now.saturating_sub(self.alive) >= NO_TIME_OUT
-                && !self.is_undecided(input);
-            if !is_served(&self.held) {
-                self.settle(true, ends);
-            } else if !is_of_time {
-                return None;
-            }
-        }
+        keepalives > 0 && now.saturating_sub(self.alive) >= NO_TIME_OUT && !self.is_undecided(input)
+    }
+
+    /// Takes a KEEPALIVE with this status at a moment for what holds the channel, and returns that, if a key works on it.
+    fn work_on(&mut self, status: u8, now: u64) -> Option<Transaction>
+        ensures state { self.new ≡ worked_on_by status now self.old.held self.old }
+        ensures of { result ≡ if_worked_on self.old.held }
+    {
         self.alive = now;
         let Some(mut held) = self.held else {
             return None;
@@ -133,16 +155,7 @@ impl Channel {
         if !held.is_served() {
             return None;
         }
-        let is_made = matches!(held.transaction.command, Some(MAKE));
-        held.awaited = match status {
-            USER_NEEDED => Some(Awaited::Presence),
-            PROCESSING => match held.awaited {
-                Some(Awaited::Key | Awaited::Signature) => held.awaited,
-                _ if is_made => Some(Awaited::Key),
-                _ => Some(Awaited::Signature),
-            },
-            _ => None,
-        };
+        held.awaited = awaited_in(status, &held);
         held.keepalives = held.keepalives.saturating_add(1);
         self.held = Some(held);
         Some(held.transaction)
@@ -188,7 +201,12 @@ impl Channel {
         &mut self,
         doubtful: &Option<Doubtful>,
         ends: &mut EndedTransactions,
-    ) -> (Option<Transaction>, bool) {
+    ) -> (Option<Transaction>, bool)
+        ensures state { self.new ≡ timed_out doubtful.now self.old }
+        ensures ends { ends.new.0.items ≡ timing_out_by doubtful.now self.old.held ends.old.0.items }
+        ensures of { result.0 ≡ of_time_out doubtful.now self.old.held }
+        ensures late { result.1 ≡ is_late_by doubtful.now self.old.held }
+    {
         let Some(mut held) = self.held else {
             return (None, false);
         };
@@ -227,7 +245,11 @@ impl Channel {
     }
 
     /// Ends the unfinished message that began before one that is refused with this code, where that ends it too.
-    fn end_before(&mut self, refused: &Transaction, code: u8, ends: &mut EndedTransactions) {
+    fn end_before(&mut self, refused: &Transaction, code: u8, ends: &mut EndedTransactions)
+        ensures state { self.new ≡ (if also_ends refused.now code self.old.held then freed self.old else self.old) }
+        ensures ends { ends.new.0.items ≡ (if also_ends refused.now code self.old.held
+            then added_held ends.old.0.items self.old.held (cause_of refused.now) else ends.old.0.items) }
+    {
         let line = refused.line;
         let (cause, by) = if refused.message == INIT {
             (INVALID_LENGTH, End::Dropped(line))
@@ -249,7 +271,14 @@ impl Channel {
         code: u8,
         input: u64,
         ends: &mut EndedTransactions,
-    ) -> Option<Transaction> {
+    ) -> Option<Transaction>
+        ensures state { self.old.is_greeted ≡ false → self.old.greetings.items ≡ [] → is_open_question input self.old ≡ false
+            → self.new ≡ refused_by code self.old.asked self.old.held self.old }
+        ensures of { self.old.is_greeted ≡ false → self.old.greetings.items ≡ [] → is_open_question input self.old ≡ false
+            → result ≡ of_refused code self.old.asked self.old.held self.old }
+        ensures ends { self.old.is_greeted ≡ false → self.old.greetings.items ≡ [] → is_open_question input self.old ≡ false
+            → ends.new.0.items ≡ refusing_by code self.old.asked self.old.held self.old ends.old.0.items }
+    {
         let is_undecided = self.is_undecided(input);
         let mut refused = None;
         if code == INVALID_LENGTH {
@@ -291,7 +320,10 @@ impl Channel {
     }
 
     /// Takes the message that began last and isn't known to have the channel, if an ERROR can be for it.
-    fn refused_start(&mut self, code: u8) -> Option<Followed> {
+    fn refused_start(&mut self, code: u8) -> Option<Followed>
+        ensures state { self.old.is_greeted ≡ false → self.new ≡ record self.old { asked = None } }
+        ensures of { self.old.is_greeted ≡ false → result ≡ self.old.asked }
+    {
         if !self.is_greeted {
             return self.asked.take();
         }
@@ -399,7 +431,11 @@ impl Channel {
         &mut self,
         answer: &AnswerStart<'_>,
         ends: &mut EndedTransactions,
-    ) -> Option<Followed> {
+    ) -> Option<Followed>
+        ensures of { result ≡ answered_message answer.now self.old }
+        ensures plain { self.old.asked ≡ None → is_of_one answer.now self.old ≡ true → self.new ≡ freed self.old }
+        ensures ends { self.old.asked ≡ None → is_of_one answer.now self.old ≡ true → ends.new ≡ ends.old }
+    {
         let is_of_held = answer.is_of(&self.held);
         let mut is_of_asked = answer.is_of(&self.asked);
         if is_of_held && is_of_asked && matches!(answer.status, Some(CANCELLED)) {
@@ -428,7 +464,9 @@ impl Channel {
     }
 
     /// Takes a continuation packet of the device's last message, if it is the next one.
-    pub fn answer_on(&mut self, number: u8) -> Option<Answered> {
+    pub fn answer_on(&mut self, number: u8) -> Option<Answered>
+        ensures { self.new ≡ record self.old { told = told_on number self.old.told } }
+    {
         if !self.is_answering() || self.told.extent.continuations != number {
             return None;
         }
@@ -438,5 +476,21 @@ impl Channel {
             of: self.told.of(),
             carried,
         })
+    }
+}
+
+/// Returns what a message waits for behind a KEEPALIVE with this status.
+fn awaited_in(status: u8, held: &Followed) -> Option<Awaited>
+    ensures { result ≡ awaited_by status held.now }
+{
+    let is_made = matches!(held.transaction.command, Some(MAKE));
+    match status {
+        USER_NEEDED => Some(Awaited::Presence),
+        PROCESSING => match held.awaited {
+            Some(Awaited::Key | Awaited::Signature) => held.awaited,
+            _ if is_made => Some(Awaited::Key),
+            _ => Some(Awaited::Signature),
+        },
+        _ => None,
     }
 }

@@ -2,6 +2,8 @@
 ghost use Rattle.std.specs.Prelude.{◌≡◌, ◌<◌, ◌+◌, ◌-◌, ◌++◌, ◌↔◌, min, Some, None, true, [], ◌∷◌, if◌then◌else◌};
 ghost use Rattle.arrayvec.specs.ArrayVec.{array_vec_len};
 ghost use Rattle.session_walk.specs.Extents.{came, is_whole};
+ghost use Rattle.session_walk.specs.Owners.{added, is_worked_on};
+ghost use Rattle.std.specs.Prelude.{◌&&◌, ◌||◌, ◌==◌, not};
 
 use crate::awaited::Awaited;
 use crate::credentials::{Excluded, Name};
@@ -136,13 +138,17 @@ impl Followed {
 
     /// Returns whether a key works on it, and may say so by a KEEPALIVE: its message is whole, and neither PING nor
     /// INIT.
-    pub fn is_served(&self) -> bool {
+    pub fn is_served(&self) -> bool
+        ensures { result ≡ is_worked_on (Some self.now) }
+    {
         self.extent.is_whole() && !matches!(self.transaction.message, PING | INIT)
     }
 }
 
 /// Returns whether a key works on a message.
-pub fn is_served(message: &Option<Followed>) -> bool {
+pub fn is_served(message: &Option<Followed>) -> bool
+    ensures { result ≡ is_worked_on message.now }
+{
     match message {
         Some(message) => message.is_served(),
         None => false,
@@ -190,6 +196,7 @@ impl EndedTransactions {
         ensures space { array_vec_len self.old.0 < 8
             → self.new.0.items ≡ self.old.0.items ++ record { exchange = exchange; end = end } ∷ [] }
         ensures full { array_vec_len self.old.0 ≡ 8 → self.new ≡ self.old }
+        ensures value { self.new.0.items ≡ added self.old.0.items exchange end }
     {
         let _ = self.0.try_push(Ended { exchange, end });
     }

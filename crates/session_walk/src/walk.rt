@@ -1,13 +1,20 @@
 //! One walk over a log: which transaction each line belongs to, which message ends at it, and which transactions end.
 ghost use Rattle.std.specs.Prelude.{◌≡◌, ◌<◌, ◌==◌, ℕ, None, Some, IfSome, option_map, if◌then◌else◌};
-ghost use Rattle.hid_packet.specs.Packet.{fields};
+ghost use Rattle.hid_packet.specs.Packet.{channel_of, fields};
 ghost use Rattle.hid_packet.specs.Commands.{CBOR as CBOR_COMMAND};
 ghost use Rattle.session_walk.specs.Messages.{Brings, CanBeKept, KeepsOnly, begun, continued, kept_at};
 ghost use Rattle.session_walk.specs.Lines.{BringsWith, GoesOn, KeepsAll, KeepsFirst, LineBrings, LineGoesOn, LineKeeps};
 ghost use Rattle.session_walk.specs.Shown.{EndsNothing};
+ghost use Rattle.std.specs.Prelude.{List, [], ◌∷◌, ◌+◌, length, true, false, slice_get};
+ghost use Rattle.hid_packet.specs.Commands.{ERROR as ERROR_COMMAND, INIT as INIT_COMMAND};
+ghost use Rattle.session_log.specs.declared.line.{Line.Line as AnyLine, Line.TheVariants.Input as InputLine};
+ghost use Rattle.session_walk.specs.declared.{channel.Channel.Channel as AnyChannel, doubtful.Doubtful.Doubtful as AnyDoubtful};
+ghost use Rattle.session_walk.specs.Owners.{addressed, continued_in};
+ghost use Rattle.session_walk.specs.Walks.{Follows, IsAt, answered, status_of, waiting_on, decided_of, doubt_of, held_at, channel_on, host_message, input_by, later, message_continued, of_continued};
 
 use crate::answer::AnswerStart;
 use crate::awaited::Awaited;
+use crate::channel::Continued;
 use crate::channels::Channels;
 use crate::credentials::Credentials;
 use crate::device::{NO_TIME_OUT, TIMED_OUT};
@@ -49,7 +56,9 @@ pub struct LogWalk {
 
 impl LogWalk {
     /// Returns that of no lines.
-    pub fn new() -> Self {
+    pub fn new() -> Self
+        ensures { Follows [] result }
+    {
         LogWalk {
             channels: Channels::default(),
             pool: Pool::new(),
@@ -76,6 +85,10 @@ impl LogWalk {
         ensures goes_on { EndsNothing self.old
             → LineGoesOn said.now self.new.message_line self.old.pool self.new.pool }
         ensures shown { IfSome self.new.shown (λ message. message.line ≡ self.new.message_line) }
+        ensures moment { self.new.now ≡ later self.old.now said.now }
+        ensures input { self.new.input ≡ input_by self.old.input number said.now }
+        ensures follows { (before : List AnyLine) → number ≡ length before + 1 → Follows before self.old
+            → Follows (said.now ∷ before) self.new }
     {
         self.clear();
         match said {
@@ -107,6 +120,13 @@ impl LogWalk {
         ensures all { EndsNothing self.old → KeepsAll self.old.pool self.new.pool }
         ensures line { self.new.message_line ≡ 0 }
         ensures shown { self.new.shown ≡ None }
+        ensures time { self.new.now ≡ self.old.now }
+        ensures last { self.new.input ≡ self.old.input }
+        ensures doubtful { self.new.doubtful ≡ self.old.doubtful }
+        ensures channels { self.new.channels ≡ self.old.channels }
+        ensures decided { self.new.decided ≡ None }
+        ensures of { self.new.of ≡ None }
+        ensures ends { self.new.ends.0.items ≡ [] }
     {
         let mut shown = 0;
         if let Some(message) = &self.shown {
@@ -140,6 +160,9 @@ impl LogWalk {
     fn take_reply(&mut self, input: &Input)
         ensures pool { self.new.pool ≡ self.old.pool }
         ensures shown { self.new.shown ≡ self.old.shown }
+        ensures time { self.new.now ≡ self.old.now }
+        ensures last { self.new.input ≡ self.old.input }
+        ensures of_two { 1 < waiting_on self.old.channels.list → self.new.of ≡ self.old.of }
     {
         let Some(reply) = Awaited::in_input(input) else {
             return;
@@ -168,6 +191,10 @@ impl LogWalk {
         ensures kept { 0 < number → KeepsFirst number (fields packet.now.0) self.new.pool }
         ensures goes_on { GoesOn (fields packet.now.0) self.new.message_line self.old.pool self.new.pool }
         ensures shown { IfSome self.new.shown (λ message. message.line ≡ self.new.message_line) }
+        ensures time { self.new.now ≡ self.old.now }
+        ensures last { self.new.input ≡ self.old.input }
+        ensures message { (c : AnyChannel) → channel_on (channel_of (fields packet.now.0)) self.old.channels.list ≡ Some c
+            → self.new.message_line ≡ host_message number (fields packet.now.0) self.old.now c }
     {
         let channel = channel_of(packet);
         let place = self.channels.place(channel, number, &mut self.ends);
@@ -208,6 +235,13 @@ impl LogWalk {
         ensures kept { IfSome transaction.command (λ command. 0 < transaction.line → CanBeKept length
             → kept_at self.new.pool transaction.line ≡ Some (begun transaction.line length part.now)) }
         ensures shown { IfSome self.new.shown (λ message. message.line ≡ self.new.message_line) }
+        ensures request { IfSome self.new.shown (λ message. message.place ≡ None) }
+        ensures time { self.new.now ≡ self.old.now }
+        ensures last { self.new.input ≡ self.old.input }
+        ensures line { self.new.message_line ≡ transaction.line }
+        ensures of { self.new.of ≡ Some transaction }
+        ensures at { (c : AnyChannel) → IsAt place self.old c → c.held ≡ None → c.asked ≡ None
+            → (transaction.message ≡ INIT_COMMAND → ⊥) → held_at place self.new ≡ Some (Some self.old.now) }
     {
         let extent = Extent {
             length,
@@ -240,8 +274,47 @@ impl LogWalk {
             then option_map (continued part.now) (kept_at self.old.pool self.new.message_line)
             else kept_at self.old.pool line) }
         ensures shown { IfSome self.new.shown (λ message. message.line ≡ self.new.message_line) }
+        ensures request { IfSome self.new.shown (λ message. message.place ≡ None) }
+        ensures time { self.new.now ≡ self.old.now }
+        ensures last { self.new.input ≡ self.old.input }
+        ensures doubtful { (c : AnyChannel) → IsAt place self.old c → self.new.doubtful
+            ≡ doubt_of number (InputLine timed.now) (continued_in sequence self.old.now (addressed sequence c)) self.old.doubtful }
+        ensures of { (c : AnyChannel) → IsAt place self.old c → self.old.of ≡ None
+            → self.new.of ≡ of_continued (continued_in sequence self.old.now (addressed sequence c)) }
+        ensures message { (c : AnyChannel) → IsAt place self.old c
+            → self.new.message_line ≡ message_continued (continued_in sequence self.old.now (addressed sequence c)) }
     {
-        let Some(continuation) = self.channels.list[place].go_on(sequence, self.now) else {
+        let continuation = self.channels.list[place].go_on(sequence, self.now);
+        self.go_on_by(place, number, timed, part, &continuation);
+    }
+
+    /// Takes a continuation packet of a host, as it is to the messages of its channel.
+    fn go_on_by(
+        &mut self,
+        place: usize,
+        number: u64,
+        timed: &Timed,
+        part: &[u8],
+        continuation: &Option<Continued>,
+    )
+        requires place { place < 6 }
+        requires line { self.old.message_line ≡ 0 }
+        requires none { self.old.shown ≡ None }
+        requires next { IfSome continuation.now (λ k. k.is_whole ≡ true → k.is_next ≡ true) }
+        ensures bytes { Brings number 0 part.now self.new.message_line self.old.pool self.new.pool }
+        ensures goes_on { (line : ℕ) → kept_at self.new.pool line ≡ (if line == self.new.message_line
+            then option_map (continued part.now) (kept_at self.old.pool self.new.message_line)
+            else kept_at self.old.pool line) }
+        ensures shown { IfSome self.new.shown (λ message. message.line ≡ self.new.message_line) }
+        ensures request { IfSome self.new.shown (λ message. message.place ≡ None) }
+        ensures time { self.new.now ≡ self.old.now }
+        ensures last { self.new.input ≡ self.old.input }
+        ensures doubtful { self.new.doubtful
+            ≡ doubt_of number (InputLine timed.now) continuation.now self.old.doubtful }
+        ensures of { self.old.of ≡ None → self.new.of ≡ of_continued continuation.now }
+        ensures message { self.new.message_line ≡ message_continued continuation.now }
+    {
+        let Some(continuation) = *continuation else {
             let part = self.channels.list[place].without(Role::Stray);
             self.part = self.channels.without(part);
             return;
@@ -275,6 +348,14 @@ impl LogWalk {
         ensures line { self.new.message_line ≡ self.old.message_line }
         ensures shown { self.new.shown ≡ self.old.shown }
         ensures value { IfSome result (λ message. message.line ≡ of.now.line) }
+        ensures request { IfSome result (λ message. message.place ≡ None) }
+        ensures time { self.new.now ≡ self.old.now }
+        ensures last { self.new.input ≡ self.old.input }
+        ensures doubtful { self.new.doubtful ≡ self.old.doubtful }
+        ensures of { self.new.of ≡ self.old.of }
+        ensures ends { self.new.ends ≡ self.old.ends }
+        ensures decided { self.new.decided ≡ self.old.decided }
+        ensures at { held_at place self.new ≡ held_at place self.old }
     {
         let named = self.credentials.named_in(of, &self.pool);
         self.channels.list[place].name(of, named);
@@ -289,6 +370,14 @@ impl LogWalk {
         ensures pool { self.new.pool ≡ self.old.pool }
         ensures line { self.new.message_line ≡ self.old.message_line }
         ensures shown { self.new.shown ≡ self.old.shown }
+        ensures time { self.new.now ≡ self.old.now }
+        ensures last { self.new.input ≡ self.old.input }
+        ensures settles { self.new.doubtful ≡ None }
+        ensures of { (d : AnyDoubtful) → self.old.doubtful ≡ Some d
+            → option_map (λ x. x.of) self.new.decided ≡ Some (decided_of is_late d) }
+        ensures decided { (d : AnyDoubtful) → self.old.doubtful ≡ Some d
+            → option_map (λ x. x.line) self.new.decided ≡ Some d.line }
+        ensures nothing { self.old.doubtful ≡ None → self.new ≡ self.old }
     {
         let Some(doubtful) = self.doubtful else {
             return;
@@ -317,6 +406,11 @@ impl LogWalk {
     fn decide_before(&mut self, answer: &AnswerStart<'_>)
         ensures pool { self.new.pool ≡ self.old.pool }
         ensures shown { self.new.shown ≡ self.old.shown }
+        ensures time { self.new.now ≡ self.old.now }
+        ensures last { self.new.input ≡ self.old.input }
+        ensures early { (answer.now.command ≡ ERROR_COMMAND → ⊥) → self.new.doubtful ≡ None }
+        ensures other { (answer.now.status ≡ Some 5 → ⊥) → self.new.doubtful ≡ None }
+        ensures time_out { answer.now.command ≡ ERROR_COMMAND → answer.now.status ≡ Some 5 → self.new ≡ self.old }
     {
         if answer.command != ERROR || !matches!(answer.status, Some(TIMED_OUT)) {
             self.decide(false);
@@ -334,18 +428,16 @@ impl LogWalk {
         ensures kept { 0 < number → KeepsFirst number (fields packet.now.0) self.new.pool }
         ensures goes_on { GoesOn (fields packet.now.0) self.new.message_line self.old.pool self.new.pool }
         ensures shown { IfSome self.new.shown (λ message. message.line ≡ self.new.message_line) }
+        ensures time { self.new.now ≡ self.old.now }
+        ensures last { self.new.input ≡ self.old.input }
+        ensures settles { self.new.doubtful ≡ None }
     {
         let channel = channel_of(packet);
         let place = self.channels.place(channel, number, &mut self.ends);
         match packet.view() {
             View::Start { cmd, len, part, .. } => {
                 self.carried = part.len().min(usize::from(len));
-                let status = match part {
-                    [status, ..] if matches!(cmd, CBOR | KEEPALIVE) && len > 0 || cmd == ERROR => {
-                        Some(*status)
-                    }
-                    _ => None,
-                };
+                let status = status_in(cmd, len, part);
                 let answer = AnswerStart {
                     line: number,
                     command: cmd,
@@ -385,6 +477,9 @@ impl LogWalk {
             ≡ Some (begun answer.now.line answer.now.extent.length answer.now.part.now) }
         ensures line { self.new.message_line ≡ answer.now.line }
         ensures none { self.new.shown ≡ None }
+        ensures time { self.new.now ≡ self.old.now }
+        ensures last { self.new.input ≡ self.old.input }
+        ensures settles { self.new.doubtful ≡ None }
     {
         self.decide_before(answer);
         let behind = (self.input, self.now);
@@ -411,6 +506,11 @@ impl LogWalk {
         ensures pool { self.new.pool ≡ self.old.pool }
         ensures line { self.new.message_line ≡ self.old.message_line }
         ensures shown { IfSome self.new.shown (λ message. message.line ≡ self.new.message_line) }
+        ensures time { self.new.now ≡ self.old.now }
+        ensures last { self.new.input ≡ self.old.input }
+        ensures doubtful { self.new.doubtful ≡ self.old.doubtful }
+        ensures ends { (c : AnyChannel) → IsAt place self.old c
+            → self.new.ends.0.items ≡ answered c.told self.old.message_line self.old.ends.0.items }
     {
         let told = &self.channels.list[place].told;
         if told.line != self.message_line || !told.extent.is_whole() {
@@ -433,5 +533,17 @@ impl LogWalk {
                 place: Some(place),
             });
         }
+    }
+}
+
+/// Returns the status of an answer or a KEEPALIVE, or the code of an ERROR, with what its first packet carries.
+fn status_in(cmd: u8, len: u16, part: &[u8]) -> Option<u8>
+    ensures { result ≡ status_of cmd len part.now }
+{
+    match part {
+        [status, ..] if matches!(cmd, CBOR | KEEPALIVE) && len > 0 || cmd == ERROR => {
+            Some(*status)
+        }
+        _ => None,
     }
 }
