@@ -1,0 +1,2 @@
+pub mod ClientData
+pub mod RelyingParty

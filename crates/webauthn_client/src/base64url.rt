@@ -1,0 +1,76 @@
+//! Base64url without padding (RFC 4648, section 5).
+
+ghost use Rattle.std.specs.Prelude.{◌≡◌, ◌<◌, ◌++◌, OnOk};
+ghost use Rattle.std.specs.Option.{ForSome};
+ghost use Rattle.base64.specs.GeneralPurpose.{encode_of};
+ghost use Rattle.base64.specs.Engines.{url_safe_no_pad};
+
+use crate::rejection::{DomError, Rejection};
+use crate::text::{Text, push};
+use arrayvec::ArrayVec;
+use base64::engine::general_purpose::URL_SAFE_NO_PAD;
+
+/// How many letters are written at once.
+const LETTERS: usize = 12288;
+
+/// Returns the six bits of a letter.
+fn six_of(letter: u8) -> Option<u8>
+    ensures { ForSome result (λ v. v < 64) }
+{
+    match letter {
+        b'A'..=b'Z' => Some(letter - b'A'),
+        b'a'..=b'z' => Some(letter - b'a' + 26),
+        b'0'..=b'9' => Some(letter - b'0' + 52),
+        b'-' => Some(62),
+        b'_' => Some(63),
+        _ => None,
+    }
+}
+
+/// Returns the error of a text that isn't base64url.
+fn refused(member: &'static str) -> Rejection {
+    Rejection {
+        error: DomError::Encoding,
+        member,
+        reason: "it isn't base64url without padding",
+    }
+}
+
+/// Returns the bytes that a text says. Bits at its end that make no byte are dropped, as browsers do.
+pub fn decode(text: &[u8], member: &'static str) -> Result<Text, Rejection> {
+    if text.len() % 4 == 1 {
+        return Err(refused(member));
+    }
+    let mut bytes = Text::new();
+    let mut kept = 0u8;
+    for i in 0..text.len() {
+        let Some(six) = six_of(text[i]) else {
+            return Err(refused(member));
+        };
+        match i % 4 {
+            0 => {}
+            1 => push(&mut bytes, &[kept % 64 * 4 + six / 16])?,
+            2 => push(&mut bytes, &[kept % 16 * 16 + six / 4])?,
+            _ => push(&mut bytes, &[kept % 4 * 64 + six])?,
+        }
+        kept = six;
+    }
+    Ok(bytes)
+}
+
+/// Appends bytes as text. Where there is no capacity it appends nothing, and fails.
+pub fn encode<const N: usize>(bytes: &[u8], out: &mut ArrayVec<u8, N>) -> Result<(), ()>
+    ensures { OnOk result (out.new.items ≡ out.old.items ++ encode_of url_safe_no_pad bytes.now) }
+{
+    let mut letters = [0u8; LETTERS];
+    let Ok(len) = URL_SAFE_NO_PAD.encode_slice(bytes, &mut letters) else {
+        return Err(());
+    };
+    let Some(front) = letters.get(..len) else {
+        return Err(());
+    };
+    if out.try_extend_from_slice(front).is_err() {
+        return Err(());
+    }
+    Ok(())
+}

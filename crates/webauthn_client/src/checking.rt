@@ -1,0 +1,251 @@
+//! Whether bytes are one value of JSON (RFC 8259), in one pass, with the open brackets kept as bits.
+
+use std::str::from_utf8;
+
+/// How many levels of arrays and objects are read.
+const LEVELS: u8 = 64;
+
+/// Where a number is.
+#[derive(Clone, Copy)]
+enum Digits {
+    Minus,
+    Zero,
+    Whole,
+    Point,
+    Fraction,
+    E,
+    Sign,
+    Exponent,
+}
+
+/// What may come next.
+#[derive(Clone, Copy)]
+enum At {
+    Value,
+    ItemOrEnd,
+    Key,
+    KeyOrEnd,
+    Colon,
+    Next,
+    Text(bool),
+    Escape(bool),
+    Hex(bool, u8),
+    Word(&'static [u8]),
+    Number(Digits),
+}
+
+/// A check on its way: the open brackets are bits, an object's 1, the innermost lowest.
+#[derive(Clone, Copy)]
+struct Checker {
+    at: At,
+    open: u64,
+    levels: u8,
+}
+
+impl Checker {
+    fn go(self, at: At) -> Option<Checker> {
+        Some(Checker { at, ..self })
+    }
+
+    fn is_in_object(self) -> bool {
+        self.levels > 0 && self.open % 2 == 1
+    }
+
+    /// Opens an array or an object.
+    fn begin(self, is_object: bool) -> Option<Checker> {
+        if self.levels >= LEVELS {
+            return None;
+        }
+        let bit = if is_object { 1 } else { 0 };
+        Some(Checker {
+            at: if is_object {
+                At::KeyOrEnd
+            } else {
+                At::ItemOrEnd
+            },
+            open: self.open % 0x8000_0000_0000_0000 * 2 + bit,
+            levels: self.levels + 1,
+        })
+    }
+
+    /// Closes an array or an object.
+    fn close(self, is_object: bool) -> Option<Checker> {
+        if self.levels == 0 || self.is_in_object() != is_object {
+            return None;
+        }
+        Some(Checker {
+            at: At::Next,
+            open: self.open / 2,
+            levels: self.levels - 1,
+        })
+    }
+
+    /// Takes the first byte of a value.
+    fn value(self, byte: u8) -> Option<Checker> {
+        match byte {
+            b'"' => self.go(At::Text(false)),
+            b'{' => self.begin(true),
+            b'[' => self.begin(false),
+            b't' => self.go(At::Word(b"rue")),
+            b'f' => self.go(At::Word(b"alse")),
+            b'n' => self.go(At::Word(b"ull")),
+            b'-' => self.go(At::Number(Digits::Minus)),
+            b'0' => self.go(At::Number(Digits::Zero)),
+            b'1'..=b'9' => self.go(At::Number(Digits::Whole)),
+            _ => None,
+        }
+    }
+
+    /// Takes a byte after a value.
+    fn after(self, byte: u8) -> Option<Checker> {
+        match byte {
+            b' ' | b'\t' | b'\n' | b'\r' => self.go(At::Next),
+            b',' => {
+                if self.levels == 0 {
+                    return None;
+                }
+                self.go(if self.is_in_object() {
+                    At::Key
+                } else {
+                    At::Value
+                })
+            }
+            b'}' => self.close(true),
+            b']' => self.close(false),
+            _ => None,
+        }
+    }
+
+    /// Takes a byte of a string, which may be a key.
+    fn text(self, is_key: bool, byte: u8) -> Option<Checker> {
+        match byte {
+            b'"' => self.go(if is_key { At::Colon } else { At::Next }),
+            b'\\' => self.go(At::Escape(is_key)),
+            0..=31 => None,
+            _ => Some(self),
+        }
+    }
+
+    /// Takes the byte behind a backslash.
+    fn escape(self, is_key: bool, byte: u8) -> Option<Checker> {
+        match byte {
+            b'"' | b'\\' | b'/' | b'b' | b'f' | b'n' | b'r' | b't' => self.go(At::Text(is_key)),
+            b'u' => self.go(At::Hex(is_key, 3)),
+            _ => None,
+        }
+    }
+
+    /// Takes a hexadecimal digit, after which so many come.
+    fn hex(self, is_key: bool, left: u8, byte: u8) -> Option<Checker> {
+        if !byte.is_ascii_hexdigit() {
+            return None;
+        }
+        if left == 0 {
+            return self.go(At::Text(is_key));
+        }
+        self.go(At::Hex(is_key, left - 1))
+    }
+
+    /// Takes a letter of a word.
+    fn word(self, rest: &'static [u8], byte: u8) -> Option<Checker> {
+        let (first, rest) = rest.split_first()?;
+        if *first != byte {
+            return None;
+        }
+        self.go(if rest.is_empty() {
+            At::Next
+        } else {
+            At::Word(rest)
+        })
+    }
+
+    /// Takes a byte in or after a number.
+    fn number(self, digits: Digits, byte: u8) -> Option<Checker> {
+        let next = match (digits, byte) {
+            (Digits::Minus, b'0') => Digits::Zero,
+            (Digits::Minus, b'1'..=b'9') => Digits::Whole,
+            (Digits::Whole, b'0'..=b'9') => Digits::Whole,
+            (Digits::Zero | Digits::Whole, b'.') => Digits::Point,
+            (Digits::Point | Digits::Fraction, b'0'..=b'9') => Digits::Fraction,
+            (Digits::Zero | Digits::Whole | Digits::Fraction, b'e' | b'E') => Digits::E,
+            (Digits::E, b'+' | b'-') => Digits::Sign,
+            (Digits::E | Digits::Sign | Digits::Exponent, b'0'..=b'9') => Digits::Exponent,
+            _ => {
+                if !ends(digits) {
+                    return None;
+                }
+                return self.after(byte);
+            }
+        };
+        self.go(At::Number(next))
+    }
+
+    /// Takes a byte.
+    fn step(self, byte: u8) -> Option<Checker> {
+        let is_space = matches!(byte, b' ' | b'\t' | b'\n' | b'\r');
+        match self.at {
+            At::Text(is_key) => self.text(is_key, byte),
+            At::Escape(is_key) => self.escape(is_key, byte),
+            At::Hex(is_key, left) => self.hex(is_key, left, byte),
+            At::Word(rest) => self.word(rest, byte),
+            At::Number(digits) => self.number(digits, byte),
+            At::Next => self.after(byte),
+            _ => {
+                if is_space {
+                    return Some(self);
+                }
+                self.begins(byte)
+            }
+        }
+    }
+
+    /// Takes the first byte of a key or a value, or a colon.
+    fn begins(self, byte: u8) -> Option<Checker> {
+        match (self.at, byte) {
+            (At::Colon, b':') => self.go(At::Value),
+            (At::Colon, _) => None,
+            (At::Key | At::KeyOrEnd, b'"') => self.go(At::Text(true)),
+            (At::KeyOrEnd, b'}') => self.close(true),
+            (At::Key | At::KeyOrEnd, _) => None,
+            (At::ItemOrEnd, b']') => self.close(false),
+            _ => self.value(byte),
+        }
+    }
+
+    /// Returns whether the text may end here.
+    fn is_done(self) -> bool {
+        self.levels == 0
+            && match self.at {
+                At::Next => true,
+                At::Number(digits) => ends(digits),
+                _ => false,
+            }
+    }
+}
+
+/// Returns whether a number may end.
+fn ends(digits: Digits) -> bool {
+    matches!(
+        digits,
+        Digits::Zero | Digits::Whole | Digits::Fraction | Digits::Exponent
+    )
+}
+
+/// Returns whether bytes are a value of JSON in UTF-8, with at most 64 levels.
+pub fn is_json(text: &[u8]) -> bool {
+    if from_utf8(text).is_err() {
+        return false;
+    }
+    let mut checker = Checker {
+        at: At::Value,
+        open: 0,
+        levels: 0,
+    };
+    for i in 0..text.len() {
+        match checker.step(text[i]) {
+            Some(next) => checker = next,
+            None => return false,
+        }
+    }
+    checker.is_done()
+}

@@ -1,0 +1,249 @@
+//! Extensions of clients: the key has none, so they are refused, ignored or answered as not supported, as in Chromium.
+
+use crate::json::{Kind, inside, kind_of, member, next_value};
+use crate::number::boolean;
+use crate::options::{bytes_of, dictionary, optional_dictionary, required};
+use crate::rejection::{DomError, Rejection, not_allowed, type_error};
+use crate::relying_party::{Origin, check_site};
+use crate::text::{is_word, text_of};
+
+/// Returns an extension, of extensions that are there.
+pub fn extension<'a>(extensions: Option<&'a [u8]>, name: &str) -> Option<&'a [u8]> {
+    member(extensions?, name)
+}
+
+/// Returns a member of an extension.
+pub fn inner<'a>(extensions: Option<&'a [u8]>, name: &str, inner: &str) -> Option<&'a [u8]> {
+    member(member(extensions?, name)?, inner)
+}
+
+/// Returns whether an extension is there, and true.
+pub fn is_on(extensions: Option<&[u8]>, name: &str) -> bool {
+    boolean(extension(extensions, name).unwrap_or(b"false"))
+}
+
+fn unsupported(member: &'static str, reason: &'static str) -> Rejection {
+    Rejection {
+        error: DomError::NotSupported,
+        member,
+        reason,
+    }
+}
+
+/// Refuses inputs of prf whose types are wrong.
+fn check_prf_values(value: &[u8]) -> Result<(), Rejection> {
+    dictionary(value, "AuthenticationExtensionsPRFValuesJSON")?;
+    required(value, "first")?;
+    Ok(())
+}
+
+/// Refuses inputs by credential whose types are wrong.
+fn check_by_credential(record: Option<&[u8]>) -> Result<(), Rejection> {
+    let Some(record) = record else {
+        return Ok(());
+    };
+    if kind_of(record) != Kind::Object {
+        return Err(type_error(
+            "evalByCredential",
+            "Only objects can be converted to record<K,V> types",
+        ));
+    }
+    let mut rest = inside(record);
+    for _ in 0..record.len() {
+        let Some((_, after_key)) = next_value(rest) else {
+            break;
+        };
+        let Some((value, after)) = next_value(after_key) else {
+            break;
+        };
+        check_prf_values(value)?;
+        rest = after;
+    }
+    Ok(())
+}
+
+/// Refuses extensions whose types are wrong.
+pub fn check_extension_types(extensions: Option<&[u8]>) -> Result<(), Rejection> {
+    optional_dictionary(extensions, "extensions")?;
+    optional_dictionary(extension(extensions, "largeBlob"), "largeBlob")?;
+    optional_dictionary(extension(extensions, "prf"), "prf")?;
+    if let Some(values) = inner(extensions, "prf", "eval") {
+        check_prf_values(values)?;
+    }
+    check_by_credential(inner(extensions, "prf", "evalByCredential"))
+}
+
+/// Refuses inputs of prf that are no base64url.
+fn check_prf_bytes(value: &[u8]) -> Result<(), Rejection> {
+    bytes_of(required(value, "first")?, "extensions.prf.first")?;
+    if let Some(second) = member(value, "second") {
+        bytes_of(second, "extensions.prf.second")?;
+    }
+    Ok(())
+}
+
+/// Refuses extensions with texts that are no base64url.
+pub fn check_extension_bytes(extensions: Option<&[u8]>) -> Result<(), Rejection> {
+    if let Some(blob) = extension(extensions, "credBlob") {
+        bytes_of(blob, "extensions.credBlob")?;
+    }
+    if let Some(written) = inner(extensions, "largeBlob", "write") {
+        bytes_of(written, "extensions.largeBlob.write")?;
+    }
+    if let Some(values) = inner(extensions, "prf", "eval") {
+        check_prf_bytes(values)?;
+    }
+    let record = inner(extensions, "prf", "evalByCredential").unwrap_or(b"");
+    let mut rest = inside(record);
+    for _ in 0..record.len() {
+        let Some((_, after_key)) = next_value(rest) else {
+            break;
+        };
+        let Some((value, after)) = next_value(after_key) else {
+            break;
+        };
+        check_prf_bytes(value)?;
+        rest = after;
+    }
+    Ok(())
+}
+
+/// Refuses a policy of credential protection that browsers refuse.
+fn check_protection(
+    extensions: Option<&[u8]>,
+    verification: Option<&[u8]>,
+) -> Result<(), Rejection> {
+    let Some(policy) = extension(extensions, "credentialProtectionPolicy") else {
+        return Ok(());
+    };
+    let is_optional = is_word(policy, "userVerificationOptional");
+    let is_required = is_word(policy, "userVerificationRequired");
+    if !is_optional
+        && !is_required
+        && !is_word(policy, "userVerificationOptionalWithCredentialIDList")
+    {
+        return Err(unsupported("credentialProtectionPolicy", "it is none of the policies"));
+    }
+    if is_required && !is_word(verification.unwrap_or(b"null"), "required") {
+        return Err(unsupported(
+            "credentialProtectionPolicy",
+            "it is inconsistent with userVerification",
+        ));
+    }
+    if is_on(extensions, "enforceCredentialProtectionPolicy") && !is_optional {
+        return Err(not_allowed("the key has no credential protection, and it is enforced"));
+    }
+    Ok(())
+}
+
+/// Refuses a URL of another site than the page's.
+fn check_app_id(value: Option<&[u8]>, origin: &Origin) -> Result<(), Rejection> {
+    let Some(value) = value else {
+        return Ok(());
+    };
+    let text = text_of(value)?;
+    if text.is_empty() {
+        return Ok(());
+    }
+    check_site(text.as_slice(), origin)
+}
+
+/// Checks the extensions of a registration.
+pub fn check_creation(
+    extensions: Option<&[u8]>,
+    verification: Option<&[u8]>,
+    origin: &Origin,
+) -> Result<(), Rejection> {
+    if extension(extensions, "appid").is_some() {
+        return Err(unsupported("appid", "it is only valid when requesting an assertion"));
+    }
+    check_app_id(extension(extensions, "appidExclude"), origin)?;
+    if boolean(inner(extensions, "largeBlob", "read").unwrap_or(b"false"))
+        || is_text_there(inner(extensions, "largeBlob", "write"))
+    {
+        return Err(unsupported(
+            "largeBlob",
+            "reading and writing are only valid when requesting an assertion",
+        ));
+    }
+    if inner(extensions, "prf", "evalByCredential").is_some() {
+        return Err(unsupported(
+            "prf",
+            "evalByCredential cannot be set when creating a credential",
+        ));
+    }
+    check_protection(extensions, verification)?;
+    if is_word(
+        inner(extensions, "largeBlob", "support").unwrap_or(b"null"),
+        "required",
+    ) {
+        return Err(not_allowed("the key has no large blobs, and they are required"));
+    }
+    Ok(())
+}
+
+/// Returns whether a text is there and not empty.
+fn is_text_there(value: Option<&[u8]>) -> bool {
+    match value {
+        Some(value) => !is_word(value, ""),
+        None => false,
+    }
+}
+
+/// Returns whether a record has members, and whether each of their names is base64url.
+fn by_credential(record: &[u8]) -> (bool, bool) {
+    let mut rest = inside(record);
+    let mut has_any = false;
+    for _ in 0..record.len() {
+        let Some((key, after_key)) = next_value(rest) else {
+            break;
+        };
+        let Some((_, after)) = next_value(after_key) else {
+            break;
+        };
+        has_any = true;
+        if is_word(key, "") || bytes_of(key, "").is_err() {
+            return (true, false);
+        }
+        rest = after;
+    }
+    (has_any, true)
+}
+
+/// Checks the extensions of a sign-in.
+pub fn check_request(
+    extensions: Option<&[u8]>,
+    has_list: bool,
+    origin: &Origin,
+) -> Result<(), Rejection> {
+    if extension(extensions, "credProps").is_some() {
+        return Err(unsupported("credProps", "it is only valid when creating a credential"));
+    }
+    if inner(extensions, "largeBlob", "support").is_some() {
+        return Err(unsupported(
+            "largeBlob",
+            "support is only valid when creating a credential",
+        ));
+    }
+    let has_write = inner(extensions, "largeBlob", "write").is_some();
+    if has_write && boolean(inner(extensions, "largeBlob", "read").unwrap_or(b"false")) {
+        return Err(unsupported(
+            "largeBlob",
+            "only one of read and write is allowed at a time",
+        ));
+    }
+    let (has_any, are_ids) = by_credential(inner(extensions, "prf", "evalByCredential").unwrap_or(
+        b"",
+    ));
+    if has_any && !has_list {
+        return Err(unsupported("prf", "evalByCredential with an empty allow list"));
+    }
+    if !are_ids {
+        return Err(Rejection {
+            error: DomError::Syntax,
+            member: "prf",
+            reason: "evalByCredential has a name that isn't base64url",
+        });
+    }
+    check_app_id(extension(extensions, "appid"), origin)
+}

@@ -1,0 +1,28 @@
+//! A WebAuthn client as a state machine: options of JSON at an origin in, CTAP2 messages out, answers in, and in the end
+//! the response's JSON or the DOM's error. It has no input or output, no clock and no randomness, and allocates nothing.
+#![tactic(auto)]
+
+mod base64url;
+mod checking;
+mod client;
+mod client_data;
+mod extensions;
+mod json;
+mod message;
+mod number;
+mod options;
+mod registration;
+mod rejection;
+mod relying_party;
+mod response;
+mod sign_in;
+mod text;
+
+pub use checking::is_json;
+pub use client::{Client, Turn};
+pub use client_data::{Ceremony, ClientData, write_client_data};
+pub use message::Message;
+pub use options::{Abilities, Verification};
+pub use rejection::{DomError, Rejection};
+pub use relying_party::{Origin, may_use, parse_origin};
+pub use response::Response;

@@ -1,0 +1,68 @@
+//! WebIDL's numbers of 32 bits, of values of JSON. The texts of numbers are read as decimal numbers without an exponent;
+//! another text is no number, and so 0.
+
+use crate::json::{Kind, inside, kind_of, next_value};
+use crate::text::text_of;
+
+/// Returns the whole part of a decimal number modulo 2^32, and 0 of another text.
+fn decimal(text: &[u8]) -> u32 {
+    let (is_negative, digits) = match text.split_first() {
+        Some((b'-', rest)) => (true, rest),
+        Some((b'+', rest)) => (false, rest),
+        _ => (false, text),
+    };
+    let mut number = 0u64;
+    let mut is_fraction = false;
+    for i in 0..digits.len() {
+        match digits[i] {
+            b'0'..=b'9' => {
+                if !is_fraction {
+                    number = (number % 0x1_0000_0000 * 10 + u64::from(digits[i] - b'0'))
+                        % 0x1_0000_0000;
+                }
+            }
+            b'.' => is_fraction = true,
+            _ => return 0,
+        }
+    }
+    let low = (number % 0x1_0000_0000) as u32;
+    if is_negative {
+        0u32.wrapping_sub(low)
+    } else {
+        low
+    }
+}
+
+/// Returns a value as an unsigned long.
+pub fn unsigned_long(value: &[u8]) -> u32 {
+    match kind_of(value) {
+        Kind::True => 1,
+        Kind::False | Kind::Null | Kind::Object => 0,
+        _ => match text_of(value) {
+            Ok(text) => decimal(text.as_slice().trim_ascii()),
+            Err(_) => 0,
+        },
+    }
+}
+
+/// Returns whether ECMAScript takes a value as true.
+pub fn boolean(value: &[u8]) -> bool {
+    match kind_of(value) {
+        Kind::False | Kind::Null => false,
+        Kind::Text => value.len() > 2,
+        Kind::Number => value.iter().any(|&it| matches!(it, b'1'..=b'9')),
+        _ => true,
+    }
+}
+
+/// Returns how many items an array has.
+pub fn count(array: &[u8]) -> usize {
+    let mut rest = inside(array);
+    for place in 0..array.len() {
+        let Some((_, after)) = next_value(rest) else {
+            return place;
+        };
+        rest = after;
+    }
+    array.len()
+}

@@ -1,0 +1,228 @@
+//! The options of navigator.credentials.create and get as JSON, as Chromium reads them: what has to be there, of which
+//! type, in WebIDL's order.
+
+use crate::base64url::decode;
+use crate::json::{Kind, inside, kind_of, member, next_value};
+use crate::message::{Message, put, put_bytes, put_head};
+use crate::number::count;
+use crate::rejection::{DomError, Rejection, not_allowed, type_error};
+use crate::text::{Text, is_word, text_of};
+
+/// What comes of asking for the user's verification.
+#[derive(Clone, Copy, Debug, PartialEq, Eq)]
+pub enum Verification {
+    None,
+    Verified,
+    Failed,
+}
+
+/// What the authenticator can do.
+#[derive(Clone, Copy)]
+pub struct Abilities {
+    pub verification: Verification,
+    pub is_platform: bool,
+    pub has_resident_key: bool,
+}
+
+impl Abilities {
+    /// Returns how the browser reaches the authenticator.
+    pub fn transport(self) -> &'static str {
+        if self.is_platform { "internal" } else { "usb" }
+    }
+}
+
+/// How many credentials a list has at most.
+const LIST: usize = 64;
+
+/// Refuses a value that is no dictionary. An array is one without members.
+pub fn dictionary(value: &[u8], name: &'static str) -> Result<(), Rejection> {
+    match kind_of(value) {
+        Kind::Object | Kind::Array => Ok(()),
+        _ => Err(type_error(name, "The provided value is not of type 'dictionary'.")),
+    }
+}
+
+/// Refuses a value that is no dictionary whose members are all optional, which null is too.
+pub fn optional_dictionary(value: Option<&[u8]>, name: &'static str) -> Result<(), Rejection> {
+    match value {
+        Some(value) if kind_of(value) != Kind::Null => dictionary(value, name),
+        _ => Ok(()),
+    }
+}
+
+/// Refuses a value that is no list.
+pub fn sequence(value: &[u8], name: &'static str) -> Result<(), Rejection> {
+    match kind_of(value) {
+        Kind::Array => Ok(()),
+        Kind::Object => Err(type_error(
+            name,
+            "The object must have a callable @@iterator property.",
+        )),
+        _ => Err(type_error(
+            name,
+            "The provided value cannot be converted to a sequence.",
+        )),
+    }
+}
+
+/// Returns a member that has to be there.
+pub fn required<'a>(object: &'a [u8], name: &'static str) -> Result<&'a [u8], Rejection> {
+    match member(object, name) {
+        Some(value) => Ok(value),
+        None => Err(type_error(name, "Required member is undefined.")),
+    }
+}
+
+/// Refuses a descriptor of a credential without an id or a type, or with transports that are no list.
+fn check_descriptor(item: &[u8]) -> Result<(), Rejection> {
+    dictionary(item, "PublicKeyCredentialDescriptorJSON")?;
+    required(item, "id")?;
+    if let Some(transports) = member(item, "transports") {
+        sequence(transports, "transports")?;
+    }
+    required(item, "type")?;
+    Ok(())
+}
+
+/// Refuses a list of credentials whose types are wrong.
+pub fn check_descriptors(list: Option<&[u8]>, name: &'static str) -> Result<(), Rejection> {
+    let Some(list) = list else {
+        return Ok(());
+    };
+    sequence(list, name)?;
+    let mut rest = inside(list);
+    for _ in 0..list.len() {
+        let Some((item, after)) = next_value(rest) else {
+            break;
+        };
+        check_descriptor(item)?;
+        rest = after;
+    }
+    Ok(())
+}
+
+/// Returns the bytes of a member in base64url.
+pub fn bytes_of(value: &[u8], name: &'static str) -> Result<Text, Rejection> {
+    let text = text_of(value)?;
+    decode(text.as_slice(), name)
+}
+
+/// Refuses a list of credentials whose ids are no base64url.
+pub fn check_ids(list: Option<&[u8]>, name: &'static str) -> Result<(), Rejection> {
+    let list = list.unwrap_or(b"");
+    let mut rest = inside(list);
+    for _ in 0..list.len() {
+        let Some((item, after)) = next_value(rest) else {
+            break;
+        };
+        bytes_of(required(item, "id")?, name)?;
+        rest = after;
+    }
+    Ok(())
+}
+
+/// Refuses a list of credentials that is too long.
+pub fn check_length(list: Option<&[u8]>, name: &'static str) -> Result<(), Rejection> {
+    if count(list.unwrap_or(b"")) > LIST {
+        return Err(Rejection {
+            error: DomError::Range,
+            member: name,
+            reason: "browsers take at most 64 credentials",
+        });
+    }
+    Ok(())
+}
+
+/// Returns whether an item of a list has the type public-key.
+pub fn is_public_key(item: &[u8]) -> bool {
+    match member(item, "type") {
+        Some(kind) => is_word(kind, "public-key"),
+        None => false,
+    }
+}
+
+/// Returns how many items of a list have the type public-key.
+pub fn known_count(list: &[u8]) -> u64 {
+    let mut known = 0u64;
+    let mut rest = inside(list);
+    for _ in 0..list.len() {
+        let Some((item, after)) = next_value(rest) else {
+            break;
+        };
+        if is_public_key(item) {
+            known = known.saturating_add(1);
+        }
+        rest = after;
+    }
+    known
+}
+
+/// Appends the ids of a list as CTAP2 lists credentials.
+pub fn put_descriptors(message: &mut Message, list: &[u8]) -> Result<(), Rejection> {
+    put_head(message, 4, known_count(list))?;
+    let mut rest = inside(list);
+    for _ in 0..list.len() {
+        let Some((item, after)) = next_value(rest) else {
+            break;
+        };
+        if is_public_key(item) {
+            let id = bytes_of(required(item, "id")?, "id")?;
+            put(message, b"\xa2\x62id")?;
+            put_bytes(message, id.as_slice())?;
+            put(message, b"\x64type\x6apublic-key")?;
+        }
+        rest = after;
+    }
+    Ok(())
+}
+
+/// Returns whether the user is verified. As in Chromium, a registration wants that wherever the key can do it.
+pub fn is_verified(
+    wanted: Option<&[u8]>,
+    verification: Verification,
+    is_registration: bool,
+) -> Result<bool, Rejection> {
+    let wanted = wanted.unwrap_or(b"\"preferred\"");
+    match verification {
+        Verification::None => {
+            if is_word(wanted, "required") {
+                return Err(not_allowed(
+                    "userVerification is required, and the key verifies no users",
+                ));
+            }
+            Ok(false)
+        }
+        _ if !is_registration && is_word(wanted, "discouraged") => Ok(false),
+        Verification::Failed => Err(not_allowed("the user failed the verification")),
+        Verification::Verified => Ok(true),
+    }
+}
+
+/// Returns the options for a public key: what is given, or its member publicKey.
+pub fn public_key(given: &[u8]) -> Result<&[u8], Rejection> {
+    if kind_of(given) != Kind::Object {
+        return Err(type_error("publicKey", "the options are no object"));
+    }
+    if count(given) == 0 {
+        return Err(Rejection {
+            error: DomError::NotSupported,
+            member: "publicKey",
+            reason: "the options are empty",
+        });
+    }
+    Ok(member(given, "publicKey").unwrap_or(given))
+}
+
+/// Refuses a mediation that is none of the four. Returns whether it is conditional.
+pub fn is_conditional(mediation: &[u8]) -> Result<bool, Rejection> {
+    if mediation == b"conditional".as_slice() {
+        return Ok(true);
+    }
+    if mediation == b"optional".as_slice()
+        || mediation == b"silent".as_slice()
+        || mediation == b"required".as_slice()
+    {
+        return Ok(false);
+    }
+    Err(type_error("mediation", "The provided value is not a valid enum value."))
+}

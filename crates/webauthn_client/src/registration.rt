@@ -1,0 +1,232 @@
+//! Registration: what of a page's options goes to the key, as authenticatorMakeCredential (CTAP 2.1, section 6.1).
+
+use crate::client_data::{Ceremony, ClientData, write_client_data};
+use crate::extensions::{check_creation, check_extension_bytes, check_extension_types};
+use crate::json::{inside, member, next_value};
+use crate::message::{Message, put, put_bytes, put_head, put_long, put_text};
+use crate::number::{boolean, count, unsigned_long};
+use crate::options::{
+    Abilities, bytes_of, check_descriptors, check_ids, check_length, dictionary, is_public_key,
+    is_verified, known_count, optional_dictionary, put_descriptors, required, sequence,
+};
+use crate::rejection::{DomError, Rejection, not_allowed, type_error};
+use crate::relying_party::{Origin, rp_id_of};
+use crate::text::{is_word, text_of};
+use sha2::{Digest, Sha256};
+
+/// Refuses parameters of keys whose types are wrong.
+fn check_parameters(list: &[u8]) -> Result<(), Rejection> {
+    sequence(list, "pubKeyCredParams")?;
+    let mut rest = inside(list);
+    for _ in 0..list.len() {
+        let Some((item, after)) = next_value(rest) else {
+            break;
+        };
+        dictionary(item, "PublicKeyCredentialParameters")?;
+        required(item, "alg")?;
+        required(item, "type")?;
+        rest = after;
+    }
+    Ok(())
+}
+
+/// Refuses a user or a relying party whose members are missing.
+fn check_entities(options: &[u8]) -> Result<(), Rejection> {
+    let rp = required(options, "rp")?;
+    dictionary(rp, "PublicKeyCredentialRpEntity")?;
+    required(rp, "name")?;
+    let user = required(options, "user")?;
+    dictionary(user, "PublicKeyCredentialUserEntityJSON")?;
+    required(user, "name")?;
+    required(user, "displayName")?;
+    required(user, "id")?;
+    Ok(())
+}
+
+/// Refuses options whose types are wrong, and texts in them that are no base64url.
+pub fn check_types(options: &[u8]) -> Result<(), Rejection> {
+    dictionary(options, "PublicKeyCredentialCreationOptionsJSON")?;
+    optional_dictionary(
+        member(options, "authenticatorSelection"),
+        "authenticatorSelection",
+    )?;
+    let challenge = required(options, "challenge")?;
+    let excluded = member(options, "excludeCredentials");
+    check_descriptors(excluded, "excludeCredentials")?;
+    let extensions = member(options, "extensions");
+    check_extension_types(extensions)?;
+    if let Some(hints) = member(options, "hints") {
+        sequence(hints, "hints")?;
+    }
+    check_parameters(required(options, "pubKeyCredParams")?)?;
+    check_entities(options)?;
+    bytes_of(challenge, "challenge")?;
+    check_ids(excluded, "excludeCredentials.id")?;
+    bytes_of(required(required(options, "user")?, "id")?, "user.id")?;
+    check_extension_bytes(extensions)
+}
+
+/// Returns a member of authenticatorSelection.
+fn selection<'a>(options: &'a [u8], name: &str) -> Option<&'a [u8]> {
+    member(member(options, "authenticatorSelection")?, name)
+}
+
+/// Returns whether a credential is to be discoverable.
+pub fn is_discoverable(options: &[u8], abilities: Abilities) -> Result<bool, Rejection> {
+    let wanted = selection(options, "residentKey").unwrap_or(b"null");
+    let is_known = is_word(wanted, "required")
+        || is_word(wanted, "preferred")
+        || is_word(wanted, "discouraged");
+    let is_asked = boolean(selection(options, "requireResidentKey").unwrap_or(b"false"));
+    let is_required = if is_known {
+        is_word(wanted, "required")
+    } else {
+        is_asked
+    };
+    if is_required && !abilities.has_resident_key {
+        return Err(not_allowed("a resident key is required, and the key makes none"));
+    }
+    let is_preferred = is_known && is_word(wanted, "preferred");
+    Ok((is_required || is_preferred) && abilities.has_resident_key)
+}
+
+/// Refuses what the authenticator can't do.
+fn check_abilities(options: &[u8], abilities: Abilities) -> Result<(), Rejection> {
+    if let Some(wanted) = selection(options, "authenticatorAttachment") {
+        if is_word(
+            wanted,
+            if abilities.is_platform {
+                "cross-platform"
+            } else {
+                "platform"
+            },
+        ) {
+            return Err(not_allowed("authenticatorAttachment names another kind of key"));
+        }
+    }
+    Ok(())
+}
+
+/// Appends the parameters of the keys that the page takes.
+fn put_parameters(message: &mut Message, list: &[u8]) -> Result<(), Rejection> {
+    if count(list) == 0 {
+        return put(
+            message,
+            b"\x82\xa2\x63alg\x26\x64type\x6apublic-key\xa2\x63alg\x39\x01\x00\x64type\x6apublic-key",
+        );
+    }
+    put_head(message, 4, known_count(list))?;
+    let mut rest = inside(list);
+    for _ in 0..list.len() {
+        let Some((item, after)) = next_value(rest) else {
+            break;
+        };
+        if is_public_key(item) {
+            put(message, b"\xa2\x63alg")?;
+            put_long(message, unsigned_long(required(item, "alg")?))?;
+            put(message, b"\x64type\x6apublic-key")?;
+        }
+        rest = after;
+    }
+    Ok(())
+}
+
+/// Appends the relying party and the user.
+fn put_entities(message: &mut Message, options: &[u8], rp_id: &[u8]) -> Result<(), Rejection> {
+    put(message, b"\x02\xa2\x62id")?;
+    put_text(message, rp_id)?;
+    put(message, b"\x64name")?;
+    let user = required(options, "user")?;
+    put_text(
+        message,
+        text_of(required(required(options, "rp")?, "name")?)?.as_slice(),
+    )?;
+    put(message, b"\x03\xa3\x62id")?;
+    put_bytes(
+        message,
+        bytes_of(required(user, "id")?, "user.id")?.as_slice(),
+    )?;
+    put(message, b"\x64name")?;
+    put_text(message, text_of(required(user, "name")?)?.as_slice())?;
+    put(message, b"\x6bdisplayName")?;
+    put_text(message, text_of(required(user, "displayName")?)?.as_slice())
+}
+
+/// Refuses what browsers refuse of options whose types are right, before they ask for the relying party.
+fn check_values(options: &[u8], origin: &Origin) -> Result<(), Rejection> {
+    if bytes_of(required(required(options, "user")?, "id")?, "user.id")?.len() > 64 {
+        return Err(type_error("user.id", "User handle exceeds 64 bytes"));
+    }
+    check_length(member(options, "excludeCredentials"), "excludeCredentials")?;
+    let parameters = required(options, "pubKeyCredParams")?;
+    if count(parameters) > 0 && known_count(parameters) == 0 {
+        return Err(Rejection {
+            error: DomError::NotSupported,
+            member: "pubKeyCredParams",
+            reason: "there are no parameters of the type public-key",
+        });
+    }
+    check_creation(
+        member(options, "extensions"),
+        selection(options, "userVerification"),
+        origin,
+    )
+}
+
+/// Returns whether the user is verified.
+pub fn verifies(options: &[u8], abilities: Abilities) -> Result<bool, Rejection> {
+    is_verified(
+        selection(options, "userVerification"),
+        abilities.verification,
+        true,
+    )
+}
+
+/// Returns the client data of a registration.
+pub fn client_data_of(options: &[u8], origin: &Origin) -> Result<ClientData, Rejection> {
+    let challenge = bytes_of(required(options, "challenge")?, "challenge")?;
+    write_client_data(Ceremony::Create, challenge.as_slice(), origin)
+}
+
+/// Returns the request of a registration.
+pub fn request_of(
+    options: &[u8],
+    origin: &Origin,
+    suffix: &[u8],
+    abilities: Abilities,
+) -> Result<Message, Rejection> {
+    check_values(options, origin)?;
+    let given = match member(required(options, "rp")?, "id") {
+        Some(id) => Some(text_of(id)?),
+        None => None,
+    };
+    let rp_id = match &given {
+        Some(id) => rp_id_of(Some(id.as_slice()), origin, suffix)?,
+        None => rp_id_of(None, origin, suffix)?,
+    };
+    check_abilities(options, abilities)?;
+    verifies(options, abilities)?;
+    let is_discoverable = is_discoverable(options, abilities)?;
+    let excluded = member(options, "excludeCredentials").unwrap_or(b"");
+    let has_excluded = known_count(excluded) > 0;
+    let mut message = Message::new();
+    let members = 4 + u64::from(has_excluded) + u64::from(is_discoverable);
+    put(&mut message, b"\x01")?;
+    put_head(&mut message, 5, members)?;
+    put(&mut message, b"\x01")?;
+    put_bytes(
+        &mut message,
+        &Sha256::digest(client_data_of(options, origin)?.as_slice()),
+    )?;
+    put_entities(&mut message, options, rp_id)?;
+    put(&mut message, b"\x04")?;
+    put_parameters(&mut message, required(options, "pubKeyCredParams")?)?;
+    if has_excluded {
+        put(&mut message, b"\x05")?;
+        put_descriptors(&mut message, excluded)?;
+    }
+    if is_discoverable {
+        put(&mut message, b"\x07\xa1\x62rk\xf5")?;
+    }
+    Ok(message)
+}

@@ -1,0 +1,65 @@
+//! What a page sees of a failed call.
+
+/// The name of a DOM error.
+#[derive(Clone, Copy, Debug, PartialEq, Eq)]
+pub enum DomError {
+    Type,
+    Encoding,
+    Range,
+    NotSupported,
+    Security,
+    NotAllowed,
+    InvalidState,
+    Syntax,
+}
+
+impl DomError {
+    /// Returns the name that scripts see.
+    pub fn name(self) -> &'static str {
+        match self {
+            DomError::Type => "TypeError",
+            DomError::Encoding => "EncodingError",
+            DomError::Range => "RangeError",
+            DomError::NotSupported => "NotSupportedError",
+            DomError::Security => "SecurityError",
+            DomError::NotAllowed => "NotAllowedError",
+            DomError::InvalidState => "InvalidStateError",
+            DomError::Syntax => "SyntaxError",
+        }
+    }
+}
+
+/// A call's error: its DOM name, the member of the options that is at fault (or empty), and the reason.
+#[derive(Clone, Copy)]
+pub struct Rejection {
+    pub error: DomError,
+    pub member: &'static str,
+    pub reason: &'static str,
+}
+
+/// Returns the error of a member of a wrong type.
+pub fn type_error(member: &'static str, reason: &'static str) -> Rejection {
+    Rejection {
+        error: DomError::Type,
+        member,
+        reason,
+    }
+}
+
+/// Returns an error of the authenticator or the user.
+pub fn not_allowed(reason: &'static str) -> Rejection {
+    Rejection {
+        error: DomError::NotAllowed,
+        member: "",
+        reason,
+    }
+}
+
+/// Returns the error of a text that has no place in what is kept here.
+pub fn too_long() -> Rejection {
+    Rejection {
+        error: DomError::Range,
+        member: "",
+        reason: "a text or a list is longer than this client takes",
+    }
+}

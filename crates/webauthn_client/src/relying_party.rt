@@ -1,0 +1,169 @@
+//! Whose page it is, and which RP ids it may use.
+
+ghost use Rattle.std.specs.Prelude.{◌≡◌, ◌∷◌, IsTrue, IfOk, List, ℕ};
+ghost use Rattle.webauthn_client.specs.RelyingParty.{MayUse};
+
+use crate::rejection::{DomError, Rejection};
+
+/// An origin as browsers write it: `scheme://host` or `scheme://host:port`, in small letters.
+#[derive(Clone, Copy)]
+pub struct Origin<'a> {
+    pub text: &'a [u8],
+    pub host: &'a [u8],
+    pub is_secure_scheme: bool,
+}
+
+/// Returns the error of a page or of an RP id.
+fn security(reason: &'static str) -> Rejection {
+    Rejection {
+        error: DomError::Security,
+        member: "",
+        reason,
+    }
+}
+
+/// Returns whether a byte may be in a host's name. None of these is escaped in JSON.
+fn is_of_host(byte: u8) -> bool {
+    matches!(byte, b'a'..=b'z' | b'0'..=b'9' | b'-' | b'.' | b'_')
+}
+
+/// Returns a host of a text after a scheme, and checks the port after it.
+fn host_of(rest: &[u8]) -> Option<&[u8]> {
+    let len = rest
+        .iter()
+        .position(|&it| !is_of_host(it))
+        .unwrap_or(rest.len());
+    let (host, port) = rest.split_at_checked(len)?;
+    let is_port = match port.split_first() {
+        None => true,
+        Some((colon, digits)) => {
+            *colon == b':' && !digits.is_empty() && digits.iter().all(|&it| it.is_ascii_digit())
+        }
+    };
+    if host.is_empty() || !is_port {
+        None
+    } else {
+        Some(host)
+    }
+}
+
+/// Returns an origin's parts; None where it is no serialized origin of http or https with a domain or an IPv4 address.
+pub fn parse_origin<'a>(text: &'a [u8]) -> Option<Origin<'a>> {
+    let (is_secure_scheme, rest) = match (
+        text.strip_prefix(b"https://"),
+        text.strip_prefix(b"http://"),
+    ) {
+        (Some(rest), _) => (true, rest),
+        (_, Some(rest)) => (false, rest),
+        _ => return None,
+    };
+    let host = host_of(rest)?;
+    Some(Origin {
+        text,
+        host,
+        is_secure_scheme,
+    })
+}
+
+/// Returns the name after the last full stop.
+fn last_label(host: &[u8]) -> &[u8] {
+    for i in 0..host.len() {
+        let place = host.len() - 1 - i;
+        if host[place] == b'.' {
+            return &host[place + 1..];
+        }
+    }
+    host
+}
+
+/// Returns whether a host is an IPv4 address: its last label is a number.
+fn is_address(host: &[u8]) -> bool {
+    last_label(host).iter().all(|&it| it.is_ascii_digit())
+}
+
+/// Returns whether bytes are a full stop and these.
+fn is_behind_stop(tail: &[u8], id: &[u8]) -> bool
+    ensures { IsTrue result → tail.now ≡ 46 ∷ id.now }
+{
+    match tail.split_first() {
+        Some((stop, domain)) => *stop == b'.' && domain == id,
+        None => false,
+    }
+}
+
+/// Returns whether a domain is a host itself, or one above it that is longer than the host's public suffix.
+pub fn may_use(id: &[u8], host: &[u8], suffix: &[u8]) -> bool
+    ensures { IsTrue result → MayUse id.now host.now suffix.now }
+{
+    if id.len() >= host.len() || id.len() <= suffix.len() {
+        return id == host;
+    }
+    let (_, tail) = host.split_at(host.len() - id.len() - 1);
+    is_behind_stop(tail, id)
+}
+
+/// Returns whether browsers have WebAuthn on a page: over https, or at localhost.
+fn check_context(origin: &Origin) -> Result<(), Rejection> {
+    if is_address(origin.host) {
+        return Err(security("This is an invalid domain: the host is an address"));
+    }
+    let is_local = origin.host == b"localhost".as_slice() || origin.host.ends_with(b".localhost");
+    if !origin.is_secure_scheme && !is_local {
+        return Err(security("the page is in no secure context"));
+    }
+    Ok(())
+}
+
+/// Returns the RP id of a page: the one that is given, where the page may use it, or its host. Where the embedding knows
+/// no public suffix of the host, its last label is taken for that.
+pub fn rp_id_of<'a>(
+    given: Option<&'a [u8]>,
+    origin: &Origin<'a>,
+    suffix: &[u8],
+) -> Result<&'a [u8], Rejection>
+    ensures { IfOk result (λ id. (s : List ℕ) × MayUse id.now origin.now.host.now s) }
+{
+    check_context(origin)?;
+    let Some(id) = given else {
+        return Ok(origin.host);
+    };
+    let known = if suffix.is_empty() {
+        last_label(origin.host)
+    } else {
+        suffix
+    };
+    if !may_use(id, origin.host, known) {
+        return Err(security(
+            "The relying party ID is not a registrable domain suffix of, nor equal to the current domain",
+        ));
+    }
+    Ok(id)
+}
+
+/// Refuses a URL that is none, and one that isn't of this page's site over https, as the page is.
+pub fn check_site(url: &[u8], origin: &Origin) -> Result<(), Rejection> {
+    let path = match url.iter().position(|&it| it == b'/') {
+        Some(_) => url,
+        None => {
+            return Err(Rejection {
+                error: DomError::Syntax,
+                member: "appid",
+                reason: "The extension value is neither empty/null nor a valid URL.",
+            });
+        }
+    };
+    let Some(rest) = path.strip_prefix(b"https://") else {
+        return Err(security("the extension's URL isn't over https"));
+    };
+    let len = rest
+        .iter()
+        .position(|&it| !is_of_host(it))
+        .unwrap_or(rest.len());
+    let site = rest.get(..len).unwrap_or(b"");
+    let is_near = may_use(site, origin.host, last_label(origin.host))
+        || may_use(origin.host, site, last_label(site));
+    if !is_near || !origin.is_secure_scheme {
+        return Err(security("the extension's URL is of another site"));
+    }
+    Ok(())
+}

@@ -1,0 +1,318 @@
+//! What the page gets: RegistrationResponseJSON and AuthenticationResponseJSON (WebAuthn Level 3, section 5.1).
+
+use crate::base64url::encode;
+use crate::client_data::ClientData;
+use crate::extensions::{extension, inner, is_on};
+use crate::options::Abilities;
+use crate::rejection::{Rejection, not_allowed, too_long};
+use crate::text::is_word;
+use arrayvec::ArrayVec;
+use ctap_cbor::{Cursor, Item};
+
+/// A response in JSON.
+pub type Response = ArrayVec<u8, 16384>;
+
+/// An attestation object, or one that is on its way.
+type Attestation = ArrayVec<u8, 7680>;
+
+/// The front of a P-256 key as SubjectPublicKeyInfo (RFC 5480).
+const SPKI: &[u8] =
+    b"\x30\x59\x30\x13\x06\x07\x2a\x86\x48\xce\x3d\x02\x01\x06\x08\x2a\x86\x48\xce\x3d\x03\x01\x07\x03\x42\x00\x04";
+
+/// The parts of an answer: its members by number, each with its whole encoding, and the content where it is a string.
+#[derive(Clone, Copy)]
+struct Part<'a> {
+    whole: &'a [u8],
+    content: &'a [u8],
+}
+
+/// Returns the error of an answer that can't be read.
+fn unreadable() -> Rejection {
+    not_allowed("the key's answer can't be read")
+}
+
+/// Returns the member of an answer's map by its number.
+fn part_of<'a>(map: &'a [u8], number: i128) -> Option<Part<'a>> {
+    let mut cursor = Cursor::new(map);
+    let Ok(Item::Map(count)) = cursor.item(1) else {
+        return None;
+    };
+    for _ in 0..map.len() {
+        let Ok(Item::Int(key)) = cursor.item(2) else {
+            return None;
+        };
+        let start = cursor.place();
+        let mut content: &'a [u8] = b"";
+        let mut copy = Cursor::new(map.get(start..).unwrap_or(b""));
+        match copy.item(2) {
+            Ok(Item::Bytes(bytes)) => content = bytes,
+            Ok(Item::Text(text)) => content = text.as_bytes(),
+            _ => {}
+        }
+        if cursor.skip(2).is_err() {
+            return None;
+        }
+        if key == number {
+            let whole = map.get(start..cursor.place())?;
+            return Some(Part { whole, content });
+        }
+    }
+    None
+}
+
+/// Appends bytes.
+fn push<const N: usize>(out: &mut ArrayVec<u8, N>, bytes: &[u8]) -> Result<(), Rejection> {
+    if out.try_extend_from_slice(bytes).is_err() {
+        return Err(too_long());
+    }
+    Ok(())
+}
+
+/// Appends bytes in base64url.
+fn push_encoded(out: &mut Response, bytes: &[u8]) -> Result<(), Rejection> {
+    if encode(bytes, out).is_err() {
+        return Err(too_long());
+    }
+    Ok(())
+}
+
+/// Appends the front of a response, with the credential's id.
+fn push_front(out: &mut Response, id: &[u8], client_data: &ClientData) -> Result<(), Rejection> {
+    push(out, b"{\"id\":\"")?;
+    push_encoded(out, id)?;
+    push(out, b"\",\"rawId\":\"")?;
+    push_encoded(out, id)?;
+    push(out, b"\",\"response\":{\"clientDataJSON\":\"")?;
+    push_encoded(out, client_data.as_slice())
+}
+
+/// Appends the end of a response, behind the results of its extensions.
+fn push_end(out: &mut Response, abilities: Abilities) -> Result<(), Rejection> {
+    if abilities.is_platform {
+        push(
+            out,
+            b"},\"authenticatorAttachment\":\"platform\",\"type\":\"public-key\"}",
+        )
+    } else {
+        push(
+            out,
+            b"},\"authenticatorAttachment\":\"cross-platform\",\"type\":\"public-key\"}",
+        )
+    }
+}
+
+/// Appends a public key of P-256 in authenticator data, behind the credential's id.
+fn push_public_key(out: &mut Response, cose: &[u8]) -> Result<(), Rejection> {
+    if cose.len() < 77 || &cose[..10] != b"\xa5\x01\x02\x03\x26\x20\x01\x21\x58\x20".as_slice() {
+        return Ok(());
+    }
+    let (Some(x), Some(y)) = (cose.get(10..42), cose.get(45..77)) else {
+        return Ok(());
+    };
+    let mut key: ArrayVec<u8, 91> = ArrayVec::new();
+    push(&mut key, SPKI)?;
+    push(&mut key, x)?;
+    push(&mut key, y)?;
+    push(out, b"\",\"publicKey\":\"")?;
+    push_encoded(out, key.as_slice())?;
+    push(out, b"\",\"publicKeyAlgorithm\":-7")
+}
+
+/// Appends a result, behind a comma where one is before it.
+fn push_result(
+    out: &mut Response,
+    has_any: &mut bool,
+    is_there: bool,
+    text: &[u8],
+) -> Result<(), Rejection> {
+    if !is_there {
+        return Ok(());
+    }
+    if *has_any {
+        push(out, b",")?;
+    }
+    *has_any = true;
+    push(out, text)
+}
+
+/// Appends what a registration says of its extensions.
+fn push_creation_results(
+    out: &mut Response,
+    extensions: Option<&[u8]>,
+    is_discoverable: bool,
+    has_resident_key: bool,
+) -> Result<(), Rejection> {
+    let has_props = is_on(extensions, "credProps");
+    let has_support = match inner(extensions, "largeBlob", "support") {
+        Some(support) => !is_word(support, ""),
+        None => false,
+    };
+    let props: &[u8] = match (is_discoverable, has_resident_key) {
+        (true, _) => b"\"credProps\":{\"rk\":true}",
+        (false, false) => b"\"credProps\":{\"rk\":false}",
+        (false, true) => b"\"credProps\":{}",
+    };
+    let mut has_any = false;
+    push_result(out, &mut has_any, has_props, props)?;
+    push_result(
+        out,
+        &mut has_any,
+        extension(extensions, "credBlob").is_some(),
+        b"\"credBlob\":false",
+    )?;
+    push_result(
+        out,
+        &mut has_any,
+        is_on(extensions, "hmacCreateSecret"),
+        b"\"hmacCreateSecret\":false",
+    )?;
+    push_result(
+        out,
+        &mut has_any,
+        has_support,
+        b"\"largeBlob\":{\"supported\":false}",
+    )?;
+    push_result(
+        out,
+        &mut has_any,
+        extension(extensions, "prf").is_some(),
+        b"\"prf\":{\"enabled\":false}",
+    )
+}
+
+/// Appends what a sign-in says of its extensions.
+fn push_request_results(out: &mut Response, extensions: Option<&[u8]>) -> Result<(), Rejection> {
+    let blob: &[u8] = if inner(extensions, "largeBlob", "write").is_some() {
+        b"\"largeBlob\":{\"written\":false}"
+    } else {
+        b"\"largeBlob\":{}"
+    };
+    let mut has_any = false;
+    push_result(
+        out,
+        &mut has_any,
+        extension(extensions, "appid").is_some(),
+        b"\"appid\":false",
+    )?;
+    push_result(
+        out,
+        &mut has_any,
+        is_on(extensions, "getCredBlob"),
+        b"\"getCredBlob\":\"\"",
+    )?;
+    push_result(
+        out,
+        &mut has_any,
+        extension(extensions, "largeBlob").is_some(),
+        blob,
+    )?;
+    push_result(
+        out,
+        &mut has_any,
+        extension(extensions, "prf").is_some(),
+        b"\"prf\":{}",
+    )
+}
+
+/// Returns the response of a registration, from the map of the key's answer.
+pub fn registration_json(
+    map: &[u8],
+    client_data: &ClientData,
+    extensions: Option<&[u8]>,
+    is_discoverable: bool,
+    abilities: Abilities,
+) -> Result<Response, Rejection> {
+    let (Some(format), Some(auth), Some(statement)) = (
+        part_of(map, 1),
+        part_of(map, 2),
+        part_of(map, 3),
+    ) else {
+        return Err(unreadable());
+    };
+    let auth_data = auth.content;
+    let Some([high, low]) = auth_data.get(53..55) else {
+        return Err(unreadable());
+    };
+    let end = 55 + usize::from(*high) * 256 + usize::from(*low);
+    let (Some(id), Some(cose)) = (auth_data.get(55..end), auth_data.get(end..)) else {
+        return Err(unreadable());
+    };
+    let mut attestation = Attestation::new();
+    push(&mut attestation, b"\xa3\x63fmt")?;
+    push(&mut attestation, format.whole)?;
+    push(&mut attestation, b"\x67attStmt")?;
+    push(&mut attestation, statement.whole)?;
+    push(&mut attestation, b"\x68authData")?;
+    push(&mut attestation, auth.whole)?;
+    let mut out = Response::new();
+    push_front(&mut out, id, client_data)?;
+    push(&mut out, b"\",\"authenticatorData\":\"")?;
+    push_encoded(&mut out, auth_data)?;
+    push(&mut out, b"\",\"attestationObject\":\"")?;
+    push_encoded(&mut out, attestation.as_slice())?;
+    push_public_key(&mut out, cose)?;
+    push(&mut out, b",\"transports\":[\"")?;
+    push(&mut out, abilities.transport().as_bytes())?;
+    push(&mut out, b"\"]},\"clientExtensionResults\":{")?;
+    push_creation_results(
+        &mut out,
+        extensions,
+        is_discoverable,
+        abilities.has_resident_key,
+    )?;
+    push_end(&mut out, abilities)?;
+    Ok(out)
+}
+
+/// Returns the response of a sign-in, from the map of the key's answer.
+pub fn authentication_json(
+    map: &[u8],
+    client_data: &ClientData,
+    extensions: Option<&[u8]>,
+    abilities: Abilities,
+) -> Result<Response, Rejection> {
+    let (Some(credential), Some(auth), Some(signature)) = (
+        part_of(map, 1),
+        part_of(map, 2),
+        part_of(map, 3),
+    ) else {
+        return Err(unreadable());
+    };
+    // {"id": bytes, ..}, canonical: its first key is "id".
+    let Some(id) = credential.whole.strip_prefix(b"\xa2\x62id") else {
+        return Err(unreadable());
+    };
+    let mut cursor = Cursor::new(id);
+    let Ok(Item::Bytes(id)) = cursor.item(2) else {
+        return Err(unreadable());
+    };
+    let mut out = Response::new();
+    push_front(&mut out, id, client_data)?;
+    push(&mut out, b"\",\"authenticatorData\":\"")?;
+    push_encoded(&mut out, auth.content)?;
+    push(&mut out, b"\",\"signature\":\"")?;
+    push_encoded(&mut out, signature.content)?;
+    if let Some(user) = part_of(map, 4) {
+        push_user(&mut out, user.whole)?;
+    }
+    push(&mut out, b"\"},\"clientExtensionResults\":{")?;
+    push_request_results(&mut out, extensions)?;
+    push_end(&mut out, abilities)?;
+    Ok(out)
+}
+
+/// Appends the user's handle, of the map of a user whose first member is the id.
+fn push_user(out: &mut Response, user: &[u8]) -> Result<(), Rejection> {
+    let Some(id) = user.get(1..) else {
+        return Ok(());
+    };
+    let Some(id) = id.strip_prefix(b"\x62id") else {
+        return Ok(());
+    };
+    let mut cursor = Cursor::new(id);
+    if let Ok(Item::Bytes(id)) = cursor.item(2) {
+        push(out, b"\",\"userHandle\":\"")?;
+        push_encoded(out, id)?;
+    }
+    Ok(())
+}

@@ -1,0 +1,138 @@
+//! Sign-in: what of a page's options goes to the key, as authenticatorGetAssertion (CTAP 2.1, section 6.2).
+
+use crate::client_data::{Ceremony, ClientData, write_client_data};
+use crate::extensions::{check_extension_bytes, check_extension_types, check_request};
+use crate::json::{inside, member, next_value};
+use crate::message::{Message, put, put_bytes, put_head, put_text};
+use crate::options::{
+    Abilities, bytes_of, check_descriptors, check_ids, check_length, dictionary, is_public_key,
+    is_verified, known_count, put_descriptors, required, sequence,
+};
+use crate::rejection::{Rejection, not_allowed};
+use crate::relying_party::{Origin, rp_id_of};
+use crate::text::{is_word, text_of};
+use sha2::{Digest, Sha256};
+
+/// Refuses options whose types are wrong, and texts in them that are no base64url.
+pub fn check_types(options: &[u8]) -> Result<(), Rejection> {
+    dictionary(options, "PublicKeyCredentialRequestOptionsJSON")?;
+    let allowed = member(options, "allowCredentials");
+    check_descriptors(allowed, "allowCredentials")?;
+    let challenge = required(options, "challenge")?;
+    let extensions = member(options, "extensions");
+    check_extension_types(extensions)?;
+    if let Some(hints) = member(options, "hints") {
+        sequence(hints, "hints")?;
+    }
+    bytes_of(challenge, "challenge")?;
+    check_ids(allowed, "allowCredentials.id")?;
+    check_extension_bytes(extensions)
+}
+
+/// Returns whether a value names a transport.
+fn is_transport(value: &[u8]) -> bool {
+    let text = match text_of(value) {
+        Ok(text) => text,
+        Err(_) => return false,
+    };
+    let name = text.as_slice();
+    name == b"usb".as_slice()
+        || name == b"nfc".as_slice()
+        || name == b"ble".as_slice()
+        || name == b"smart-card".as_slice()
+        || name == b"hybrid".as_slice()
+        || name == b"internal".as_slice()
+}
+
+/// Returns whether a credential may be reached by a transport: it names that, or none that is known.
+fn is_reached(item: &[u8], transport: &str) -> bool {
+    let list = member(item, "transports").unwrap_or(b"");
+    let mut rest = inside(list);
+    let mut has_named = false;
+    for _ in 0..list.len() {
+        let Some((it, after)) = next_value(rest) else {
+            break;
+        };
+        if is_word(it, transport) {
+            return true;
+        }
+        if is_transport(it) {
+            has_named = true;
+        }
+        rest = after;
+    }
+    !has_named
+}
+
+/// Returns whether a list has a credential that may be reached by a transport, or none at all.
+fn is_any_reached(list: &[u8], transport: &str) -> bool {
+    if known_count(list) == 0 {
+        return true;
+    }
+    let mut rest = inside(list);
+    for _ in 0..list.len() {
+        let Some((item, after)) = next_value(rest) else {
+            break;
+        };
+        if is_public_key(item) && is_reached(item, transport) {
+            return true;
+        }
+        rest = after;
+    }
+    false
+}
+
+/// Returns whether the user is verified.
+pub fn verifies(options: &[u8], abilities: Abilities) -> Result<bool, Rejection> {
+    is_verified(
+        member(options, "userVerification"),
+        abilities.verification,
+        false,
+    )
+}
+
+/// Returns the client data of a sign-in.
+pub fn client_data_of(options: &[u8], origin: &Origin) -> Result<ClientData, Rejection> {
+    let challenge = bytes_of(required(options, "challenge")?, "challenge")?;
+    write_client_data(Ceremony::Get, challenge.as_slice(), origin)
+}
+
+/// Returns the request of a sign-in.
+pub fn request_of(
+    options: &[u8],
+    origin: &Origin,
+    suffix: &[u8],
+    abilities: Abilities,
+) -> Result<Message, Rejection> {
+    let allowed = member(options, "allowCredentials").unwrap_or(b"");
+    check_length(Some(allowed), "allowCredentials")?;
+    let has_list = known_count(allowed) > 0;
+    check_request(member(options, "extensions"), has_list, origin)?;
+    let given = match member(options, "rpId") {
+        Some(id) => Some(text_of(id)?),
+        None => None,
+    };
+    let rp_id = match &given {
+        Some(id) => rp_id_of(Some(id.as_slice()), origin, suffix)?,
+        None => rp_id_of(None, origin, suffix)?,
+    };
+    verifies(options, abilities)?;
+    if !is_any_reached(allowed, abilities.transport()) {
+        return Err(not_allowed("allowCredentials names other transports than the key's"));
+    }
+    let mut message = Message::new();
+    put(&mut message, b"\x02")?;
+    put_head(&mut message, 5, 2 + u64::from(has_list))?;
+    put(&mut message, b"\x01")?;
+    put_text(&mut message, rp_id)?;
+    put(&mut message, b"\x02")?;
+    put_bytes(
+        &mut message,
+        &Sha256::digest(client_data_of(options, origin)?.as_slice()),
+    )?;
+    if has_list {
+        put(&mut message, b"\x03")?;
+        put_descriptors(&mut message, allowed)?;
+    }
+    Ok(message)
+}
