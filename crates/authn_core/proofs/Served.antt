@@ -8,6 +8,7 @@ use Rattle.cred_table.proofs.Basics.{same_bytes}
 use Rattle.ctap_message.specs.Asked.{Asked, MakeCredential, GetAssertion, GetInfo, Reset, GetNextAssertion, Selection}
 use Rattle.ctap_message.specs.{Members.has_entries, Descriptors.ids_of}
 use Rattle.authn_core.specs.State.{Asserting, AsksAssert, ChannelTask, State, Answer, Waits, Turned, status, waits}
+use Rattle.authn_core.specs.declared.refusal.Refusal.{Refusal}
 use Rattle.authn_core.specs.{State.signs, State.refuses, Marks.marked, Ready.AllThere, Signed.AllOf, Signed.rp_of}
 use Rattle.authn_core.specs.GetAssertion.{begins, row_signs, next_begins}
 use Rattle.sha2.specs.Sha256.{sha256}
@@ -121,15 +122,15 @@ abbrev pub GoesIfBegun : (cid : ℕ) (hash rp : List ℕ) (presence : Bool) (ids
 GoesIfBegun cid hash rp presence ids s (Waits status) = Going cid hash rp presence ids [] s
 GoesIfBegun cid hash rp presence ids s answer = s.pending ≡ None
 
-pub begins_if : (b up : Bool) (rows : List Row) (at cid : ℕ) (hash rp : List ℕ) (presence : Bool) (a : Asserting)
+pub begins_if : (why : Refusal) (b up : Bool) (rows : List Row) (at cid : ℕ) (hash rp : List ℕ) (presence : Bool) (a : Asserting)
     (id : List ℕ) (ids : List (List ℕ)) → AllOf rp rows ids
     → let p = pending_of cid hash presence at ids in
-    let t = if b then (if up then waits rows p cid (AsksAssert a) else signs rows p cid a) else refuses rows None 0x15
+    let t = if b then (if up then waits rows p cid (AsksAssert a) else signs rows p cid a) else refuses rows None why
     in
     GoesIfBegun cid hash rp presence (id ∷ ids) t.state t.answer
-begins_if false up rows at cid hash rp presence a id ids h = refl
-begins_if true true rows at cid hash rp presence a id ids h = search (rules, arith)
-begins_if true false rows at cid hash rp presence a id ids h =
+begins_if why false up rows at cid hash rp presence a id ids h = refl
+begins_if why true true rows at cid hash rp presence a id ids h = search (rules, arith)
+begins_if why true false rows at cid hash rp presence a id ids h =
     record { moment = at; ids = refl; each = all_raised rp a.id rows ids h; latest = tt; work = refl }
 
 pub begins_goes : (rows : List Row) (at cid : ℕ) (hash rp : List ℕ) (presence given : Bool) (ids : List (List ℕ)) →
@@ -164,12 +165,12 @@ NextLeft true on hash rp presence moment ids s =
     (s.pending ≡ pending_of on hash presence moment ids) × AllOf rp s.rows ids × IsAsserting s.work
 NextLeft false on hash rp presence moment ids s = s.pending ≡ None
 
-pub row_if : (b : Bool) (rows : List Row) (on cid moment : ℕ) (hash rp : List ℕ) (presence : Bool) (a : Asserting)
+pub row_if : (why : Refusal) (b : Bool) (rows : List Row) (on cid moment : ℕ) (hash rp : List ℕ) (presence : Bool) (a : Asserting)
     (ids : List (List ℕ)) → AllOf rp rows ids
-    → let t = if b then signs rows (pending_of on hash presence moment ids) cid a else refuses rows None 0x15 in
+    → let t = if b then signs rows (pending_of on hash presence moment ids) cid a else refuses rows None why in
     NextLeft (waits_on t.answer) on hash rp presence moment ids t.state
-row_if true rows on cid moment hash rp presence a ids h = (refl, all_raised rp a.id rows ids h, refl)
-row_if false rows on cid moment hash rp presence a ids h = refl
+row_if why true rows on cid moment hash rp presence a ids h = (refl, all_raised rp a.id rows ids h, refl)
+row_if why false rows on cid moment hash rp presence a ids h = refl
 
 pub row_left : (o : Option Row) (rows : List Row) (on cid moment : ℕ) (hash rp : List ℕ) (presence : Bool) (id : List ℕ)
     (ids : List (List ℕ)) → AllOf rp rows ids
@@ -178,12 +179,12 @@ pub row_left : (o : Option Row) (rows : List Row) (on cid moment : ℕ) (hash rp
 row_left None rows on cid moment hash rp presence id ids h = refl
 row_left (Some row) rows on cid moment hash rp presence id ids h = search (rules, arith, row_if)
 
-pub next_if : (b : Bool) (rows : List Row) (on cid moment : ℕ) (hash rp : List ℕ) (presence : Bool) (id : List ℕ)
+pub next_if : (why : Refusal) (b : Bool) (rows : List Row) (on cid moment : ℕ) (hash rp : List ℕ) (presence : Bool) (id : List ℕ)
     (ids : List (List ℕ)) → AllOf rp rows ids
     → let t = if b then row_signs rows (pending_of on hash presence moment ids) cid hash presence id
-    (find (has_id id) rows) else refuses rows None 0x30 in
+    (find (has_id id) rows) else refuses rows None why in
     NextLeft (waits_on t.answer) on hash rp presence moment ids t.state
-next_if b rows on cid moment hash rp presence id ids h = search (rules, arith, row_left)
+next_if why b rows on cid moment hash rp presence id ids h = search (rules, arith, row_left)
 
 pub next_left : (rows : List Row) (at on cid moment : ℕ) (hash rp : List ℕ) (presence : Bool) (ids : List (List ℕ)) →
     AllOf rp rows ids

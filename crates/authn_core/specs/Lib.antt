@@ -1,3 +1,4 @@
+pub mod Refusals
 pub mod State
 pub mod Asking
 pub mod MakeCredential

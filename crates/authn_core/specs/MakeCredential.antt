@@ -8,6 +8,8 @@ use Rattle.cred_table.specs.Rows.{has_id, is_named, is_user, stored}
 use Rattle.fido_authdata.specs.AuthData.{created_bytes}
 use Rattle.ctap_message.specs.Answers.{created_answer}
 use Rattle.authn_core.specs.declared.replies.{Presence.Presence, Presence.TheVariants.Granted, NewKey.NewKey}
+use Rattle.authn_core.specs.declared.refusal.Refusal.TheVariants as because
+use Rattle.authn_core.specs.Refusals.{not_granted}
 use Rattle.sha2.specs.Sha256.{sha256}
 use Rattle.authn_core.specs.State.{Making, AsksMake, WantsKey, SignsMake, Turned, answers, refuses, waits}
 
@@ -30,16 +32,16 @@ fits capacity m rows = nat_lt (length rows) capacity || (m.discoverable && is_so
 
 -- An excluded credential is refused after any reply.
 abbrev pub make_asked : ℕ → List Row → Option Waiting → (cid : ℕ) → Making → (excluded : Bool) → Presence → Turned
-make_asked capacity rows pending cid m true reply = refuses rows pending 0x19  -- CREDENTIAL_EXCLUDED
+make_asked capacity rows pending cid m true reply = refuses rows pending because.Excluded
 make_asked capacity rows pending cid m false Granted =
-    if fits capacity m rows then waits rows pending cid (WantsKey m) else refuses rows pending 0x28  -- KEY_STORE_FULL
-make_asked capacity rows pending cid m false reply = refuses rows pending 0x27  -- OPERATION_DENIED
+    if fits capacity m rows then waits rows pending cid (WantsKey m) else refuses rows pending because.Full
+make_asked capacity rows pending cid m false reply = refuses rows pending (not_granted reply)
 
 -- A new id goes on to the signature (WebAuthn Level 2, section 8.2).
 abbrev pub key_wanted : (aaguid : List ℕ) → List Row → Option Waiting → (cid : ℕ) → Making → Option NewKey → Turned
-key_wanted aaguid rows pending cid m None = refuses rows pending 0x7f  -- OTHER
+key_wanted aaguid rows pending cid m None = refuses rows pending because.KeyRefused
 key_wanted aaguid rows pending cid m (Some key) =
-    if is_some (find (has_id key.id) rows) then refuses rows pending 0x7f  -- OTHER
+    if is_some (find (has_id key.id) rows) then refuses rows pending because.KeyIdTaken
     else waits rows pending cid (SignsMake m key (created_bytes m.rp aaguid key.id key.x key.y ++ m.hash))
 
 -- the row that is made
@@ -50,6 +52,6 @@ new_row m k =
 
 -- The row is stored, and the answer sent.
 abbrev pub make_signed : (aaguid : List ℕ) → List Row → Option Waiting → Making → NewKey → Option (List ℕ) → Turned
-make_signed aaguid rows pending m key None = refuses rows pending 0x7f  -- OTHER
+make_signed aaguid rows pending m key None = refuses rows pending because.SignatureRefused
 make_signed aaguid rows pending m key (Some sig) =
     answers (stored (new_row m key) rows) None (created_answer (created_bytes m.rp aaguid key.id key.x key.y) sig)

@@ -2,7 +2,8 @@
 use Rattle.std.specs.Prelude.{ℕ, ◌+◌, List, [], ◌∷◌, ◌++◌, Bool, Option, Some, None}
 use Rattle.cred_table.specs.{declared.row.Row.Row, Waiting.Waiting, Rows.raised, Rows.counter_of}
 use Rattle.fido_authdata.specs.AuthData.{assertion_bytes}
-use Rattle.authn_core.specs.declared.replies.{Presence.Presence, NewKey.NewKey}
+use Rattle.authn_core.specs.declared.{replies.Presence.Presence, replies.NewKey.NewKey, refusal.Refusal.Refusal}
+use Rattle.authn_core.specs.Refusals.{status_of}
 
 -- What stays.
 pub record Setup : Type 0 where
@@ -63,10 +64,11 @@ pub data Answer : Type 0 where
   Ignored : Answer
   Nothing : Answer
 
--- The state after a turn, and its answer.
+-- The state after a turn, its answer, and why it refuses, where it does.
 pub record Turned : Type 0 where
   pub state : State
   pub answer : Answer
+  pub why : Option Refusal
 
 -- 1 while a key or signature is needed, 2 while presence is (CTAP 2.1, section 11.2.9.1.7)
 abbrev pub status : Task → ℕ
@@ -80,21 +82,29 @@ status task = 2
 -- Every answer ends the work.
 abbrev pub answers : List Row → Option Waiting → List ℕ → Turned
 answers rows pending bytes =
-    record { state = record { rows = rows; pending = pending; work = None }; answer = Answered bytes }
+    record { state = record { rows = rows; pending = pending; work = None }; answer = Answered bytes; why = None }
 
--- a status alone
-abbrev pub refuses : List Row → Option Waiting → ℕ → Turned
-refuses rows pending code = answers rows pending (code ∷ [])
+-- The status alone is answered.
+abbrev pub refuses : List Row → Option Waiting → Refusal → Turned
+refuses rows pending why = record {
+  state = record { rows = rows; pending = pending; work = None };
+  answer = Answered (status_of why ∷ []);
+  why = Some why;
+}
 
 -- Work begins or goes on.
 abbrev pub waits : List Row → Option Waiting → (cid : ℕ) → Task → Turned
 waits rows pending cid task =
     let work : ChannelTask = record { cid = cid; task = task } in
-    record { state = record { rows = rows; pending = pending; work = Some work }; answer = Waits (status task) }
+    record {
+      state = record { rows = rows; pending = pending; work = Some work };
+      answer = Waits (status task);
+      why = None;
+    }
 
 -- Nothing changes.
 abbrev pub ignores : State → Turned
-ignores s = record { state = s; answer = Ignored }
+ignores s = record { state = s; answer = Ignored; why = None }
 
 -- The row's counter is raised, and a signature is needed (WebAuthn Level 2, section 6.3.3).
 abbrev pub signs : List Row → Option Waiting → (cid : ℕ) → Asserting → Turned

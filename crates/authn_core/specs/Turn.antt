@@ -1,5 +1,5 @@
 -- The authenticator's turns: what each event makes of its state, and what it answers (CTAP 2.1, section 6).
-use Rattle.std.specs.Prelude.{ℕ, List, [], map, Option, Some, None, option_map, Result, Ok, Err}
+use Rattle.std.specs.Prelude.{ℕ, List, [], ◌∷◌, map, Option, Some, None, option_map, Result, Ok, Err}
 use Rattle.cred_table.specs.{declared.row.Row.Row, Waiting.Waiting}
 use Rattle.ctap_message.specs.Asked.{Asked, MakeCredential, GetAssertion, GetInfo, Reset, GetNextAssertion, Selection}
 use Rattle.ctap_message.specs.{Answers.info_answer, Members.has_entries, Descriptors.ids_of, Requests.read_of}
@@ -7,13 +7,15 @@ use Rattle.sha2.specs.Sha256.{sha256}
 use Rattle.authn_core.specs.State.{Setup, Task, Resets, Selects, AsksMake, WantsKey, SignsMake, AsksAssert, SignsAssert}
 use Rattle.authn_core.specs.State.{ChannelTask, State, Event, Request, PresenceIs, KeyIs, SignatureIs, Cancel, Drop}
 use Rattle.authn_core.specs.State.{Answer, Nothing, Turned, status, answers, refuses, waits, ignores}
+use Rattle.authn_core.specs.declared.refusal.Refusal.{Refusal}
+use Rattle.authn_core.specs.declared.refusal.Refusal.TheVariants as because
 use Rattle.authn_core.specs.Asking.{reset_begins, asked_alone}
 use Rattle.authn_core.specs.MakeCredential.{making, names_one, make_asked, key_wanted, make_signed}
 use Rattle.authn_core.specs.GetAssertion.{applicable, begins, assert_asked, assert_signed, next_begins}
 
 -- Each request empties what is pending, except a getNextAssertion that begins work.
 abbrev pub requested : Setup → List Row → Option Waiting → (now cid : ℕ) → Result Asked ℕ → Turned
-requested u rows pending now cid (Err code) = refuses rows None code
+requested u rows pending now cid (Err code) = refuses rows None (because.BadRequest code)
 requested u rows pending now cid (Ok GetInfo) = answers rows None (info_answer u.aaguid)
 requested u rows pending now cid (Ok Reset) = reset_begins rows u.began now cid
 requested u rows pending now cid (Ok Selection) = waits rows None cid Selects
@@ -27,8 +29,9 @@ requested u rows pending now cid (Ok GetNextAssertion) = next_begins rows pendin
 
 -- A reply to what waits; any other is ignored.
 abbrev pub replied : Setup → State → (now cid : ℕ) → Task → Event → Turned
-replied u s now cid Resets (PresenceIs reply) = asked_alone (refuses [] None 0x00) s.rows s.pending reply
-replied u s now cid Selects (PresenceIs reply) = asked_alone (refuses s.rows s.pending 0x00) s.rows s.pending reply
+replied u s now cid Resets (PresenceIs reply) = asked_alone (answers [] None (0x00 ∷ [])) s.rows s.pending reply
+replied u s now cid Selects (PresenceIs reply) =
+    asked_alone (answers s.rows s.pending (0x00 ∷ [])) s.rows s.pending reply
 replied u s now cid (AsksMake m excluded) (PresenceIs reply) =
     make_asked u.capacity s.rows s.pending cid m excluded reply
 replied u s now cid (WantsKey m) (KeyIs key) = key_wanted u.aaguid s.rows s.pending cid m key
@@ -45,8 +48,9 @@ reply_turn u s now (Some work) reply = replied u s now work.cid work.task reply
 -- the turn of an event at a moment
 unfoldable pub turn : Setup → State → (now : ℕ) → Event → Turned
 turn u s now (Request cid bytes) = requested u s.rows s.pending now cid (read_of bytes)
-turn u s now Cancel = refuses s.rows None 0x2d  -- KEEPALIVE_CANCEL
-turn u s now Drop = record { state = record { rows = s.rows; pending = None; work = None }; answer = Nothing }
+turn u s now Cancel = refuses s.rows None because.Cancelled
+turn u s now Drop =
+    record { state = record { rows = s.rows; pending = None; work = None }; answer = Nothing; why = None }
 turn u s now reply = reply_turn u s now s.work reply
 
 -- ---- an authenticator
@@ -73,6 +77,10 @@ first_state start = record {
 -- the same after an event at this moment
 abbrev pub core_after : CoreState → (now : ℕ) → Event → CoreState
 core_after core now e = record { setup = core.setup; state = (turn core.setup core.state now e).state }
+
+-- why it refuses, where it does
+abbrev pub core_why : CoreState → (now : ℕ) → Event → Option Refusal
+core_why core now e = (turn core.setup core.state now e).why
 
 -- what it answers
 abbrev pub core_answer : CoreState → (now : ℕ) → Event → Answer

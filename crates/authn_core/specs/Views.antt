@@ -4,6 +4,7 @@ use Rattle.authn_core.specs.declared.authenticator.Turn.{Turn}
 use Rattle.authn_core.specs.declared.authenticator.Turn.TheVariants as turns
 use Rattle.authn_core.specs.declared.authenticator.Need.{Need}
 use Rattle.authn_core.specs.declared.authenticator.Need.TheVariants as need
+use Rattle.authn_core.specs.declared.refusal.Refusal.{Refusal}
 use Rattle.authn_core.specs.declared.work.KeepaliveStatus.{KeepaliveStatus}
 use Rattle.authn_core.specs.declared.work.KeepaliveStatus.TheVariants.{Processing, PresenceNeeded}
 use Rattle.authn_core.specs.declared.work.Work.{Work as WaitingWork}
@@ -54,9 +55,15 @@ work_of w = record { cid = w.cid; status = status_number w.status }
 -- what a turn returns, with the bytes that stand beside it
 abbrev pub answer_of : Turn → List ℕ → Answer
 answer_of turns.Answer bytes = Answered bytes
+answer_of (turns.Refuses why) bytes = Answered bytes
 answer_of (turns.Waits status) bytes = Waits (status_number status)
 answer_of turns.Ignored bytes = Ignored
 answer_of turns.Nothing bytes = Nothing
+
+-- why it refuses, where it does
+abbrev pub why_of : Turn → Option Refusal
+why_of (turns.Refuses why) = Some why
+why_of turn = None
 
 abbrev pub event_of : Happening → Event
 event_of (happening.Request cid message) = Request cid message.now
@@ -96,11 +103,11 @@ after v t = record {
 
 -- A turn was taken: the state is what it makes, the answer what it returns, and all else stays.
 abbrev pub Takes : (old new : Held) → Turn → List ℕ → Turned → Type 0
-Takes old new result bytes t = (new ≡ after old t) × (answer_of result bytes ≡ t.answer)
+Takes old new result bytes t = (new ≡ after old t) × (answer_of result bytes ≡ t.answer) × (why_of result ≡ t.why)
 
 -- A turn was taken after which work waits with a status: the state is what it makes, and all else stays.
 abbrev pub TakesWork : (old new : Held) → KeepaliveStatus → Turned → Type 0
-TakesWork old new result t = (new ≡ after old t) × (Waits (status_number result) ≡ t.answer)
+TakesWork old new result t = (new ≡ after old t) × (Waits (status_number result) ≡ t.answer) × (None ≡ t.why)
 
 -- what the caller has to hand in
 pub data Needed : Type 0 where

@@ -1,21 +1,22 @@
 //! The authenticator.
 
-ghost use Rattle.std.specs.Prelude.{◌≡◌, ◌≤◌, option_map, length, List, Ok, MatchResult};
+ghost use Rattle.std.specs.Prelude.{◌≡◌, ◌≤◌, max, option_map, length, List, Ok, MatchResult};
 ghost use Rattle.cred_table.specs.declared.row.Row.{Row as AnyRow};
 ghost use Rattle.cred_table.specs.Snapshots.{Loads, Refuses};
 ghost use Rattle.cred_table.specs.Waiting.{pending_count};
 ghost use Rattle.authn_core.specs.State.{Request as Asks, PresenceIs, KeyIs, SignatureIs, Cancel, Drop as DropWork, Nothing};
-ghost use Rattle.authn_core.specs.Turn.{waiting};
+ghost use Rattle.authn_core.specs.Turn.{waiting, core_why};
 ghost use Rattle.authn_core.specs.Needs.{IsNeed};
-ghost use Rattle.authn_core.specs.Views.{IsTurn, answer_of, first_held, event_of, needs, needed, is_presence, is_key, is_sign, sign as needs_sign, work_of};
+ghost use Rattle.authn_core.specs.Views.{IsTurn, answer_of, why_of, first_held, event_of, needs, needed, is_presence, is_key, is_sign, sign as needs_sign, work_of};
 
 use crate::event::Event;
+use crate::refusal::Refusal;
 use crate::replies::{NewKey, Presence, Signature};
 use crate::task::{ChannelTask, Task};
 use crate::work::{KeepaliveStatus, Work};
 use arrayvec::ArrayVec;
 use cred_table::{Pending, SnapshotFault, Table, load};
-use ctap_message::{Answer, Status, read_request};
+use ctap_message::{Answer, read_request};
 use std::marker::Model;
 
 /// What the turn of an event returns.
@@ -23,6 +24,8 @@ use std::marker::Model;
 pub enum Turn {
     /// The answer is due, whose message was written.
     Answer,
+    /// The command is refused: the answer is due, whose message was written.
+    Refuses(Refusal),
     /// Work waits with this status.
     Waits(KeepaliveStatus),
     /// The reply wasn't needed.
@@ -207,13 +210,14 @@ impl<T: Table<C>, const C: usize> Core<T, C> {
         self.take(0, &Event::Drop, &mut Answer::new());
     }
 
-    /// Takes the turn of an event that came at `at`. Where it returns [`Turn::Answer`], the answer's message is in
-    /// `answer`.
+    /// Takes the turn of an event that came at `at`. Where it returns [`Turn::Answer`] or
+    /// [`Turn::Refuses`], the answer's message is in `answer`.
     // It isn't inlined: where it is, what reads a request isn't inlined into it.
     #[inline(never)]
     #[tactic(auto, unfolding(crate::specs::Turn::turn))]
     pub fn take(&mut self, at: u64, event: &Event<'_>, answer: &mut Answer) -> Turn
-        ensures { IsTurn self.old self.new (answer_of result answer.new.items) at (event_of event.now) }
+        ensures turn { IsTurn self.old self.new (answer_of result answer.new.items) at (event_of event.now) }
+        ensures why { why_of result ≡ core_why self.old.core (max self.old.latest at) (event_of event.now) }
     {
         self.latest = self.latest.max(at);
         match event {
@@ -223,7 +227,7 @@ impl<T: Table<C>, const C: usize> Core<T, C> {
                 self.serve(*cid, request, answer)
             }
             Event::Presence(_) | Event::Key(_) | Event::Signature(_) => self.reply(event, answer),
-            Event::Cancel => self.refuse_all(Status::KEEPALIVE_CANCEL, answer),
+            Event::Cancel => self.refuse_all(Refusal::Cancelled, answer),
             Event::Drop => {
                 self.pending.clear();
                 self.work = None;

@@ -19,7 +19,7 @@ mod authenticator;
 mod commands;
 mod event;
 pub mod laws;
-mod refusals;
+mod refusal;
 mod replies;
 mod task;
 mod turns;
@@ -27,5 +27,6 @@ mod work;
 
 pub use authenticator::{Config, Core, Need, Turn};
 pub use event::Event;
+pub use refusal::Refusal;
 pub use replies::{NewKey, Presence, Signature};
 pub use work::{KeepaliveStatus, Work};

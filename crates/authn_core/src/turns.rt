@@ -9,6 +9,7 @@ ghost use Rattle.authn_core.specs.Views.{Takes, TakesWork, event_of, task_of};
 
 use crate::authenticator::{Core, Turn};
 use crate::event::Event;
+use crate::refusal::Refusal;
 use crate::task::{ChannelTask, Task};
 use crate::work::KeepaliveStatus;
 use cred_table::Table;
@@ -29,7 +30,7 @@ impl<T: Table<C>, const C: usize> Core<T, C> {
             self.old.core.state.pending self.old.latest cid (shown read.entry)) }
     {
         match read {
-            Err(status) => self.refuse_all(status, answer),
+            Err(status) => self.refuse_all(Refusal::BadRequest { status: status.0 }, answer),
             Ok(Request::Make(make)) => Turn::Waits(self.begin_make(cid, make)),
             Ok(Request::Assert(assert)) => self.begin_assert(cid, assert, answer),
             Ok(Request::Info) => self.inform(answer),
@@ -39,22 +40,22 @@ impl<T: Table<C>, const C: usize> Core<T, C> {
         }
     }
 
-    /// Ends the work with a status.
-    pub(crate) fn refuse(&mut self, status: Status, answer: &mut Answer) -> Turn
+    /// Ends the work with the status of a refusal.
+    pub(crate) fn refuse(&mut self, why: Refusal, answer: &mut Answer) -> Turn
         ensures { Takes self.old self.new result answer.new.items
-            (refuses self.old.core.state.rows self.old.core.state.pending status.0) }
+            (refuses self.old.core.state.rows self.old.core.state.pending why) }
     {
         self.work = None;
-        write_status(status, answer);
-        Turn::Answer
+        write_status(why.status(), answer);
+        Turn::Refuses(why)
     }
 
-    /// Ends the work with a status, and nothing is pending.
-    pub(crate) fn refuse_all(&mut self, status: Status, answer: &mut Answer) -> Turn
-        ensures { Takes self.old self.new result answer.new.items (refuses self.old.core.state.rows None status.0) }
+    /// Ends the work with the status of a refusal, and nothing is pending.
+    pub(crate) fn refuse_all(&mut self, why: Refusal, answer: &mut Answer) -> Turn
+        ensures { Takes self.old self.new result answer.new.items (refuses self.old.core.state.rows None why) }
     {
         self.pending.clear();
-        self.refuse(status, answer)
+        self.refuse(why, answer)
     }
 
     /// Lets work begin or go on, and returns what it waits with.

@@ -153,9 +153,9 @@ message_finishes a (x ∷ y ∷ more) cid cmd bytes none low high served c time 
 
 -- A ruling that is known says what the verdict is.
 verdict_as : (a : Assembly) (f : Fields) (ruling : Ruling) → ruling_of a.given a.current None f ≡ ruling
-    → verdict a None f ≡ ruling_verdict a.given None f (message_after a.current f ruling) ruling
+    → verdict a None f ≡ ruling_verdict a.given a.current None f (message_after a.current f ruling) ruling
 unfolding verdict
-verdict_as a f ruling h = ap (λ r. ruling_verdict a.given None f (message_after a.current f r) r) h
+verdict_as a f ruling h = ap (λ r. ruling_verdict a.given a.current None f (message_after a.current f r) r) h
 
 continues_verdict : (arrivals : List Arrival) (given since : ℕ) (m : Open) (finished : List ℕ) → 0 < length arrivals →
     m.last ≡ since → InTime since arrivals

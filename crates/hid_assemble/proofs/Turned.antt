@@ -8,7 +8,7 @@ use Rattle.hid_assemble.specs.Verdicts.{is_turned_away, ruling_verdict, verdict}
 -- a packet that begins something, under any row
 begins_turned : (g : ℕ) (o : Option Open) (w : Option ℕ) (cid cmd len : ℕ) (part : List ℕ) (r : Ruling)
     → ruling_of g o w (initialization cid cmd len part) ≡ r
-    → is_noise r ≡ is_turned_away (ruling_verdict g w (initialization cid cmd len part)
+    → is_noise r ≡ is_turned_away (ruling_verdict g o w (initialization cid cmd len part)
     (message_after o (initialization cid cmd len part) r) r)
 unfolding ruling_of message_after ruling_verdict
 begins_turned g o w cid cmd len part r e = grind (arith)
@@ -16,7 +16,7 @@ begins_turned g o w cid cmd len part r e = grind (arith)
 -- one that continues: the last of a message is only so where one is open
 continues_turned : (g : ℕ) (o : Option Open) (w : Option ℕ) (cid number : ℕ) (part : List ℕ) (r : Ruling)
     → ruling_of g o w (continuation cid number part) ≡ r
-    → is_noise r ≡ is_turned_away (ruling_verdict g w (continuation cid number part)
+    → is_noise r ≡ is_turned_away (ruling_verdict g o w (continuation cid number part)
     (message_after o (continuation cid number part) r) r)
 unfolding ruling_of continuation_row message_after ruling_verdict
 continues_turned g o w cid number part r e = grind (arith)

@@ -1,6 +1,6 @@
 pub mod Table
 pub mod Assembly
 pub mod Verdicts
-pub mod Codes
+pub mod Refusals
 pub mod Kept
 pub mod Receiving

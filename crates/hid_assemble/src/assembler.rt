@@ -4,10 +4,11 @@ ghost use Rattle.std.specs.Prelude.{◌≡◌, ℕ, ◌+◌, ◌*◌, ◌≤◌,
 ghost use Rattle.hid_packet.specs.Packet.{fields, initialization, continuation};
 ghost use Rattle.hid_assemble.specs.Assembly.{IsLawful, is_overdue, still_open, held_bytes, accepted, drop_on};
 ghost use Rattle.hid_assemble.specs.Table.{LAST_CHANNEL, is_noise, is_on, ruling_of};
+ghost use Rattle.hid_assemble.specs.Refusals.{due_number, last_of, busy_channel};
 ghost use Rattle.hid_assemble.specs.Verdicts.{verdict};
 ghost use Rattle.hid_packet.specs.Limits.{CONTINUATION_DATA, INITIALIZATION_DATA, LONGEST_HELD, LONGEST_MESSAGE};
 
-use crate::code::ErrorCode;
+use crate::refusal::Refusal;
 use crate::table::{Continuation, ReplyRow, continuation_row, initialization_row};
 use crate::verdict::Verdict;
 use hid_packet::{
@@ -62,10 +63,20 @@ fn greet(on: u32, channel: u32, part: &[u8], working: Option<u32>) -> Verdict
     }
 }
 
-fn refuse(cid: u32, code: ErrorCode) -> Verdict
-    ensures { result ≡ Verdict.Refuse cid code }
+fn refuse(cid: u32, why: Refusal) -> Verdict
+    ensures { result ≡ Verdict.Refuse cid why }
 {
-    Verdict::Refuse { cid, code }
+    Verdict::Refuse { cid, why }
+}
+
+/// Returns the channel that is busy, for a packet of another one.
+fn busy_channel(current: Option<u32>, working: Option<u32>, cid: u32) -> u32
+    ensures { result ≡ busy_channel current working cid }
+{
+    match current {
+        Some(channel) if channel != cid => channel,
+        _ => working.unwrap_or(cid),
+    }
 }
 
 /// The channels that were given out, and the one message that may be open. A packet is served by
@@ -211,12 +222,12 @@ impl Assembler {
         match initialization_row(self.given, self.open_on(), working, cid, cmd, len) {
             ReplyRow::CancelsWork => Verdict::CancelWork,
             ReplyRow::CancelsNothing => Verdict::Ignored,
-            ReplyRow::NoSuchChannel => refuse(cid, ErrorCode::InvalidChannel),
+            ReplyRow::NoSuchChannel => refuse(cid, Refusal::NoSuchChannel { given: self.given }),
             ReplyRow::InitLength => {
                 self.drop_on(cid);
-                refuse(cid, ErrorCode::InvalidLength)
+                refuse(cid, Refusal::InitLength { len })
             }
-            ReplyRow::InitFull => refuse(cid, ErrorCode::Other),
+            ReplyRow::InitFull => refuse(cid, Refusal::NoChannelLeft),
             ReplyRow::InitNew => {
                 self.given += 1;
                 greet(BROADCAST, self.given, part, None)
@@ -225,13 +236,18 @@ impl Assembler {
                 self.drop_on(cid);
                 greet(cid, cid, part, working)
             }
-            ReplyRow::BusyElsewhere | ReplyRow::BusyHere => refuse(cid, ErrorCode::ChannelBusy),
-            ReplyRow::BrokenOff => {
-                self.contents = Contents::Nothing;
-                refuse(cid, ErrorCode::InvalidSequence)
+            ReplyRow::BusyElsewhere => {
+                let channel = busy_channel(self.open_on(), working, cid);
+                refuse(cid, Refusal::BusyElsewhere { channel })
             }
-            ReplyRow::NoSuchCommand => refuse(cid, ErrorCode::InvalidCommand),
-            ReplyRow::BadLength => refuse(cid, ErrorCode::InvalidLength),
+            ReplyRow::BusyHere => refuse(cid, Refusal::BusyHere),
+            ReplyRow::BrokenOff => {
+                let due = self.due();
+                self.contents = Contents::Nothing;
+                refuse(cid, Refusal::BrokenOff { due })
+            }
+            ReplyRow::NoSuchCommand => refuse(cid, Refusal::NoSuchCommand { cmd }),
+            ReplyRow::BadLength => refuse(cid, Refusal::MessageLength { cmd, len }),
             ReplyRow::Short => {
                 put_data(&mut self.buffer, 0, part);
                 self.contents = Contents::Finished(len);
@@ -267,7 +283,13 @@ impl Assembler {
             Continuation::Stray => Verdict::Ignored,
             Continuation::WrongNumber => {
                 self.contents = Contents::Nothing;
-                refuse(cid, ErrorCode::InvalidSequence)
+                refuse(
+                    cid,
+                    Refusal::WrongNumber {
+                        came: number,
+                        due: message.kept,
+                    },
+                )
             }
             Continuation::Kept => {
                 put_data(&mut self.buffer, held, part);
@@ -319,6 +341,26 @@ impl Assembler {
         match self.contents {
             Contents::Open(message) => Some(message.cid),
             Contents::Nothing | Contents::Finished(_) => None,
+        }
+    }
+
+    /// Returns the number of the continuation packet that is due, 0 where no message is open.
+    fn due(&self) -> u8
+        ensures { result ≡ due_number self.now.current }
+    {
+        match self.contents {
+            Contents::Open(message) => message.kept,
+            Contents::Nothing | Contents::Finished(_) => 0,
+        }
+    }
+
+    /// Returns the moment of the last packet of the open message, 0 where no message is open.
+    pub fn last(&self) -> u64
+        ensures { result ≡ last_of self.now.current }
+    {
+        match self.contents {
+            Contents::Open(message) => message.last,
+            Contents::Nothing | Contents::Finished(_) => 0,
         }
     }
 

@@ -19,12 +19,12 @@
 #![tactic(auto)]
 
 mod assembler;
-mod code;
 pub mod laws;
+mod refusal;
 mod table;
 mod verdict;
 
 pub use assembler::{Assembler, MESSAGE_TIMEOUT};
-pub use code::ErrorCode;
+pub use refusal::Refusal;
 pub use table::{Continuation, LAST_CHANNEL, ReplyRow};
 pub use verdict::Verdict;

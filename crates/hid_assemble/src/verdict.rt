@@ -1,4 +1,4 @@
-use crate::code::ErrorCode;
+use crate::refusal::Refusal;
 
 /// What becomes of a packet, and what is to be sent for it.
 #[derive(Clone, Copy, Debug, PartialEq, Eq)]
@@ -15,7 +15,7 @@ pub enum Verdict {
     /// An ERROR is sent on the packet's channel.
     Refuse {
         cid: u32,
-        code: ErrorCode,
+        why: Refusal,
     },
     /// An INIT is answered on the channel `on` with the channel that its host is to use.
     Greet {

@@ -12,7 +12,7 @@ use crate::wording::Wording;
 use hid_packet::{BROADCAST, Packet};
 use session_log::{CAPACITY, Failed, Line, LogFault, Source, Target, Window, next_line, read_line};
 use session_walk::{Awaited, LogWalk, Transaction, channel_of};
-use token_session::Session;
+use token_session::{Causes, Session};
 
 /// More than the most lines of a log.
 const LINES: u64 = 1 << 33;
@@ -36,6 +36,8 @@ pub struct Difference {
     pub reply: Option<Awaited>,
     /// Whether the input is a continuation packet of no open message.
     pub is_stray: bool,
+    /// Why the session refused the input, or dropped a message before it.
+    pub causes: Causes,
     /// The input's moment, 0 before any.
     pub(crate) at: u64,
     /// The last KEEPALIVE that the session sent, and its moment.

@@ -4,6 +4,7 @@
 #![tactic(auto)]
 
 mod authenticator_data;
+mod cause;
 mod counts;
 mod difference;
 mod ends;

@@ -6,7 +6,7 @@ use hid_packet::command::KEEPALIVE;
 use hid_packet::{Outbox, Packet, View};
 use session_log::{CAPACITY, Line};
 use session_walk::{Awaited, LogWalk, Role, channel_of};
-use token_session::Session;
+use token_session::{Causes, Session};
 
 /// More than the most packets of a message.
 pub const PACKETS: usize = 130;
@@ -36,6 +36,8 @@ pub struct PlayedLog {
     reply: Option<Awaited>,
     /// Whether the last input is a continuation packet of no open message.
     is_stray: bool,
+    /// Why the session refused the last input, or dropped a message before it.
+    causes: Causes,
     /// The moment of the last input, and the latest moment, at which the session is.
     at: u64,
     now: u64,
@@ -59,6 +61,10 @@ impl PlayedLog {
             awaited: None,
             reply: None,
             is_stray: false,
+            causes: Causes {
+                time: None,
+                input: None,
+            },
             at: 0,
             now: 0,
             kept_alive: None,
@@ -99,7 +105,7 @@ impl PlayedLog {
                 }
                 self.at = timed.at;
                 self.now = self.now.max(timed.at);
-                session.step(timed.at, timed.input, &mut self.outbox);
+                self.causes = session.step(timed.at, timed.input, &mut self.outbox);
                 self.awaited = Awaited::of(&session.need());
                 self.input = number;
                 self.compared = 0;
@@ -209,6 +215,7 @@ impl PlayedLog {
             awaited: self.awaited,
             reply: self.reply,
             is_stray: self.is_stray,
+            causes: self.causes,
             at: self.at,
             kept_alive: self.kept_alive,
         };

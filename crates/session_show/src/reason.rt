@@ -1,5 +1,6 @@
 //! Why the key doesn't send what a log has, as far as the lines before it show that.
 
+use crate::cause::write_cause;
 use crate::difference::Difference;
 use crate::entry::EXCLUDED;
 use crate::pen::Pen;
@@ -7,9 +8,13 @@ use crate::putting::Written;
 use hid_packet::View;
 use hid_packet::command::{CBOR, ERROR};
 use session_walk::{Followed, LogWalk, Transaction, channel_of};
+use token_session::Cause;
 
 /// The code of an ERROR that refuses a message since another one is served.
 const CHANNEL_BUSY: u8 = 0x06;
+
+/// The code of an ERROR that says that a message wasn't finished in time.
+const MESSAGE_TIMEOUT: u8 = 0x05;
 
 /// How long after a KEEPALIVE the next one is due, in milliseconds (CTAP 2.1, section 11.2.9.1.7).
 const KEEPALIVE_PERIOD: u64 = 100;
@@ -48,6 +53,17 @@ impl Written for Reason<'_> {
         else {
             return;
         };
+        let cause = match self.difference.causes.time {
+            Some(overdue) if cmd == ERROR && *code == MESSAGE_TIMEOUT => Some(Cause::Transport(
+                overdue,
+            )),
+            _ => self.difference.causes.input,
+        };
+        if let Some(cause) = cause
+            && (cmd == ERROR || (cmd == CBOR && *code != 0))
+        {
+            write_cause(pen, cause);
+        }
         if cmd == ERROR
             && *code == CHANNEL_BUSY
             && let Some(other) = self.walk.channels.held_beside(cid)

@@ -25,7 +25,7 @@ record Asks (m : Message) (v : Verdict) : Type 0 where
 
 asked : (g : ℕ) (w : Option ℕ) (o : Option Open) (f : Fields) (m : Message) (r : Ruling)
     → message_after o f r ≡ Some m → m.cmd ≡ CBOR
-    → Asks m (ruling_verdict g w f (Some m) r)
+    → Asks m (ruling_verdict g o w f (Some m) r)
 unfolding message_after ruling_verdict
 asked g w o f m r h is = record { quiet = grind (arith, nat_tests); asks = grind (arith, nat_tests) }
 

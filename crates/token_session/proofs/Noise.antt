@@ -29,7 +29,7 @@ pub record Leaves (t : MachineTurn) (u : MachineTurn) : Type 0 where
 abbrev ruled : MachineState → Fields → List (List ℕ) → Ruling → MachineTurn
 ruled s f early r =
     let m = message_after s.current f r in
-    let v = ruling_verdict s.given (working s.core) f m r in
+    let v = ruling_verdict s.given s.current (working s.core) f m r in
     happens s.now (given_after s.given r) (open_after s.current s.now f r) s.core s.keepalive_at early
     (verdict_packets v (bytes_of m)) (verdict_event v (bytes_of m))
 
@@ -40,7 +40,7 @@ row_leaves s f early r h = record { state = grind arith; request = grind arith }
 
 -- An event that leaves the authenticator as it is, and that it doesn't answer, leaves what a tick leaves.
 event_leaves : (s : MachineState) (early : List (List ℕ)) (e : Event)
-    → turn_of (s.core).setup (s.core).state s.now e ≡ record { state = (s.core).state; answer = Ignored }
+    → turn_of (s.core).setup (s.core).state s.now e ≡ record { state = (s.core).state; answer = Ignored; why = None }
     → request_in (Some e) ≡ None
     → Leaves (happens s.now s.given s.current s.core s.keepalive_at early [] (Some e)) (served s early Tick)
 unfolding answer_keeps_alive

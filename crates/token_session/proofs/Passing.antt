@@ -4,6 +4,9 @@ use Rattle.std.proofs.{Common.List, Common.nat_le, Common.arith, lemmas.Bool.Dec
 use Rattle.hid_assemble.specs.{Table.Open, Assembly.Assembly, Assembly.is_overdue, Assembly.still_open}
 use Rattle.authn_core.specs.Turn.{CoreState, waiting}
 use Rattle.token_session.specs.{Replies.error, declared.input.Meters.Meters, Meters.SessionState}
+use Rattle.hid_assemble.specs.Refusals.{last_of}
+use Rattle.hid_assemble.specs.declared.refusal.Refusal.{Refusal, TheVariants.Overdue}
+use Rattle.token_session.specs.Causes.{time_cause}
 use Rattle.token_session.specs.Machine.{MachineState, time_passed}
 use Rattle.token_session.specs.Events.{keepalive_due, keepalive_packets}
 
@@ -23,10 +26,12 @@ pub early : (t last gap : ℕ) → gap ≡ t - last → gap < 100 → nat_le (la
 early t last gap e h = grind (arith, nat_tests)
 
 -- A session, as time has passed to t, with what it sent.
-pub record IsPassed (v : SessionState) (t : ℕ) (new : SessionState) (sent : List (List ℕ)) : Type 0 where
+pub record IsPassed (v : SessionState) (t : ℕ) (new : SessionState) (sent : List (List ℕ)) (cause : Option Refusal)
+    : Type 0 where
   pub state : new.machine ≡ (time_passed v.machine t).state
   pub meters : new.meters ≡ v.meters
   pub packets : sent ≡ (time_passed v.machine t).packets
+  pub why : cause ≡ time_cause v.machine.current t
 
 -- the channel of a message that is given up
 abbrev dropped : Option Open → ℕ → Option ℕ
@@ -35,18 +40,22 @@ dropped c t = cond (is_overdue c t) (option_map (λ m. m.cid) c) None
 module _ (n b t : ℕ) (a d : Assembly) (k : CoreState) (m : Meters) (v : SessionState) (sent : List (List ℕ))
     (is : record { machine = whole n a k b; meters = m } ≡ v) (kept : d ≡ passed_to a t) where
   pub late_passed : (x : ℕ) → Some x ≡ dropped a.current t → sent ≡ error x 5
-      → IsPassed v t (record { machine = whole t d k b; meters = m }) sent
-  unfolding time_passed is_overdue
-  late_passed x r s = rw (← is, kept, s) (record { state = grind arith; meters = refl; packets = grind arith })
+      → (last : ℕ) → last ≡ last_of a.current
+      → IsPassed v t (record { machine = whole t d k b; meters = m }) sent (Some (Overdue last t))
+  unfolding time_passed is_overdue time_cause
+  late_passed x r s last l =
+      rw (← is, kept, s, l) (record { state = grind arith; meters = refl; packets = grind arith; why = grind arith })
 
   -- where no message is overdue
   pub due_passed : None ≡ dropped a.current t → keepalive_due (waiting k) b t ≡ true
       → sent ≡ keepalive_packets (waiting k)
-      → IsPassed v t (record { machine = whole t d k t; meters = m }) sent
-  unfolding time_passed is_overdue
-  due_passed r due s = rw (← is, kept, s) (record { state = grind arith; meters = refl; packets = grind arith })
+      → IsPassed v t (record { machine = whole t d k t; meters = m }) sent None
+  unfolding time_passed is_overdue time_cause
+  due_passed r due s =
+      rw (← is, kept, s) (record { state = grind arith; meters = refl; packets = grind arith; why = grind arith })
 
   pub quiet_passed : None ≡ dropped a.current t → keepalive_due (waiting k) b t ≡ false → sent ≡ []
-      → IsPassed v t (record { machine = whole t d k b; meters = m }) sent
-  unfolding time_passed is_overdue
-  quiet_passed r due s = rw (← is, kept, s) (record { state = grind arith; meters = refl; packets = grind arith })
+      → IsPassed v t (record { machine = whole t d k b; meters = m }) sent None
+  unfolding time_passed is_overdue time_cause
+  quiet_passed r due s =
+      rw (← is, kept, s) (record { state = grind arith; meters = refl; packets = grind arith; why = grind arith })

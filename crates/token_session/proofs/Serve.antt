@@ -35,7 +35,7 @@ new_open g o w t i =
 -- these packets and those of a finished PING are what is sent under the ruling
 abbrev SendsAs : ℕ → Option Open → Option ℕ → Fields → List (List ℕ) → Ruling → Type 0
 SendsAs g c w f ps r = ps ++ ping_packets (message_after c f r)
-    ≡ verdict_packets (ruling_verdict g w f (message_after c f r) r) (bytes_of (message_after c f r))
+    ≡ verdict_packets (ruling_verdict g c w f (message_after c f r) r) (bytes_of (message_after c f r))
 
 -- The ruling does to each part what the history says.
 pub record Serves (g : ℕ) (o : Option Begun) (w : Option ℕ) (t : ℕ) (x : Packet64) (f : Fields) (r : Ruling) : Type 0
@@ -44,7 +44,7 @@ pub record Serves (g : ℕ) (o : Option Begun) (w : Option ℕ) (t : ℕ) (x : P
     pub current : option_map as_open (new_open g o w t (Packet x)) ≡ open_after (option_map as_open o) t f r
     pub message : finished o (admits g o w x.0) (Packet x) ≡ message_after (option_map as_open o) f r
     pub event : packet_event w (message_after (option_map as_open o) f r) x.0
-        ≡ verdict_event (ruling_verdict g w f (message_after (option_map as_open o) f r) r)
+        ≡ verdict_event (ruling_verdict g (option_map as_open o) w f (message_after (option_map as_open o) f r) r)
         (bytes_of (message_after (option_map as_open o) f r))
     pub packets : SendsAs g (option_map as_open o) w f (table_packets g o w (Packet x)) r
 
@@ -139,7 +139,7 @@ event_row : (s : Tests) (w : Option ℕ) (g : ℕ) (o : Option Open) (f : Fields
     → is_on w (channel_of f) ≡ s.on
     → m ≡ message_after o f (Begins (row s))
     → cond (s.cancel && s.on) (Some Cancel) (cond ((s.init && s.eight) && s.on) (Some Drop) (request_event m))
-    ≡ verdict_event (ruling_verdict g w f m (Begins (row s))) (bytes_of m)
+    ≡ verdict_event (ruling_verdict g o w f m (Begins (row s))) (bytes_of m)
 unfolding message_after ruling_verdict
 event_row s w g o f m a on is = grind arith
 

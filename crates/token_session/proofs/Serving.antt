@@ -5,6 +5,9 @@ use Rattle.hid_assemble.specs.{declared.verdict.Verdict.Verdict, Verdicts.verdic
 use Rattle.authn_core.specs.State.{Event}
 use Rattle.authn_core.specs.Turn.{CoreState, working}
 use Rattle.token_session.specs.declared.input.{Input.Input, Input.TheVariants.Packet, Timed.Timed, Meters.Meters}
+use Rattle.std.specs.Option.{option_or}
+use Rattle.token_session.specs.declared.cause.Cause.{Cause}
+use Rattle.token_session.specs.Causes.{verdict_cause, event_cause, served_cause}
 use Rattle.token_session.specs.Machine.{MachineState, MachineTurn, event_keeps_alive, time_passed, turn, served}
 use Rattle.token_session.{specs.Machine.happens, proofs.Passing.whole}
 use Rattle.token_session.specs.{Events.event_core, Events.event_packets, Meters.SessionState, Meters.counted}
@@ -12,10 +15,11 @@ use Rattle.token_session.specs.Effects.{assembly_after, input_event, input_verdi
 
 -- An input was served: what is left after it, and what it sent.
 pub record IsServed (v : SessionState) (early : List (List ℕ)) (i : Input) (left : SessionState) (sent : List (List ℕ))
-    : Type 0 where
+    (cause : Option Cause) : Type 0 where
   pub state : left.machine ≡ (served v.machine early i).state
   pub meters : left.meters ≡ counted v.meters (request_in (served v.machine early i).event)
   pub packets : sent ≡ (served v.machine early i).packets
+  pub why : cause ≡ served_cause v.machine i
 
 module _ (n b : ℕ) (a d : Assembly) (k : CoreState) (m : Meters) (v : SessionState) (early : List (List ℕ))
     (w : Option ℕ)
@@ -33,10 +37,21 @@ module _ (n b : ℕ) (a d : Assembly) (k : CoreState) (m : Meters) (v : SessionS
       input_turn (Packet x) ed = rw (ed, ew) refl
       input_turn other ed = rw ed refl
 
+  caused : (E : Option Event) → E ≡ input_event i V d.finished
+      → option_or (verdict_cause V) (event_cause k n E) ≡ served_cause v.machine i
+  unfolding accepted verdict
+  caused E eE = rw (← is, eE, eV) (input_caused i ed)
+    where
+      input_caused : (i : Input) → d ≡ assembly_after a n w i
+          → option_or (verdict_cause (input_verdict a w i)) (event_cause k n (input_event i (input_verdict a w i) d.finished))
+          ≡ served_cause (whole n a k b) i
+      input_caused (Packet x) ed = rw (ed, ew) refl
+      input_caused other ed = rw ed refl
+
   -- by an input that is no event
   pub served_quietly : None ≡ input_event i V d.finished → (out : List (List ℕ)) →
       out ≡ early ++ verdict_packets V d.finished
-      → IsServed v early i (record { machine = whole n d k b; meters = m }) out
+      → IsServed v early i (record { machine = whole n d k b; meters = m }) out (option_or (verdict_cause V) None)
   unfolding counted
   served_quietly eE out es =
       let turn = turned None eE in
@@ -46,6 +61,7 @@ module _ (n b : ℕ) (a d : Assembly) (k : CoreState) (m : Meters) (v : SessionS
             (λ (t : MachineTurn). counted v.meters (request_in t.event)) turn;
         packets = es ∙ ap (λ (ps : List (List ℕ)). early ++ ps) (sym (append-nil (verdict_packets V d.finished)))
             ∙ ap (λ (t : MachineTurn). t.packets) turn;
+        why = caused None eE;
       }
 
   module _ (e : Event) (eE : Some e ≡ input_event i V d.finished) (old : List (List ℕ))
@@ -55,6 +71,7 @@ module _ (n b : ℕ) (a d : Assembly) (k : CoreState) (m : Meters) (v : SessionS
         → b' ≡ cond (event_keeps_alive k n (Some e)) n b → m' ≡ counted m (request_in (Some e)) →
         out ≡ old ++ event_packets k n (Some e)
         → IsServed v early i (record { machine = whole n d k' b'; meters = m' }) out
+        (option_or (verdict_cause V) (event_cause k n (Some e)))
     served_by k' b' m' out ek eb em es =
         let turn = turned (Some e) eE in
         record {
@@ -63,6 +80,7 @@ module _ (n b : ℕ) (a d : Assembly) (k : CoreState) (m : Meters) (v : SessionS
               ∙ ap (λ (t : MachineTurn). counted v.meters (request_in t.event)) turn;
           packets = es ∙ ap (λ (ps : List (List ℕ)). ps ++ event_packets k n (Some e)) eo ∙ append_assoc early _ _
               ∙ ap (λ (t : MachineTurn). t.packets) turn;
+          why = caused (Some e) eE;
         }
 
 pub step_turn : (v mid : MachineState) (t : ℕ) (x : Timed) (early : List (List ℕ)) → t ≡ max v.now x.at

@@ -1,7 +1,7 @@
 -- What a verdict sends and hands to the authenticator, and the request that an event is (CTAP 2.1, section 11.2.9).
 use Rattle.std.specs.Prelude.{ℕ, ◌==◌, List, [], Option, Some, None, option_map, if◌then◌else◌}
 use Rattle.hid_packet.specs.{Commands.PING, Commands.CBOR, Message.written, Packet.fields}
-use Rattle.hid_assemble.specs.{Assembly.Assembly, Assembly.accepted, Verdicts.verdict, Codes.code_number}
+use Rattle.hid_assemble.specs.{Assembly.Assembly, Assembly.accepted, Verdicts.verdict, Refusals.code_number}
 use Rattle.hid_assemble.specs.declared.verdict.Verdict.{Verdict, TheVariants.GreetAndDrop, TheVariants.CancelWork}
 use Rattle.hid_assemble.specs.declared.verdict.Verdict.TheVariants.{Ignored, Kept, Finished, Refuse, Greet}
 use Rattle.authn_core.specs.{State.Event, State.Request, State.Cancel, State.Drop, Turn.Work}
@@ -13,7 +13,7 @@ abbrev pub verdict_packets : Verdict → List ℕ → List (List ℕ)
 verdict_packets Ignored bytes = []
 verdict_packets Kept bytes = []
 verdict_packets (Finished cid cmd) bytes = if cmd == PING then written cid PING bytes else []
-verdict_packets (Refuse cid code) bytes = error cid (code_number code)
+verdict_packets (Refuse cid why) bytes = error cid (code_number why)
 verdict_packets (Greet on cid nonce) bytes = greeting on cid nonce
 verdict_packets (GreetAndDrop on cid nonce) bytes = greeting on cid nonce
 verdict_packets CancelWork bytes = []
@@ -22,7 +22,7 @@ abbrev pub verdict_event : Verdict → List ℕ → Option Event
 verdict_event Ignored bytes = None
 verdict_event Kept bytes = None
 verdict_event (Finished cid cmd) bytes = if cmd == CBOR then Some (Request cid bytes) else None
-verdict_event (Refuse cid code) bytes = None
+verdict_event (Refuse cid why) bytes = None
 verdict_event (Greet on cid nonce) bytes = None
 verdict_event (GreetAndDrop on cid nonce) bytes = Some Drop
 verdict_event CancelWork bytes = Some Cancel

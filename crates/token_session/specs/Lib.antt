@@ -15,3 +15,4 @@ pub mod Signing
 pub mod Arriving
 pub mod Answered
 pub mod Headline
+pub mod Causes

@@ -19,12 +19,14 @@
 //! ```
 #![tactic(auto)]
 
+mod cause;
 mod driving;
 mod input;
 pub mod laws;
 mod service;
 mod session;
 
+pub use cause::{Cause, Causes};
 pub use driving::{BothFault, DriveFault, drive, drive_both, drive_new};
 pub use input::{Input, Meters, Sent, Timed};
 pub use service::KEEPALIVE_PERIOD;

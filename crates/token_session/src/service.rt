@@ -7,9 +7,11 @@ ghost use Rattle.token_session.specs.Machine.{answer_keeps_alive, event_keeps_al
 ghost use Rattle.token_session.specs.Meters.{AreBounded, counted};
 ghost use Rattle.token_session.specs.Noise.{is_noise_among};
 ghost use Rattle.token_session.specs.Effects.{request_in};
+ghost use Rattle.token_session.specs.Causes.{event_cause};
 ghost use Rattle.token_session.specs.Events.{event_core, event_packets};
 ghost use Rattle.hid_packet.specs.Limits.{OUTBOX_CAPACITY};
 
+use crate::cause::{Cause, cause_of};
 use crate::input::{Input, Meters};
 use arrayvec::ArrayVec;
 use authn_core::{Core, Event, Turn, Work};
@@ -53,8 +55,8 @@ pub(crate) struct Keeper<const C: usize> {
 
 impl<const C: usize> Keeper<C> {
     /// Takes the turn of an event, and counts a request. What the turn returns is sent to the channel that asked: a
-    /// request's own, or that of the work that waited before.
-    pub(crate) fn take(&mut self, now: u64, event: &Event<'_>, outbox: &mut Outbox)
+    /// request's own, or that of the work that waited before. Returns why it is refused, where it is.
+    pub(crate) fn take(&mut self, now: u64, event: &Event<'_>, outbox: &mut Outbox) -> Option<Cause>
         requires later { self.old.core.latest ≤ now }
         requires bounded { AreBounded self.old.meters }
         requires few { length outbox.old + length (event_packets self.old.core.core now (Some (event_of event.now)))
@@ -67,15 +69,18 @@ impl<const C: usize> Keeper<C> {
         ensures bounded { AreBounded self.new.meters }
         ensures packets { outbox.new ≡ outbox.old
             ++ event_packets self.old.core.core now (Some (event_of event.now)) }
+        ensures why { result ≡ event_cause self.old.core.core now (Some (event_of event.now)) }
     {
         steps_are_bounded();
         let before = self.core.work();
         let mut answer = Answer::new();
         let turn = self.core.take(now, event, &mut answer);
+        let why = cause_of(turn);
         match event {
             Event::Request { cid, message } => {
                 self.meters.count(message, self.core.last_steps());
                 self.send(now, *cid, before, turn, &answer, outbox);
+                why
             }
             Event::Presence(_)
             | Event::Key(_)
@@ -84,6 +89,9 @@ impl<const C: usize> Keeper<C> {
             | Event::Drop => {
                 if let Some(work) = before {
                     self.send(now, work.cid, before, turn, &answer, outbox);
+                    why
+                } else {
+                    why
                 }
             }
         }
@@ -111,7 +119,7 @@ impl<const C: usize> Keeper<C> {
             (status_of (option_map work_of before)) (answer_of turn answer.now.items) }
     {
         match turn {
-            Turn::Answer => outbox.put_message(cid, CBOR, answer.as_slice()),
+            Turn::Answer | Turn::Refuses(_) => outbox.put_message(cid, CBOR, answer.as_slice()),
             Turn::Waits(status) => {
                 if !matches!(before, Some(work) if work.status == status) {
                     self.keepalive_at = now;

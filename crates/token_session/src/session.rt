@@ -12,16 +12,18 @@ ghost use Rattle.token_session.specs.Answered.{told_now};
 ghost use Rattle.token_session.specs.Law.{sent_now};
 ghost use Rattle.token_session.specs.Effects.{request_in};
 ghost use Rattle.token_session.specs.Meters.{AreBounded, FollowsFrom, SessionState, StandsAfter, counted, stepped, sent_by, session_of};
+ghost use Rattle.token_session.specs.Causes.{time_cause, served_cause, causes_of, causes_after};
 ghost use Rattle.token_session.specs.Machine.{time_passed, served};
 ghost use Rattle.token_session.specs.Noise.{is_noise_at, is_noise_after};
 ghost use Rattle.hid_packet.specs.Limits.{LONGEST_HELD, OUTBOX_CAPACITY};
 
+use crate::cause::{Cause, Causes};
 use crate::input::{Input, Meters};
 use crate::laws::answers_follow_history;
 use crate::service::{KEEPALIVE_PERIOD, Keeper, greet, is_noise};
 use authn_core::{Config, Core, Event, Need};
 use cred_table::{SnapshotFault, Store, Table};
-use hid_assemble::{Assembler, ErrorCode, Verdict};
+use hid_assemble::{Assembler, Refusal, Verdict};
 use hid_packet::Outbox;
 use hid_packet::command::{CBOR, ERROR, KEEPALIVE, PING};
 use std::marker::Model;
@@ -151,7 +153,7 @@ impl<const C: usize> Session<C> {
 
     /// Takes one input that came at `at`, in milliseconds, and puts the packets to send into the outbox: at most 130. A
     /// moment earlier than the latest counts as the latest. It always succeeds.
-    pub fn step(&mut self, at: u64, input: Input, outbox: &mut Outbox)
+    pub fn step(&mut self, at: u64, input: Input, outbox: &mut Outbox) -> Causes
         requires { outbox.old ≡ [] }
         // One turn of the composed machine.
         ensures state { self.new ≡ stepped self.old (record { at = at; input = input }) }
@@ -169,11 +171,15 @@ impl<const C: usize> Session<C> {
             → FollowsFrom self.new start (record { at = at; input = input } ∷ h) }
         ensures told { (start : Start) (h : List OneInput) → FollowsFrom self.old start h
             → outbox.new ≡ told_now start h (record { at = at; input = input }) }
+        // Why it refuses, where it does.
+        ensures why { result ≡ causes_of self.old.machine (record { at = at; input = input }) }
+        ensures named { (start : Start) (h : List OneInput) → StandsAfter self.old start h
+            → result ≡ causes_after start h (record { at = at; input = input }) }
     {
         answers_follow_history();
         let now = self.latest.max(at);
-        self.pass_time(now, outbox);
-        self.serve(input, outbox);
+        let time = self.pass_time(now, outbox);
+        let why = self.serve(input, outbox);
         self.keeper.meters.held = self.keeper.meters.held.max(self.assembler.held());
         self.keeper.meters.rows = self
             .keeper
@@ -185,6 +191,7 @@ impl<const C: usize> Session<C> {
             .meters
             .pending
             .max(self.keeper.core.pending() as u16);
+        Causes { time, input: why }
     }
 
     /// Returns whether this input at `at` would be noise: when time has passed to `at`, it would change nothing more.
@@ -255,38 +262,46 @@ impl<const C: usize> Session<C> {
 
     /// Lets time pass to `at`: a message may be dropped, or a KEEPALIVE sent.
     #[tactic(auto, using(hid_packet::proofs::Carrying::few_written))]
-    fn pass_time(&mut self, at: u64, outbox: &mut Outbox)
+    fn pass_time(&mut self, at: u64, outbox: &mut Outbox) -> Option<Refusal>
         requires sent { outbox.old ≡ [] }
         requires later { self.old.machine.now ≤ at }
         ensures state { self.new.machine ≡ (time_passed self.old.machine at).state }
         ensures meters { self.new.meters ≡ self.old.meters }
         ensures packets { outbox.new ≡ (time_passed self.old.machine at).packets }
+        ensures why { result ≡ time_cause self.old.machine.current at }
     {
         self.latest = at;
+        let last = self.assembler.last();
         if let Some(cid) = self.assembler.pass(at) {
-            return outbox.put_message(cid, ERROR, &[ErrorCode::MessageTimeout.number()]);
+            let why = Refusal::Overdue { last, at };
+            outbox.put_message(cid, ERROR, &[why.code()]);
+            return Some(why);
         }
         let Some(work) = self.keeper.core.work() else {
-            return;
+            return None;
         };
         if at.saturating_sub(self.keeper.keepalive_at) >= KEEPALIVE_PERIOD {
             self.keeper.keepalive_at = at;
             outbox.put_message(work.cid, KEEPALIVE, &[work.status.number()]);
+            None
+        } else {
+            None
         }
     }
 
     /// Serves an input after the packets of time.
     #[tactic(auto, using(hid_packet::proofs::Carrying::few_written))]
-    fn serve(&mut self, input: Input, outbox: &mut Outbox)
+    fn serve(&mut self, input: Input, outbox: &mut Outbox) -> Option<Cause>
         requires { length outbox.old ≤ 1 }
         ensures state { self.new.machine ≡ (served self.old.machine outbox.old input).state }
         ensures meters { self.new.meters
             ≡ counted self.old.meters (request_in (served self.old.machine outbox.old input).event) }
         ensures packets { outbox.new ≡ (served self.old.machine outbox.old input).packets }
+        ensures why { result ≡ served_cause self.old.machine input }
     {
         let now = self.latest;
         match input {
-            Input::Tick => {}
+            Input::Tick => None,
             Input::Presence(reply) => self.keeper.take(now, &Event::Presence(reply), outbox),
             Input::Key(key) => self.keeper.take(now, &Event::Key(&key), outbox),
             Input::Signature(signature) => self
@@ -295,25 +310,30 @@ impl<const C: usize> Session<C> {
             Input::Packet(packet) => {
                 let working = self.keeper.core.work().map(|work| work.cid);
                 match self.assembler.accept(now, &packet, working) {
-                    Verdict::Ignored | Verdict::Kept => {}
-                    Verdict::Refuse { cid, code } => outbox.put_message(
-                        cid,
-                        ERROR,
-                        &[code.number()],
-                    ),
-                    Verdict::Greet { on, channel, nonce } => greet(outbox, on, channel, &nonce),
+                    Verdict::Ignored | Verdict::Kept => None,
+                    Verdict::Refuse { cid, why } => {
+                        outbox.put_message(cid, ERROR, &[why.code()]);
+                        Some(Cause::Transport(why))
+                    }
+                    Verdict::Greet { on, channel, nonce } => {
+                        greet(outbox, on, channel, &nonce);
+                        None
+                    }
                     Verdict::GreetAndDrop { on, channel, nonce } => {
                         greet(outbox, on, channel, &nonce);
-                        self.keeper.take(now, &Event::Drop, outbox);
+                        self.keeper.take(now, &Event::Drop, outbox)
                     }
                     Verdict::CancelWork => self.keeper.take(now, &Event::Cancel, outbox),
                     Verdict::Finished { cid, cmd } => {
                         let message = self.assembler.message();
                         if cmd == PING {
                             outbox.put_message(cid, PING, message);
+                            None
                         } else if cmd == CBOR {
                             self.keeper
-                                .take(now, &Event::Request { cid, message }, outbox);
+                                .take(now, &Event::Request { cid, message }, outbox)
+                        } else {
+                            None
                         }
                     }
                 }

@@ -1,17 +1,17 @@
 //! authenticatorReset and authenticatorSelection (CTAP 2.1, sections 6.6 and 6.9), which ask for presence alone.
 
-ghost use Rattle.std.specs.Prelude.{[], None};
-ghost use Rattle.authn_core.specs.State.{Selects, refuses, waits};
+ghost use Rattle.std.specs.Prelude.{[], ◌∷◌, None};
+ghost use Rattle.authn_core.specs.State.{Selects, answers, waits};
 ghost use Rattle.authn_core.specs.Asking.{reset_begins, asked_alone};
 ghost use Rattle.authn_core.specs.Views.{Takes, TakesWork};
 
 use crate::authenticator::{Core, Turn};
-use crate::refusals;
+use crate::refusal::Refusal;
 use crate::replies::Presence;
 use crate::task::Task;
 use crate::work::KeepaliveStatus;
 use cred_table::Table;
-use ctap_message::{Answer, Status};
+use ctap_message::{Answer, Status, write_status};
 
 /// How long after the start a reset may be asked for, in milliseconds.
 const RESET_LIMIT: u64 = 10_000;
@@ -24,7 +24,13 @@ impl<T: Table<C>, const C: usize> Core<T, C> {
             self.old.latest cid) }
     {
         if self.latest - self.began > RESET_LIMIT {
-            return self.refuse_all(refusals::NOT_ALLOWED, answer);
+            return self.refuse_all(
+                Refusal::ResetTooLate {
+                    since: self.began,
+                    at: self.latest,
+                },
+                answer,
+            );
         }
         self.pending.clear();
         Turn::Waits(self.wait(cid, Task::Resets))
@@ -33,7 +39,7 @@ impl<T: Table<C>, const C: usize> Core<T, C> {
     /// Takes all rows out where the user consents, and answers what the user did.
     pub(crate) fn reset(&mut self, reply: Presence, answer: &mut Answer) -> Turn
         ensures { Takes self.old self.new result answer.new.items
-            (asked_alone (refuses [] None 0x00) self.old.core.state.rows
+            (asked_alone (answers [] None (0x00 ∷ [])) self.old.core.state.rows
             self.old.core.state.pending reply) }
     {
         if let Presence::Granted = reply {
@@ -54,14 +60,17 @@ impl<T: Table<C>, const C: usize> Core<T, C> {
 
     /// Answers what the user did.
     pub(crate) fn select(&mut self, reply: Presence, answer: &mut Answer) -> Turn
-        ensures { Takes self.old self.new result answer.new.items (asked_alone (refuses self.old.core.state.rows
-            self.old.core.state.pending 0x00) self.old.core.state.rows self.old.core.state.pending reply) }
+        ensures { Takes self.old self.new result answer.new.items (asked_alone (answers self.old.core.state.rows
+            self.old.core.state.pending (0x00 ∷ [])) self.old.core.state.rows self.old.core.state.pending reply) }
     {
-        let status = match reply {
-            Presence::Granted => Status::OK,
-            Presence::Denied => refusals::OPERATION_DENIED,
-            Presence::TimedOut => refusals::USER_ACTION_TIMEOUT,
-        };
-        self.refuse(status, answer)
+        match reply {
+            Presence::Granted => {
+                self.work = None;
+                write_status(Status::OK, answer);
+                Turn::Answer
+            }
+            Presence::Denied => self.refuse(Refusal::Denied, answer),
+            Presence::TimedOut => self.refuse(Refusal::TimedOut, answer),
+        }
     }
 }

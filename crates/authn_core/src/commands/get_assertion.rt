@@ -14,7 +14,7 @@ ghost use Rattle.authn_core.specs.Views.{Takes, TakesWork, asserting_of};
 ghost use Rattle.authn_core.specs.Ready.{IsPendingAlone, SignsItsAnswer};
 
 use crate::authenticator::{Core, Turn};
-use crate::refusals;
+use crate::refusal::{Refusal, not_granted};
 use crate::replies::{Presence, Signature};
 use crate::task::{Asserting, Task};
 use crate::work::KeepaliveStatus;
@@ -120,10 +120,10 @@ impl<T: Table<C>, const C: usize> Core<T, C> {
             self.old.latest cid hash.now rp.now presence given ids) }
     {
         let Some(first) = self.pending.next() else {
-            return self.refuse(refusals::NO_CREDENTIALS, answer);
+            return self.refuse(Refusal::NoCredential { listed: given }, answer);
         };
         if counter_of(&self.table, &first) >= u32::MAX {
-            return self.refuse_all(refusals::LIMIT_EXCEEDED, answer);
+            return self.refuse_all(Refusal::CounterSpent, answer);
         }
         let number = (count > 1 && !given).then_some(count as u16);
         let a = Asserting {
@@ -167,7 +167,7 @@ impl<T: Table<C>, const C: usize> Core<T, C> {
     {
         match reply {
             Presence::Granted => Turn::Waits(self.sign(cid, &a)),
-            _ => self.refuse_all(refusals::OPERATION_DENIED, answer),
+            _ => self.refuse_all(not_granted(reply), answer),
         }
     }
 
@@ -185,7 +185,7 @@ impl<T: Table<C>, const C: usize> Core<T, C> {
             self.old.core.state.pending self.old.latest (asserting_of a) counter signature.now) }
     {
         let Some(signature) = signature else {
-            return self.refuse_all(refusals::OTHER, answer);
+            return self.refuse_all(Refusal::SignatureRefused, answer);
         };
         let data = &signed.as_slice()[..ASSERTION_LEN];
         self.pending.stamp(self.latest);
@@ -203,23 +203,29 @@ impl<T: Table<C>, const C: usize> Core<T, C> {
             self.old.core.state.pending self.old.latest cid) }
     {
         let pending = &self.pending;
-        if pending.len() == 0
-            || pending.cid() != cid
-            || self.latest.saturating_sub(pending.moment()) > NEXT_LIMIT
-        {
-            return self.refuse_all(refusals::NOT_ALLOWED, answer);
+        if pending.len() == 0 {
+            return self.refuse_all(Refusal::NothingPending, answer);
+        }
+        let channel = pending.cid();
+        let since = pending.moment();
+        if channel != cid {
+            return self.refuse_all(Refusal::PendingElsewhere { channel }, answer);
+        }
+        let at = self.latest;
+        if at.saturating_sub(since) > NEXT_LIMIT {
+            return self.refuse_all(Refusal::NextTooLate { since, at }, answer);
         }
         let hash = self.pending.hash();
         let presence = self.pending.presence();
         let Some(id) = self.pending.next() else {
-            return self.refuse(refusals::NOT_ALLOWED, answer);
+            return self.refuse(Refusal::NothingPending, answer);
         };
         let Some(row) = self.table.find(&id) else {
-            return self.refuse_all(refusals::NOT_ALLOWED, answer);
+            return self.refuse_all(Refusal::NothingPending, answer);
         };
         let rp = row.rp;
         if row.counter >= u32::MAX {
-            return self.refuse_all(refusals::LIMIT_EXCEEDED, answer);
+            return self.refuse_all(Refusal::CounterSpent, answer);
         }
         let a = Asserting {
             hash,

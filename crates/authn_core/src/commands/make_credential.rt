@@ -11,7 +11,7 @@ ghost use Rattle.authn_core.specs.Ready.{SignsItsAnswer};
 ghost use Rattle.authn_core.specs.Views.{Takes, TakesWork, making_of};
 
 use crate::authenticator::{Core, Turn};
-use crate::refusals;
+use crate::refusal::{Refusal, not_granted};
 use crate::replies::{NewKey, Presence, Signature};
 use crate::task::{Making, Task};
 use crate::work::KeepaliveStatus;
@@ -105,15 +105,15 @@ impl<T: Table<C>, const C: usize> Core<T, C> {
             self.old.core.state.pending cid (making_of making) excluded reply) }
     {
         if excluded {
-            return self.refuse(refusals::CREDENTIAL_EXCLUDED, answer);
+            return self.refuse(Refusal::Excluded, answer);
         }
         let Presence::Granted = reply else {
-            return self.refuse(refusals::OPERATION_DENIED, answer);
+            return self.refuse(not_granted(reply), answer);
         };
         let is_full = self.table.len() >= C;
         let user = making.user.as_slice();
         if is_full && !(making.discoverable && self.table.same_user(&making.rp, user).is_some()) {
-            return self.refuse(refusals::KEY_STORE_FULL, answer);
+            return self.refuse(Refusal::Full, answer);
         }
         Turn::Waits(self.wait(cid, Task::WantsKey(making)))
     }
@@ -131,10 +131,10 @@ impl<T: Table<C>, const C: usize> Core<T, C> {
             self.old.core.state.rows self.old.core.state.pending cid (making_of making) key.now) }
     {
         let Some(key) = key else {
-            return self.refuse(refusals::OTHER, answer);
+            return self.refuse(Refusal::KeyRefused, answer);
         };
         if self.table.find(&key.id).is_some() {
-            return self.refuse(refusals::OTHER, answer);
+            return self.refuse(Refusal::KeyIdTaken, answer);
         }
         let data = AuthData::created(&making.rp, &self.config.aaguid, &key.id, &key.x, &key.y);
         let signed = to_sign(&data, &making.hash);
@@ -157,7 +157,7 @@ impl<T: Table<C>, const C: usize> Core<T, C> {
             self.old.core.state.rows self.old.core.state.pending (making_of making) key signature.now) }
     {
         let Some(signature) = signature else {
-            return self.refuse(refusals::OTHER, answer);
+            return self.refuse(Refusal::SignatureRefused, answer);
         };
         let data = &signed.as_slice()[..CREATED_LEN];
         store(&mut self.table, making, key);

@@ -3,3 +3,6 @@ use Rattle.authn_core.proofs.authenticator.Core.make_presence.Goals as goal
 
 pub returns : goal.returns
 returns g c = grind arith
+
+pub returns-then-not-is_some : goal.returns-then-not-is_some
+returns-then-not-is_some g c = grind arith

@@ -12,15 +12,15 @@ later latest at inside view h is to = omega (arith, ap (λ (v : SessionState). v
 pub returns-in-Some : goal.returns-in-Some
 returns-in-Some g c =
     let p = late_passed _ _ c.args.at _ c.pass.new.self _ _ _ _ c.self.view_is c.pass.ensures.state _
-    c.in-Some.ensures.dropped (rw (c.put_message.ensures, c.requires.sent, c.number.ensures) refl) in
-    record { state = p.state; meters = p.meters; packets = p.packets }
+    c.in-Some.ensures.dropped (rw (c.put_message.ensures, c.requires.sent, c.code.ensures) refl) _ c.last-last.ensures in
+    record { state = p.state; meters = p.meters; packets = p.packets; why = p.why }
 
 pub returns-in_default-work : goal.returns-in_default-work
 unfolding keepalive_due
 returns-in_default-work g c =
     let p = quiet_passed _ _ c.args.at _ c.pass.new.self _ _ _ _ c.self.view_is c.pass.ensures.state
     c.in_default.ensures.dropped (rw c.in_default-work.ensures refl) c.requires.sent in
-    record { state = p.state; meters = p.meters; packets = p.packets }
+    record { state = p.state; meters = p.meters; packets = p.packets; why = p.why }
 
 pub returns-then-saturating_sub-ge-KEEPALIVE_PERIOD : goal.returns-then-saturating_sub-ge-KEEPALIVE_PERIOD
 unfolding keepalive_due
@@ -29,8 +29,8 @@ returns-then-saturating_sub-ge-KEEPALIVE_PERIOD g c =
     c.if-saturating_sub-ge-KEEPALIVE_PERIOD.true in
     let p = due_passed _ _ c.args.at _ c.pass.new.self _ _ _ _ c.self.view_is c.pass.ensures.state
     c.in_default.ensures.dropped (rw (c.in-Some-work.ensures, is) refl)
-    (rw (c.put_message-then-saturating_sub-ge-KEEPALIVE_PERIOD.ensures, c.requires.sent, c.in-Some-work.ensures, c.number-then-saturating_sub-ge-KEEPALIVE_PERIOD.ensures) refl) in
-    record { state = p.state; meters = p.meters; packets = p.packets }
+    (rw (c.put_message-then-saturating_sub-ge-KEEPALIVE_PERIOD.ensures, c.requires.sent, c.in-Some-work.ensures, c.number.ensures) refl) in
+    record { state = p.state; meters = p.meters; packets = p.packets; why = p.why }
 
 pub returns-else-saturating_sub-ge-KEEPALIVE_PERIOD : goal.returns-else-saturating_sub-ge-KEEPALIVE_PERIOD
 unfolding keepalive_due
@@ -39,15 +39,15 @@ returns-else-saturating_sub-ge-KEEPALIVE_PERIOD g c =
     c.if-saturating_sub-ge-KEEPALIVE_PERIOD.false in
     let p = quiet_passed _ _ c.args.at _ c.pass.new.self _ _ _ _ c.self.view_is c.pass.ensures.state
     c.in_default.ensures.dropped (rw (c.in-Some-work.ensures, is) refl) c.requires.sent in
-    record { state = p.state; meters = p.meters; packets = p.packets }
+    record { state = p.state; meters = p.meters; packets = p.packets; why = p.why }
 
 pub put_message-requires-clause-space : goal.put_message-requires-clause-space
 put_message-requires-clause-space g c =
-    omega (arith, ap length c.requires.sent, few_written c.in-Some.cid 63 (c.number.result ∷ []))
+    omega (arith, ap length c.requires.sent, few_written c.in-Some.cid 63 (c.code.result ∷ []))
 
 pub put_message-requires-then-saturating_sub-ge-KEEPALIVE_PERIOD-clause-space : goal.put_message-requires-then-saturating_sub-ge-KEEPALIVE_PERIOD-clause-space
 put_message-requires-then-saturating_sub-ge-KEEPALIVE_PERIOD-clause-space g c =
-    omega (arith, ap length c.requires.sent, few_written c.in-Some-work.work.cid 59 (c.number-then-saturating_sub-ge-KEEPALIVE_PERIOD.result ∷ []))
+    omega (arith, ap length c.requires.sent, few_written c.in-Some-work.work.cid 59 (c.number.result ∷ []))
 
 pub invariant_of-self : goal.invariant_of-self
 invariant_of-self g c = (later _ _ _ _ c.self.invariant.0 c.self.view_is c.requires.later, c.self.invariant.1)

@@ -1,4 +1,6 @@
-use Rattle.std.proofs.Common.{[], ◌∷◌, Some, refl, sym, ◌∙◌, append-nil, length-append, arith}
+use Rattle.std.specs.Option.{option_or}
+use Rattle.token_session.specs.Causes.{verdict_cause}
+use Rattle.std.proofs.Common.{◌≡◌, [], ◌∷◌, Some, None, refl, sym, ◌∙◌, append-nil, length-append, arith}
 use Rattle.std.proofs.lemmas.Bool.Decides.{nat_tests}
 use Rattle.authn_core.specs.State.{Request, PresenceIs, KeyIs, SignatureIs, Cancel, Drop}
 use Rattle.hid_assemble.specs.declared.verdict.Verdict.TheVariants.{Finished, Refuse, Greet, GreetAndDrop, CancelWork}
@@ -53,16 +55,17 @@ returns-in-Ignored g c =
     (rw c.in-Packet.is c.accept.ensures.state)
     (c.accept.result) (rw c.in-Packet.is c.accept.ensures.verdict) (rw c.in-Packet.is (grind (arith, c.in-Ignored.is)))
     _ (grind (arith, c.in-Ignored.is, append-nil)) in
-    record { state = s.state; meters = s.meters; packets = s.packets }
+    let quiet : None ≡ option_or (verdict_cause c.accept.result) None = grind (arith, c.in-Ignored.is) in
+    record { state = s.state; meters = s.meters; packets = s.packets; why = quiet ∙ s.why }
 
 pub returns-in-Refuse : goal.returns-in-Refuse
 returns-in-Refuse g c =
     let s = served_quietly _ _ c.self.inside.assembler c.accept.new.self _ _ _ c.args.outbox.now c.map-working.result
     c.self.view_is (grind (arith, c.work.ensures, c.map-working.ensures.cases)) c.args.input
     (rw c.in-Packet.is c.accept.ensures.state)
-    (Refuse c.in-Refuse.cid c.in-Refuse.code) (rw c.in-Packet.is (sym c.in-Refuse.is ∙ c.accept.ensures.verdict))
-    (rw c.in-Packet.is refl) _ (rw (c.put_message.ensures, c.number.ensures) refl) in
-    record { state = s.state; meters = s.meters; packets = s.packets }
+    (Refuse c.in-Refuse.cid c.in-Refuse.why) (rw c.in-Packet.is (sym c.in-Refuse.is ∙ c.accept.ensures.verdict))
+    (rw c.in-Packet.is refl) _ (rw (c.put_message.ensures, c.code.ensures) refl) in
+    record { state = s.state; meters = s.meters; packets = s.packets; why = s.why }
 
 pub returns-in-Greet : goal.returns-in-Greet
 returns-in-Greet g c =
@@ -71,7 +74,7 @@ returns-in-Greet g c =
     (rw c.in-Packet.is c.accept.ensures.state)
     (Greet c.in-Greet.on c.in-Greet.channel c.in-Greet.nonce) (rw c.in-Packet.is
     (sym c.in-Greet.is ∙ c.accept.ensures.verdict)) (rw c.in-Packet.is refl) _ (c.greet.ensures) in
-    record { state = s.state; meters = s.meters; packets = s.packets }
+    record { state = s.state; meters = s.meters; packets = s.packets; why = s.why }
 
 pub returns-in-GreetAndDrop : goal.returns-in-GreetAndDrop
 returns-in-GreetAndDrop g c =
@@ -83,7 +86,7 @@ returns-in-GreetAndDrop g c =
     (c.greet-in-GreetAndDrop.ensures)
     _ _ _ _ c.take-in-GreetAndDrop.ensures.core c.take-in-GreetAndDrop.ensures.keepalive
     c.take-in-GreetAndDrop.ensures.meters c.take-in-GreetAndDrop.ensures.packets in
-    record { state = s.state; meters = s.meters; packets = s.packets }
+    record { state = s.state; meters = s.meters; packets = s.packets; why = c.take-in-GreetAndDrop.ensures.why ∙ s.why }
 
 pub returns-in-CancelWork : goal.returns-in-CancelWork
 returns-in-CancelWork g c =
@@ -94,7 +97,7 @@ returns-in-CancelWork g c =
     (rw c.in-Packet.is refl) _ (sym (append-nil c.args.outbox.now))
     _ _ _ _ c.take-in-CancelWork.ensures.core c.take-in-CancelWork.ensures.keepalive c.take-in-CancelWork.ensures.meters
     c.take-in-CancelWork.ensures.packets in
-    record { state = s.state; meters = s.meters; packets = s.packets }
+    record { state = s.state; meters = s.meters; packets = s.packets; why = c.take-in-CancelWork.ensures.why ∙ s.why }
 
 pub returns-then-cmd-eq-PING : goal.returns-then-cmd-eq-PING
 returns-then-cmd-eq-PING g c =
@@ -105,7 +108,7 @@ returns-then-cmd-eq-PING g c =
     (rw c.in-Packet.is (grind (arith, nat_tests, c.if-cmd-eq-PING.true))) _
     (rw c.put_message-then-cmd-eq-PING.ensures
     (grind (arith, nat_tests, c.if-cmd-eq-PING.true, c.message-message.ensures.bytes))) in
-    record { state = s.state; meters = s.meters; packets = s.packets }
+    record { state = s.state; meters = s.meters; packets = s.packets; why = s.why }
 
 pub returns-then-cmd-eq-CBOR : goal.returns-then-cmd-eq-CBOR
 returns-then-cmd-eq-CBOR g c =
@@ -118,7 +121,7 @@ returns-then-cmd-eq-CBOR g c =
     (grind (arith, nat_tests, append-nil, c.if-cmd-eq-PING.false))
     _ _ _ _ c.take-then-cmd-eq-CBOR.ensures.core c.take-then-cmd-eq-CBOR.ensures.keepalive
     c.take-then-cmd-eq-CBOR.ensures.meters c.take-then-cmd-eq-CBOR.ensures.packets in
-    record { state = s.state; meters = s.meters; packets = s.packets }
+    record { state = s.state; meters = s.meters; packets = s.packets; why = c.take-then-cmd-eq-CBOR.ensures.why ∙ s.why }
 
 pub returns-else-cmd-eq-CBOR : goal.returns-else-cmd-eq-CBOR
 returns-else-cmd-eq-CBOR g c =
@@ -128,7 +131,7 @@ returns-else-cmd-eq-CBOR g c =
     (Finished c.in-Finished.cid c.in-Finished.cmd) (rw c.in-Packet.is (sym c.in-Finished.is ∙ c.accept.ensures.verdict))
     (rw c.in-Packet.is (grind (arith, nat_tests, c.if-cmd-eq-CBOR.false))) _
     (grind (arith, nat_tests, append-nil, c.if-cmd-eq-PING.false)) in
-    record { state = s.state; meters = s.meters; packets = s.packets }
+    record { state = s.state; meters = s.meters; packets = s.packets; why = s.why }
 
 pub work-requires-room-T-Table : goal.work-requires-room-T-Table
 work-requires-room-T-Table g c κs = search table_within
@@ -171,7 +174,7 @@ pub invariant_of-self-else-cmd-eq-CBOR : goal.invariant_of-self-else-cmd-eq-CBOR
 invariant_of-self-else-cmd-eq-CBOR g c = (c.self.invariant.0, c.self.invariant.1)
 
 pub put_message-requires-clause-space : goal.put_message-requires-clause-space
-put_message-requires-clause-space g c = omega (arith, c.requires, few_written c.in-Refuse.cid 63 (c.number.result ∷ []))
+put_message-requires-clause-space g c = omega (arith, c.requires, few_written c.in-Refuse.cid 63 (c.code.result ∷ []))
 
 pub greet-requires : goal.greet-requires
 greet-requires g c = c.requires

@@ -4,6 +4,8 @@ use Rattle.token_session.proofs.Answered.{told_now_is}
 use Rattle.token_session.proofs.Metering.{stepped_is, stands_longer, machine_after}
 use Rattle.token_session.specs.{declared.input.Timed.Timed, Effects.request_in, Machine.MachineTurn}
 use Rattle.token_session.specs.Meters.{SessionState, counted}
+use Rattle.token_session.specs.Machine.{time_passed}
+use Rattle.token_session.specs.Causes.{time_cause, served_cause, causes_of, causes_after}
 use Rattle.token_session.proofs.Sizes.{core_within, table_within}
 use Rattle.token_session.proofs.session.Session.step.Goals as goal
 
@@ -60,6 +62,22 @@ returns-clause-told g c = λ start h f.
     returns-clause-sent g c start h f.stands
     ∙ told_now_is start h x (c.answers_follow_history.ensures.told start h f.lawful)
     (c.answers_follow_history.ensures.told start (x ∷ h) f.lawful)
+
+pub returns-clause-why : goal.returns-clause-why
+unfolding causes_of
+returns-clause-why g c =
+    let at : c.max-now.result ≡ max (c.args.self.now).machine.now c.args.at =
+    c.max-now.ensures ∙ ap (λ (s : SessionState). max s.machine.now c.args.at) c.self.view_is in
+    let time = c.pass_time.ensures.why ∙ ap (time_cause (c.args.self.now).machine.current) at in
+    let input = c.serve.ensures.why ∙ ap (λ m. served_cause m c.args.input)
+    (c.pass_time.ensures.state ∙ ap (λ t. (time_passed (c.args.self.now).machine t).state) at) in
+    λ i. record { time = time i; input = input i }
+
+pub returns-clause-named : goal.returns-clause-named
+unfolding causes_after
+returns-clause-named g c = λ start h b.
+    returns-clause-why g c
+    ∙ ap (λ m. causes_of m (record { at = c.args.at; input = c.args.input })) (machine_after _ start h b)
 
 later : (latest at now to : ℕ) → latest ≡ now → to ≡ max latest at → now ≤ to
 later latest at now to e m = omega arith

@@ -1,0 +1,45 @@
+//! Why a packet is refused or a message dropped.
+ghost use Rattle.std.specs.Prelude.{◌≡◌};
+ghost use Rattle.hid_assemble.specs.Refusals.{code_number};
+
+/// Why a packet is refused or a message dropped, with what was compared.
+#[derive(Clone, Copy, Debug, PartialEq, Eq)]
+pub enum Refusal {
+    /// The command isn't served.
+    NoSuchCommand { cmd: u8 },
+    /// An INIT whose length isn't 8.
+    InitLength { len: u16 },
+    /// A message that is too long, or CBOR without a command byte.
+    MessageLength { cmd: u8, len: u16 },
+    /// Another continuation packet than the one that is due.
+    WrongNumber { came: u8, due: u8 },
+    /// A packet that begins a message, where this continuation packet is due on its channel.
+    BrokenOff { due: u8 },
+    /// The open message's last packet came at `last`; at `at` the time for the next is over.
+    Overdue { last: u64, at: u64 },
+    /// Another channel has an open message or work.
+    BusyElsewhere { channel: u32 },
+    /// Work waits on this channel.
+    BusyHere,
+    /// The channel isn't among those that were given out, 1 to `given`.
+    NoSuchChannel { given: u32 },
+    /// No channel is left to be given out.
+    NoChannelLeft,
+}
+
+impl Refusal {
+    /// Returns the byte that the ERROR packet carries (CTAP 2.1, section 11.2.9.1.6).
+    pub fn code(self) -> u8
+        ensures { result ≡ code_number self }
+    {
+        match self {
+            Refusal::NoSuchCommand { .. } => 0x01,
+            Refusal::InitLength { .. } | Refusal::MessageLength { .. } => 0x03,
+            Refusal::WrongNumber { .. } | Refusal::BrokenOff { .. } => 0x04,
+            Refusal::Overdue { .. } => 0x05,
+            Refusal::BusyElsewhere { .. } | Refusal::BusyHere => 0x06,
+            Refusal::NoSuchChannel { .. } => 0x0b,
+            Refusal::NoChannelLeft => 0x7f,
+        }
+    }
+}
