@@ -1,28 +1,30 @@
 #!/usr/bin/env python3
-"""Compares docs/believe/READING.md, and the page for what no packet depends on, with the definitions that the headline
-theorem needs.
+"""Compares the two pages docs/believe/READING.md and READING_ANSWERS.md, and the page for what no packet depends on,
+with the definitions that the theorem needs.
 
     tests/reading.py            ends with 1 where the pages miss a definition, show one that isn't needed, or twice,
-                                where a text, a count or the index isn't that of today, where the first page is longer
-                                than it says, takes another time or more than an hour, where a definition names a type
-                                or a constant of the code that isn't public, where a law doesn't speak of what it
-                                replaces, where a packet depends on what is set aside, or where the prose doesn't name
-                                a library's word or a small constructor
+                                where a text, a count or the index is out of date, where one of the two pages has more
+                                words than it says or than 6,000, where a definition names a type or a constant of the
+                                code that isn't public, where a law doesn't speak of what it replaces, where a packet
+                                depends on what is set aside, or where the prose doesn't name a library's word or a
+                                small constructor
     tests/reading.py --write    writes the definitions, the declarations, the counts and the index anew
     tests/reading.py --list     prints what is needed, by files
-    tests/reading.py --more     prints the second page: what no packet depends on
+    tests/reading.py --more     prints the third page: what no packet depends on
     tests/reading.py --index    prints the definitions by section of the standards
 
-From the headline, the clause `answered` of `drive_new`, it follows each name that a definition uses, through the `use`
-lines, to the definition itself. Three things shorten the way:
+The theorem is the clause `answered` of `drive_new`. From it each name that a definition uses is followed, through the
+`use` lines, to the definition itself. The first page has what is sent for which input, the second the authenticator's
+response. Two things shorten the way:
 
 - LAWS: in the place of a definition that computes, the reader reads the statement of a law that says what it is.
-- APART: what is needed only by such a field of the headline is in a section of its own of the second page, and is
-  counted apart. No packet depends on it.
-- ASIDE: so is a definition whose value only goes into a field that is only copied: no packet depends on that either.
+- ASIDE: a definition whose value only goes into a field that is only copied is on the third page: no packet depends on
+  it.
 
-The pages' prose is written by hand, that of the second page in tests/reading_more.md, whose texts come when it is
-printed. A comment `<!-- KIND: FILE: NAMES -->`, with the names in backquotes, is followed by
+The third page has the clause `bounded` of `drive_new` too, field by field (APART). No packet depends on it.
+
+The prose is written by hand, that of the third page in tests/reading_more.md, whose texts come when it is printed. A
+comment `<!-- KIND: FILE: NAMES -->`, with the names in backquotes, is followed by
 
 - definitions: these definitions, each below its comment;
 - code: the types and constants of the code that definitions name; quoted: others; documented: their own text;
@@ -35,15 +37,13 @@ A type is shown in a line: a record's fields, a data type's constructors with th
 argument is left out where it is in PLAIN or has the same name. A record with parameters, or of statements, is shown as
 it is.
 
-How many words the first page has at most, and the time that they take read aloud, is written by hand, so that it
-doesn't grow unseen.
+How many words each page has at most is written on it by hand, so that it doesn't grow unseen.
 
 It needs no toolchain.
 """
 
 from __future__ import annotations
 
-import math
 import re
 import sys
 import textwrap
@@ -56,22 +56,25 @@ from pathlib import Path
 import definitions
 
 TOP = Path(__file__).resolve().parent.parent
-PAGE = TOP / "docs" / "believe" / "READING.md"
+PAGES = (TOP / "docs" / "believe" / "READING.md", TOP / "docs" / "believe" / "READING_ANSWERS.md")
 MORE_PAGE = TOP / "tests" / "reading_more.md"
 HEADLINE = TOP / "crates" / "token_session" / "src" / "driving.rt"
-RECORD = "IsAnswered"
-# Fields of the headline's record, in the order of their sections.
+# The clauses of `drive_new` that are read: the theorem, and what no packet depends on.
+STATEMENT, BOUNDS = "answered", "bounded"
+BOUNDS_RECORD = "IsBounded"
+# Fields of the record of bounds, in the order of their sections.
 APART = ("pending", "carried", "steps")
 # A definition whose value only goes into this field, and the definitions that it needs alone: the section after those.
 ASIDE = {"cut": "name"}
 # A definition, and the law that is read in its place: a function of src/laws.rt in the definition's crate.
 LAWS = {"canonical_tree": "trees_are_told", "outcome_of": "bytes_tell"}
-LAWS |= {it: "answers_follow_history" for it in ("sent", "judged", "core")}
-# Those that the first page needs. The last section of the second needs the others.
-PAGE_LAWS = {"canonical_tree", "sent", "judged", "core"}
-# A law's premise that the types of the headline's arguments meet: the page says it in words.
+LAWS |= {name: "answers_follow_history" for name in ("sent", "judged", "core")}
+# Those that the two pages need. The third page needs the others.
+PAGE_LAWS = {"canonical_tree"}
+# A law's premise that the types of the theorem's arguments meet: the page says it in words.
 PREMISES = {"Lawful"}
-CLAUSE = re.compile(r"pub fn drive_new<.*?ensures answered \{(.*?)\n    (?://|ensures)", re.DOTALL)
+CLAUSE = r"pub fn drive_new<.*?ensures {} \{{(.*?)\n    (?://|ensures)"
+USE = re.compile(r"pub fn drive_new<.*?ensures answered \{(.*?)\n    (?://|ensures)", re.DOTALL)
 USE = re.compile(r"use ([\w.]+)\.\{(.*)\}")
 MODIFIERS = re.compile(r"(?:(?:unfoldable|abbrev|pub) )+")
 DECLARES = re.compile(r"(?:(?:unfoldable|abbrev|pub|record|data) )*(\S+)")
@@ -84,11 +87,11 @@ BLOCK = re.compile(r"<!-- (definitions|code|documented|quoted|clauses)(?:: (\S+)
 # A line with which a definition begins on a page: an equation, or a data type or a record in a line.
 BEGINS = re.compile(r"    (?:record |data )?(\S+?):?(?= |$)")
 SECTION = re.compile(r"^(?=## Only for )", re.MULTILINE)
-COUNTS = re.compile(r"\*\*\d+\s+definitions,\s+[\d,]+\s+lines,\s+\d+\s+files?\*\*")
+COUNTS = re.compile(r"\*\*\d+\s+definitions?,\s+[\d,]+\s+lines,\s+\d+\s+files?\*\*")
 MORE = re.compile(r"\*\*\d+\s+more\s+definitions\*\*\s+\(`(\w+)`\)")
-# How long the first page takes, with the rate in words a minute: the mean of reading aloud in Brysbaert's review.
-TIME = re.compile(r"At\s+(\d+)\s+words\s+a\s+minute,.*?\*\*([\d,]+)\s+words\s+take\s+(\d+)\s+minutes\*\*", re.DOTALL)
-RATE, MOST_MINUTES = 183, 60
+# How many words a page has at most, as it says itself.
+WORDS = re.compile(r"\*\*at most ([\d,]+)\s+words\*\*")
+MOST_WORDS = 6_000
 # A line of the page that isn't seen.
 UNSEEN = re.compile(r"<!-- .* -->")
 # The types of a field or an argument that are left out; in the code those of numbers, and bool.
@@ -319,19 +322,23 @@ def statement(path: Path, clause: re.Pattern[str], what: str) -> list[Name]:
 
 
 class Walk:
-    """What the headline needs: definitions, types and constants of the code, and words of libraries.
+    """What some clauses of `drive_new` need: definitions, types and constants of the code, and words of libraries.
 
     Without what only the fields `without` need, and what is set `aside`; with `laws` in the place of what they
     replace."""
 
-    def __init__(self, without: tuple[str, ...], laws: dict[str, str], aside: dict[str, str]) -> None:
+    def __init__(
+        self, clauses: tuple[str, ...], without: tuple[str, ...], laws: dict[str, str], aside: dict[str, str]
+    ) -> None:
         self.without, self.laws, self.aside = without, laws, aside
         self.needed: set[Name] = set()
         self.declared: set[Name] = set()
         self.library: set[str] = set()
         self.faults: list[str] = []
-        for it in statement(HEADLINE, CLAUSE, "clause `answered` of `drive_new`"):
-            self.visit(it)
+        for clause in clauses:
+            pattern = re.compile(CLAUSE.format(clause), re.DOTALL)
+            for name in statement(HEADLINE, pattern, f"clause `{clause}` of `drive_new`"):
+                self.visit(name)
 
     def visit(self, it: Name) -> None:
         """Takes a definition and all that it uses."""
@@ -346,7 +353,7 @@ class Walk:
         if found in self.needed:
             return
         self.needed.add(found)
-        for word in sorted(definition.words(self.without if found.name == RECORD else ())):
+        for word in sorted(definition.words(self.without if found.name == BOUNDS_RECORD else ())):
             self.visit_word(it.path, word)
 
     def visit_word(self, path: Path, word: str) -> None:
@@ -382,7 +389,7 @@ class Walk:
 
 @dataclass
 class Part:
-    """What a part of the pages shows: the first page, or a section of the second, with what it needs of the code."""
+    """What a part of the pages shows: the two pages, or a section of the third, with what it needs of the code."""
 
     title: str
     definitions: set[Name]
@@ -390,30 +397,37 @@ class Part:
 
 
 class Needs:
-    """The parts of the pages, the first page first, and how many more definitions a law replaces."""
+    """The parts of the pages, the first two pages first, and how many more definitions a law replaces."""
 
     def __init__(self) -> None:
-        walks = [Walk(APART[place:], LAWS, ASIDE) for place in range(len(APART) + 1)]
-        main, whole = walks[0], walks[-1]
-        walks.append(Walk((), LAWS, {}))
-        self.parts = [Part("on the page", main.needed, main.declared)]
+        both = (STATEMENT, BOUNDS)
+        statement_alone = Walk((STATEMENT,), (), LAWS, ASIDE)
+        walks = [Walk(both, APART[place:], LAWS, ASIDE) for place in range(len(APART) + 1)]
+        whole = walks[-1]
+        walks.append(Walk(both, (), LAWS, {}))
+        self.parts = [Part("on the pages", statement_alone.needed, statement_alone.declared)]
+        # The record of bounds itself, and the law by which its fields are read, are in the head of the third page.
+        head = Part("in the head of the third page", *without(walks[0], statement_alone))
+        self.parts.append(head)
         for name, before, walk in zip((*APART, *ASIDE), walks, walks[1:]):
-            title = f"in the section of `{name}`"
-            self.parts.append(Part(title, walk.needed - before.needed, walk.declared - before.declared))
-        self.faults, self.library = [*walks[-1].faults, *read_aside(main.needed)], walks[-1].library
-        # The first page without one of its laws; all of it without the last section's own law.
-        read_anew = {it: law for it, law in LAWS.items() if it in PAGE_LAWS}
-        self.more = {law: self.more_than(main, law, read_anew) for law in read_anew.values()}
-        self.more |= {
-            law: len(Walk((), read_anew, ASIDE).needed - whole.needed)
-            for it, law in LAWS.items()
-            if it not in PAGE_LAWS
-        }
+            self.parts.append(Part(f"in the section of `{name}`", *without(walk, before)))
+        self.faults = [*walks[-1].faults, *read_aside(statement_alone.needed)]
+        self.library = walks[-1].library
+        page_laws = {name: law for name, law in LAWS.items() if name in PAGE_LAWS}
+        self.more = {law: more_than(statement_alone, (STATEMENT,), law, page_laws) for law in page_laws.values()}
+        for law in dict.fromkeys(law for name, law in LAWS.items() if name not in PAGE_LAWS):
+            self.more[law] = more_than(whole, both, law, LAWS)
 
-    @staticmethod
-    def more_than(main: Walk, law: str, laws: dict[str, str]) -> int:
-        """Returns how many more definitions the first page had without a law."""
-        return len(Walk(APART, {it: other for it, other in laws.items() if other != law}, ASIDE).needed - main.needed)
+
+def without(walk: Walk, before: Walk) -> tuple[set[Name], set[Name]]:
+    """Returns the definitions, and the types and constants of the code, that only the first walk needs."""
+    return walk.needed - before.needed, walk.declared - before.declared
+
+
+def more_than(walk: Walk, clauses: tuple[str, ...], law: str, laws: dict[str, str]) -> int:
+    """Returns how many more definitions a walk needs without a law."""
+    others = {name: other for name, other in laws.items() if other != law}
+    return len(Walk(clauses, (), others, ASIDE).needed - walk.needed)
 
 
 def read_aside(needed: set[Name]) -> list[str]:
@@ -590,35 +604,34 @@ def extent(page: str) -> int:
     return sum(len(it.split()) for it in page.splitlines() if not UNSEEN.fullmatch(it))
 
 
-def overlong(page: str) -> list[str]:
-    """Returns where the page has more than it says, or where that takes another time than it says, or over an hour."""
-    said = TIME.search(page)
-    if said is None:
-        return ["the page doesn't say how long it takes"]
-    rate, most, minutes = (int(it.replace(",", "")) for it in said.groups())
-    words, computed = extent(page), math.ceil(most / RATE)
-    found = [f"the page has {words} words, more than {most}"] if words > most else []
-    found += [f"the page is read at {rate} words a minute, not at {RATE}"] if rate != RATE else []
-    found += [f"that takes {computed} minutes"] if computed != minutes else []
-    return found + ([f"that is over {MOST_MINUTES} minutes"] if computed > MOST_MINUTES else [])
+def overlong(path: Path, page: str) -> list[str]:
+    """Returns where a page has more words than it says, or says more than a page may have."""
+    name, stated = path.name, WORDS.search(page)
+    if stated is None:
+        return [f"{name} doesn't say how many words it has"]
+    words, most = extent(page), int(stated[1].replace(",", ""))
+    found = [f"{name} has {words} words, more than {most}"] if words > most else []
+    return found + ([f"{name} says {most} words, more than {MOST_WORDS}"] if most > MOST_WORDS else [])
 
 
-def faults(needs: Needs, page: str) -> list[str]:
-    """Returns what is wrong in the text of both pages."""
-    found, texts = [*needs.faults], SECTION.split(page)
+def faults(needs: Needs, pages: list[str], more: str) -> list[str]:
+    """Returns what is wrong in the texts of the pages."""
+    both = END.join(pages)
+    texts, found = [both, *SECTION.split(more)], [*needs.faults]
     if len(texts) != len(needs.parts):
-        return [*found, f"there are {len(texts) - 1} sections, and the headline has {len(APART)} fields for one"]
+        return [*found, f"the third page has {len(texts) - 2} sections, not {len(needs.parts) - 2}"]
     for part, text in zip(needs.parts, texts):
         found += differences(part.title, names_on(text, "definitions"), part.definitions)
         found += differences(part.title, names_on(text, "code", "documented"), part.code)
-    code = sorted(it for part in needs.parts for it in part.code)
-    found += [f"{it} is named by a definition and isn't public" for it in code if not is_public(it)]
-    found += unsaid(needs, page)
-    found += overlong(page.partition(END)[0])
-    if len(COUNTS.findall(page)) != len(needs.parts) or {it[1] for it in MORE.finditer(page)} != set(LAWS.values()):
+    code = sorted(name for part in needs.parts for name in part.code)
+    found += [f"{name} is named by a definition and isn't public" for name in code if not is_public(name)]
+    found += unsaid(needs, END.join(texts))
+    found += [fault for path, page in zip(PAGES, pages) for fault in overlong(path, page)]
+    whole = END.join([both, more])
+    if len(COUNTS.findall(whole)) != len(needs.parts) or {m[1] for m in MORE.finditer(whole)} != set(LAWS.values()):
         found.append("the pages don't say each count once")
-    if written(needs, page).partition(END)[0] != page.partition(END)[0]:
-        found.append("a text or a count on the page isn't that of today: tests/reading.py --write")
+    if written(needs, whole).split(END)[: len(PAGES)] != pages:
+        found.append("a text or a count on a page is out of date: tests/reading.py --write")
     return found
 
 
@@ -640,25 +653,28 @@ def listing(needs: Needs) -> str:
 
 
 def main() -> int:
-    texts = [it.read_text(encoding="utf-8") for it in (PAGE, MORE_PAGE)]
-    needs, page = Needs(), END.join(texts)
+    """Runs the command."""
+    pages, more = [path.read_text(encoding="utf-8") for path in PAGES], MORE_PAGE.read_text(encoding="utf-8")
+    needs, whole = Needs(), END.join([*pages, more])
     if sys.argv[1:] == ["--list"]:
         print(listing(needs))
         return 0
     if sys.argv[1:] == ["--more"]:
-        print(written(needs, page).partition(END)[2], end="")
+        print(written(needs, whole).split(END)[-1], end="")
         return 0
     if sys.argv[1:] == ["--index"]:
         print(definitions.page(comments()), end="")
         return 0
     if sys.argv[1:] == ["--write"]:
-        PAGE.write_text(written(needs, page).partition(END)[0], encoding="utf-8")
+        for path, text in zip(PAGES, written(needs, whole).split(END)):
+            path.write_text(text, encoding="utf-8")
         return 0
-    found = faults(needs, page)
+    found = faults(needs, pages, more)
     for line in found:
         print(line)
     counted = count(needs.parts[0].definitions).strip("*")
-    print(f"docs/believe/READING.md: {counted}; {extent(texts[0])} words in all; {len(found)} faults")
+    words = " and ".join(f"{path.name} {extent(page)}" for path, page in zip(PAGES, pages))
+    print(f"one statement, {counted}; words: {words}; {len(found)} faults")
     return 1 if found else 0
 
 
