@@ -46,7 +46,7 @@ module _ (n b : ℕ) (a d : Assembly) (k : CoreState) (m : Meters) (v : SessionS
           → option_or (verdict_cause (input_verdict a w i)) (event_cause k n (input_event i (input_verdict a w i) d.finished))
           ≡ served_cause (whole n a k b) i
       input_caused (Packet x) ed = rw (ed, ew) refl
-      input_caused other ed = rw ed refl
+      input_caused other ed = refl
 
   -- by an input that is no event
   pub served_quietly : None ≡ input_event i V d.finished → (out : List (List ℕ)) →

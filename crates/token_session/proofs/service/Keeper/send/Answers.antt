@@ -4,11 +4,11 @@ use Rattle.token_session.proofs.service.Keeper.send.Goals as goal
 
 pub put_message-requires-clause-space : goal.put_message-requires-clause-space
 unfolding answer_packets
-put_message-requires-clause-space g c = rw c.as_slice.ensures.value (rw c.in-Answer.is at c.requires)
+put_message-requires-clause-space g c = grind (arith, c.requires, c.in-Answer.is, c.as_slice.ensures.value)
 
 pub returns-in-Answer-clause-keepalive : goal.returns-in-Answer-clause-keepalive
 unfolding answer_keeps_alive
-returns-in-Answer-clause-keepalive g c = rw c.in-Answer.is refl
+returns-in-Answer-clause-keepalive g c = grind (arith, c.in-Answer.is)
 
 pub put_message-requires-then-not-matches-clause-space : goal.put_message-requires-then-not-matches-clause-space
 unfolding answer_packets

@@ -52,13 +52,13 @@ take-turn-requires g c = search core_held
 pub send-requires : goal.send-requires
 send-requires g c = (
   assumption c.well_formed,
-  grind (arith, c.requires.few, c.in-Request.is, c.work-before.ensures, c.take-turn.ensures.answer),
+  grind (arith, c.requires.few, c.in-Request.is, c.work-before.ensures, c.take-turn.ensures.turn.answer),
 )
 
 pub send-requires-in-Some : goal.send-requires-in-Some
 send-requires-in-Some g c = (
   assumption c.well_formed,
-  grind (arith, c.requires.few, c.in-Presence.is, c.in-Some.is, c.work-before.ensures, c.take-turn.ensures.answer),
+  grind (arith, c.requires.few, c.in-Presence.is, c.in-Some.is, c.work-before.ensures, c.take-turn.ensures.turn.answer),
 )
 
 pub returns-in-Some-clause-bounded : goal.returns-in-Some-clause-bounded

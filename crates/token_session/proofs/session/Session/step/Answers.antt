@@ -9,22 +9,22 @@ use Rattle.token_session.specs.Causes.{time_cause, served_cause, causes_of, caus
 use Rattle.token_session.proofs.Sizes.{core_within, table_within}
 use Rattle.token_session.proofs.session.Session.step.Goals as goal
 
-pub serve-requires : goal.serve-requires
-serve-requires g c =
-    (assumption c.well_formed, rw c.pass_time.ensures.packets (time_few (c.args.self.now).machine c.max-now.result))
+pub serve-why-requires : goal.serve-why-requires
+serve-why-requires g c =
+    (assumption c.well_formed, rw c.pass_time-time.ensures.packets (time_few (c.args.self.now).machine c.max-now.result))
 
 pub returns-clause-state : goal.returns-clause-state
 returns-clause-state g c =
     let x : Timed = record { at = c.args.at; input = c.args.input } in
     let at : c.max-now.result ≡ max (c.args.self.now).machine.now c.args.at =
     c.max-now.ensures ∙ ap (λ (s : SessionState). max s.machine.now c.args.at) c.self.view_is in
-    let turned = step_turn (c.args.self.now).machine _ c.max-now.result x _ at c.pass_time.ensures.state
-    c.pass_time.ensures.packets in
+    let turned = step_turn (c.args.self.now).machine _ c.max-now.result x _ at c.pass_time-time.ensures.state
+    c.pass_time-time.ensures.packets in
     stepped_is (c.args.self.now).machine _ (c.args.self.now).meters _ c.args.self.now x _ _ _ refl
-    (ap (λ (s : SessionState). s.machine) c.self-2.view_is ∙ c.serve.ensures.state
+    (ap (λ (s : SessionState). s.machine) c.self-2.view_is ∙ c.serve-why.ensures.state
     ∙ ap (λ (t : MachineTurn). t.state) turned)
-    (ap (λ (s : SessionState). s.meters) c.self-2.view_is ∙ c.serve.ensures.meters
-    ∙ (λ i. counted (c.pass_time.ensures.meters i) (request_in (turned i).event)))
+    (ap (λ (s : SessionState). s.meters) c.self-2.view_is ∙ c.serve-why.ensures.meters
+    ∙ (λ i. counted (c.pass_time-time.ensures.meters i) (request_in (turned i).event)))
     (c.max-self-inside.ensures ∙ ap (max _) c.held.ensures.bytes) (c.max-self-inside-2.ensures
     ∙ ap (max _) c.credentials.ensures.value) (c.max-self-inside-3.ensures ∙ ap (max _) c.pending.ensures.value)
 
@@ -33,9 +33,9 @@ returns-clause-packets g c =
     let x : Timed = record { at = c.args.at; input = c.args.input } in
     let at : c.max-now.result ≡ max (c.args.self.now).machine.now c.args.at =
     c.max-now.ensures ∙ ap (λ (s : SessionState). max s.machine.now c.args.at) c.self.view_is in
-    c.serve.ensures.packets
+    c.serve-why.ensures.packets
     ∙ ap (λ (t : MachineTurn). t.packets) (step_turn (c.args.self.now).machine _ c.max-now.result x _ at
-    c.pass_time.ensures.state c.pass_time.ensures.packets)
+    c.pass_time-time.ensures.state c.pass_time-time.ensures.packets)
 
 pub returns-clause-few : goal.returns-clause-few
 returns-clause-few g c =
@@ -68,9 +68,9 @@ unfolding causes_of
 returns-clause-why g c =
     let at : c.max-now.result ≡ max (c.args.self.now).machine.now c.args.at =
     c.max-now.ensures ∙ ap (λ (s : SessionState). max s.machine.now c.args.at) c.self.view_is in
-    let time = c.pass_time.ensures.why ∙ ap (time_cause (c.args.self.now).machine.current) at in
-    let input = c.serve.ensures.why ∙ ap (λ m. served_cause m c.args.input)
-    (c.pass_time.ensures.state ∙ ap (λ t. (time_passed (c.args.self.now).machine t).state) at) in
+    let time = c.pass_time-time.ensures.why ∙ ap (time_cause (c.args.self.now).machine.current) at in
+    let input = c.serve-why.ensures.why ∙ ap (λ m. served_cause m c.args.input)
+    (c.pass_time-time.ensures.state ∙ ap (λ t. (time_passed (c.args.self.now).machine t).state) at) in
     λ i. record { time = time i; input = input i }
 
 pub returns-clause-named : goal.returns-clause-named
@@ -82,8 +82,8 @@ returns-clause-named g c = λ start h b.
 later : (latest at now to : ℕ) → latest ≡ now → to ≡ max latest at → now ≤ to
 later latest at now to e m = omega arith
 
-pub pass_time-requires : goal.pass_time-requires
-pass_time-requires g c = (assumption c.well_formed, (c.requires, later _ c.args.at _ _ (ap (λ (v : SessionState). v.machine.now) c.self.view_is) c.max-now.ensures))
+pub pass_time-time-requires : goal.pass_time-time-requires
+pass_time-time-requires g c = (assumption c.well_formed, (c.requires, later _ c.args.at _ _ (ap (λ (v : SessionState). v.machine.now) c.self.view_is) c.max-now.ensures))
 
 pub credentials-requires-room-T-Table : goal.credentials-requires-room-T-Table
 credentials-requires-room-T-Table g c κs = search table_within
