@@ -8,17 +8,17 @@ import (
 	"encoding/binary"
 	"errors"
 	"fmt"
+	"strings"
 	"sync"
 	"time"
 )
 
-// Commands of CTAPHID (CTAP 2.1, section 11.2.9) and the longest message.
+// Commands of CTAPHID, with the bit of an initialization packet (CTAP 2.1, section 11.2.4).
 const (
-	commandInit = 0x86
-	commandCBOR = 0x90
-	keepalive   = 0xBB
-	hidError    = 0xBF
-	messageMost = 7609
+	commandInit = 0x80 | hidINIT
+	commandCBOR = 0x80 | hidCBOR
+	keepalive   = 0x80 | hidKEEPALIVE
+	hidError    = 0x80 | hidERROR
 )
 
 // Faults are what a service has to survive. The key stays as it is: they are made outside of it, so that its recording
@@ -57,7 +57,7 @@ type Status byte
 
 // Error returns the status as a text.
 func (it Status) Error() string {
-	return fmt.Sprintf("hidlog: the key answered with status %02x", byte(it))
+	return strings.TrimSpace(fmt.Sprintf("hidlog: the key answered with status %02x %s", byte(it), statusNames[it]))
 }
 
 // NewSecurityKey makes a key without credentials.
@@ -240,8 +240,8 @@ func (it *SecurityKey) open() error {
 func (it *SecurityKey) Exchange(request []byte) ([]byte, error) {
 	it.mutex.Lock()
 	defer it.mutex.Unlock()
-	if len(request) == 0 || len(request) > messageMost {
-		return nil, fmt.Errorf("hidlog: a request has 1 to %d bytes, not %d", messageMost, len(request))
+	if len(request) == 0 || len(request) > longestMessage {
+		return nil, fmt.Errorf("hidlog: a request has 1 to %d bytes, not %d", longestMessage, len(request))
 	}
 	if it.channel == [4]byte{} {
 		if err := it.open(); err != nil {

@@ -4,12 +4,11 @@ import { namesOf } from "./outside.js";
 import { CANCEL, CBOR, Collector, INIT } from "./packets.js";
 import { checkEnded, clearInterval, pause, setInterval, unlessEnded } from "./platform.js";
 import { Recordings } from "./recordings.js";
+import { BROADCAST, KEEPALIVE_MS } from "./standard.js";
 import { statusName } from "./statuses.js";
 
 // The first channel that the key gives out: no other host speaks to it.
 const CHANNEL = 1;
-const BROADCAST = 0xffffffff;
-const KEEPALIVE_MS = 100;
 const NOTHING = new Uint8Array(0);
 // With no other host, the nonce of an INIT needn't be random.
 const NONCE = Uint8Array.of(0, 1, 2, 3, 4, 5, 6, 7);

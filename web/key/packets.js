@@ -1,11 +1,8 @@
 // Packets of CTAPHID, and the messages that they carry (CTAP 2.1, "USB HID").
 import { joined } from "./bytes.js";
+import { CANCEL, CBOR, INIT, KEEPALIVE, PACKET_SIZE } from "./standard.js";
 
-export const INIT = 0x06;
-export const CBOR = 0x10;
-export const CANCEL = 0x11;
-const KEEPALIVE = 0x3b;
-export const PACKET = 64;
+export { CANCEL, CBOR, INIT };
 
 /** @typedef {{ command: number, bytes: Uint8Array }} Message */
 
@@ -14,7 +11,7 @@ export const packetsOf = (channel, command, bytes) => {
     const packets = [];
     let from = 0;
     do {
-        const packet = new Uint8Array(PACKET);
+        const packet = new Uint8Array(PACKET_SIZE);
         const view = new DataView(packet.buffer);
         view.setUint32(0, channel);
         view.setUint8(4, packets.length ? packets.length - 1 : 0x80 | command);
@@ -22,8 +19,8 @@ export const packetsOf = (channel, command, bytes) => {
             view.setUint16(5, bytes.length);
         }
         const head = packets.length ? 5 : 7;
-        packet.set(bytes.subarray(from, from + PACKET - head), head);
-        from += PACKET - head;
+        packet.set(bytes.subarray(from, from + PACKET_SIZE - head), head);
+        from += PACKET_SIZE - head;
         packets.push(packet);
     } while (from < bytes.length);
     return packets;
@@ -47,10 +44,10 @@ export class Collector {
             }
             if (packet[4] >= 0x80) {
                 const [command, length] = [packet[4] - 0x80, view.getUint16(5)];
-                this.open = { command, length, parts: [packet.subarray(7)], size: PACKET - 7 };
+                this.open = { command, length, parts: [packet.subarray(7)], size: PACKET_SIZE - 7 };
             } else if (this.open) {
                 this.open.parts.push(packet.subarray(5));
-                this.open.size += PACKET - 5;
+                this.open.size += PACKET_SIZE - 5;
             }
             whole = this.#whole() ?? whole;
         }

@@ -6,22 +6,10 @@ use crate::wish::{FaultLine, Wish};
 use hid_packet::command::{CBOR, KEEPALIVE};
 use hid_packet::{Packet, View};
 use memchr::memmem;
+use session_show::status::{
+    CREDENTIAL_EXCLUDED, KEY_STORE_FULL, NO_CREDENTIALS, OK, OPERATION_DENIED,
+};
 use session_show::{Awaited, Difference, Pen, Transaction, Written};
-
-/// CTAP2_OK.
-const OK: u8 = 0x00;
-
-/// CTAP2_ERR_CREDENTIAL_EXCLUDED.
-const EXCLUDED: u8 = 0x19;
-
-/// CTAP2_ERR_OPERATION_DENIED.
-const DENIED: u8 = 0x27;
-
-/// CTAP2_ERR_KEY_STORE_FULL.
-const STORE_FULL: u8 = 0x28;
-
-/// CTAP2_ERR_NO_CREDENTIALS.
-const NO_CREDENTIALS: u8 = 0x2E;
 
 /// What changes no credentials of a key.
 const KEEPING: [&str; 6] = [
@@ -100,9 +88,12 @@ impl Finding<'_> {
         };
         let may_lack = match (reply_in(&difference.logged), reply_in(&difference.sent)) {
             (Reply::Status(OK) | Reply::Waits, Reply::Status(NO_CREDENTIALS)) => true,
-            (Reply::Status(EXCLUDED), Reply::Status(DENIED | STORE_FULL)) => true,
+            (
+                Reply::Status(CREDENTIAL_EXCLUDED),
+                Reply::Status(OPERATION_DENIED | KEY_STORE_FULL),
+            ) => true,
             // It is past the excludeList only where it waits for a new key.
-            (Reply::Status(EXCLUDED), Reply::Waits) => {
+            (Reply::Status(CREDENTIAL_EXCLUDED), Reply::Waits) => {
                 matches!(difference.awaited, Some(Awaited::Key))
             }
             _ => false,

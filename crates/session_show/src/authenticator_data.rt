@@ -4,23 +4,14 @@ use crate::escape::write_escaped;
 use crate::field::{write_bytes, write_item, write_member};
 use crate::member_names::Map;
 use crate::pen::Pen;
-use crate::words::{Flags, write_flags};
+use crate::standard::FLAGS;
+use crate::words::write_flags;
 use ctap_cbor::{Cursor, Item};
 use session_walk::{CREDENTIAL, Pairs, item_at};
 use sha2::{Digest, Sha256};
 
 /// The flag that says that extensions come last.
 const EXTENSIONS: u8 = 0x80;
-
-/// The letters of the flags.
-static FLAGS: Flags = &[
-    (0x01, " UP"),
-    (0x04, " UV"),
-    (0x08, " BE"),
-    (0x10, " BS"),
-    (CREDENTIAL, " AT"),
-    (EXTENSIONS, " ED"),
-];
 
 /// Writes lines for what authenticator data hold, as far as the bytes reach.
 pub fn write_authenticator_data(pen: &mut Pen, number: u64, bytes: &[u8], rp_id: &[u8]) {

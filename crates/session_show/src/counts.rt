@@ -1,7 +1,7 @@
 //! What a session comes to in numbers.
 
-use crate::entry::EXCLUDED;
 use crate::pen::Pen;
+use session_walk::status::CREDENTIAL_EXCLUDED;
 use session_walk::{End, Entry, Role};
 
 /// How counts are written. In each form the numbers are in the order in which `Counts::write` has them.
@@ -134,7 +134,7 @@ impl Counts {
                     _ => {}
                 },
                 End::Status(status) => {
-                    if status == EXCLUDED && matches!(command, Some(0x01)) {
+                    if status == CREDENTIAL_EXCLUDED && matches!(command, Some(0x01)) {
                         self.excluded = self.excluded.saturating_add(1);
                     }
                     self.refused.add(status);

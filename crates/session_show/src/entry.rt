@@ -11,11 +11,9 @@ use crate::putting::Written;
 use authn_core::Presence;
 use ctap_cbor::check;
 use session_log::Line;
+use session_walk::status::CREDENTIAL_EXCLUDED;
 use session_walk::{CborMessage, Ended, Entry, Excluded, Transaction};
 use token_session::Input;
-
-/// CTAP2_ERR_CREDENTIAL_EXCLUDED.
-pub const EXCLUDED: u8 = 0x19;
 
 /// How a CBOR message is written.
 pub struct MessageForms {
@@ -89,7 +87,7 @@ pub fn write_message(pen: &mut Pen, number: u64, message: &CborMessage<'_>) {
         return;
     };
     write_members(pen, number, map, item, exchange.named.rp_id.bytes());
-    if *first == EXCLUDED
+    if *first == CREDENTIAL_EXCLUDED
         && let Some(excluded) = &exchange.named.excluded
     {
         pen.form(b"%d   ", &[Some(number)]);

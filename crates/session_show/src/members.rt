@@ -2,8 +2,9 @@
 
 use crate::authenticator_data::{write_authenticator_data, write_key};
 use crate::field::{write_member, write_signature};
-use crate::member_names::{ALGORITHMS, Map};
+use crate::member_names::Map;
 use crate::pen::Pen;
+use crate::standard::ALGORITHMS;
 use crate::words::write_name;
 use ctap_cbor::{Cursor, Item};
 use session_walk::{Pairs, item_at, name_in};

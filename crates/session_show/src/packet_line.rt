@@ -1,7 +1,8 @@
 //! A packet as one line shows it.
 
 use crate::pen::Pen;
-use crate::words::{CAPABILITIES, ERRORS, KEEPALIVES, write_flags, write_name};
+use crate::standard::{CAPABILITIES, ERRORS, KEEPALIVES};
+use crate::words::{write_flags, write_name};
 use hid_packet::command::{ERROR, INIT, KEEPALIVE};
 use hid_packet::{Packet, View};
 use session_walk::{MESSAGES, channel_of, name_in};

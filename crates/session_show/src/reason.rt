@@ -2,22 +2,14 @@
 
 use crate::cause::write_cause;
 use crate::difference::Difference;
-use crate::entry::EXCLUDED;
 use crate::pen::Pen;
 use crate::putting::Written;
 use hid_packet::View;
 use hid_packet::command::{CBOR, ERROR};
+use session_walk::error_code::{CHANNEL_BUSY, MSG_TIMEOUT};
+use session_walk::status::CREDENTIAL_EXCLUDED;
 use session_walk::{Followed, LogWalk, Transaction, channel_of};
-use token_session::Cause;
-
-/// The code of an ERROR that refuses a message since another one is served.
-const CHANNEL_BUSY: u8 = 0x06;
-
-/// The code of an ERROR that says that a message wasn't finished in time.
-const MESSAGE_TIMEOUT: u8 = 0x05;
-
-/// How long after a KEEPALIVE the next one is due, in milliseconds (CTAP 2.1, section 11.2.9.1.7).
-const KEEPALIVE_PERIOD: u64 = 100;
+use token_session::{Cause, KEEPALIVE_PERIOD};
 
 /// Why a packet differs.
 #[derive(Clone, Copy)]
@@ -54,7 +46,7 @@ impl Written for Reason<'_> {
             return;
         };
         let cause = match self.difference.causes.time {
-            Some(overdue) if cmd == ERROR && *code == MESSAGE_TIMEOUT => Some(Cause::Transport(
+            Some(overdue) if cmd == ERROR && *code == MSG_TIMEOUT => Some(Cause::Transport(
                 overdue,
             )),
             _ => self.difference.causes.input,
@@ -73,7 +65,7 @@ impl Written for Reason<'_> {
             pen.text("\n");
         }
         if cmd == CBOR
-            && *code == EXCLUDED
+            && *code == CREDENTIAL_EXCLUDED
             && let Some(found) = self.walk.channels.on(cid)
             && let Some(held) = &found.held
             && let Some(excluded) = &held.named.excluded

@@ -3,9 +3,10 @@
 ghost use Rattle.std.specs.Prelude.{◌≡◌};
 ghost use Rattle.session_walk.specs.Ends.{can_answer};
 
-use crate::device::{ASSERT, OK};
+use crate::command::GET_ASSERTION;
 use crate::entry::Role;
 use crate::exchange::{Extent, Followed, Transaction};
+use crate::status::OK;
 use hid_packet::BROADCAST;
 use hid_packet::command::CBOR;
 
@@ -37,7 +38,7 @@ impl AnswerStart<'_> {
 
     /// Returns whether it says that authenticatorGetAssertion found something, if it is for this transaction.
     pub fn has_assertion(&self, of: &Option<Transaction>) -> bool {
-        self.is_success() && matches!(of, Some(of) if matches!(of.command, Some(ASSERT)))
+        self.is_success() && matches!(of, Some(of) if matches!(of.command, Some(GET_ASSERTION)))
     }
 
     /// Returns the channel that it gives out, if it answers an INIT on the broadcast channel (CTAP 2.1, section

@@ -2,18 +2,17 @@
 ghost use Rattle.std.specs.Prelude.{◌<◌};
 
 use crate::channel::DeviceMessage;
-use crate::device::{ASSERT, MAKE, OK, RESET};
+use crate::command::{CREDENTIAL_MANAGEMENT, GET_ASSERTION, MAKE_CREDENTIAL, RESET};
 use crate::exchange::{Named, Transaction};
 use crate::pairs::{item_at, next_value, value_at};
 use crate::pool::Pool;
 use crate::rp_id::RpId;
+use crate::status::OK;
 use ctap_cbor::{Cursor, Item, check};
 use sha2::{Digest, Sha256};
 
-/// authenticatorCredentialManagement, and the command that keys had for it before.
-const MANAGEMENT: u8 = 0x0A;
-
-const MANAGEMENT_BEFORE: u8 = 0x41;
+/// The preview of authenticatorCredentialManagement, from before CTAP 2.1.
+const CREDENTIAL_MANAGEMENT_PREVIEW: u8 = 0x41;
 
 /// The flag of authenticator data that says that a credential follows.
 pub const CREDENTIAL: u8 = 0x40;
@@ -81,11 +80,14 @@ impl Credentials {
             return;
         };
         let command = exchange.transaction.command.unwrap_or(0);
-        if matches!(command, RESET | MANAGEMENT | MANAGEMENT_BEFORE) {
+        if matches!(
+            command,
+            RESET | CREDENTIAL_MANAGEMENT | CREDENTIAL_MANAGEMENT_PREVIEW
+        ) {
             let is_reset = self.is_reset || command == RESET;
             *self = Credentials::new();
             self.is_reset = is_reset;
-        } else if command == MAKE && check(item).result.is_ok() {
+        } else if command == MAKE_CREDENTIAL && check(item).result.is_ok() {
             self.add(line, item, exchange.named.account);
         }
     }
@@ -136,17 +138,17 @@ impl Credentials {
         let command = of.command.unwrap_or(0);
         named.rp_id = RpId::of_request(command, item);
         named.names_one = match command {
-            MAKE => names_one(item, EXCLUDE_LIST, false),
-            ASSERT => names_one(item, ALLOW_LIST, true),
+            MAKE_CREDENTIAL => names_one(item, EXCLUDE_LIST, false),
+            GET_ASSERTION => names_one(item, ALLOW_LIST, true),
             _ => false,
         };
-        if command == ASSERT
+        if command == GET_ASSERTION
             && let Some(options) = value_at(item, Item::Int(5))
             && let Some(Item::Bool(false)) = item_at(options, Item::Text("up"))
         {
             named.is_silent = true;
         }
-        if command != MAKE || named.rp_id.bytes().is_empty() {
+        if command != MAKE_CREDENTIAL || named.rp_id.bytes().is_empty() {
             return named;
         }
         let relying_party = Sha256::digest(named.rp_id.bytes());

@@ -9,49 +9,17 @@ ghost use Rattle.session_walk.specs.Ends.{timed_out, timing_out_by, told_on};
 use crate::answer::{AnswerStart, Answered, Started};
 use crate::awaited::Awaited;
 use crate::channel::{Channel, DeviceMessage, nonce_in};
+use crate::command::{GET_ASSERTION, GET_NEXT_ASSERTION, MAKE_CREDENTIAL, RESET, SELECTION};
 use crate::doubtful::Doubtful;
 use crate::entry::Role;
+use crate::error_code::{
+    CHANNEL_BUSY, INVALID_CHANNEL, INVALID_CMD, INVALID_LEN, INVALID_SEQ, MSG_TIMEOUT, OTHER,
+};
 use crate::exchange::{End, EndedTransactions, Extent, Followed, Transaction, is_served};
+use crate::keepalive_status::{PROCESSING, UPNEEDED};
+use crate::status::{KEEPALIVE_CANCEL, OK};
 use hid_packet::BROADCAST;
 use hid_packet::command::{ERROR, INIT, KEEPALIVE};
-
-/// The codes of ERROR (CTAP 2.1, section 11.2.9.1.6).
-const INVALID_COMMAND: u8 = 0x01;
-
-const INVALID_LENGTH: u8 = 0x03;
-
-const INVALID_SEQUENCE: u8 = 0x04;
-
-pub const TIMED_OUT: u8 = 0x05;
-
-const CHANNEL_BUSY: u8 = 0x06;
-
-const INVALID_CHANNEL: u8 = 0x0B;
-
-const OTHER: u8 = 0x7F;
-
-/// What KEEPALIVEs say (CTAP 2.1, section 11.2.9.2.1).
-const PROCESSING: u8 = 0x01;
-
-const USER_NEEDED: u8 = 0x02;
-
-/// The status of a request that was done.
-pub const OK: u8 = 0x00;
-
-/// The status of a request that was cancelled.
-const CANCELLED: u8 = 0x2D;
-
-/// Commands of the authenticator: authenticatorMakeCredential, authenticatorGetAssertion, authenticatorReset,
-/// authenticatorGetNextAssertion and authenticatorSelection.
-pub const MAKE: u8 = 0x01;
-
-pub const ASSERT: u8 = 0x02;
-
-pub const RESET: u8 = 0x07;
-
-const NEXT: u8 = 0x08;
-
-pub const SELECT: u8 = 0x0B;
 
 /// The milliseconds within which no device drops a message.
 pub const NO_TIME_OUT: u64 = 100;
@@ -170,7 +138,7 @@ impl Channel {
         doubtful: &Option<Doubtful>,
         ends: &mut EndedTransactions,
     ) -> (Option<Transaction>, bool) {
-        if code != TIMED_OUT {
+        if code != MSG_TIMEOUT {
             return (self.refuse_one(code, input, ends), false);
         }
         // It may be that of the message that was asked.
@@ -222,7 +190,7 @@ impl Channel {
         if held.extent.is_whole() {
             return (None, is_late);
         }
-        (self.end_held(End::Refused(TIMED_OUT), ends), is_late)
+        (self.end_held(End::Refused(MSG_TIMEOUT), ends), is_late)
     }
 
     /// Ends what was asked by a time-out, beside a message that is served: that may go on.
@@ -252,9 +220,9 @@ impl Channel {
     {
         let line = refused.line;
         let (cause, by) = if refused.message == INIT {
-            (INVALID_LENGTH, End::Dropped(line))
+            (INVALID_LEN, End::Dropped(line))
         } else {
-            (INVALID_SEQUENCE, End::Replaced(line))
+            (INVALID_SEQ, End::Replaced(line))
         };
         if code == cause
             && let Some(held) = &self.held
@@ -281,7 +249,7 @@ impl Channel {
     {
         let is_undecided = self.is_undecided(input);
         let mut refused = None;
-        if code == INVALID_LENGTH {
+        if code == INVALID_LEN {
             let place = self.greeting_of(None);
             refused = self.take_greeting(place);
         }
@@ -301,7 +269,7 @@ impl Channel {
             let is_of_stray = held.keepalives > 0
                 && matches!(
                     code,
-                    INVALID_COMMAND | INVALID_SEQUENCE | CHANNEL_BUSY | INVALID_CHANNEL
+                    INVALID_CMD | INVALID_SEQ | CHANNEL_BUSY | INVALID_CHANNEL
                 );
             if self.is_stray && is_of_stray {
                 return None;
@@ -338,7 +306,7 @@ impl Channel {
     /// any time, so the ERROR is for what else is open there.
     fn may_be_of_init(&self, code: u8) -> bool {
         match code {
-            INVALID_SEQUENCE | TIMED_OUT => false,
+            INVALID_SEQ | MSG_TIMEOUT => false,
             CHANNEL_BUSY => self.number == BROADCAST,
             OTHER if self.number == BROADCAST => true,
             _ => self.held.is_none() && !self.is_unclear(),
@@ -377,7 +345,7 @@ impl Channel {
         if let Some(mut next) = exchange
             && matches!(
                 (next.transaction.command, answer.status),
-                (Some(NEXT), Some(OK))
+                (Some(GET_NEXT_ASSERTION), Some(OK))
             )
         {
             next.named.rp_id = self.asserted;
@@ -438,7 +406,7 @@ impl Channel {
     {
         let is_of_held = answer.is_of(&self.held);
         let mut is_of_asked = answer.is_of(&self.asked);
-        if is_of_held && is_of_asked && matches!(answer.status, Some(CANCELLED)) {
+        if is_of_held && is_of_asked && matches!(answer.status, Some(KEEPALIVE_CANCEL)) {
             is_of_asked = matches!(&self.held, Some(held) if held.cancelled.is_none());
         }
         if !is_of_asked && !is_of_held {
@@ -483,9 +451,9 @@ impl Channel {
 fn awaited_in(status: u8, held: &Followed) -> Option<Awaited>
     ensures { result ≡ awaited_by status held.now }
 {
-    let is_made = matches!(held.transaction.command, Some(MAKE));
+    let is_made = matches!(held.transaction.command, Some(MAKE_CREDENTIAL));
     match status {
-        USER_NEEDED => Some(Awaited::Presence),
+        UPNEEDED => Some(Awaited::Presence),
         PROCESSING => match held.awaited {
             Some(Awaited::Key | Awaited::Signature) => held.awaited,
             _ if is_made => Some(Awaited::Key),

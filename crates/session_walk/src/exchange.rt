@@ -6,10 +6,11 @@ ghost use Rattle.session_walk.specs.Owners.{added, is_worked_on};
 ghost use Rattle.std.specs.Prelude.{◌&&◌, ◌||◌, ◌==◌, not};
 
 use crate::awaited::Awaited;
+use crate::command::{GET_ASSERTION, MAKE_CREDENTIAL, RESET, SELECTION};
 use crate::credentials::{Excluded, Name};
-use crate::device::{ASSERT, MAKE, RESET, SELECT};
-use crate::names::{COMMANDS, MESSAGES, name_in};
+use crate::names::name_in;
 use crate::rp_id::RpId;
+use crate::standard::{COMMANDS, MESSAGES};
 use arrayvec::ArrayVec;
 use hid_packet::command::{INIT, PING};
 use hid_packet::{CONTINUATION_DATA, INITIALIZATION_DATA, LONGEST_MESSAGE};
@@ -130,8 +131,8 @@ impl Followed {
     /// Returns whether it asks for the user's presence.
     pub fn asks_user(&self) -> bool {
         match self.transaction.command {
-            Some(MAKE | RESET | SELECT) => true,
-            Some(ASSERT) => !self.named.is_silent,
+            Some(MAKE_CREDENTIAL | RESET | SELECTION) => true,
+            Some(GET_ASSERTION) => !self.named.is_silent,
             _ => false,
         }
     }

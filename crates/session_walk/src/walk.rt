@@ -17,9 +17,10 @@ use crate::awaited::Awaited;
 use crate::channel::Continued;
 use crate::channels::Channels;
 use crate::credentials::Credentials;
-use crate::device::{NO_TIME_OUT, TIMED_OUT};
+use crate::device::NO_TIME_OUT;
 use crate::doubtful::{Decided, Doubtful, Shown};
 use crate::entry::{Role, channel_of};
+use crate::error_code::MSG_TIMEOUT;
 use crate::exchange::{End, EndedTransactions, Extent, Followed, Named, Transaction};
 use crate::pool::Pool;
 use hid_packet::command::{CANCEL, CBOR, ERROR, INIT, KEEPALIVE};
@@ -412,7 +413,7 @@ impl LogWalk {
         ensures other { (answer.now.status ≡ Some 5 → ⊥) → self.new.doubtful ≡ None }
         ensures time_out { answer.now.command ≡ ERROR_COMMAND → answer.now.status ≡ Some 5 → self.new ≡ self.old }
     {
-        if answer.command != ERROR || !matches!(answer.status, Some(TIMED_OUT)) {
+        if answer.command != ERROR || !matches!(answer.status, Some(MSG_TIMEOUT)) {
             self.decide(false);
         }
     }

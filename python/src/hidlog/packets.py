@@ -5,13 +5,47 @@ from __future__ import annotations
 from typing import NamedTuple
 
 from .errors import ArgumentError
+from .standard import (
+    BROADCAST,
+    CANCEL,
+    CBOR,
+    ERROR,
+    GET_ASSERTION,
+    GET_NEXT_ASSERTION,
+    INIT,
+    KEEPALIVE,
+    LOCK,
+    LONGEST_MESSAGE,
+    MAKE_CREDENTIAL,
+    MSG,
+    PING,
+    RESET,
+    SELECTION,
+    WINK,
+)
+from .standard import PACKET_SIZE as PACKET
 
-PACKET = 64
-BROADCAST = 0xFFFFFFFF
-PING, MSG, LOCK, INIT, WINK, CBOR, CANCEL, KEEPALIVE, ERROR = 0x01, 0x03, 0x04, 0x06, 0x08, 0x10, 0x11, 0x3B, 0x3F
-MOST_BYTES = 7609
-MAKE_CREDENTIAL, GET_ASSERTION, RESET, GET_NEXT_ASSERTION, SELECTION = 0x01, 0x02, 0x07, 0x08, 0x0B
-
+__all__ = [
+    "BROADCAST",
+    "CANCEL",
+    "CBOR",
+    "ERROR",
+    "GET_ASSERTION",
+    "GET_NEXT_ASSERTION",
+    "INIT",
+    "KEEPALIVE",
+    "LOCK",
+    "LONGEST_MESSAGE",
+    "MAKE_CREDENTIAL",
+    "MSG",
+    "Message",
+    "PACKET",
+    "PING",
+    "RESET",
+    "SELECTION",
+    "WINK",
+    "packets_of",
+]
 
 # No packet has this number.
 _NONE = (0, 0, -1, b"")
@@ -27,8 +61,8 @@ class Message(NamedTuple):
 
 def packets_of(message: Message) -> list[bytes]:
     """Returns the packets that carry a message."""
-    if len(message.data) > MOST_BYTES:
-        raise ArgumentError(f"a message has at most {MOST_BYTES} bytes, and this has {len(message.data)}")
+    if len(message.data) > LONGEST_MESSAGE:
+        raise ArgumentError(f"a message has at most {LONGEST_MESSAGE} bytes, and this has {len(message.data)}")
     channel = message.channel.to_bytes(4, "big")
     head = channel + bytes([0x80 | message.command]) + len(message.data).to_bytes(2, "big")
     packets, rest, number = [], message.data, 0
@@ -63,7 +97,7 @@ class Collector:
             if length <= PACKET - 7:
                 self._open.pop(channel, None)
                 return Message(channel, kind - 0x80, packet[7 : 7 + length])
-            if length <= MOST_BYTES:
+            if length <= LONGEST_MESSAGE:
                 self._open[channel] = (kind - 0x80, length, 0, packet[7:])
             return None
         command, length, number, data = self._open.get(channel, _NONE)

@@ -19,10 +19,9 @@ from .lines import Engine, Field, Need, comments_of
 from .outside import UV, Backup, Outside, names_of
 from .presence import Presence, User
 from .process import ProcessKey
+from .standard import KEEPALIVE_MS
 from .waiting import Waiting
 
-# The key sends a KEEPALIVE so often while it waits.
-KEEPALIVE_MS = 100
 # A little more of real time, since moments are whole milliseconds.
 _KEEPALIVE_SECONDS = 0.101
 Clock = Union[str, Callable[[], int]]

@@ -1,3 +1,4 @@
+use crate::standard::status_name;
 use std::fmt;
 
 /// What is wrong with a call, or with what came of it.
@@ -50,7 +51,10 @@ impl fmt::Display for Error {
         match self {
             Error::Core(number, text) => write!(to, "hidlog: {text} ({number})"),
             Error::Argument(text) => write!(to, "hidlog: {text}"),
-            Error::Status(status) => write!(to, "hidlog: the key answered with status {status:02x}"),
+            Error::Status(status) => match status_name(*status) {
+                Some(name) => write!(to, "hidlog: the key answered with status {status:02x} {name}"),
+                None => write!(to, "hidlog: the key answered with status {status:02x}"),
+            },
             Error::Dom(name, text) => write!(to, "{name}: {text}"),
             Error::Answer => write!(to, "hidlog: the answer isn't one of CTAP 2.1"),
             Error::Openssl => write!(to, "hidlog: OpenSSL made no key or no signature"),

@@ -28,6 +28,7 @@
 
 mod error;
 mod key;
+mod standard;
 
 #[cfg(feature = "openssl")]
 mod browser;

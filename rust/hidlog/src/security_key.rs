@@ -1,13 +1,13 @@
 use crate::private_keys::{random, PrivateKey};
+use crate::standard::{self, CONTINUATION_DATA, INITIALIZATION_DATA, LONGEST_MESSAGE};
 use crate::{Credential, Error, Id, Key, Need, Packet, Presence, Recording};
 use std::collections::HashMap;
 use std::time::Instant;
 
-const INIT: u8 = 0x86;
-const CBOR: u8 = 0x90;
-const KEEPALIVE: u8 = 0xbb;
-/// The longest message of CTAPHID (CTAP 2.1, section 11.2.4).
-const MESSAGE_MOST: usize = 7609;
+// Commands with the bit of an initialization packet (CTAP 2.1, section 11.2.4).
+const INIT: u8 = 0x80 | standard::INIT;
+const CBOR: u8 = 0x80 | standard::CBOR;
+const KEEPALIVE: u8 = 0x80 | standard::KEEPALIVE;
 
 /// What a service has to survive. The key stays as it is: faults are made outside of it, so that its recording replays
 /// as before.
@@ -150,7 +150,7 @@ impl SecurityKey {
 
     /// Sends an authenticator command with its parameters in CBOR, and returns the answer behind the status.
     pub fn exchange(&mut self, request: &[u8]) -> Result<Vec<u8>, Error> {
-        if request.is_empty() || request.len() > MESSAGE_MOST {
+        if request.is_empty() || request.len() > LONGEST_MESSAGE {
             return Err(Error::Argument("a request has 1 to 7609 bytes"));
         }
         let channel = self.open()?;
@@ -166,10 +166,11 @@ impl SecurityKey {
 
 /// Returns the packets of a message.
 fn packets_of(channel: [u8; 4], command: u8, data: &[u8]) -> Vec<Packet> {
-    let (front, rest) = data.split_at(data.len().min(57));
+    let (front, rest) = data.split_at(data.len().min(INITIALIZATION_DATA));
     let length = (data.len() as u16).to_be_bytes();
     let first = [&channel[..], &[command], &length, front].concat();
-    let others = rest.chunks(59).zip(0u8..).map(|(part, number)| [&channel[..], &[number], part].concat());
+    let others =
+        rest.chunks(CONTINUATION_DATA).zip(0u8..).map(|(part, number)| [&channel[..], &[number], part].concat());
     std::iter::once(first)
         .chain(others)
         .map(|bytes| {
