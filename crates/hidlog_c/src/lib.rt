@@ -5,6 +5,7 @@
 
 mod calls;
 mod capacity;
+mod client;
 mod commands;
 mod device;
 mod fault;

@@ -1,0 +1,167 @@
+//! The WebAuthn client as functions of C. Each call is a function of its inputs: nothing is kept between two calls.
+
+use webauthn_client::{Abilities, Ceremony, Client, DomError, Rejection, Turn, Verification};
+
+/// What a call reports beside its result.
+#[repr(C)]
+#[derive(Clone, Copy)]
+pub struct ClientReport {
+    /// The timeout of the options in milliseconds.
+    pub timeout_ms: u32,
+    /// Whether the response claims user verification: 0 or 1.
+    pub is_verified: u32,
+    /// At an error: the length of the member's name at the front of `out`.
+    pub member_len: u32,
+    /// At an error: the length of the reason behind it.
+    pub reason_len: u32,
+}
+
+/// `out` is too small.
+const TOO_SMALL: i64 = -100;
+
+/// Returns the number of a DOM error (enum hidlog_client_error).
+fn number_of(error: DomError) -> i64 {
+    match error {
+        DomError::Type => -1,
+        DomError::Encoding => -2,
+        DomError::Range => -3,
+        DomError::NotSupported => -4,
+        DomError::Security => -5,
+        DomError::NotAllowed => -6,
+        DomError::InvalidState => -7,
+        DomError::Syntax => -8,
+    }
+}
+
+/// Copies bytes to the front of a buffer, and returns how many, or [`TOO_SMALL`].
+fn put(bytes: &[u8], out: &mut [u8]) -> i64 {
+    let Ok(length) = i64::try_from(bytes.len()) else {
+        return TOO_SMALL;
+    };
+    let Some((front, _)) = out.split_at_mut_checked(bytes.len()) else {
+        return TOO_SMALL;
+    };
+    front.copy_from_slice(bytes);
+    length
+}
+
+/// Returns the number of a rejection, and puts the member at fault and the reason at the front of a buffer, if both fit.
+fn reject(rejection: Rejection, report: &mut ClientReport, out: &mut [u8]) -> i64 {
+    let (member, reason) = (rejection.member.as_bytes(), rejection.reason.as_bytes());
+    let (Ok(member_len), Ok(reason_len)) = (
+        u32::try_from(member.len()),
+        u32::try_from(reason.len()),
+    ) else {
+        return number_of(rejection.error);
+    };
+    if let Some((front, rest)) = out.split_at_mut_checked(member.len())
+        && let Some((next, _)) = rest.split_at_mut_checked(reason.len())
+    {
+        front.copy_from_slice(member);
+        next.copy_from_slice(reason);
+        report.member_len = member_len;
+        report.reason_len = reason_len;
+    }
+    number_of(rejection.error)
+}
+
+/// Returns abilities by their bits (enum hidlog_client_ability).
+fn abilities_of(bits: u32) -> Abilities {
+    let verification = if bits & 1 != 0 {
+        Verification::Verified
+    } else if bits & 2 != 0 {
+        Verification::Failed
+    } else {
+        Verification::None
+    };
+    Abilities {
+        verification,
+        is_platform: bits & 4 != 0,
+        has_resident_key: bits & 8 != 0,
+    }
+}
+
+/// Returns the ceremony: 0 creates a credential, another number gets an assertion.
+fn ceremony_of(ceremony: u32) -> Ceremony {
+    if ceremony == 0 {
+        Ceremony::Create
+    } else {
+        Ceremony::Get
+    }
+}
+
+/// Begins a call of navigator.credentials: checks its options, and writes the request for the key. Returns its length,
+/// or the number of an error.
+#[unsafe(no_mangle)]
+pub extern "C" fn hidlog_client_request(
+    ceremony: u32,
+    options: &[u8],
+    mediation: &[u8],
+    origin: &[u8],
+    suffix: &[u8],
+    abilities: u32,
+    report: &mut ClientReport,
+    out: &mut [u8],
+) -> i64 {
+    *report = ClientReport {
+        timeout_ms: 0,
+        is_verified: 0,
+        member_len: 0,
+        reason_len: 0,
+    };
+    let begun = Client::begin(
+        ceremony_of(ceremony),
+        options,
+        mediation,
+        origin,
+        suffix,
+        abilities_of(abilities),
+    );
+    match begun {
+        Ok(client) => {
+            report.timeout_ms = client.timeout;
+            report.is_verified = u32::from(client.is_verified);
+            match client.request() {
+                Ok(message) => put(message.as_slice(), out),
+                Err(rejection) => reject(rejection, report, out),
+            }
+        }
+        Err(rejection) => reject(rejection, report, out),
+    }
+}
+
+/// Ends a call with the key's response: writes the credential as JSON. Returns its length, or the number of an error.
+#[unsafe(no_mangle)]
+pub extern "C" fn hidlog_client_response(
+    ceremony: u32,
+    options: &[u8],
+    mediation: &[u8],
+    origin: &[u8],
+    suffix: &[u8],
+    abilities: u32,
+    response: &[u8],
+    report: &mut ClientReport,
+    out: &mut [u8],
+) -> i64 {
+    *report = ClientReport {
+        timeout_ms: 0,
+        is_verified: 0,
+        member_len: 0,
+        reason_len: 0,
+    };
+    let begun = Client::begin(
+        ceremony_of(ceremony),
+        options,
+        mediation,
+        origin,
+        suffix,
+        abilities_of(abilities),
+    );
+    match begun {
+        Ok(client) => match client.answer(response) {
+            Turn::Done(json) => put(json.as_slice(), out),
+            Turn::Failed(rejection) => reject(rejection, report, out),
+        },
+        Err(rejection) => reject(rejection, report, out),
+    }
+}
