@@ -11,7 +11,8 @@ room=$(cd "$2" && pwd)
 # What README says, with nothing of the module's sums on any server.
 export GOCACHE=$room/cache GOPATH=$room/path GOFLAGS="-p=2 -modcacherw" GONOSUMDB=cogtzil.example GOTOOLCHAIN=local CGO_ENABLED=1 GO111MODULE=on
 HIDLOG=$top/release/hidlog
-export HIDLOG
+HIDLOG_CASES=$top/tests/python
+export HIDLOG HIDLOG_CASES
 cd "$room"
 cp "$packages"/hidlog-go-*.zip .
 file=$(basename hidlog-go-*.zip .zip)

@@ -1,0 +1,230 @@
+package hidlog_test
+
+import (
+	"bytes"
+	"crypto/sha256"
+	"encoding/base64"
+	"encoding/json"
+	"errors"
+	"os"
+	"path/filepath"
+	"reflect"
+	"strconv"
+	"strings"
+	"testing"
+
+	"cogtzil.example/hidlog"
+)
+
+// The table of registrations and sign-ins whose results Chromium's own authenticator gave
+// (tests/python/browser_cases.json of the repository). HIDLOG_CASES names its folder.
+func casesFolder() string {
+	if folder := os.Getenv("HIDLOG_CASES"); folder != "" {
+		return folder
+	}
+	return filepath.Join("..", "tests", "python")
+}
+
+type object = map[string]any
+
+type caseTable struct {
+	Creation, Request object
+	Cases             []object
+}
+
+func readJSON(t *testing.T, name string, to any) {
+	t.Helper()
+	text, err := os.ReadFile(filepath.Join(casesFolder(), name))
+	if os.IsNotExist(err) {
+		t.Skip("the table of cases is not in this module")
+	}
+	if err == nil {
+		err = json.Unmarshal(text, to)
+	}
+	if err != nil {
+		t.Fatal(err)
+	}
+}
+
+// filled returns options with the ids of earlier registrations, and with long values written out.
+func filled(value any, ids []string) any {
+	switch value := value.(type) {
+	case object:
+		if numbers, is := value["$bytes"].([]any); is {
+			var data []byte
+			for _, number := range numbers {
+				data = append(data, byte(number.(float64)))
+			}
+			return base64.RawURLEncoding.EncodeToString(data)
+		}
+		if count, is := value["$repeat"].(float64); is {
+			var found []any
+			for index := 0; index < int(count); index++ {
+				id := base64.RawURLEncoding.EncodeToString([]byte{byte(index), 255})
+				found = append(found, object{"type": "public-key", "id": id})
+			}
+			return found
+		}
+		found := object{}
+		for name, inner := range value {
+			found[name] = filled(inner, ids)
+		}
+		return found
+	case []any:
+		found := []any{}
+		for _, inner := range value {
+			found = append(found, filled(inner, ids))
+		}
+		return found
+	case string:
+		if strings.HasPrefix(value, "$") {
+			index, _ := strconv.Atoi(value[1:])
+			return ids[index]
+		}
+	}
+	return value
+}
+
+func merged(base, more object) object {
+	text, _ := json.Marshal(base)
+	found := object{}
+	_ = json.Unmarshal(text, &found)
+	for name, value := range more {
+		found[name] = value
+	}
+	return found
+}
+
+// optionsOf returns the options of a case.
+func optionsOf(table caseTable, c object, ids []string) any {
+	if raw, is := c["raw"].(object); is {
+		return object{"publicKey": raw["publicKey"]}
+	}
+	base := table.Request
+	if c["call"] == "create" {
+		base = table.Creation
+	}
+	more, _ := c["options"].(object)
+	made := merged(base, filled(more, ids).(object))
+	if path, is := c["without"].([]any); is {
+		inner := made
+		for _, name := range path[:len(path)-1] {
+			inner = inner[name.(string)].(object)
+		}
+		delete(inner, path[len(path)-1].(string))
+	}
+	if c["wrapped"] == true {
+		return object{"publicKey": made}
+	}
+	return made
+}
+
+// seen returns what is compared of a credential: all but what each run draws anew.
+func seen(t *testing.T, credential object, ids []string) object {
+	t.Helper()
+	response := merged(credential["response"].(object), nil)
+	data, err := base64.RawURLEncoding.DecodeString(response["authenticatorData"].(string))
+	if err != nil {
+		t.Fatal(err)
+	}
+	text, err := base64.RawURLEncoding.DecodeString(response["clientDataJSON"].(string))
+	if err != nil {
+		t.Fatal(err)
+	}
+	var clientData object
+	if err := json.Unmarshal(text, &clientData); err != nil {
+		t.Fatal(err)
+	}
+	delete(clientData, "origin")
+	delete(response, "authenticatorData")
+	delete(response, "clientDataJSON")
+	for _, name := range []string{"signature", "attestationObject", "publicKey"} {
+		if _, is := response[name]; is {
+			response[name] = "bytes"
+		}
+	}
+	if data[32]&0x40 != 0 {
+		response["idBytes"] = float64(int(data[53])<<8 | int(data[54]))
+	}
+	found := merged(credential, object{"response": response, "id": "new", "clientData": clientData})
+	for index, id := range ids {
+		if credential["id"] == id {
+			found["id"] = float64(index)
+		}
+	}
+	found["rawId"] = "another"
+	if credential["rawId"] == credential["id"] {
+		found["rawId"] = found["id"]
+	}
+	rp := sha256.Sum256([]byte("localhost"))
+	found["flags"], found["isForLocalhost"] = float64(data[32]), bytes.Equal(data[:32], rp[:])
+	return found
+}
+
+// TestChromiumCases runs each case that a key without user verification can run, and compares its end with Chromium's.
+func TestChromiumCases(t *testing.T) {
+	var table caseTable
+	var recorded map[string]object
+	readJSON(t, "browser_cases.json", &table)
+	readJSON(t, "browser_cases_chromium.json", &recorded)
+	count := 0
+	for _, c := range table.Cases {
+		name := c["name"].(string)
+		expected, isRecorded := recorded[name]
+		if c["key"] != nil || c["then"] != nil || c["mediation"] != nil || c["differs"] != nil || !isRecorded {
+			continue
+		}
+		count++
+		t.Run(name, func(t *testing.T) {
+			if found := endOf(t, table, c); !reflect.DeepEqual(found, expected) {
+				shown, _ := json.Marshal(found)
+				wanted, _ := json.Marshal(expected)
+				t.Errorf("found    %s\nexpected %s", shown, wanted)
+			}
+		})
+	}
+	if count < 150 {
+		t.Errorf("only %d cases ran", count)
+	}
+}
+
+// endOf makes the calls of a case, and returns how the last one ends.
+func endOf(t *testing.T, table caseTable, c object) object {
+	t.Helper()
+	browser := newKey(t).Browser("http://localhost:5000")
+	var ids []string
+	before, _ := c["before"].([]any)
+	for _, options := range before {
+		text, _ := json.Marshal(merged(table.Creation, options.(object)))
+		made, err := browser.Create(text)
+		if err != nil {
+			t.Fatal(err)
+		}
+		var credential object
+		if err := json.Unmarshal(made, &credential); err != nil {
+			t.Fatal(err)
+		}
+		ids = append(ids, credential["id"].(string))
+	}
+	text, err := json.Marshal(optionsOf(table, c, ids))
+	if err != nil {
+		t.Fatal(err)
+	}
+	call := (*hidlog.Browser).Get
+	if c["call"] == "create" {
+		call = (*hidlog.Browser).Create
+	}
+	made, err := call(browser, text)
+	var dom *hidlog.DOMError
+	if errors.As(err, &dom) {
+		return object{"error": dom.Name}
+	}
+	if err != nil {
+		t.Fatal(err)
+	}
+	var credential object
+	if err := json.Unmarshal(made, &credential); err != nil {
+		t.Fatal(err)
+	}
+	return object{"seen": seen(t, credential, ids)}
+}
