@@ -15,102 +15,102 @@ fn says(words: &'static [u8], first: Option<u64>, second: Option<u64>) -> Senten
 fn of_transport(why: Transport) -> Sentence {
     match why {
         Transport::NoSuchCommand { cmd } => says(
-            b"the command 0x%x isn't served",
+            b"CTAPHID command 0x%x is not supported",
             Some(u64::from(cmd)),
             None,
         ),
         Transport::InitLength { len } => says(
-            b"an INIT has 8 data bytes, not %d",
+            b"INIT must have 8 data bytes, not %d",
             Some(u64::from(len)),
             None,
         ),
         Transport::MessageLength { cmd, len } => says(
-            b"a message of the command 0x%x hasn't %d bytes: a CBOR message has 1 to 7609, a PING at most 7609",
+            b"a message of command 0x%x cannot have %d bytes: CBOR has 1 to 7609, PING 0 to 7609",
             Some(u64::from(cmd)),
             Some(u64::from(len)),
         ),
         Transport::WrongNumber { came, due } => says(
-            b"continuation packet +%d came, and +%d was due",
-            Some(u64::from(came)),
+            b"expected continuation packet +%d, got +%d",
             Some(u64::from(due)),
+            Some(u64::from(came)),
         ),
         Transport::BrokenOff { due } => says(
-            b"a message began while another was open on its channel, of which +%d was due",
+            b"a new message began before the open one on its channel was complete: expected packet +%d",
             Some(u64::from(due)),
             None,
         ),
         Transport::Overdue { last, at } => says(
-            b"the last packet of the message came at %d: at %d 500 ms have passed",
+            b"the message timed out: its last packet came at %d, 500 ms or more before %d",
             Some(last),
             Some(at),
         ),
         Transport::BusyElsewhere { channel } => says(
-            b"channel %w has an open message or a command that waits",
+            b"channel %w is busy: it has an open message or a waiting request",
             Some(u64::from(channel)),
             None,
         ),
-        Transport::BusyHere => says(b"a command waits on this channel", None, None),
-        Transport::NoSuchChannel { given: 0 } => says(b"no channel was given out yet", None, None),
+        Transport::BusyHere => says(b"a request is waiting on this channel", None, None),
+        Transport::NoSuchChannel { given: 0 } => says(
+            b"no channel has been allocated yet",
+            None,
+            None,
+        ),
         Transport::NoSuchChannel { given } => says(
-            b"only channels 1 to %d were given out",
+            b"only channels 1 to %d have been allocated",
             Some(u64::from(given)),
             None,
         ),
-        Transport::NoChannelLeft => says(b"no channel is left to give out", None, None),
+        Transport::NoChannelLeft => says(
+            b"all channel identifiers have been allocated",
+            None,
+            None,
+        ),
     }
 }
 
 fn of_command(why: Command) -> Sentence {
     match why {
         Command::BadRequest { status } => says(
-            b"the request fails a check of its command with status 0x%x",
+            b"the request fails a check of its command (status 0x%x)",
             Some(u64::from(status)),
             None,
         ),
-        Command::Cancelled => says(b"the host cancelled the command", None, None),
+        Command::Cancelled => says(b"the host sent CANCEL", None, None),
         Command::Denied => says(b"the user refused", None, None),
         Command::NoConsentInTime | Command::TimedOut => says(
-            b"the user didn't answer in time",
+            b"the user did not respond in time",
             None,
             None,
         ),
-        Command::Excluded => says(b"a credential of excludeList is there", None, None),
-        Command::Full => says(b"there is no room for another credential", None, None),
-        Command::KeyRefused => says(b"the caller gave no new key", None, None),
-        Command::KeyIdTaken => says(
-            b"the new key's id is that of a credential that is there",
-            None,
-            None,
-        ),
-        Command::SignatureRefused => says(b"the caller gave no signature", None, None),
+        Command::Excluded => says(b"excludeList names a credential on this key", None, None),
+        Command::Full => says(b"no capacity for another credential", None, None),
+        Command::KeyRefused => says(b"the caller supplied no key pair", None, None),
+        Command::KeyIdTaken => says(b"the new credential ID is already in use", None, None),
+        Command::SignatureRefused => says(b"the caller supplied no signature", None, None),
         Command::NoCredential { listed: true } => says(
-            b"no credential of this RP is in allowList",
+            b"allowList names no credential of this RP on this key",
             None,
             None,
         ),
         Command::NoCredential { listed: false } => says(
-            b"there is no discoverable credential of this RP",
+            b"no discoverable credential of this RP on this key",
             None,
             None,
         ),
-        Command::CounterSpent => says(
-            b"the credential's counter can't be raised any more",
-            None,
-            None,
-        ),
+        Command::CounterSpent => says(b"the signature counter has reached its maximum", None, None),
         Command::NothingPending => says(b"no assertion is pending", None, None),
         Command::PendingElsewhere { channel } => says(
-            b"the pending assertions are those of channel %w",
+            b"the pending assertions belong to channel %w",
             Some(u64::from(channel)),
             None,
         ),
         Command::NextTooLate { since, at } => says(
-            b"the latest assertion was answered at %d: at %d more than 30 s have passed",
+            b"more than 30 s have passed since the last assertion: it was at %d, this is at %d",
             Some(since),
             Some(at),
         ),
         Command::ResetTooLate { since, at } => says(
-            b"the key was started at %d: at %d more than 10 s have passed",
+            b"more than 10 s have passed since power-up: it was at %d, this is at %d",
             Some(since),
             Some(at),
         ),
@@ -124,7 +124,7 @@ pub fn write_cause(pen: &mut Pen, cause: Cause) {
         Cause::Command(why) => of_command(why),
     };
     let [first, second] = numbers;
-    pen.text("  why: ");
+    pen.text("  ");
     match (first, second) {
         (None, _) => pen.form(words, &[]),
         (Some(_), None) => pen.form(words, &[first]),

@@ -5,7 +5,7 @@ use crate::difference::Difference;
 use crate::pen::Pen;
 use crate::putting::Written;
 use hid_packet::View;
-use hid_packet::command::{CBOR, ERROR};
+use hid_packet::command::{CBOR, ERROR, KEEPALIVE};
 use session_walk::error_code::{CHANNEL_BUSY, MSG_TIMEOUT};
 use session_walk::status::CREDENTIAL_EXCLUDED;
 use session_walk::{Followed, LogWalk, Transaction, channel_of};
@@ -21,8 +21,7 @@ pub struct Reason<'a> {
 }
 
 impl Written for Reason<'_> {
-    /// Writes a line, or nothing: why the key sends nothing, or what a packet of it that refuses refers to, which is
-    /// the message that is served or the credential that is excluded.
+    /// Writes a line, or nothing: why the key sends nothing, or why it refuses.
     fn write(&self, pen: &mut Pen) {
         let Some(sent) = &self.difference.sent else {
             match self.due() {
@@ -45,38 +44,73 @@ impl Written for Reason<'_> {
         else {
             return;
         };
-        let cause = match self.difference.causes.time {
-            Some(overdue) if cmd == ERROR && *code == MSG_TIMEOUT => Some(Cause::Transport(
-                overdue,
-            )),
-            _ => self.difference.causes.input,
-        };
-        if let Some(cause) = cause
-            && (cmd == ERROR || (cmd == CBOR && *code != 0))
-        {
-            write_cause(pen, cause);
+        if cmd == ERROR || cmd == CBOR && *code != 0 {
+            if !self.write_named(pen, cid, cmd, *code)
+                && let Some(cause) = self.cause(cmd, *code)
+            {
+                write_cause(pen, cause);
+            }
+        } else if cmd == KEEPALIVE {
+            self.write_keepalive(pen);
+        } else {
+            let form: &[u8] = if cmd == CBOR {
+                b"  line %d is the last input that the request needs\n"
+            } else {
+                b"  line %d completes the message, which is answered\n"
+            };
+            pen.form(form, &[Some(self.difference.input)]);
         }
+    }
+}
+
+impl Reason<'_> {
+    /// Returns the cause of a packet that refuses something.
+    fn cause(&self, cmd: u8, code: u8) -> Option<Cause> {
+        match self.difference.causes.time {
+            Some(overdue) if cmd == ERROR && code == MSG_TIMEOUT => Some(Cause::Transport(overdue)),
+            _ => self.difference.causes.input,
+        }
+    }
+
+    /// Writes why the key sends a KEEPALIVE.
+    fn write_keepalive(&self, pen: &mut Pen) {
+        match self.difference.kept_alive {
+            Some((last, _)) => pen.form(
+                b"  a request waits, with a KEEPALIVE at each change and every 100 ms; the last one was at %d\n",
+                &[Some(last)],
+            ),
+            None => pen.form(
+                b"  the request that line %d completes waits\n",
+                &[Some(self.difference.input)],
+            ),
+        }
+    }
+
+    /// Writes what of the log a refusal refers to: the message that is served, or the excluded credential. Returns whether
+    /// it wrote a line.
+    fn write_named(&self, pen: &mut Pen, cid: u32, cmd: u8, code: u8) -> bool {
         if cmd == ERROR
-            && *code == CHANNEL_BUSY
+            && code == CHANNEL_BUSY
             && let Some(other) = self.walk.channels.held_beside(cid)
         {
             pen.text("  it serves ");
             other.transaction.write(pen);
             pen.text("\n");
+            return true;
         }
         if cmd == CBOR
-            && *code == CREDENTIAL_EXCLUDED
+            && code == CREDENTIAL_EXCLUDED
             && let Some(found) = self.walk.channels.on(cid)
             && let Some(held) = &found.held
             && let Some(excluded) = &held.named.excluded
         {
             pen.text("  ");
             excluded.write(pen);
+            return true;
         }
+        false
     }
-}
 
-impl Reason<'_> {
     /// Begins a line about the transaction that the key serves: with its subject, or with its name, where the difference
     /// is said to be in another one.
     fn begin(&self, pen: &mut Pen, served: &Transaction, subject: &str) {
@@ -163,7 +197,10 @@ impl Reason<'_> {
                     b"  nothing waits on this channel: its last answer there is that of line %d\n";
                 pen.form(form, &[Some(last)]);
             }
-            _ => {}
+            _ if self.difference.input == 0 => {
+                pen.text("  no input comes before this packet\n");
+            }
+            _ => pen.form(b"  line %d calls for no further packet\n", &[input]),
         }
     }
 }
