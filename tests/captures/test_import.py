@@ -262,7 +262,7 @@ def test_the_command() -> None:
     listed = run("import", "--list", path)
     assert listed.stdout == b"1 bus 1 device 8 interface 0: 7 packets to the key, 15 from it\n"
     missing = run("import", "nothing.pcap")
-    assert missing.returncode == 1 and missing.stderr == b"hidlog import: nothing.pcap: No such file or directory\n"
+    assert missing.returncode == 2 and missing.stderr == b"hidlog import: nothing.pcap: No such file or directory\n"
     wrong = run("import", "--key", "2", path)
     assert wrong.returncode == 2 and b"there is no key 2" in wrong.stderr and not wrong.stdout
     assert b"p " not in b"".join(line[:2] for line in run("import", "--packets", path).stdout.split(b"\n"))

@@ -56,4 +56,4 @@ def test_texts_cannot_end_a_line() -> None:
 
 def test_a_file_that_is_not_there() -> None:
     done = ran("nothing.log")
-    assert done.returncode == 1 and done.stderr == b"hidlog: cannot read log\n"
+    assert (done.returncode, done.stdout, done.stderr) == (2, b"", b"hidlog: cannot read log\n")

@@ -11,8 +11,10 @@ import importlib
 import os
 import subprocess
 import sys
+from collections.abc import Callable
 
-from .errors import MissingPart
+from . import entry_point
+from .errors import HidlogError, MissingPart
 from .process import program
 
 # The package's own commands: by its word the module of each, and the function that takes the words behind it.
@@ -47,10 +49,16 @@ def main() -> int:
     word = " ".join(sys.argv[1:2])
     if word == "check" and "--signatures" in sys.argv[2:]:
         word = "check --signatures"
-    if word in COMMANDS:
-        module, name = COMMANDS[word]
-        return int(getattr(importlib.import_module(f".{module}", __package__), name)(sys.argv[2:]))
-    return _become_program()
+    if word not in COMMANDS:
+        return entry_point.run("hidlog", lambda: _become_program(sys.argv[1:]))
+    module, name = COMMANDS[word]
+    return entry_point.run(f"hidlog {word.split()[0]}", lambda: int(_found(module, name)(sys.argv[2:])))
+
+
+def _found(module: str, name: str) -> Callable[[list[str]], int]:
+    """Returns a function of a module, which is loaded where it is needed."""
+    found: Callable[[list[str]], int] = getattr(importlib.import_module(f".{module}", __package__), name)
+    return found
 
 
 def _is_help(words: list[str]) -> bool:
@@ -58,25 +66,27 @@ def _is_help(words: list[str]) -> bool:
     return words in (["--help"], ["-h"], ["help"]) and sys.stdout.isatty()
 
 
-def _become_program() -> int:
+def _become_program(words: list[str]) -> int:
     try:
         path = program()
-    except MissingPart as error:
+    except MissingPart:
         by_library = importlib.import_module(".by_library", __package__)  # where there is a program it isn't loaded
-        if "HIDLOG" not in os.environ and by_library.takes(sys.argv[1:]):
-            return int(by_library.run(sys.argv[1:]))
-        print(f"hidlog: {error}", file=sys.stderr)
-        return 2
-    sys.stdout.flush()
-    if _is_help(sys.argv[1:]):
-        status = subprocess.run([path, *sys.argv[1:]], check=False).returncode
-        print(HELP, end="", flush=True)
-        return status
+        if "HIDLOG" in os.environ or not by_library.takes(words):
+            raise
+        return entry_point.run_as_program(lambda: int(by_library.run(words)))
+    if _is_help(words):
+        return _help(path, words)
     try:
-        os.execv(path, ["hidlog", *sys.argv[1:]])
+        os.execv(path, ["hidlog", *words])
     except OSError as error:
-        print(f"hidlog: {path} can't be started here: {error.strerror}", file=sys.stderr)
-    return 2
+        raise HidlogError(f"{path} can't be started here: {error.strerror}") from None
+
+
+def _help(path: str, words: list[str]) -> int:
+    """Writes the program's help, and the package's own commands."""
+    status = subprocess.run([path, *words], check=False).returncode
+    print(HELP, end="")
+    return status
 
 
 if __name__ == "__main__":

@@ -8,20 +8,27 @@ from __future__ import annotations
 import argparse
 import json
 import sys
-from collections.abc import Callable, Mapping
+from collections.abc import Callable, Iterator, Mapping
 from hashlib import sha256
+from io import FileIO
 from typing import Any
 from urllib.parse import urlsplit
 
 from cryptography.hazmat.primitives.serialization import Encoding, NoEncryption, PrivateFormat
 
+from . import entry_point
 from .credentials import Credential
+from .entry_point import FAILED
 from .errors import ArgumentError, HidlogError
+from .files import open_input
 from .key import SecurityKey
 from .webauthn_errors import WebAuthnError
 from .webauthn_json import data_of, text_of
 
 Json = dict[str, Any]
+# A line has at most so many bytes, without its line feed.
+LINE_MOST = 1 << 20
+_PIECE = 1 << 16
 _PRESENCE = ("granted", "denied", "timeout")
 _FAULTS = {
     "status": "status",
@@ -43,6 +50,15 @@ def _one_of(name: str, value: Any, words: Any) -> Any:
     if value not in words:
         raise ArgumentError(f"{name} is {json.dumps(value)}; it has to be one of {', '.join(map(str, words))}")
     return value
+
+
+def _refused(text: str) -> str:
+    """Returns the answer to a line that isn't read."""
+    return json.dumps({"error": "SyntaxError", "message": text})
+
+
+def _refuse_constant(name: str) -> Any:
+    raise ArgumentError(f"{name} is no number of JSON")
 
 
 def _object(name: str, value: Any) -> Json:
@@ -161,19 +177,31 @@ class Process:
         self._know(rp_id)
         return self._shown(made)
 
-    def answer(self, line: str) -> Json:
-        """Returns the answer to a line."""
+    def answer(self, line: bytes) -> str:
+        """Returns the answer to a line, as a line."""
+        if len(line) > LINE_MOST:
+            return _refused(f"a line has more than {LINE_MOST} bytes")
+        try:
+            return json.dumps(self._answer(line))
+        except RecursionError:
+            return _refused("a line is nested too deeply")
+
+    def _answer(self, line: bytes) -> Json:
         made: Json = {}
         try:
-            asked = json.loads(line)
+            asked = json.loads(line.decode(), parse_constant=_refuse_constant)
             made = {"id": asked["id"]} if isinstance(asked, dict) and "id" in asked else {}
             return {**made, "value": self._serve(asked)}
         except WebAuthnError as error:
             return {**made, "error": error.name, "message": str(error)}
-        except json.JSONDecodeError as error:
+        except (json.JSONDecodeError, UnicodeDecodeError) as error:
             return {**made, "error": "SyntaxError", "message": f"a line is an object of JSON: {error}"}
         except (HidlogError, ValueError, TypeError) as error:
             return {**made, "error": "TypeError", "message": str(error)}
+        except RecursionError:
+            raise
+        except Exception as error:  # a mistake of this package: the process goes on, since it holds the keys
+            return {**made, "error": "UnknownError", "message": f"{type(error).__name__}: {error}"}
 
     def _serve(self, asked: Any) -> Any:
         commands = self.commands()
@@ -196,13 +224,26 @@ def main(words: list[str] | None = None) -> int:
         process = Process(options.origin)
     except HidlogError as error:
         print(f"hidlog: {error}", file=sys.stderr)
-        return 2
-    with process.key:
-        for line in sys.stdin:
+        return FAILED
+    with process.key, open_input("-") as file:
+        for line in _lines_of(file):
             if line.strip():
-                print(json.dumps(process.answer(line)), flush=True)
+                print(process.answer(line), flush=True)
     return 0
 
 
+def _lines_of(file: FileIO) -> Iterator[bytes]:
+    """Returns the lines as they come. Of one that is too long only the front, which shows that it is."""
+    rest = b""
+    while piece := file.read(_PIECE):
+        first, *more = piece.split(b"\n")
+        rest = (rest + first)[: LINE_MOST + 1]
+        if more:
+            yield from (rest, *more[:-1])
+            rest = more[-1]
+    if rest:
+        yield rest
+
+
 if __name__ == "__main__":
-    sys.exit(main())
+    sys.exit(entry_point.run("hidlog browser", main))

@@ -1,17 +1,20 @@
 """`hidlog` where there is no program for the processor: check, replay, quiet, live and show, by the library.
 
-What they write is what the program writes without `--explain`, byte for byte. All words that need more, as `--save`, are
-the program's.
+What they write is what the program writes without `--explain`, byte for byte, also where reading or writing fails. All
+words that need more, as `--save`, are the program's.
 """
 
 from __future__ import annotations
 
 import sys
-from collections.abc import Callable
-from pathlib import Path
+from collections.abc import Callable, Iterator
+from io import FileIO
 
 from . import logs
+from .core import Handle
 from .errors import LogError, MissingPart
+from .files import open_input, read_input
+from .lines import LINE_MOST
 
 _RUN: dict[str, Callable[[bytes, bytes], logs.Result]] = {
     "check": logs.check,
@@ -19,6 +22,9 @@ _RUN: dict[str, Callable[[bytes, bytes], logs.Result]] = {
     "quiet": logs.quiet,
     "live": logs.live,
 }
+_PIECE = 1 << 16
+_TOO_LONG, _READ = 2, 4
+_REFUSED = 2
 
 
 def takes(words: list[str]) -> bool:
@@ -48,7 +54,7 @@ def _read(words: list[str]) -> tuple[str, str | None, bool, list[str]] | None:
 
 def _fault(result: logs.Result) -> str:
     """Returns what the program says of a fault."""
-    if result.status == 2:
+    if result.status == _REFUSED:
         return f"snapshot refused: {result.fault}"
     try:
         result.raise_for_fault()
@@ -57,9 +63,35 @@ def _fault(result: logs.Result) -> str:
     return ""
 
 
-def _say(text: str, status: int) -> int:
-    print(f"hidlog: {text}", file=sys.stderr)
+def _say(text: str, status: int, front: str = "") -> int:
+    sys.stdout.flush()
+    print(f"{front or 'hidlog: '}{text}", file=sys.stderr)
     return status
+
+
+class _Log:
+    """A log that is read in pieces. Where reading fails it ends there."""
+
+    def __init__(self, name: str):
+        self.has_failed = False
+        self._file: FileIO | None = None
+        try:
+            self._file = open_input(name)
+        except OSError:
+            if name != "-":  # what standard input is shows only when it is read
+                raise
+            self.has_failed = True
+
+    def pieces(self) -> Iterator[bytes]:
+        """Returns the pieces as they come, and closes the log."""
+        if self._file is None:
+            return
+        try:
+            with self._file:
+                while piece := self._file.read(_PIECE):
+                    yield piece
+        except OSError:
+            self.has_failed = True
 
 
 def run(words: list[str]) -> int:
@@ -71,23 +103,65 @@ def run(words: list[str]) -> int:
     status = 0
     for file in files:
         try:
-            data = sys.stdin.buffer.read() if file == "-" else Path(file).read_bytes()
+            log = _Log(file)
         except OSError:
             status = max(status, _say("cannot read log", 1))
             continue
         try:
-            snapshot = Path(load).read_bytes() if load is not None else b""
+            snapshot = read_input(f"./{load}" if load == "-" else load) if load is not None else b""
         except OSError:
-            return _say("cannot read snapshot", 2)
-        status = max(status, _one(command, data, snapshot, explain, f"{file}: " if len(files) > 1 else ""))
+            return _say("cannot read snapshot", _REFUSED)
+        front = f"{file}: " if len(files) > 1 else ""
+        one = _live(log, snapshot) if command == "live" else _one(command, log, snapshot, explain, front)
+        status = max(status, one)
     return status
 
 
-def _one(command: str, data: bytes, snapshot: bytes, explain: bool, front: str) -> int:
-    """Runs a command on one log."""
+def _one(command: str, log: _Log, snapshot: bytes, explain: bool, front: str) -> int:
+    """Runs a command on one whole log."""
+    data = b"".join(log.pieces())
+    if log.has_failed:
+        data = data[: data.rfind(b"\n") + 1]
     result = logs.show(data, explain=explain) if command == "show" else _RUN[command](data, snapshot)
+    text = result.text
+    if log.has_failed and not result.status:
+        failed = logs.Result(b"", 1, _READ, data.count(b"\n") + 1, 0)
+        # What is written at the end of a log is missing: the counts, and how much is the same.
+        ends = {"check": b"", "replay": text[: text.rfind(b"\n= ") + 1] if b"\n= " in text else b""}
+        result = failed._replace(text=ends.get(command, text))
     sys.stdout.buffer.write(front.encode() * bool(result.text) + result.text)
-    sys.stdout.buffer.flush()
-    if result.status:
-        print(f"{front or 'hidlog: '}{_fault(result)}", file=sys.stderr)
-    return result.status
+    return _say(_fault(result), result.status, front) if result.status else 0
+
+
+def _live(log: _Log, snapshot: bytes) -> int:
+    """Answers each line before more of the log is read."""
+    refused = logs.live(b"", snapshot)
+    if refused.status:
+        return _say(_fault(refused), refused.status)
+    key, rest, number, result = Handle(snapshot), b"", 0, logs.Result(b"", 0, 0, 0, 0)
+    for piece in log.pieces():
+        *lines, rest = (rest + piece).split(b"\n")
+        if len(rest) > LINE_MOST:
+            lines.append(rest)
+        for number, line in enumerate(lines, number + 1):
+            result = _played(key, number, line)
+            if result.status:
+                return _say(_fault(result), result.status)
+        sys.stdout.flush()
+    if log.has_failed:
+        return _say(_fault(logs.Result(b"", 1, _READ, number + 1, 0)), 1)
+    if rest:
+        result = _played(key, number + 1, rest)
+        if result.status:
+            return _say(_fault(result), result.status)
+    sys.stdout.buffer.write(key.counts())
+    return 0
+
+
+def _played(key: Handle, number: int, line: bytes) -> logs.Result:
+    """Plays a line and writes what comes of it."""
+    if len(line) > LINE_MOST:
+        return logs.Result(b"", 1, _TOO_LONG, number, 0)
+    outcome, text = key.lines(line + b"\n")
+    sys.stdout.buffer.write(text)
+    return logs.Result(text, outcome.status, outcome.fault, number, outcome.packet)

@@ -37,6 +37,8 @@ _CAPACITY = 64
 # enum hidlog_need_kind.
 _NEEDS = ("nothing", "presence", "key", "signature")
 _SIGNATURE = 3
+# hidlog_key_lines writes at most so many bytes for a line.
+_TEXT_MOST = 18_000
 
 
 class Outcome(ctypes.Structure):
@@ -176,6 +178,7 @@ _KEY_FUNCTIONS: dict[str, list[Any]] = {
     "remove": [_AT, _BYTES],
     "save": [_OUT, _SIZE],
     "meters": [_OUT],
+    "lines": [_BYTES, _SIZE, _OUT, _SIZE, _OUT],
 }
 # How many bytes a word of these functions has to have: a number, or that of the word after it. The library reads so
 # many, whatever was handed in.
@@ -303,3 +306,13 @@ class Handle:
         meters = _Meters()
         self.call("meters", ctypes.byref(meters))
         return {it: getattr(meters, it) for it in ("held", "rows", "pending", "requests", "bytes", "steps")}
+
+    def counts(self) -> bytes:
+        """Returns the line of what the session counted so far."""
+        return ("= " + " ".join(f"{name} {count}" for name, count in self.meters().items()) + "\n").encode()
+
+    def lines(self, line: bytes) -> tuple[Outcome, bytes]:
+        """Plays a line of a log with its line feed, and returns the outcome and what `live` writes for it."""
+        out, outcome = ctypes.create_string_buffer(_TEXT_MOST), Outcome()
+        self.call("lines", line, len(line), out, _TEXT_MOST, ctypes.byref(outcome))
+        return outcome, out.raw[: outcome.written]

@@ -145,5 +145,4 @@ class HeldKey:
 
     def counts(self) -> bytes:
         """Returns the line of what the session counted so far."""
-        counts = self._handle.meters()
-        return ("= " + " ".join(f"{name} {count}" for name, count in counts.items()) + "\n").encode()
+        return self._handle.counts()

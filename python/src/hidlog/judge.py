@@ -10,18 +10,20 @@ from __future__ import annotations
 
 import argparse
 import sys
-from pathlib import Path
 from typing import Any
 
 from .captures import corpus
 from .captures.pcap import is_capture
 from .captures.reading import read_capture
 from .captures.writing import log_of
+from .entry_point import FAILED
 from .errors import HidlogError, LogError, bytes_of
+from .files import name_of, read_input
 
 _DESCRIPTION = """Judges a recorded session, of any key and any client: says which rules of CTAP 2.1 its packets break,
 with the line, the section, what was due and what came. Musts and shoulds are apart. A capture that hidlog import reads
-will do too, where it has one key. The status is 1 where a must is broken, and 2 where the words or the log are wrong."""
+will do too, where it has one key. The status is 1 where a must is broken, and 2 where the words or the log are wrong,
+or the log has no packet."""
 
 
 def judge(log: bytes) -> list[Any]:
@@ -47,17 +49,19 @@ def main(words: list[str]) -> int:
     parser.add_argument("--side", choices=("key", "host"), help="judge this side alone")
     parser.add_argument("--should", action="store_true", help="a broken should counts as a broken must for the status")
     options = parser.parse_args(words)
-    name = "standard input" if options.file == "-" else options.file
+    name = name_of(options.file)
     try:
-        data = sys.stdin.buffer.read() if options.file == "-" else Path(options.file).read_bytes()
-        recording = _recording(_log_in(data))
+        recording = _recording(_log_in(read_input(options.file)))
+        report = corpus.module("judged_report")
+        if not report.packets_of(recording):
+            raise LogError("the recording is empty: no line has a packet")
     except (HidlogError, OSError) as error:
         reason = error.strerror if isinstance(error, OSError) and error.strerror else str(error)
         print(f"hidlog judge: {name}: {reason}", file=sys.stderr)
-        return 2
+        return FAILED
     if options.side:
         recording.findings = [it for it in recording.findings if it.side == options.side]
-    sys.stdout.write(corpus.module("judged_report").WRITERS[options.format](name, recording))
+    sys.stdout.write(report.WRITERS[options.format](name, recording))
     counted = ("must", "should") if options.should else ("must",)
     return 1 if any(it.level in counted for it in recording.findings) else 0
 

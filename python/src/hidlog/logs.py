@@ -17,6 +17,7 @@ _FAULTS = {
     1: "line {line}: not a log line",
     2: "line {line}: longer than 255 bytes",
     3: "line {line}: differs at packet {packet}",
+    4: "line {line}: reading failed",
     5: "writing failed",
     6: "too many lines",
 }

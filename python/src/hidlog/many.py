@@ -11,6 +11,8 @@ as ProcessPoolExecutor does, can't be mended from outside: hand in the function 
 from __future__ import annotations
 
 import os
+import signal
+import threading
 from collections.abc import Callable, Iterable, Iterator
 from concurrent.futures import (
     FIRST_COMPLETED,
@@ -22,10 +24,13 @@ from concurrent.futures import (
     wait,
 )
 from itertools import islice
+from multiprocessing import parent_process
+from multiprocessing.process import BaseProcess
 from pathlib import Path
 from typing import NamedTuple, Optional, Union
 
 from .errors import ArgumentTypeError, LogError, SnapshotError, number_of
+from .files import read_input
 from .logs import check
 
 Paths = Iterable[Union[str, "os.PathLike[str]"]]
@@ -58,7 +63,7 @@ def read(path: str) -> Recorded:
     """Reads a recording, and its snapshot where SecurityKey.save_log wrote one beside it."""
     target = Path(path)
     beside = target.with_name(f"{target.name}.snapshot")
-    return Recorded(path, target.read_bytes(), beside.read_bytes() if beside.is_file() else b"")
+    return Recorded(path, read_input(target), read_input(beside) if beside.is_file() else b"")
 
 
 def check_block(block: list[Recorded]) -> list[Checked]:
@@ -165,6 +170,21 @@ def _is_death(error: Exception) -> bool:
     else, such as a module that a worker hasn't got, ends the check."""
     names = ("KilledWorker", "CommClosedError")
     return isinstance(error, (BrokenExecutor, CancelledError)) or type(error).__name__ in names
+
+
+def begin_worker() -> None:
+    """Has a process of a pool end with its parent, and leave the signals of a terminal to it."""
+    signal.signal(signal.SIGINT, signal.SIG_IGN)
+    for number in (signal.SIGTERM, signal.SIGHUP):
+        signal.signal(number, signal.SIG_DFL)
+    parent = parent_process()
+    if parent is not None:
+        threading.Thread(target=_end_with, args=(parent,), daemon=True).start()
+
+
+def _end_with(parent: BaseProcess) -> None:
+    parent.join()
+    os._exit(2)
 
 
 def _with_bytes(given: Recorded) -> Recorded:

@@ -13,8 +13,10 @@ from collections.abc import Iterator, Sequence
 from concurrent.futures import ProcessPoolExecutor
 from pathlib import Path
 
+from .entry_point import FAILED, reason_of
 from .errors import HidlogError, MissingPart, shown
-from .many import Checked, check_many
+from .files import is_regular
+from .many import Checked, begin_worker, check_many
 
 _DASK = "dask://"
 _SECONDS = 0.5
@@ -35,13 +37,31 @@ def _logs(given: Sequence[str]) -> list[Path]:
     """Returns the logs that are named, and those in folders."""
     paths = []
     for it in map(Path, given):
-        paths += sorted(it.rglob("*.log")) if it.is_dir() else [it]
+        paths += sorted(_logs_in(it)) if it.is_dir() else [it]
     return paths
+
+
+def _logs_in(folder: Path) -> Iterator[Path]:
+    """Returns the files *.log in a folder and those below. What is no regular file is skipped, and said."""
+    for name, _, files in os.walk(folder, onerror=_raise):
+        for path in (Path(name, it) for it in files if it.endswith(".log")):
+            if is_regular(path):
+                yield path
+            else:
+                print(f"hidlog check-many: skipped {_printable(str(path))}: not a regular file", file=sys.stderr)
+
+
+def _raise(error: OSError) -> None:
+    raise error
+
+
+def _printable(path: str) -> str:
+    return path if path.isprintable() else shown(path)[1:-1]
 
 
 def _checked(paths: list[Path], jobs: int, executor: str | None) -> Iterator[Checked]:
     if executor is None:
-        return check_many(paths, lambda: ProcessPoolExecutor(jobs), at_once=4 * jobs)
+        return check_many(paths, lambda: ProcessPoolExecutor(jobs, initializer=begin_worker), at_once=4 * jobs)
     if not executor.startswith(_DASK):
         raise HidlogError(f"--executor is {shown(executor)}; it has to be {_DASK}HOST:PORT")
     try:
@@ -85,14 +105,15 @@ def _write(found: Iterator[Checked], report: str) -> Counter[str]:
         elif report == "json":
             print(json.dumps(it._asdict()), flush=True)
         elif it.outcome != "same":
-            print(f"{it.outcome:8} {shown(it.path)[1:-1] if not it.path.isprintable() else it.path}: {it.text}")
+            print(f"{it.outcome:8} {_printable(it.path)}: {it.text}")
     if report == "junit":
         print(_junit(kept))
     return counts
 
 
 def check_many_command(words: Sequence[str]) -> int:
-    """Checks recordings. The status is 0 where all are the same, 1 where one isn't, 2 where the words are wrong."""
+    """Checks recordings. The status is 0 if all are the same, 1 if one differs or its snapshot is refused, and 2 at a usage
+    error or if one couldn't be checked."""
     given = _parser().parse_args(words)
     try:
         paths = _logs(given.paths)
@@ -100,7 +121,9 @@ def check_many_command(words: Sequence[str]) -> int:
             raise HidlogError("there is no file *.log" if not paths else "--jobs has to be at least 1")
         counts = _write(_with_progress(_checked(paths, given.jobs, given.executor), len(paths)), given.report)
     except (HidlogError, OSError) as error:
-        print(f"hidlog check-many: {error}", file=sys.stderr)
-        return 2
+        print(f"hidlog check-many: {reason_of(error)}", file=sys.stderr)
+        return FAILED
     print(", ".join(f"{count} {name}" for name, count in sorted(counts.items())), file=sys.stderr)
+    if {"unread", "lost"} & set(counts):
+        return FAILED
     return 0 if set(counts) == {"same"} else 1

@@ -10,7 +10,8 @@ import sys
 from collections.abc import Iterable, Iterator
 from typing import Any
 
-from .errors import MissingPart
+from .entry_point import FAILED
+from .errors import HidlogError
 from .process import program
 
 Json = dict[str, Any]
@@ -60,10 +61,11 @@ def main(words: list[str] | None = None) -> int:
     )
     parser.add_argument("file", nargs="?", default="-", help="the log; standard input where none is named")
     options = parser.parse_args(words)
-    try:
-        ran = subprocess.run([program(), "show", "--json", options.file], stdout=subprocess.PIPE, check=False)
-    except MissingPart as error:
-        print(f"hidlog: {error}", file=sys.stderr)
-        return 2
-    sys.stdout.write(diagram(json.loads(line) for line in ran.stdout.splitlines()))
-    return ran.returncode
+    ran = subprocess.run([program(), "show", "--json", options.file], stdout=subprocess.PIPE, check=False)
+    # What the program wrote of a line before it failed isn't whole.
+    lines = ran.stdout[: ran.stdout.rfind(b"\n") + 1].splitlines()
+    if lines or not ran.returncode:
+        sys.stdout.write(diagram(json.loads(line) for line in lines))
+    if ran.returncode < 0:
+        raise HidlogError(f"hidlog show was ended by signal {-ran.returncode}")
+    return FAILED if ran.returncode else 0

@@ -18,9 +18,9 @@ what can't be left out becomes a tick of its moment. All of that as long as the 
   sends the same packet there;
 - with --same, its output or its standard error has that text, and only that is compared besides the status.
 
-The shortest log found goes to standard output, also at SIGINT (Ctrl-C), and how far it is to standard error. LOG is - for
-standard input. The status is 2 where the words are wrong, the command can't be started, it doesn't fail on the whole log
-in this way, or it fails so on an empty log too; 130 at SIGINT. Making the log quiet first (`hidlog quiet`) takes the noise
+The shortest log found goes to standard output, also at SIGINT (Ctrl-C) and SIGTERM, and how far it is to standard error.
+LOG is - for standard input. The status is 2 where the words are wrong, the command can't be started, it doesn't fail on
+the whole log in this way, or it fails so on an empty log too; 130 at SIGINT, 143 at SIGTERM. Making the log quiet first (`hidlog quiet`) takes the noise
 out in one go, where the command doesn't look at `<` lines.
 
 This file needs nothing of the package: it runs alone, too.
@@ -29,12 +29,13 @@ This file needs nothing of the package: it runs alone, too.
 from __future__ import annotations
 
 import argparse
+import os
 import re
+import signal
 import subprocess
 import sys
 from collections.abc import Callable, Iterable
 from dataclasses import dataclass
-from pathlib import Path
 from typing import Optional
 
 LINE = re.compile(r"\bline (\d+)\b")
@@ -245,7 +246,23 @@ def tell(text: str) -> None:
 
 def read_log(name: str) -> list[Block]:
     """Returns the blocks of a log in a file, or of standard input."""
-    return blocks_of(sys.stdin.buffer.read() if name == "-" else Path(name).read_bytes())
+    number = 0 if name == "-" else os.open(name, os.O_RDONLY)
+    return blocks_of(b"".join(iter(lambda: os.read(number, 1 << 16), b"")))
+
+
+class StoppedError(BaseException):
+    """SIGINT or SIGTERM came."""
+
+    def __init__(self, number: int):
+        super().__init__("interrupted" if number == signal.SIGINT else "terminated")
+        self.status = 128 + number
+
+
+def stop(number: int, _: object) -> None:
+    """Ends the search; another signal ends the process."""
+    for other in (signal.SIGINT, signal.SIGTERM):
+        signal.signal(other, signal.SIG_DFL)
+    raise StoppedError(number)
 
 
 def begun(command: Command, blocks: list[Block]) -> Shrinking:
@@ -275,24 +292,35 @@ def main(words: Optional[list[str]] = None) -> int:
         blocks = read_log(given.log)
     except OSError as error:
         parser.error(f"{given.log}: {error.strerror}")
-    shrinking = None
-    status = 0
     try:
-        shrinking = begun(Command(given.command, given.same), blocks)
-        shrinking.run()
-    except KeyboardInterrupt:
-        tell("hidlog shrink: interrupted")
-        status = 130
+        return shrink(Command(given.command, given.same), blocks)
     except OSError as error:
-        tell(
-            f"hidlog shrink: {given.command[0]} can't be started: {error.strerror} (the log is named before the command)"
-        )
-        return 2
+        first, reason = given.command[0], error.strerror
+        is_of_start = error.filename == first
+        text = f"{first} can't be started: {reason} (the log is named before the command)" if is_of_start else reason
+        tell(f"hidlog shrink: {text}")
     except ValueError as error:
         tell(f"hidlog shrink: {error}")
-        return 2
+    return 2
+
+
+def shrink(command: Command, blocks: list[Block]) -> int:
+    """Writes the shortest log that is found, and returns the status: not 0 where a signal ended the search."""
+    shrinking = None
+    status = 0
+    for number in (signal.SIGINT, signal.SIGTERM):
+        if signal.getsignal(number) != signal.SIG_IGN:
+            signal.signal(number, stop)
+    try:
+        shrinking = begun(command, blocks)
+        shrinking.run()
+    except StoppedError as stopped:
+        tell(f"hidlog shrink: {stopped}")
+        tell("the shortest log so far is written" if shrinking else "nothing is written")
+        status = stopped.status
     if shrinking is not None:
         sys.stdout.buffer.write(joined(shrinking.blocks))
+        sys.stdout.buffer.flush()
     return status
 
 

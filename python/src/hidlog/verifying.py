@@ -18,7 +18,9 @@ from pathlib import Path
 from typing import Any, NamedTuple
 
 from . import cbor, logs
+from .entry_point import FAILED, reason_of
 from .errors import HidlogError, MissingPart, bytes_of
+from .files import read_input
 from .process import program
 
 Json = dict[str, Any]
@@ -60,6 +62,8 @@ def signatures(log: bytes, snapshot: bytes | None = None) -> list[Signature]:
     for it in read_snapshot(begin):
         reading.keys[it.id] = (it.x, it.y)
     ran = subprocess.run([program(), "show", "--json"], input=data, stdout=subprocess.PIPE, check=False)
+    if ran.returncode and (ran.returncode < 0 or not logs.show(data).status):
+        raise HidlogError(f"hidlog show ended with status {ran.returncode}")
     return reading.read(json.loads(line) for line in ran.stdout.splitlines())
 
 
@@ -178,18 +182,18 @@ def main(words: list[str]) -> int:
     parser.add_argument("logs", nargs="*", metavar="LOG", help="a log; standard input where none is named")
     given = parser.parse_args(words)
     try:
-        snapshot = Path(given.load).read_bytes() if given.load else None
+        snapshot = read_input(Path(given.load)) if given.load else None
         wrong = [_is_wrong(it, snapshot) for it in given.logs or ["-"]]
     except (HidlogError, OSError) as error:
-        reason = f"{error.filename}: {error.strerror}" if isinstance(error, OSError) and error.strerror else error
+        reason = reason_of(error)
         print(f"hidlog check: {reason}", file=sys.stderr)
-        return 2
+        return FAILED
     return int(any(wrong))
 
 
 def _is_wrong(name: str, snapshot: bytes | None) -> bool:
     """Prints what came of a log, and returns whether something is wrong."""
-    data = sys.stdin.buffer.read() if name == "-" else Path(name).read_bytes()
+    data = read_input(name)
     checked = logs.check(data, snapshot)
     if checked.status == 2:
         checked.raise_for_fault()

@@ -3,13 +3,14 @@
 from __future__ import annotations
 
 import argparse
-import os
 import sys
 from pathlib import Path
 
+from ..entry_point import FAILED
 from ..errors import HidlogError
+from ..files import name_of, open_input, read_input, refuse_input, write_whole
 from .exporting import pcapng_of
-from .reading import Capture, read_capture, read_file
+from .reading import Capture, read_file
 from .writing import log_of
 
 _IMPORT = """Writes the session log of a capture: pcap and pcapng of Linux's usbmon and of Windows's USBPcap, usbmon's
@@ -20,7 +21,7 @@ _EXPORT = """Writes a session log as a pcapng file of USB, which Wireshark and t
 
 
 def import_capture(words: list[str]) -> int:
-    """Does `hidlog import`: returns 0, 1 where the capture can't be read, 2 where the words are wrong."""
+    """Does `hidlog import`: returns 0, or 2 at a usage error and at a capture that can't be read."""
     parser = argparse.ArgumentParser(prog="hidlog import", description=_IMPORT)
     parser.add_argument("file", metavar="FILE", help="the capture; - is standard input")
     parser.add_argument("--list", action="store_true", help="write the names of the keys in the capture")
@@ -30,7 +31,10 @@ def import_capture(words: list[str]) -> int:
     parser.add_argument("-o", "--output", metavar="LOG", help="the file to write; standard output by default")
     options = parser.parse_args(words)
     try:
-        capture = read_file(sys.stdin.buffer) if options.file == "-" else read_capture(Path(options.file))
+        if options.output is not None:
+            refuse_input(Path(options.output), [options.file])
+        with open_input(options.file) as file:
+            capture = read_file(file)
     except (HidlogError, OSError) as error:
         return _failed("import", options.file, error)
     if options.list:
@@ -43,7 +47,7 @@ def import_capture(words: list[str]) -> int:
         )
         print(f"hidlog import: {wrong}, with --key 1 to {len(capture.streams)}", file=sys.stderr)
         print("".join(f"  {line}\n" for line in _names(capture)), end="", file=sys.stderr)
-        return 2
+        return FAILED
     stream = capture.streams[number - 1]
     for note in [*stream.notes, *capture.notes]:
         print(f"hidlog import: note: {note}", file=sys.stderr)
@@ -51,7 +55,7 @@ def import_capture(words: list[str]) -> int:
         log = log_of(stream, capture.form, capture.notes, moments=options.moments, derive=not options.packets)
     except HidlogError as error:
         return _failed("import", options.file, error)
-    return _write("import", options.output, log)
+    return _write("import", options, log)
 
 
 def _names(capture: Capture) -> list[str]:
@@ -64,7 +68,7 @@ def _names(capture: Capture) -> list[str]:
 
 
 def export_log(words: list[str]) -> int:
-    """Does `hidlog export`: returns 0, 1 where the log can't be read, 2 where the words are wrong."""
+    """Does `hidlog export`: returns 0, or 2 at a usage error and at a log that can't be read."""
     parser = argparse.ArgumentParser(prog="hidlog export", description=_EXPORT)
     parser.add_argument("file", metavar="LOG", nargs="?", default="-", help="the log; - is standard input")
     parser.add_argument("--pcapng", action="store_true", help="the form to write, which is the only one")
@@ -76,32 +80,29 @@ def export_log(words: list[str]) -> int:
         return 0
     if options.output is None and sys.stdout.isatty():
         print("hidlog export: a pcapng file is no text for a terminal: name a file with -o FILE", file=sys.stderr)
-        return 2
+        return FAILED
     try:
-        log = sys.stdin.buffer.read() if options.file == "-" else Path(options.file).read_bytes()
-        data = pcapng_of(log)
+        if options.output is not None:
+            refuse_input(Path(options.output), [options.file])
+        data = pcapng_of(read_input(options.file))
     except (HidlogError, OSError) as error:
         return _failed("export", options.file, error)
-    return _write("export", options.output, data)
+    return _write("export", options, data)
 
 
 def _failed(command: str, name: str, error: Exception) -> int:
     reason = error.strerror if isinstance(error, OSError) and error.strerror else str(error)
-    print(f"hidlog {command}: {'standard input' if name == '-' else name}: {reason}", file=sys.stderr)
-    return 1
+    print(f"hidlog {command}: {name_of(name)}: {reason}", file=sys.stderr)
+    return FAILED
 
 
-def _write(command: str, output: str | None, data: bytes) -> int:
+def _write(command: str, options: argparse.Namespace, data: bytes) -> int:
     """Writes to a file, or to standard output."""
-    try:
-        if output is not None:
-            Path(output).write_bytes(data)
-            return 0
+    if options.output is None:
         sys.stdout.buffer.write(data)
-        sys.stdout.buffer.flush()
-    except BrokenPipeError:
-        os.dup2(os.open(os.devnull, os.O_WRONLY), sys.stdout.fileno())
-        return 1
-    except OSError as error:
-        return _failed(command, output or "standard output", error)
+        return 0
+    try:
+        write_whole(Path(options.output), data, [options.file])
+    except (HidlogError, OSError) as error:
+        return _failed(command, options.output, error)
     return 0

@@ -6,11 +6,12 @@ import io
 from collections.abc import Iterator
 from itertools import chain
 from pathlib import Path
-from typing import BinaryIO, NamedTuple
+from typing import NamedTuple
 
+from ..files import open_input
 from . import chromium, debug_text, strace, unpacked, usbmon_text
 from .pcap import is_capture
-from .source import CaptureError, Source
+from .source import CaptureError, Readable, Source
 from .streams import Finder, Stream
 from .usb import read_transfers
 
@@ -33,17 +34,17 @@ class Capture(NamedTuple):
 def read_capture(data: bytes | str | Path) -> Capture:
     """Reads a capture: its bytes, or the file of a path."""
     if isinstance(data, (str, Path)):
-        with open(data, "rb") as file:
+        with open_input(Path(data)) as file:
             return read_file(file)
     return read_file(io.BytesIO(bytes(data)))
 
 
-def read_file(file: BinaryIO) -> Capture:
+def read_file(file: Readable) -> Capture:
     """Reads a capture from a file."""
     source = Source(file)
     front = source.peek(4096)
     if front.startswith(unpacked.MAGIC):
-        source = Source(unpacked.Unpacked(file, front))
+        source = Source(unpacked.unpack(file, front))
         front = source.peek(4096)
     if not front:
         raise CaptureError("the capture is empty")

@@ -2,11 +2,15 @@
 
 from __future__ import annotations
 
+import io
 import zlib
-from .source import Readable
+
+from .source import CaptureError, Readable
 
 MAGIC = b"\x1f\x8b\x08"
 _PIECE = 1 << 16
+# A gzip file of 1 MB may unpack to 1 GB.
+LONGEST_UNPACKED = 64 << 20
 
 
 class Unpacked:
@@ -41,3 +45,20 @@ class Unpacked:
             self._unpack = zlib.decompressobj(wbits=31)
         self.is_broken = not packed and not self._unpack.eof
         return bool(packed)
+
+
+def unpack(file: Readable, front: bytes) -> Unpacked:
+    """Returns what is in a gzip file that begins so. Its size is checked first, without reading what it says."""
+    pieces, length = [front], len(front)
+    while length <= LONGEST_UNPACKED and (piece := file.read(_PIECE)):
+        pieces.append(piece)
+        length += len(piece)
+    packed = b"".join(pieces)
+    measured = Unpacked(io.BytesIO(packed), b"")
+    length = 0
+    while length <= LONGEST_UNPACKED and (piece := measured.read(1 << 20)):
+        length += len(piece)
+    if max(length, len(packed)) > LONGEST_UNPACKED:
+        size = f"{LONGEST_UNPACKED >> 20} MiB"
+        raise CaptureError(f"the capture unpacks to more than {size}; unpack it first, with gunzip")
+    return Unpacked(io.BytesIO(packed), b"")

@@ -16,6 +16,8 @@ from .streams import Packet, Stream
 # interval: what a key does within it depends on no moment.
 _TICK = 100
 _UNKNOWN = "none is known"
+# Nanoseconds from 1970 to the year 10000: no recorder's clock says more.
+_LATEST = 253_402_300_800 * 10**9
 
 
 def log_of(stream: Stream, form: str, notes: list[str], *, moments: bool = False, derive: bool = True) -> bytes:
@@ -23,7 +25,19 @@ def log_of(stream: Stream, form: str, notes: list[str], *, moments: bool = False
     before it; without `derive` there are no replies that packets show."""
     if stream.writer.startswith(b"hidlog"):
         return _own(stream)
+    _check_timestamps(stream)
     return b"\n".join(_Writer(stream, moments, derive).lines(form, notes)) + b"\n"
+
+
+def _check_timestamps(stream: Stream) -> None:
+    """Raises CaptureError at a timestamp that no clock has."""
+    for number, it in enumerate(stream.packets, 1):
+        if it.at is not None and not 0 <= it.at < _LATEST:
+            seconds = it.at // 10**9
+            raise CaptureError(
+                f"the timestamp of packet {number} of {stream.name} is {seconds} s after 1970; "
+                "it must be within the years 1970 to 9999"
+            )
 
 
 def _own(stream: Stream) -> bytes:

@@ -1,0 +1,196 @@
+"""The entry point of every command: a failure ends in one line on standard error and in a status that no verdict has.
+
+A verdict (a difference, a violation) has the status 1; a usage error or a failure 2; SIGINT 130, SIGTERM 143, SIGHUP 129.
+Where standard output can't be written, the text is that of the program `hidlog`.
+"""
+
+from __future__ import annotations
+
+import io
+import os
+import signal
+import sys
+import threading
+import traceback
+from collections.abc import Callable
+from contextlib import suppress
+from typing import Any, TextIO
+
+from .errors import HidlogError
+
+FAILED = 2
+_SIGNALED = 128
+_NAMES = {signal.SIGINT: "interrupted", signal.SIGTERM: "terminated", signal.SIGHUP: "the terminal was closed"}
+# By the signals that end a command what Python does at them before.
+_SIGNALS: dict[int, Any] = {
+    signal.SIGINT: signal.default_int_handler,
+    signal.SIGTERM: signal.SIG_DFL,
+    signal.SIGHUP: signal.SIG_DFL,
+}
+
+
+class OutputError(Exception):
+    """Standard output can't be written. It is no OSError, so that no handler of a file's errors takes it."""
+
+    def __init__(self) -> None:
+        super().__init__("writing failed")
+
+
+class StoppedError(BaseException):
+    """A signal came that ends the process."""
+
+    def __init__(self, number: int):
+        super().__init__(_NAMES[signal.Signals(number)])
+        self.status = _SIGNALED + number
+
+
+class _Output(io.RawIOBase):
+    """Standard output, or standard error: after the first failure, which standard output raises, nothing is written."""
+
+    def __init__(self, number: int):
+        self._number = number
+        self._has_failed = False
+
+    def fileno(self) -> int:
+        return self._number
+
+    def isatty(self) -> bool:
+        return os.isatty(self._number)
+
+    def writable(self) -> bool:
+        return True
+
+    def write(self, data: Any, /) -> int:
+        if not self._has_failed:
+            with suppress(OSError):
+                if count := os.write(self._number, data):
+                    return count
+            self._has_failed = True
+            if self._number == 1:
+                raise OutputError
+        return len(data)
+
+
+def _hold_numbers() -> None:
+    """Opens a file at each closed descriptor of 0 to 2 that can't be used in its direction.
+
+    Otherwise the next file that is opened would be standard input, output or error."""
+    for number, flags in enumerate((os.O_WRONLY, os.O_RDONLY, os.O_RDONLY)):
+        try:
+            os.fstat(number)
+        except OSError:
+            held = os.open(os.devnull, flags | os.O_CLOEXEC)
+            if held != number:  # a lower one couldn't be held
+                os.close(held)
+
+
+def _text_to(number: int, before: Any) -> TextIO:
+    """Returns a stream of text to a descriptor, as the one before was; what can't be encoded is escaped."""
+    encoding = before.encoding if before else "utf-8"
+    errors = before.errors if before and before.errors != "strict" else "backslashreplace"
+    by_line = bool(before) and (before.line_buffering or before.write_through)
+    return io.TextIOWrapper(io.BufferedWriter(_Output(number)), encoding, errors, line_buffering=by_line or number == 2)
+
+
+def _replace_streams() -> None:
+    """Puts streams in the place of standard output and error that end a command well where writing fails."""
+    _hold_numbers()
+    if sys.stdout is sys.__stdout__:
+        sys.stdout = _text_to(1, sys.stdout)
+    if sys.stderr is sys.__stderr__:
+        sys.stderr = _text_to(2, sys.stderr)
+
+
+def _stop(number: int, _: object) -> None:
+    """Ends the command; a second signal ends the process at once."""
+    _release_signals()
+    raise StoppedError(number)
+
+
+def _catch_signals() -> None:
+    """Has signals raise StoppedError, except those that are ignored, as after nohup."""
+    if threading.current_thread() is not threading.main_thread():
+        return
+    for number, before in _SIGNALS.items():
+        if signal.getsignal(number) == before:
+            signal.signal(number, _stop)
+
+
+def _release_signals() -> None:
+    """Has signals end the process."""
+    for number in _SIGNALS:
+        if signal.getsignal(number) is _stop:
+            signal.signal(number, signal.SIG_DFL)
+
+
+def say(text: str) -> None:
+    """Writes a line to standard error, where that is possible."""
+    with suppress(OSError, ValueError):
+        if sys.stderr is not None:
+            print(text, file=sys.stderr, flush=True)
+
+
+def reason_of(error: BaseException) -> str:
+    """Returns what is said of a failure, on one line."""
+    if isinstance(error, OSError) and error.strerror:
+        return f"{error.filename}: {error.strerror}" if error.filename is not None else error.strerror
+    if isinstance(error, MemoryError):
+        return "no memory"
+    if isinstance(error, RecursionError):
+        return "the input is nested too deeply"
+    return " ".join(str(error).split()) or type(error).__name__
+
+
+def run(name: str, command: Callable[[], int]) -> int:
+    """Runs a command, and returns the exit status.
+
+    name   what is before the text of a failure, such as "hidlog judge".
+    """
+    try:
+        return _run(name, command)
+    except StoppedError as stop:
+        say(f"{name}: {stop}")
+        return stop.status
+
+
+def _run(name: str, command: Callable[[], int]) -> int:
+    try:
+        _catch_signals()
+        _replace_streams()
+        return _flushed(command)
+    except OutputError as error:
+        say(f"hidlog: {error}")
+    except (HidlogError, OSError, ImportError, MemoryError, RecursionError) as error:
+        say(f"{name}: {reason_of(error)}")
+    except Exception:  # a mistake of this package, which is reported with the place
+        with suppress(OSError):
+            traceback.print_exc()
+    finally:
+        _release_signals()
+    return FAILED
+
+
+def run_as_program(command: Callable[[], int]) -> int:
+    """Runs a command within `run` that ends as the program `hidlog` does, also at failures and signals."""
+    _release_signals()
+    try:
+        return _flushed(command)
+    except OutputError as error:
+        say(f"hidlog: {error}")
+        return 1
+    except MemoryError:
+        say("hidlog: no memory")
+        return FAILED
+    except (HidlogError, OSError, ImportError) as error:
+        say(f"hidlog: {reason_of(error)}")
+        return FAILED
+
+
+def _flushed(command: Callable[[], int]) -> int:
+    """Runs a command, and writes what it printed to the end."""
+    try:
+        status = command()
+    except SystemExit as end:  # of argparse
+        status = end.code if isinstance(end.code, int) else FAILED if end.code else 0
+    sys.stdout.flush()
+    return status
