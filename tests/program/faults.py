@@ -2,8 +2,9 @@
 """Faults of the system at every call of the program, and of the Python package where it saves: each call fails in turn,
 and kills, until there is no further one. After each a whole snapshot is left, the old or the new one, in its place or
 beside it; and the status and the text say which. What goes to standard output is whole, or is told to be cut off.
+Then a sample of the calls of the package's commands (command_faults.py), or with --every all of them.
 
-    tests/program/faults.py [PROGRAM] [--only NAME ..] [--jobs N]    release/hidlog where none is named
+    tests/program/faults.py [PROGRAM] [--only NAME ..] [--jobs N] [--every]    release/hidlog where none is named
 
 Needs strace. Exit status: 1 where a place is wrong that isn't in the table of known failures, or where a known failure
 fails no more; 3 where strace is missing.
@@ -22,6 +23,7 @@ from dataclasses import dataclass
 from pathlib import Path
 from typing import Optional, Sequence
 
+import command_faults
 import injection
 from injection import Place
 
@@ -185,6 +187,7 @@ def main() -> int:
     parser.add_argument("program", nargs="?", default=str(TOP / "release/hidlog"))
     parser.add_argument("--only", nargs="*", metavar="NAME", default=[])
     parser.add_argument("--jobs", type=int, default=2)
+    parser.add_argument("--every", action="store_true", help="every call of the package's commands, and no sample")
     words = parser.parse_args()
     if shutil.which("strace") is None:
         print("tests/program/faults.py: strace is missing (apt-get install strace); nothing was run", file=sys.stderr)
@@ -192,6 +195,7 @@ def main() -> int:
     program = str(Path(words.program).resolve())
     chosen = [(it, program) for it in RUNS] + [(it, sys.executable) for it in PYTHON_RUNS]
     bad = sum(loop(run, of, words.jobs) for run, of in chosen if not words.only or run.name in words.only)
+    bad += command_faults.check(words.only, words.jobs, words.every)
     return 1 if bad else 0
 
 

@@ -39,7 +39,7 @@ Commands of the Python package:
   export      Writes a log as a capture that Wireshark reads
   judge       Says which rules of CTAP 2.1 a session breaks
   shrink      Cuts a log down while a command fails on it in the same way
-  check-many  Checks many logs, in many processes
+  check-many  Checks many logs, several at a time
   mermaid     Writes a session as a sequence diagram
 """
 

@@ -10,7 +10,7 @@ import json
 import sys
 from collections.abc import Callable, Iterator, Mapping
 from hashlib import sha256
-from io import FileIO
+from io import BufferedReader
 from typing import Any
 from urllib.parse import urlsplit
 
@@ -232,10 +232,10 @@ def main(words: list[str] | None = None) -> int:
     return 0
 
 
-def _lines_of(file: FileIO) -> Iterator[bytes]:
+def _lines_of(file: BufferedReader) -> Iterator[bytes]:
     """Returns the lines as they come. Of one that is too long only the front, which shows that it is."""
     rest = b""
-    while piece := file.read(_PIECE):
+    while piece := file.read1(_PIECE):
         first, *more = piece.split(b"\n")
         rest = (rest + first)[: LINE_MOST + 1]
         if more:

@@ -8,7 +8,7 @@ from __future__ import annotations
 
 import sys
 from collections.abc import Callable, Iterator
-from io import FileIO
+from io import BufferedReader
 
 from . import logs
 from .core import Handle
@@ -74,7 +74,7 @@ class _Log:
 
     def __init__(self, name: str):
         self.has_failed = False
-        self._file: FileIO | None = None
+        self._file: BufferedReader | None = None
         try:
             self._file = open_input(name)
         except OSError:
@@ -88,7 +88,7 @@ class _Log:
             return
         try:
             with self._file:
-                while piece := self._file.read(_PIECE):
+                while piece := self._file.read1(_PIECE):
                     yield piece
         except OSError:
             self.has_failed = True

@@ -120,7 +120,8 @@ def _release_signals() -> None:
     """Has signals end the process."""
     for number in _SIGNALS:
         if signal.getsignal(number) is _stop:
-            signal.signal(number, signal.SIG_DFL)
+            with suppress(OSError):
+                signal.signal(number, signal.SIG_DFL)
 
 
 def say(text: str) -> None:
@@ -160,7 +161,8 @@ def _run(name: str, command: Callable[[], int]) -> int:
         return _flushed(command)
     except OutputError as error:
         say(f"hidlog: {error}")
-    except (HidlogError, OSError, ImportError, MemoryError, RecursionError) as error:
+    except (HidlogError, OSError, ImportError, MemoryError, RuntimeError) as error:
+        # A RuntimeError is that of a thread that can't be started, or of a recursion.
         say(f"{name}: {reason_of(error)}")
     except Exception:  # a mistake of this package, which is reported with the place
         with suppress(OSError):

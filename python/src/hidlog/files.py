@@ -5,23 +5,22 @@ from __future__ import annotations
 import errno
 import io
 import os
-import select
 import stat
+import time
 from collections.abc import Iterable
 from contextlib import suppress
 from pathlib import Path
 from secrets import token_hex
-from typing import Any, TypeVar, Union
+from typing import Any, Union
 
 from .errors import ArgumentError
 
 _PRIVATE, _OF_UMASK = 0o600, 0o666
 # A name has at most 255 bytes, and a letter at most 4.
 _NAME_MOST = 40
-# Milliseconds that a named pipe may stay without a byte before it counts as one that no program writes to.
-_PIPE_WAIT = 5000
+# How often a named pipe is looked at before it counts as one that no program writes to, and the seconds between.
+_TRIES, _PAUSE = 50, 0.1
 _PIECE = 1 << 16
-_T = TypeVar("_T")
 # A file as a command names it: "-" is standard input.
 Named = Union[str, "os.PathLike[str]"]
 
@@ -32,54 +31,66 @@ def name_of(path: Named) -> str:
 
 
 class _Input(io.FileIO):
-    """A file whose reads fail where `FileIO` returns less than there is: where a read would block."""
+    """A file whose reads fail where `FileIO` returns less than there is: where a read would block.
 
-    def read(self, size: int | None = -1, /) -> bytes:
-        if size is None or size < 0:
-            return self.readall()
-        return _not_none(super().read(size))
+    front   bytes of it that were read already.
+    """
+
+    front = b""
 
     def readinto(self, buffer: Any, /) -> int:
-        return _not_none(super().readinto(buffer))
+        if self.front:
+            count = min(len(buffer), len(self.front))
+            memoryview(buffer).cast("B")[:count], self.front = self.front[:count], self.front[count:]
+            return count
+        found = super().readinto(buffer)
+        if found is None:
+            raise BlockingIOError(errno.EAGAIN, os.strerror(errno.EAGAIN))
+        return found
 
     def readall(self) -> bytes:
-        return b"".join(iter(lambda: self.read(_PIECE), b""))
+        front, self.front = self.front, b""
+        return front + read_to_end(self.fileno())
 
 
-def _not_none(value: _T | None) -> _T:
-    if value is None:
-        raise BlockingIOError(errno.EAGAIN, os.strerror(errno.EAGAIN))
-    return value
-
-
-def open_input(path: Named) -> io.FileIO:
+def open_input(path: Named) -> io.BufferedReader:
     """Opens a file to read, or standard input for "-". A named pipe that no program writes to raises TimeoutError."""
     if path == "-":
-        return _Input(0, "rb", closefd=False)
+        return io.BufferedReader(_Input(0, "rb", closefd=False))
     number = os.open(path, os.O_RDONLY | os.O_NONBLOCK | os.O_CLOEXEC)
     try:
-        mode = os.fstat(number).st_mode
-        if stat.S_ISFIFO(mode):
-            _wait_for_writer(number, path)
+        front = _front_of_pipe(number, path) if stat.S_ISFIFO(os.fstat(number).st_mode) else b""
         os.set_blocking(number, True)
-        return _Input(number, "rb")
+        file = _Input(number, "rb")
     except BaseException:
         with suppress(OSError):
             os.close(number)
         raise
+    file.front = front
+    return io.BufferedReader(file)
 
 
-def _wait_for_writer(number: int, path: Named) -> None:
-    poll = select.poll()
-    poll.register(number, select.POLLIN)
-    if not poll.poll(_PIPE_WAIT):
-        raise TimeoutError(errno.ETIMEDOUT, "no program writes to this named pipe", os.fspath(path))
+def _front_of_pipe(number: int, path: Named) -> bytes:
+    """Returns the bytes that are in a pipe, as soon as a program has opened it to write."""
+    for _ in range(_TRIES):
+        try:
+            if front := os.read(number, _PIECE):
+                return front
+        except BlockingIOError:  # a program has opened it, and may write later
+            return b""
+        time.sleep(_PAUSE)
+    raise TimeoutError(errno.ETIMEDOUT, "no program writes to this named pipe", os.fspath(path))
+
+
+def read_to_end(number: int) -> bytes:
+    """Returns all bytes that come from a descriptor."""
+    return b"".join(iter(lambda: os.read(number, _PIECE), b""))
 
 
 def read_input(path: Named) -> bytes:
     """Returns the bytes of a file, or of standard input for "-"."""
     with open_input(path) as file:
-        return file.readall()
+        return file.read()
 
 
 def is_regular(path: Path) -> bool:
@@ -123,7 +134,7 @@ def _write(path: Path, data: bytes, is_private: bool) -> None:
         return
     target = Path(os.path.realpath(path))
     old = target.stat() if target.exists() and not is_private else None
-    # Nobody knows the random name, so that the file of that name is this one, also where an exception comes at once.
+    # Nobody knows the random name: what has it is this file, also if a signal's exception comes as it is opened.
     name = target.with_name(f".{target.name[:_NAME_MOST]}.{token_hex(8)}")
     try:
         mode = _PRIVATE if is_private or old is not None else _OF_UMASK
@@ -134,6 +145,8 @@ def _write(path: Path, data: bytes, is_private: bool) -> None:
             file.flush()
             os.fsync(file.fileno())
         os.replace(name, target)
+    except FileExistsError:  # then it is another's
+        raise
     except BaseException:
         with suppress(OSError):
             os.unlink(name)

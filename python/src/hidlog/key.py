@@ -18,6 +18,7 @@ from .files import write_private, write_whole
 from .held import HeldKey
 from .lines import Engine
 from .outside import Backup
+from .recording_files import snapshot_path
 from .session import Recording, Session
 
 if TYPE_CHECKING:
@@ -28,6 +29,11 @@ _FORM = "hidlog key 1"
 _CHANGED = b"# the credentials were changed; the channels are given out again"
 _INIT = packets.packets_of(packets.Message(packets.BROADCAST, packets.INIT, bytes(8)))[0]
 _Key = TypeVar("_Key", bound="SecurityKey")
+
+
+def _bytes_in(text: str) -> bytes:
+    """Returns the bytes of base64, which has nothing else in it."""
+    return b64decode(text, validate=True)
 
 
 class SecurityKey(Session):
@@ -66,7 +72,7 @@ class SecurityKey(Session):
         names = [target.with_name(f"{target.stem}.{it}{target.suffix}") for it in range(1, len(every))] + [target]
         for name, (snapshot, log) in zip(names, every):
             if snapshot:
-                write_whole(name.with_name(f"{name.name}.snapshot"), snapshot)
+                write_whole(snapshot_path(name), snapshot)
             write_whole(name, log)
         return names
 
@@ -213,8 +219,8 @@ class SecurityKey(Session):
         margin = number_of("counter_margin", counter_margin, 0, 2**32 - 1)
         try:
             kept = json.loads(text)
-            form, snapshot, given = kept["form"], b64decode(kept["snapshot"]), kept["private_keys"]
-            held = {bytes.fromhex(it): private_keys.from_any(b64decode(key)) for it, key in given.items()}
+            form, snapshot, given = kept["form"], _bytes_in(kept["snapshot"]), kept["private_keys"]
+            held = {bytes.fromhex(it): private_keys.from_any(_bytes_in(key)) for it, key in given.items()}
             ids = {bytes.fromhex(core): bytes.fromhex(it) for core, it in kept.get("ids", {}).items()}
             backups = {bytes.fromhex(it): Backup(*flags) for it, flags in kept.get("backups", {}).items()}
         except (ValueError, LookupError, TypeError, AttributeError, RecursionError) as error:

@@ -11,8 +11,6 @@ as ProcessPoolExecutor does, can't be mended from outside: hand in the function 
 from __future__ import annotations
 
 import os
-import signal
-import threading
 from collections.abc import Callable, Iterable, Iterator
 from concurrent.futures import (
     FIRST_COMPLETED,
@@ -24,14 +22,13 @@ from concurrent.futures import (
     wait,
 )
 from itertools import islice
-from multiprocessing import parent_process
-from multiprocessing.process import BaseProcess
 from pathlib import Path
 from typing import NamedTuple, Optional, Union
 
 from .errors import ArgumentTypeError, LogError, SnapshotError, number_of
 from .files import read_input
 from .logs import check
+from .recording_files import snapshot_path
 
 Paths = Iterable[Union[str, "os.PathLike[str]"]]
 Executors = Union[Executor, Callable[[], Executor]]
@@ -62,7 +59,7 @@ class Checked(NamedTuple):
 def read(path: str) -> Recorded:
     """Reads a recording, and its snapshot where SecurityKey.save_log wrote one beside it."""
     target = Path(path)
-    beside = target.with_name(f"{target.name}.snapshot")
+    beside = snapshot_path(target)
     return Recorded(path, read_input(target), read_input(beside) if beside.is_file() else b"")
 
 
@@ -170,21 +167,6 @@ def _is_death(error: Exception) -> bool:
     else, such as a module that a worker hasn't got, ends the check."""
     names = ("KilledWorker", "CommClosedError")
     return isinstance(error, (BrokenExecutor, CancelledError)) or type(error).__name__ in names
-
-
-def begin_worker() -> None:
-    """Has a process of a pool end with its parent, and leave the signals of a terminal to it."""
-    signal.signal(signal.SIGINT, signal.SIG_IGN)
-    for number in (signal.SIGTERM, signal.SIGHUP):
-        signal.signal(number, signal.SIG_DFL)
-    parent = parent_process()
-    if parent is not None:
-        threading.Thread(target=_end_with, args=(parent,), daemon=True).start()
-
-
-def _end_with(parent: BaseProcess) -> None:
-    parent.join()
-    os._exit(2)
 
 
 def _with_bytes(given: Recorded) -> Recorded:

@@ -1,4 +1,4 @@
-"""The command `hidlog check-many`: checks the recordings of folders in many processes, or on a Dask cluster."""
+"""The command `hidlog check-many`: checks the recordings of folders in many threads, or on a Dask cluster."""
 
 from __future__ import annotations
 
@@ -10,13 +10,13 @@ import time
 import xml.etree.ElementTree as xml
 from collections import Counter
 from collections.abc import Iterator, Sequence
-from concurrent.futures import ProcessPoolExecutor
+from concurrent.futures import ThreadPoolExecutor
 from pathlib import Path
 
 from .entry_point import FAILED, reason_of
 from .errors import HidlogError, MissingPart, shown
 from .files import is_regular
-from .many import Checked, begin_worker, check_many
+from .many import Checked, check_many
 
 _DASK = "dask://"
 _SECONDS = 0.5
@@ -27,7 +27,7 @@ _CONTROLS = {code: "\ufffd" for code in (*range(32), 0xFFFE, 0xFFFF) if code not
 def _parser() -> argparse.ArgumentParser:
     parser = argparse.ArgumentParser(prog="hidlog check-many", description="Checks many recordings.")
     parser.add_argument("paths", nargs="+", metavar="PATH", help="a log, or a folder whose files *.log are checked")
-    parser.add_argument("--jobs", type=int, default=os.cpu_count() or 1, metavar="N", help="so many processes")
+    parser.add_argument("--jobs", type=int, default=os.cpu_count() or 1, metavar="N", help="so many threads")
     parser.add_argument("--executor", metavar="dask://HOST:PORT", help="the workers of a Dask scheduler check")
     parser.add_argument("--report", choices=("text", "json", "junit"), default="text", help="what is written")
     return parser
@@ -61,7 +61,8 @@ def _printable(path: str) -> str:
 
 def _checked(paths: list[Path], jobs: int, executor: str | None) -> Iterator[Checked]:
     if executor is None:
-        return check_many(paths, lambda: ProcessPoolExecutor(jobs, initializer=begin_worker), at_once=4 * jobs)
+        # The library checks without Python's lock, so that threads are as fast as processes; and none of them is left.
+        return check_many(paths, lambda: ThreadPoolExecutor(jobs), at_once=4 * jobs)
     if not executor.startswith(_DASK):
         raise HidlogError(f"--executor is {shown(executor)}; it has to be {_DASK}HOST:PORT")
     try:

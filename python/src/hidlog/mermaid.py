@@ -12,6 +12,7 @@ from typing import Any
 
 from .entry_point import FAILED
 from .errors import HidlogError
+from .files import read_to_end
 from .process import program
 
 Json = dict[str, Any]
@@ -61,11 +62,14 @@ def main(words: list[str] | None = None) -> int:
     )
     parser.add_argument("file", nargs="?", default="-", help="the log; standard input where none is named")
     options = parser.parse_args(words)
-    ran = subprocess.run([program(), "show", "--json", options.file], stdout=subprocess.PIPE, check=False)
+    with subprocess.Popen([program(), "show", "--json", options.file], stdout=subprocess.PIPE) as ran:
+        assert ran.stdout
+        text = read_to_end(ran.stdout.fileno())
     # What the program wrote of a line before it failed isn't whole.
-    lines = ran.stdout[: ran.stdout.rfind(b"\n") + 1].splitlines()
-    if lines or not ran.returncode:
-        sys.stdout.write(diagram(json.loads(line) for line in lines))
+    lines = text[: text.rfind(b"\n") + 1].splitlines()
+    entries = [json.loads(line) for line in lines]
+    if not ran.returncode or any(it.get("kind") != "fault" for it in entries):
+        sys.stdout.write(diagram(entries))
     if ran.returncode < 0:
         raise HidlogError(f"hidlog show was ended by signal {-ran.returncode}")
     return FAILED if ran.returncode else 0

@@ -7,6 +7,7 @@ import shutil
 import subprocess
 import tempfile
 import weakref
+from contextlib import suppress
 from pathlib import Path
 from typing import TYPE_CHECKING
 
@@ -66,8 +67,22 @@ def snapshot_after(path: str, log: bytes, start: bytes) -> bytes:
         return Path(folder, "after").read_bytes()
 
 
+def _end(process: subprocess.Popen[bytes], folder: tempfile.TemporaryDirectory[str], owner: int) -> None:
+    """Ends a program whose key is gone, and closes its pipes."""
+    if os.getpid() != owner:
+        return  # in a child of os.fork, whose parent has the program
+    for pipe in (process.stdin, process.stdout, process.stderr):
+        if pipe is not None:
+            with suppress(OSError):
+                pipe.close()
+    if process.poll() is None:
+        process.kill()
+        process.wait()
+    folder.cleanup()
+
+
 class ProcessKey:
-    """A key in a process of its own."""
+    """A key in a process of its own, which ends with the key."""
 
     _all: weakref.WeakSet[ProcessKey] = weakref.WeakSet()
 
@@ -84,6 +99,8 @@ class ProcessKey:
         except OSError as error:
             self._folder.cleanup()
             raise MissingPart(f"{words[0]} can't be started: {error}") from None
+        # A process that still runs keeps its pipes open, also when nothing refers to it.
+        self._end = weakref.finalize(self, _end, self._process, self._folder, os.getpid())
         self._all.add(self)
 
     @classmethod
@@ -138,8 +155,8 @@ class ProcessKey:
             rest, errors = self._process.communicate()
         except (OSError, ValueError):
             rest, errors = b"", b""
-        self._folder.cleanup()
-        if self._process.wait():
+        self._end()
+        if self._process.returncode:
             raise KeyEnded(f"hidlog ended with status {self._process.returncode}: {_said(errors)}")
         return rest
 

@@ -10,10 +10,10 @@ from .moments import Clock
 from .source import Source
 from .streams import Packet, Stream
 
-_DUMP = re.compile(rb"^(\w+): buf=0x[0-9a-f]+, len=(\d+)$")
+_DUMP = re.compile(rb"^(\w+): buf=0x[0-9a-f]+, len=(\d{1,9})$")
 _COMMAND = re.compile(rb"^fido_tx: (?:dev|d)=(0x[0-9a-f]+), cmd=0x([0-9a-f]{2})")
 # As libfido2 wrote it before version 1.5.
-_OLD_SENT = re.compile(rb"^fido_tx: d=(0x[0-9a-f]+), cmd=0x([0-9a-f]{2}), buf=0x[0-9a-f]+, count=(\d+)$")
+_OLD_SENT = re.compile(rb"^fido_tx: d=(0x[0-9a-f]+), cmd=0x([0-9a-f]{2}), buf=0x[0-9a-f]+, count=(\d{1,9})$")
 _OLD_CAME = re.compile(rb"^rx: (?:initiation|continuation) packet at 0x[0-9a-f]+$")
 _RECEIVING = re.compile(rb"^fido_rx: (?:dev|d)=(0x[0-9a-f]+)")
 _HEX = re.compile(rb"^(?:[0-9a-f]{4,8}: )?((?:[0-9a-f]{2} ?)+)$")

@@ -20,9 +20,9 @@ _RESUMED = re.compile(_FRONT + rb"<\.\.\. (?P<call>\w+) resumed>\s*,?\s*(?P<rest
 _UNFINISHED = b"<unfinished ...>"
 _PROCESS = re.compile(rb"^\s*(?:\[pid\s+(\d+)\]|(\d{2,8}) +(?=\d\d:|\d{9,}|[a-z<]|\d+\.\d))")
 _TEXT = re.compile(rb'"((?:[^"\\]|\\.)*)"(\.\.\.)?')
-_RESULT = re.compile(rb"= (-?\d+)")
-_NUMBER = re.compile(rb"^\s*(\d+)(?:<([^>]*)>)?")
-_RELATIVE = re.compile(rb"^\s*(?:\[pid\s+\d+\]|\d+\s+)?\s*(\d+\.\d{6})\s")
+_RESULT = re.compile(rb"= (-?\d{1,19})\b")
+_NUMBER = re.compile(rb"^\s*(\d{1,10})\b(?:<([^>]*)>)?")
+_RELATIVE = re.compile(rb"^\s*(?:\[pid\s+\d+\]|\d+\s+)?\s*(\d{1,10}\.\d{6})\s")
 _ESCAPE = re.compile(rb"\\(x[0-9a-fA-F]{2}|[0-7]{1,3}|.)", re.DOTALL)
 _LETTERS = {b"n": b"\n", b"t": b"\t", b"r": b"\r", b"f": b"\f", b"v": b"\v", b"a": b"\a", b"b": b"\b", b"e": b"\x1b"}
 _CUT = "strace cut the bytes of packets: record with -s 128"

@@ -9,7 +9,7 @@ from .source import Source
 from .usb import Transfer
 
 _KINDS = {"C": 2, "B": 3, "I": 1, "Z": 0}
-_LINE = re.compile(rb"([0-9a-f]{4,16}) (\d+) ([SCE]) ([CBIZ])([io]):(.*)")
+_LINE = re.compile(rb"([0-9a-f]{4,16}) (\d{1,20}) ([SCE]) ([CBIZ])([io]):(.*)")
 # The text counts microseconds in 32 bits.
 _WRAP = 1 << 32
 _CUT = "usbmon's text keeps 32 bytes of each packet: longer messages can't be rebuilt from it"

@@ -1,0 +1,27 @@
+"""Names of a recording's files: `NAME.log`, and beside it `NAME.log.snapshot` if it began with credentials."""
+
+from __future__ import annotations
+
+from pathlib import Path
+
+from .files import write_private
+
+
+def snapshot_path(log: Path) -> Path:
+    """Returns the path of the snapshot that a log began with."""
+    return log.with_name(f"{log.name}.snapshot")
+
+
+def read_snapshot_file(log: Path) -> bytes:
+    """Returns the snapshot that a log began with: no bytes if it began without credentials."""
+    path = snapshot_path(log)
+    return path.read_bytes() if path.is_file() else b""
+
+
+def write_recording(log: Path, data: bytes, snapshot: bytes) -> None:
+    """Writes a log and its snapshot, both with mode 0600. The snapshot is there before the log that needs it."""
+    if snapshot:
+        write_private(snapshot_path(log), snapshot)
+    write_private(log, data)
+    if not snapshot:
+        snapshot_path(log).unlink(missing_ok=True)

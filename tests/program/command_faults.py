@@ -1,0 +1,241 @@
+"""Faults of the system at each call of the Python package's commands: each call after the imports fails in turn, and kills.
+
+A command ends as without the fault, or with one line and a status that no verdict has; what it writes is whole, or the
+status says that it isn't; an older file is whole; only a kill leaves a file beside it.
+"""
+
+from __future__ import annotations
+
+import os
+import re
+import signal
+import subprocess
+import sys
+import tempfile
+from dataclasses import dataclass, field
+from pathlib import Path
+from typing import Dict, List, Optional, Sequence, Tuple
+
+import injection
+from injection import Place
+
+TOP = Path(__file__).resolve().parents[2]
+EXAMPLES = TOP / "examples"
+CAPTURE = TOP / "tests/captures/data/python_cancel.pcapng"
+ENVIRONMENT = {
+    "PATH": os.environ["PATH"],
+    "PYTHONPATH": f"{TOP / 'python/src'}:{TOP / 'conformance'}",
+    "PYTHONDONTWRITEBYTECODE": "1",
+    "PYTHONHASHSEED": "0",
+    "HIDLOG": str(TOP / "release/hidlog"),
+}
+MARK = "/hidlog-begins"
+# So many places of each call are tried, unless all are.
+SAMPLE = 3
+# Loads what a command loads, and marks in strace's output where the command begins.
+DRIVER = f"""
+import importlib, os, sys
+from hidlog import __main__
+for name in sys.argv.pop(1).split():
+    importlib.import_module(name)
+if "hidlog.judge" in sys.modules:
+    from hidlog.captures import corpus
+    list(map(corpus.module, ("judged_log", "judged_report", "judged_host", "judged_key", "walk")))
+if "hidlog.browser_process" in sys.modules:
+    from hidlog import SecurityKey
+    with SecurityKey() as key: key.browser("https://example.com")
+if "hidlog.core" in sys.modules:
+    sys.modules["hidlog.core"].library()
+os.access({MARK!r}, 0)
+sys.exit(__main__.main())
+"""
+LINES = b'{"id": 1, "credentials": 0}\n{"id": 2, "log": 0}\n'
+FAILED_FIRST = 2
+# The kernel never fails them so.
+NEVER_FAILS = {"futex", "getpid", "gettid"}
+
+
+@dataclass(frozen=True)
+class Run:
+    """A run of a command in a folder, which is {} in its words. `kept` files are made there first."""
+
+    name: str
+    words: Tuple[str, ...]
+    # The modules that are loaded before it begins.
+    modules: str
+    data: bytes = b""
+    kept: Dict[str, bytes] = field(default_factory=dict)
+    # The file that it writes, in the place of the kept one.
+    output: str = ""
+    # Whether strace follows the processes that it starts.
+    follows: bool = True
+    # Whether a fault may be said of one recording among others on standard output.
+    reports: bool = False
+
+    def start(self, folder: Path, trace: Sequence[str]) -> "subprocess.CompletedProcess[bytes]":
+        """Runs it once in a folder."""
+        for name, data in self.kept.items():
+            (folder / name).write_bytes(data)
+        trace = [it for it in trace if self.follows or it not in ("-f", "--seccomp-bpf")]
+        command = [*trace, sys.executable, "-c", DRIVER, self.modules, *(it.format(folder) for it in self.words)]
+        ended = subprocess.run(command, input=self.data, capture_output=True, timeout=60, env=ENVIRONMENT)
+        ended.stdout = ended.stdout.replace(os.fsencode(folder), b"FOLDER")
+        return ended
+
+
+REGISTRATION = (EXAMPLES / "registration.log").read_bytes()
+BROKEN = (EXAMPLES / "failing/counter_stays.log").read_bytes()
+LOADED_BY_IMPORT = "hidlog.captures.commands hidlog.core hidlog.captures.corpus hidlog_conformance.walk"
+LOADED_BY_JUDGE = "hidlog.judge cryptography.hazmat.backends.openssl.backend"
+TICKS = b"t 1\np 2 granted\nt 3\n"
+RUNS = [
+    Run(
+        "import -o",
+        ("import", str(CAPTURE), "-o", "{}/out"),
+        LOADED_BY_IMPORT,
+        kept={"out": b"old"},
+        output="out",
+    ),
+    Run("import", ("import", str(CAPTURE)), LOADED_BY_IMPORT),
+    Run(
+        "export -o",
+        ("export", "{}/in", "-o", "{}/out"),
+        "hidlog.captures.commands hidlog.core",
+        kept={"in": REGISTRATION, "out": b"old"},
+        output="out",
+    ),
+    Run("judge", ("judge", "{}/in"), LOADED_BY_JUDGE, kept={"in": BROKEN}),
+    Run("judge of standard input", ("judge", "--format", "junit"), LOADED_BY_JUDGE, data=REGISTRATION),
+    Run(
+        "check-many",
+        ("check-many", "--jobs", "1", "{}"),
+        "hidlog.many_command concurrent.futures.thread",
+        kept={"one.log": REGISTRATION, "two.log": BROKEN},
+        reports=True,
+    ),
+    Run("mermaid", ("mermaid", "{}/in"), "hidlog.mermaid", kept={"in": REGISTRATION}),
+    Run(
+        "browser",
+        ("browser", "--origin", "https://example.com"),
+        "hidlog.browser_process encodings.idna",
+        data=LINES,
+    ),
+    Run(
+        "shrink",
+        ("shrink", "{}/in", "sh", "-c", "! grep -q granted"),
+        "hidlog.shrink",
+        kept={"in": TICKS},
+        follows=False,
+    ),
+]
+
+
+def counts_of(log: Path) -> Tuple[Dict[str, int], Dict[str, int], Dict[str, int]]:
+    """Returns how often the first process makes each call until the mark, how often in all, and how often others do."""
+    base: Dict[str, int] = {}
+    whole: Dict[Tuple[str, str], int] = {}
+    first = ""
+    for line in log.read_text(encoding="utf-8", errors="replace").splitlines():
+        found = re.match(r"(?:(\d+) +)?([a-z_0-9]+)\(", line)
+        if not found:
+            continue
+        process, name = found[1] or "", found[2]
+        first = first or process
+        whole[process, name] = whole.get((process, name), 0) + 1
+        if MARK in line:
+            base = {call: count for (of, call), count in whole.items() if of == first}
+    own = {call: count for (of, call), count in whole.items() if of == first}
+    others: Dict[str, int] = {}
+    for (of, call), count in whole.items():
+        if of != first:
+            others[call] = max(count, others.get(call, 0))
+    return base, own, others
+
+
+def places_of(log: Path) -> List[Place]:
+    """Returns the places of a run after the mark, and those of the processes and threads that it starts."""
+    base, own, others = counts_of(log)
+    assert base, "the mark is missing"
+    found = []
+    for name in sorted({*own, *others} - injection.NEVER - NEVER_FAILS):
+        numbers = {*range(base.get(name, 0) + 1, own.get(name, 0) + 2), *range(1, others.get(name, 0) + 1)}
+        if own.get(name, 0) == base.get(name, 0) and not others.get(name):
+            continue
+        faults = (*injection.FAULTS.get(name, injection.OTHERS), "KILL")
+        # Python itself waits for ever for a thread that has no memory to begin.
+        starts = range(1, others.get(name, 0) + 1) if "ENOMEM" in faults else ()
+        found += [Place(name, it, fault) for fault in faults for it in sorted(numbers.difference(starts))]
+    return found
+
+
+def began(log: Path) -> bool:
+    """Returns whether the command had begun when the fault came, by what strace wrote."""
+    text = log.read_text(encoding="utf-8", errors="replace")
+    return MARK in text.partition("(INJECTED)")[0]
+
+
+def wrong(
+    run: Run, right: "subprocess.CompletedProcess[bytes]", new: bytes, place: Place, folder: Path
+) -> Optional[str]:
+    """Runs with a fault, and returns what is wrong with what it left."""
+    log, space = folder / "strace", folder / "space"
+    space.mkdir()
+    trace = [it.replace("trace=openat,", "trace=openat,access,faccessat,faccessat2,") for it in place.words(log)]
+    ended = run.start(space, trace)
+    if not began(log):
+        return None
+    status, said = ended.returncode, ended.stderr.decode(errors="replace")
+    if "Traceback" in said or "Exception ignored" in said:
+        return f"status {status}, and a traceback: {said[-300:]!r}"
+    is_killed = place.fault == "KILL" and status == -signal.SIGKILL
+    if status == right.returncode:
+        if ended.stdout != right.stdout:
+            return f"status {status}, and standard output isn't whole: {ended.stdout[-80:]!r}, {said!r}"
+    elif status < FAILED_FIRST and not is_killed:
+        return f"status {status}: {said!r}"
+    elif not is_killed and not said and place.call != "write":
+        return f"status {status} without a word"
+    if not right.stdout.startswith(ended.stdout) and not run.reports:
+        return f"standard output is another: {ended.stdout[:80]!r}"
+    return wrong_files(run, new, status == right.returncode, is_killed, space)
+
+
+def wrong_files(run: Run, new: bytes, is_done: bool, is_killed: bool, space: Path) -> Optional[str]:
+    """Returns what is wrong with the files that a run left."""
+    others = sorted(it.name for it in space.iterdir() if it.name not in run.kept)
+    if others and not is_killed:
+        return f"files are left: {others}"
+    for name, old in run.kept.items():
+        there = (space / name).read_bytes()
+        if name != run.output and there != old:
+            return f"{name} was changed"
+        if name == run.output and there != new and (is_done or there != old):
+            return f"{name} has {len(there)} bytes, neither the old ones nor the new ones"
+    return None
+
+
+def sample_of(places: Sequence[Place]) -> List[Place]:
+    """Returns some places of each call, evenly spaced over its faults and numbers."""
+    found: List[Place] = []
+    for call in sorted({it.call for it in places}):
+        own = [it for it in places if it.call == call]
+        found += own[len(own) // (SAMPLE + 1) :: len(own) // (SAMPLE + 1) + 1]
+    return found
+
+
+def loop(run: Run, jobs: int, is_whole: bool) -> int:
+    """Runs with each fault in turn, or with a sample of them. Returns how many are wrong."""
+    with tempfile.TemporaryDirectory() as first, tempfile.TemporaryDirectory() as second:
+        right = run.start(Path(first), [])
+        assert right.returncode in (0, 1) and b"Traceback" not in right.stderr, right
+        new = Path(first, run.output).read_bytes() if run.output else b""
+        run.start(Path(first), ["strace", "-f", "-qq", "-o", f"{second}/calls"])
+        places = places_of(Path(second, "calls"))
+    chosen = places if is_whole else sample_of(places)
+    found = injection.each(chosen, lambda place, at: wrong(run, right, new, place, at), jobs)
+    return injection.report(f"hidlog {run.name}", len(chosen), found, {})
+
+
+def check(only: Sequence[str], jobs: int, is_whole: bool) -> int:
+    """Runs all loops. Returns how many places are wrong."""
+    return sum(loop(run, jobs, is_whole) for run in RUNS if not only or f"hidlog {run.name}" in only)

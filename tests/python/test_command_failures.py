@@ -1,0 +1,313 @@
+"""Failures of the package's commands: input files are kept, hostile input is refused, signals end a command in order."""
+
+from __future__ import annotations
+
+import gc
+import gzip
+import json
+import os
+import resource
+import signal
+import struct
+import subprocess
+import sys
+from collections.abc import Callable
+from pathlib import Path
+
+import pytest
+
+import hidlog
+from hidlog import entry_point, files
+from hidlog.captures import CaptureError, pcapng_of, read
+
+from test_by_library import WITHOUT
+
+HIDLOG = [sys.executable, "-m", "hidlog"]
+Example = Callable[[str], bytes]
+Ran = subprocess.CompletedProcess[bytes]
+# A line of usbmon's text.
+USBMON = b"ffff8881 10 S Ii:1:003:1 -115 64 <\n"
+
+
+def run(folder: Path, *words: str, data: bytes = b"", prepare: Callable[[], None] | None = None) -> Ran:
+    command = [*HIDLOG, *words]
+    return subprocess.run(command, input=data, capture_output=True, cwd=folder, timeout=600, preexec_fn=prepare)
+
+
+@pytest.fixture
+def folder(tmp_path: Path, example: Example) -> Path:
+    """Makes a folder with a log and its capture, and links to them."""
+    (tmp_path / "log").write_bytes(example("registration.log"))
+    (tmp_path / "capture").write_bytes(pcapng_of(example("registration.log")))
+    for name in ("log", "capture"):
+        (tmp_path / f"{name}.link").symlink_to(name)
+        os.link(tmp_path / name, tmp_path / f"{name}.other")
+    return tmp_path
+
+
+@pytest.mark.parametrize("suffix", ["", ".link", ".other"])
+@pytest.mark.parametrize("command, name", [("import", "capture"), ("export", "log")])
+def test_the_input_is_not_the_output(folder: Path, command: str, name: str, suffix: str) -> None:
+    before, listed = (folder / name).read_bytes(), sorted(os.listdir(folder))
+    ran = run(folder, command, name, "-o", name + suffix)
+    assert ran.returncode == 2 and b"is the input file; name another" in ran.stderr
+    with open(folder / name, "rb") as file:
+        words = [*HIDLOG, command, "-", "-o", name + suffix]
+        assert subprocess.run(words, stdin=file, cwd=folder, capture_output=True).returncode == 2
+    assert (folder / name).read_bytes() == before and sorted(os.listdir(folder)) == listed
+
+
+@pytest.mark.parametrize("command, name", [("import", "capture"), ("export", "log")])
+def test_a_short_write_keeps_the_older_file(folder: Path, command: str, name: str) -> None:
+    """The system lets the process write 100 bytes of a file, and fails then."""
+    (folder / "out").write_bytes(b"old")
+    listed = sorted(os.listdir(folder))
+    ran = run(folder, command, name, "-o", "out", prepare=lambda: resource.setrlimit(resource.RLIMIT_FSIZE, (100, 100)))
+    assert ran.returncode == 2 and ran.stderr.endswith(f"hidlog {command}: out: File too large\n".encode())
+    assert (folder / "out").read_bytes() == b"old" and sorted(os.listdir(folder)) == listed
+
+
+def test_an_output_keeps_its_mode_and_is_written_through_links(folder: Path) -> None:
+    (folder / "out").write_bytes(b"old")
+    (folder / "out").chmod(0o640)
+    (folder / "link").symlink_to("out")
+    assert run(folder, "import", "capture", "-o", "link").returncode == 0
+    assert (folder / "link").is_symlink() and (folder / "out").read_bytes() == (folder / "log").read_bytes()
+    assert (folder / "out").stat().st_mode & 0o777 == 0o640
+    assert run(folder, "import", "capture", "-o", "/dev/stdout").stdout == (folder / "log").read_bytes()
+
+
+@pytest.mark.parametrize("data", [b"", b"# nothing\n", b"t 1\nt 2\n"])
+def test_an_empty_recording_is_a_failure(folder: Path, data: bytes) -> None:
+    ran = run(folder, "judge", "-", data=data)
+    text = b"hidlog judge: standard input: the recording is empty: no line has a packet\n"
+    assert (ran.returncode, ran.stdout, ran.stderr) == (2, b"", text)
+
+
+def test_pipes_in_folders_are_skipped(folder: Path, monkeypatch: pytest.MonkeyPatch) -> None:
+    logs = folder / "logs"
+    (logs / "inner.log").mkdir(parents=True)
+    (logs / "inner.log" / "one.log").write_bytes((folder / "log").read_bytes())
+    os.mkfifo(logs / "pipe.log")
+    ran = run(folder, "check-many", "logs")
+    text = "hidlog check-many: skipped logs/pipe.log: not a regular file\n1 same\n"
+    assert (ran.returncode, ran.stdout, ran.stderr.decode()) == (0, b"", text)
+
+
+@pytest.mark.parametrize("command", ["check-many", "judge", "import", "export"])
+def test_a_pipe_without_a_writer_is_a_failure(folder: Path, command: str) -> None:
+    os.mkfifo(folder / "pipe.log")
+    ran = run(folder, command, "pipe.log")
+    assert ran.returncode == 2 and b"no program writes to this named pipe" in ran.stdout + ran.stderr
+
+
+def test_a_pipe_with_a_writer_is_read(folder: Path) -> None:
+    os.mkfifo(folder / "pipe.log")
+    with subprocess.Popen(["cp", "--", "log", "pipe.log"], cwd=folder):
+        assert run(folder, "judge", "pipe.log").stdout == run(folder, "judge", "log").stdout
+
+
+def test_an_unreadable_recording_is_a_failure_among_verdicts(folder: Path, example: Example) -> None:
+    (folder / "broken.log").write_bytes(example("failing/counter_stays.log"))
+    assert run(folder, "check-many", "log", "broken.log").returncode == 1
+    assert run(folder, "check-many", "log", "broken.log", "nothing.log").returncode == 2
+
+
+@pytest.mark.parametrize("data", [USBMON, b"FIDO <- 1 {1: 2}\n", b"\n", b"\0"])
+def test_a_capture_that_unpacks_to_too_much_is_refused(data: bytes) -> None:
+    """A file of about a megabyte has a gigabyte in it."""
+    piece = gzip.compress(USBMON + data * ((16 << 20) // len(data)))
+    with pytest.raises(CaptureError, match="unpacks to more than 64 MiB; unpack it first"):
+        read(piece * 64)
+
+
+def test_a_packed_capture_is_read(folder: Path) -> None:
+    packed = gzip.compress((folder / "capture").read_bytes())
+    assert [it.log for it in read(packed)] == [(folder / "log").read_bytes()]
+    for word in ("-", "capture.gz"):
+        (folder / "capture.gz").write_bytes(packed)
+        assert run(folder, "import", word, data=packed).stdout == (folder / "log").read_bytes()
+
+
+@pytest.mark.parametrize("seconds, ticks", [(0, 2**63), (0, 1795 * 10**15), (-(2**40), 5)])
+def test_timestamps_that_no_clock_has(folder: Path, seconds: int, ticks: int) -> None:
+    """pcapng with an interface's offset in seconds, and ticks of a millisecond."""
+    packet = bytes.fromhex("ffffffff860008").ljust(64, b"\0")
+    usb = struct.pack("<QcBBBHcc", 1, b"S", 1, 1, 7, 1, b"-", b"\0") + struct.pack("<qiiII", 0, 0, -115, 64, 64)
+    frame = usb + bytes(24) + packet
+    interface = struct.pack("<HHI", 220, 0, 0) + struct.pack("<HHB3x", 9, 1, 3) + struct.pack("<HHq", 14, 8, seconds)
+    blocks = [
+        (0x0A0D0D0A, struct.pack("<IHHq", 0x1A2B3C4D, 1, 0, -1)),
+        (1, interface + bytes(4)),
+        (6, struct.pack("<IIIII", 0, ticks >> 32, ticks & 0xFFFFFFFF, len(frame), len(frame)) + frame),
+    ]
+    data = b"".join(
+        struct.pack("<II", kind, len(it) + 12) + it + struct.pack("<I", len(it) + 12) for kind, it in blocks
+    )
+    ran = run(folder, "import", "-", data=data)
+    assert (ran.returncode, ran.stdout, ran.stderr.count(b"\n")) == (2, b"", 1)
+    assert b"standard input: the timestamp of packet 1 of bus 1 device 7 is " in ran.stderr
+
+
+@pytest.mark.parametrize(
+    "text",
+    [
+        b"ffff8881 " + b"9" * 5000 + b" S Ii:1:003:1 -115 64 <\n",
+        b"ffff8881 10 S Ii:1:" + b"9" * 5000 + b":1 -115 64 <\n",
+        b"fido_tx: dev=0x1, cmd=0x06\nfido_tx: buf=0x1, len=" + b"9" * 5000 + b"\n",
+        b"fido_tx: d=0x1, cmd=0x06, buf=0x1, count=" + b"9" * 5000 + b"\nfido_rx: dev=0x1\n",
+        b"FIDO <- 1 {1: " + b"9" * 5000 + b"}\n",
+        b"FIDO <- 1 " + b"[" * 100000 + b"\n",
+        b"1 10:00:00.000001 read(" + b"9" * 5000 + b', "a", 64) = ' + b"9" * 5000 + b"\n",
+        b"10 " + b"9" * 5000 + b'.000001 write(3</dev/hidraw0>, "a", 65) = 65\n',
+    ],
+    ids=range(8),
+)
+def test_numbers_of_any_length(text: bytes) -> None:
+    try:
+        read(text)
+    except CaptureError:
+        pass
+
+
+def browser(folder: Path, *lines: bytes) -> list[bytes]:
+    ran = run(folder, "browser", "--origin", "https://example.com", data=b"\n".join(lines))
+    assert ran.returncode == 0, ran.stderr
+    return ran.stdout.splitlines()
+
+
+@pytest.mark.parametrize(
+    "line, error, said",
+    [
+        (b"[" * 100_000, "SyntaxError", "nested too deeply"),
+        (b'{"id": ' + b"[" * 980 + b"]" * 980 + b', "log": 0}', "", ""),
+        (b'{"create": ' + b'{"publicKey":' * 5000 + b"0" + b"}" * 5001, "SyntaxError", "nested too deeply"),
+        (b'{"id": "' + b"x" * (1 << 21) + b'", "log": 0}', "SyntaxError", "more than 1048576 bytes"),
+        (b"\xff\xfe{}", "SyntaxError", "utf-8"),
+        (b'{"id": NaN, "log": 0}', "TypeError", "NaN is no number of JSON"),
+        (b'{"id": ' + b"9" * 5000 + b', "log": 0}', "", ""),
+        (b'{"get": "\\ud800"}', "TypeError", ""),
+    ],
+    ids=range(8),
+)
+def test_a_browsers_process_goes_on_after_a_line_that_it_cannot_read(
+    folder: Path, line: bytes, error: str, said: str
+) -> None:
+    first, last = browser(folder, line, b'{"id": 7, "credentials": 0}')
+    assert json.loads(last) == {"id": 7, "value": []}
+    refusal = json.loads(first) if error else {}
+    assert not error or (refusal["error"] == error and said in refusal["message"]), refusal
+
+
+@pytest.mark.parametrize("number, status", [(signal.SIGTERM, 143), (signal.SIGINT, 130), (signal.SIGHUP, 129)])
+def test_a_signal_ends_a_command_in_a_line(folder: Path, number: int, status: int) -> None:
+    command = [*HIDLOG, "browser", "--origin", "https://example.com"]
+    with subprocess.Popen(command, stdin=-1, stdout=-1, stderr=-1, preexec_fn=default_signals) as started:
+        assert started.stdin and started.stdout and started.stderr
+        started.stdin.write(b'{"id": 1, "log": 0}\n')
+        started.stdin.flush()
+        started.stdout.readline()  # it has begun
+        started.send_signal(number)
+        said = started.stderr.read()
+    assert started.returncode == status and said.startswith(b"hidlog browser: ") and said.count(b"\n") == 1, said
+
+
+def default_signals() -> None:
+    for number in (signal.SIGINT, signal.SIGTERM, signal.SIGHUP):
+        signal.signal(number, signal.SIG_DFL)
+
+
+@pytest.mark.parametrize("number, status", [(signal.SIGTERM, 143), (signal.SIGINT, 130)])
+def test_shrink_writes_the_shortest_log_so_far(folder: Path, number: int, status: int) -> None:
+    """The command waits in its ninth run, until the signal came."""
+    (folder / "long").write_bytes(b"".join(b"t %d\n" % it for it in range(100)) + b"p 100 granted\n")
+    text = "echo >> runs; [ $(wc -l < runs) -lt 9 ] || { echo > waits; exec sleep 600; }; ! grep -q granted"
+    command = [*HIDLOG, "shrink", "long", "sh", "-c", text]
+    with subprocess.Popen(command, cwd=folder, stdout=-1, stderr=-1, preexec_fn=default_signals) as started:
+        assert started.stdout and started.stderr
+        while not (folder / "waits").exists() and started.poll() is None:
+            pass
+        started.send_signal(number)
+        log, said = started.stdout.read(), started.stderr.read()
+    lines = log.splitlines()
+    assert started.returncode == status and lines[-1] == b"p 100 granted" and len(lines) < 101, said
+    assert said.endswith(b"\nthe shortest log so far is written\n")
+
+
+def test_live_answers_line_by_line_through_the_library(folder: Path) -> None:
+    command = [sys.executable, "-c", WITHOUT, "live"]
+    with subprocess.Popen(command, stdin=-1, stdout=-1) as started:
+        assert started.stdin and started.stdout
+        for line in (folder / "log").read_bytes().splitlines(keepends=True):
+            if not line.startswith((b"<", b"=")):
+                started.stdin.write(line[:-1])
+                started.stdin.flush()
+                started.stdin.write(line[-1:])
+                started.stdin.flush()
+                assert started.stdout.readline() == line
+                while line[:1] in b">tpks" and not started.stdout.readline().startswith(b"# need "):
+                    pass
+        started.stdin.close()
+        assert started.stdout.read().startswith(b"= held ")
+    assert started.returncode == 0
+
+
+def test_a_key_that_is_never_closed_leaves_nothing() -> None:
+    def counted() -> int:
+        gc.collect()
+        return len(os.listdir("/proc/self/fd"))
+
+    before = counted()
+    for _ in range(3):
+        hidlog.Client(hidlog.SecurityKey(process=True))
+    assert counted() == before
+
+
+@pytest.mark.parametrize(
+    "error, said",
+    [
+        (MemoryError(), "no memory"),
+        (RecursionError("maximum recursion depth exceeded"), "the input is nested too deeply"),
+        (OSError(5, "Input/output error", "a.log"), "a.log: Input/output error"),
+        (BrokenPipeError(32, "Broken pipe"), "Broken pipe"),
+        (ImportError("No module named 'x'"), "No module named 'x'"),
+        (hidlog.HidlogError("two\nlines"), "two lines"),
+    ],
+)
+def test_each_failure_is_one_line(error: Exception, said: str, capsys: pytest.CaptureFixture[str]) -> None:
+    def fail() -> int:
+        raise error
+
+    assert entry_point.run("hidlog test", fail) == 2
+    assert capsys.readouterr() == ("", f"hidlog test: {said}\n")
+
+
+def test_a_mistake_of_the_package_has_no_verdicts_status(capsys: pytest.CaptureFixture[str]) -> None:
+    def fail() -> int:
+        raise KeyError("x")
+
+    assert entry_point.run("hidlog test", fail) == 2 and "KeyError" in capsys.readouterr().err
+
+
+def test_a_new_file_is_never_one_that_is_there(tmp_path: Path, monkeypatch: pytest.MonkeyPatch) -> None:
+    """Also one with the name that is taken beside the target."""
+    monkeypatch.setattr(files, "token_hex", lambda _: "1")
+    (tmp_path / ".log.1").write_bytes(b"another's")
+    with pytest.raises(FileExistsError):
+        files.write_whole(tmp_path / "log", b"new")
+    assert (tmp_path / ".log.1").read_bytes() == b"another's" and not (tmp_path / "log").exists()
+
+
+def test_saved_keys_are_private_and_damage_is_refused(tmp_path: Path) -> None:
+    path = tmp_path / "key"
+    path.write_bytes(b"old")
+    path.chmod(0o644)
+    with hidlog.SecurityKey() as key:
+        key.credentials.add("example.com", b"ann")
+        key.save(path)
+    assert path.stat().st_mode & 0o777 == 0o600 and os.listdir(tmp_path) == ["key"]
+    whole = path.read_bytes()
+    for data in (b"", whole[:-20], whole.replace(b'"snapshot": "', b'"snapshot": "!'), b"[" * 100_000, b"\xff" + whole):
+        path.write_bytes(data)
+        with pytest.raises(hidlog.HidlogError):
+            hidlog.SecurityKey.load(path)

@@ -1,0 +1,146 @@
+"""Every command with a standard stream that is full, closed or broken: one line, and a status that no verdict has.
+
+The commands of the program end as the program does, to the byte, also through the library.
+"""
+
+from __future__ import annotations
+
+import os
+import subprocess
+import sys
+from collections.abc import Iterator
+from contextlib import contextmanager
+from pathlib import Path
+
+import pytest
+
+from hidlog.process import program
+
+from test_by_library import WITHOUT
+
+WITH = [sys.executable, "-m", "hidlog"]
+THROUGH = [sys.executable, "-c", WITHOUT]
+LINE = b'{"id": 1, "log": 0}\n'
+WRITING = b"hidlog: writing failed\n"
+# Commands of the program, each with something to write.
+OF_PROGRAM = ["check same.log", "replay same.log", "quiet same.log", "live same.log", "show same.log", "live", "replay"]
+NATIVE_ALONE = ["--help", "--version", "show --json same.log", "show --summary same.log", "check --all broken.log"]
+# Commands of the package.
+OWN = [
+    "import capture",
+    "import --list capture",
+    "export same.log",
+    "export --dissector",
+    "judge broken.log",
+    "judge --format json same.log",
+    "judge --format junit same.log",
+    "check-many broken.log",
+    "check-many --report json same.log",
+    "check-many --report junit same.log",
+    "shrink long.log awk /granted/{exit(1)}",
+    "browser --origin https://example.com",
+    "import --help",
+    "export --help",
+    "judge --help",
+    "check-many --help",
+    "shrink --help",
+    "mermaid --help",
+    "browser --help",
+    "webdriver --help",
+]
+OF_BOTH = ["mermaid same.log", "check --signatures same.log"]
+
+
+@pytest.fixture(scope="module")
+def folder(tmp_path_factory: pytest.TempPathFactory) -> Path:
+    """Makes a folder with logs and a capture."""
+    examples, made = Path(os.environ["HIDLOG_EXAMPLES"]), tmp_path_factory.mktemp("streams")
+    (made / "same.log").write_bytes((examples / "registration.log").read_bytes())
+    (made / "broken.log").write_bytes((examples / "failing" / "counter_stays.log").read_bytes())
+    (made / "long.log").write_bytes(b"t 1\np 2 granted\nt 3\n")
+    subprocess.run([*WITH, "export", "same.log", "-o", "capture"], cwd=made, check=True)
+    return made
+
+
+@contextmanager
+def output(kind: str) -> Iterator[int]:
+    """Gives a descriptor that can't be written."""
+    if kind == "full":
+        number = os.open("/dev/full", os.O_WRONLY)
+    else:
+        reader, number = os.pipe()
+        os.close(reader)
+    try:
+        yield number
+    finally:
+        os.close(number)
+
+
+def ended(command: list[str], words: str, folder: Path, kind: str, stream: int = 1) -> tuple[int, bytes, bytes]:
+    """Returns how a command ends whose standard output, error or input is full, closed or broken."""
+    log = LINE if "browser" in words else (folder / "same.log").read_bytes()
+    line = ["sh", "-c", f'exec "$@" {stream}>&-', "sh", *command] if kind == "closed" else command
+    with output("broken" if kind == "closed" else kind) as number:
+        streams = {1: subprocess.PIPE, 2: subprocess.PIPE, **({} if kind == "closed" else {stream: number})}
+        ran = subprocess.run(
+            [*line, *words.split()], input=log, stdout=streams[1], stderr=streams[2], cwd=folder, timeout=600
+        )
+    return ran.returncode, ran.stdout or b"", ran.stderr or b""
+
+
+@pytest.mark.parametrize("kind", ["full", "closed", "broken"])
+@pytest.mark.parametrize("words", OF_PROGRAM)
+def test_the_programs_commands_end_as_the_program(folder: Path, words: str, kind: str) -> None:
+    for stream in (1, 2):
+        theirs = ended([program()], words, folder, kind, stream)
+        assert ended(WITH, words, folder, kind, stream) == theirs, stream
+        assert ended(THROUGH, words, folder, kind, stream) == theirs, stream
+    assert theirs[0] == 0
+    assert ended([program()], words, folder, kind)[::2] == (1, WRITING)
+
+
+@pytest.mark.parametrize("kind", ["full", "closed", "broken"])
+@pytest.mark.parametrize("words", NATIVE_ALONE)
+def test_what_the_program_serves_alone(folder: Path, words: str, kind: str) -> None:
+    theirs = ended([program()], words, folder, kind)
+    assert ended(WITH, words, folder, kind) == theirs
+    status, _, said = ended(THROUGH, words, folder, kind)
+    assert (status, said.count(b"\n")) == (2, 1) and b"the program is missing" in said
+
+
+@pytest.mark.parametrize("kind", ["full", "closed", "broken"])
+@pytest.mark.parametrize("words", [*OWN, *OF_BOTH])
+def test_the_packages_commands_end_with_a_line(folder: Path, words: str, kind: str) -> None:
+    status, _, said = ended(WITH, words, folder, kind)
+    assert status == 2 and b"Traceback" not in said and said.endswith(WRITING), said
+    if words in OF_BOTH:
+        status, _, said = ended(THROUGH, words, folder, kind)
+        assert status == 2 and (b"the program is missing" in said or said == WRITING)
+    else:
+        assert ended(THROUGH, words, folder, kind)[::2] == (status, said)
+
+
+@pytest.mark.parametrize("kind", ["full", "closed", "broken"])
+@pytest.mark.parametrize("words", [*OWN, *OF_BOTH])
+def test_standard_error_changes_no_status(folder: Path, words: str, kind: str) -> None:
+    right = subprocess.run([*WITH, *words.split()], input=LINE, cwd=folder, capture_output=True)
+    status, text, _ = ended(WITH, words, folder, kind, 2)
+    assert (status, text) == (right.returncode, right.stdout) and right.returncode in (0, 1)
+
+
+@pytest.mark.parametrize(
+    "words", ["import -", "export -", "judge -", "shrink - false", "browser --origin http://a", "mermaid"]
+)
+def test_a_closed_standard_input_is_no_empty_one(folder: Path, words: str) -> None:
+    ran = subprocess.run(
+        ["sh", "-c", 'exec "$@" <&-', "sh", *WITH, *words.split()], cwd=folder, capture_output=True, timeout=600
+    )
+    assert (ran.returncode, ran.stdout) == (2, b"") and ran.stderr and b"Traceback" not in ran.stderr
+
+
+def test_a_closed_stream_is_no_file(folder: Path) -> None:
+    """The file that is opened next doesn't get the number of a standard stream."""
+    target = folder / "out.log"
+    shell = ["sh", "-c", 'exec "$@" <&- >&- 2>&-', "sh"]
+    ran = subprocess.run([*shell, *WITH, "import", "capture", "-o", "out.log"], cwd=folder, timeout=600)
+    assert ran.returncode == 0 and target.read_bytes() == (folder / "same.log").read_bytes()
