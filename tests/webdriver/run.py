@@ -37,6 +37,8 @@ DIFFERS = {
 # Only what hangs takes so many seconds.
 HANGS = 300
 LEAST = {"Python": 27, "Ruby": 22}
+# Tests of their own, which need no browser's driver.
+PARTS = ("gate.py", "sockets.py")
 
 
 class Files(SimpleHTTPRequestHandler):
@@ -316,19 +318,25 @@ def run_suites(driver: str, page: str, folder: Path) -> list[bool]:
     return results
 
 
+def run_parts() -> bool:
+    """Runs the tests of their own. Returns whether all passed."""
+    return not any([subprocess.run([sys.executable, str(HERE / it)], check=False).returncode for it in PARTS])
+
+
 def main() -> int:
+    passed = run_parts()
     has_selenium = subprocess.run(
         ["/usr/bin/python3", "-c", "import selenium, cryptography"], capture_output=True, check=False
     )
     if not shutil.which("chromedriver") or has_selenium.returncode:
         print("tests/webdriver: chromedriver or python3-selenium is missing", file=sys.stderr)
-        return 3
+        return 3 if passed else 1
     with tempfile.TemporaryDirectory() as room, served(partial(Files, directory=str(HERE))) as port:
         folder = Path(room)
         with process(["chromedriver", "--log-level=OFF"], free_port()) as driver:
             results = run_suites(driver, f"http://localhost:{port}/page.html", folder)
         results.append(check_recordings(folder))
-    return 0 if all(results) else 1
+    return 0 if passed and all(results) else 1
 
 
 if __name__ == "__main__":

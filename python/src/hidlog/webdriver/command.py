@@ -3,36 +3,89 @@
 from __future__ import annotations
 
 import argparse
+import ipaddress
+import shlex
 import signal
 import sys
 import threading
 from pathlib import Path
 from typing import Any
 
-from .driver import Driver, start
+from .driver import Driver, is_address, start
 from .errors import DriverError
+from .gate import parse_host
 from .page import script
-from .proxy import Proxy, Server
+from .proxy import Proxy
+from .server import Server
 
 _ABOUT = "Serves WebDriver's virtual authenticators with a key in the page, in front of any driver."
 _AFTER = """A suite uses http://127.0.0.1:PORT in the place of its driver. It is for tests: whoever can reach the port
-drives the browser, so it listens on this machine alone."""
+drives the browser and runs programs by it, so it listens on this machine alone, and refuses what web pages send."""
+
+
+def _address(text: str) -> str:
+    try:
+        return str(ipaddress.ip_address(text))
+    except ValueError:
+        raise argparse.ArgumentTypeError(f"{text!r} is no IP address; expected one such as 0.0.0.0") from None
+
+
+def _host(text: str) -> str:
+    if parse_host(text) is None:
+        raise argparse.ArgumentTypeError(f"{text!r} is no host; expected NAME or NAME:PORT")
+    return text
+
+
+def _port(text: str) -> int:
+    if not text.isascii() or not text.isdigit() or int(text) > 65535:
+        raise argparse.ArgumentTypeError(f"{text!r} is no port; expected 0 to 65535")
+    return int(text)
 
 
 def _parser() -> argparse.ArgumentParser:
     parser = argparse.ArgumentParser(prog="hidlog webdriver", description=_ABOUT, epilog=_AFTER)
-    parser.add_argument("--port", type=int, default=4444, help="where it listens on 127.0.0.1; 0 takes a free one")
+    parser.add_argument("--port", type=_port, default=4444, help="listen on this port; 0 takes a free one [4444]")
     parser.add_argument(
         "--driver",
         default="chromedriver",
         help="the driver to start, a command that takes --port, or the address of one that runs: http://127.0.0.1:9515",
     )
-    parser.add_argument("--recordings", type=Path, metavar="FOLDER", help="writes each session's logs there")
+    parser.add_argument("--recordings", type=Path, metavar="FOLDER", help="write each session's logs there")
+    parser.add_argument(
+        "--listen", type=_address, default="127.0.0.1", metavar="ADDRESS", help="listen on this address [127.0.0.1]"
+    )
+    parser.add_argument(
+        "--allow-hosts",
+        type=_host,
+        nargs="+",
+        default=[],
+        metavar="HOST",
+        help="accept requests to these hosts too, such as a container's name",
+    )
     return parser
 
 
 def _driver(given: str) -> Driver:
-    return Driver(given) if given.startswith("http") else start(given.split())
+    if is_address(given):
+        return Driver(given)
+    words = shlex.split(given)
+    if not words:
+        raise DriverError("session not created", "--driver is empty; expected a command or an address")
+    return start(words)
+
+
+def _shown(host: str) -> str:
+    return f"[{host}]" if ":" in host else host
+
+
+def _warn(address: str, port: int) -> None:
+    """Says what a server risks that other machines can reach."""
+    if not ipaddress.ip_address(address).is_loopback:
+        print(
+            f"hidlog webdriver: warning: other machines can reach {_shown(address)}:{port}, and whoever does runs"
+            " programs on this one; use it in a container or a closed network alone",
+            file=sys.stderr,
+        )
 
 
 def main(words: list[str] | None = None) -> int:
@@ -41,15 +94,16 @@ def main(words: list[str] | None = None) -> int:
     try:
         script()
         driver = _driver(options.driver)
-    except (DriverError, OSError) as error:
+    except (DriverError, OSError, ValueError) as error:
         print(f"hidlog webdriver: {error}", file=sys.stderr)
         return 2
     proxy = Proxy(driver, options.recordings)
     try:
-        server = Server(proxy, options.port)
+        server = Server(proxy.serve, options.port, options.listen, tuple(options.allow_hosts))
     except OSError as error:
         proxy.close()
-        print(f"hidlog webdriver: 127.0.0.1:{options.port} can't be used: {error.strerror}", file=sys.stderr)
+        where = f"{_shown(options.listen)}:{options.port}"
+        print(f"hidlog webdriver: {where} can't be used: {error.strerror}", file=sys.stderr)
         return 2
 
     def end(*_: Any) -> None:
@@ -57,8 +111,10 @@ def main(words: list[str] | None = None) -> int:
 
     signal.signal(signal.SIGTERM, end)
     signal.signal(signal.SIGINT, end)
-    address = f"http://127.0.0.1:{server.server_address[1]}"
-    print(f"hidlog webdriver: {address} is {options.driver} with virtual authenticators of a test key", flush=True)
+    _warn(options.listen, server.port)
+    name = driver.address if is_address(options.driver) else options.driver
+    address = f"http://{_shown(options.listen)}:{server.port}"
+    print(f"hidlog webdriver: {address} is {name} with virtual authenticators of a test key", flush=True)
     try:
         server.serve_forever()
     finally:

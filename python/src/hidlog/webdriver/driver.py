@@ -2,93 +2,171 @@
 
 from __future__ import annotations
 
+import base64
 import http.client
 import json
+import select
 import socket
+import ssl
 import subprocess
+import sys
+import threading
 import time
-from typing import Any, NamedTuple
-from urllib.parse import urlsplit
+from pathlib import Path
+from typing import Any
+from urllib.parse import SplitResult, unquote, urlsplit
 
-from .errors import DriverError
+from .errors import Answer, DriverError
 
 # A command may wait for a page as long as the suite allows.
 _SECONDS = 600
 _START_SECONDS = 30
+_END_SECONDS = 20
+# A screenshot of a long page, as base64.
+_ANSWER_MAX = 256 * 1024 * 1024
+_SUPERVISOR = Path(__file__).with_name("supervisor.py")
+_PORTS = {"http": 80, "https": 443}
 
 
-class Answer(NamedTuple):
-    """What a driver answers: a status of HTTP, and bytes of JSON."""
+def is_address(given: str) -> bool:
+    """Returns whether `--driver` names an address, not a command."""
+    return "://" in given
 
-    status: int
-    data: bytes
 
-    @property
-    def value(self) -> Any:
-        """The member value of the JSON."""
-        return json.loads(self.data).get("value")
+def _split(given: str) -> SplitResult:
+    """Returns the parts of a driver's address. An error doesn't show credentials."""
+    shown = given if "@" not in given else f"{given.split('://')[0]}://...@{given.rsplit('@', 1)[1]}"
+    try:
+        parts = urlsplit(given)
+        is_right = parts.scheme in _PORTS and parts.hostname and parts.port != 0
+    except ValueError:
+        is_right = False
+    if not is_right or parts.query or parts.fragment or not given.isascii() or not given.isprintable():
+        raise DriverError("session not created", f"--driver is {shown!r}; expected http://HOST:PORT or https://HOST")
+    return parts
 
 
 class Driver:
     """A driver at an address of this machine, or elsewhere."""
 
     def __init__(self, address: str, process: subprocess.Popen[bytes] | None = None):
-        parts = urlsplit(address)
-        self._host, self._port = parts.hostname or "127.0.0.1", parts.port or 80
-        self._path, self._process = parts.path.rstrip("/"), process
+        parts = _split(address)
+        self._scheme, self._host = parts.scheme, parts.hostname or ""
+        self._port, self._path = parts.port or _PORTS[parts.scheme], parts.path.rstrip("/")
+        self._headers = {"Content-Type": "application/json; charset=utf-8"}
+        if parts.username is not None:
+            pair = f"{unquote(parts.username)}:{unquote(parts.password or '')}"
+            self._headers["Authorization"] = f"Basic {base64.b64encode(pair.encode()).decode()}"
+        self._process = process
+        # Connections that no command uses, which is one for each that ran at once.
+        self._idle: list[http.client.HTTPConnection] = []
+        self._lock = threading.Lock()
 
-    def send(self, method: str, path: str, body: bytes | None) -> Answer:
+    @property
+    def is_own(self) -> bool:
+        """Whether the driver was started here."""
+        return self._process is not None
+
+    @property
+    def address(self) -> str:
+        """The address without credentials."""
+        host = f"[{self._host}]" if ":" in self._host else self._host
+        return f"{self._scheme}://{host}:{self._port}{self._path}"
+
+    def _connect(self, seconds: float) -> http.client.HTTPConnection:
+        if self._scheme == "https":
+            context = ssl.create_default_context()
+            return http.client.HTTPSConnection(self._host, self._port, timeout=seconds, context=context)
+        return http.client.HTTPConnection(self._host, self._port, timeout=seconds)
+
+    def _connection(self) -> http.client.HTTPConnection | None:
+        """Returns a connection that is open still, if any."""
+        with self._lock:
+            while self._idle:
+                connection = self._idle.pop()
+                # What can be read before anything was asked is that the driver closed it.
+                if connection.sock and not select.select([connection.sock], [], [], 0)[0]:
+                    return connection
+                connection.close()
+        return None
+
+    def send(self, method: str, path: str, body: bytes | None, seconds: float = _SECONDS) -> Answer:
         """Sends a command, and returns the answer as it is."""
-        connection = http.client.HTTPConnection(self._host, self._port, timeout=_SECONDS)
+        connection = None
         try:
-            kind = {"Content-Type": "application/json; charset=utf-8"}
-            connection.request(method, self._path + path, body, kind)
-            answer = connection.getresponse()
-            return Answer(answer.status, answer.read())
-        except OSError as error:
-            raise DriverError("unknown error", f"the driver doesn't answer: {error}") from None
+            connection = self._connection() or self._connect(seconds)
+            connection.timeout = seconds
+            if connection.sock:
+                connection.sock.settimeout(seconds)
+            connection.request(method, self._path + path, body, self._headers)
+            response = connection.getresponse()
+            data = response.read(_ANSWER_MAX + 1)
+            if len(data) > _ANSWER_MAX:
+                raise DriverError("unknown error", f"the driver's response has more than {_ANSWER_MAX} bytes")
+            if not response.will_close:
+                with self._lock:
+                    self._idle.append(connection)
+                connection = None
+            return Answer(response.status, data)
+        except (OSError, http.client.HTTPException, ValueError) as error:
+            raise DriverError("unknown error", f"the driver at {self.address} doesn't answer: {error}") from None
         finally:
-            connection.close()
+            if connection:
+                connection.close()
 
-    def call(self, method: str, path: str, given: Any = None) -> Any:
+    def call(self, method: str, path: str, given: Any = None, seconds: float = _SECONDS) -> Any:
         """Calls a command, and returns its value."""
         body = None if method in ("GET", "DELETE") else json.dumps(given or {}).encode()
-        answer = self.send(method, path, body)
+        answer = self.send(method, path, body, seconds)
+        try:
+            value = answer.value
+        except ValueError:
+            raise DriverError("unknown error", "the driver's response isn't JSON") from None
         if answer.status != 200:
-            said = answer.value or {}
-            raise DriverError(said.get("error", "unknown error"), said.get("message", "the driver failed"))
-        return answer.value
+            found = value if isinstance(value, dict) else {}
+            raise DriverError(str(found.get("error", "unknown error")), str(found.get("message", "the driver failed")))
+        return value
 
     def close(self) -> None:
-        """Ends the process that was started."""
-        if self._process:
-            self._process.terminate()
+        """Ends the process that was started, and all that it started."""
+        with self._lock:
+            for connection in self._idle:
+                connection.close()
+            self._idle.clear()
+        if self._process and self._process.stdin:
+            self._process.stdin.close()
             try:
-                self._process.wait(10)
+                self._process.wait(_END_SECONDS)
             except subprocess.TimeoutExpired:
                 self._process.kill()
                 self._process.wait()
 
 
 def _free_port() -> int:
-    with socket.socket() as it:
-        it.bind(("127.0.0.1", 0))
-        port: int = it.getsockname()[1]
+    with socket.socket() as free:
+        free.bind(("127.0.0.1", 0))
+        port: int = free.getsockname()[1]
         return port
 
 
 def start(words: list[str]) -> Driver:
     """Starts a driver, such as chromedriver, on a port that is free, and waits until it listens."""
     port = _free_port()
-    process = subprocess.Popen([*words, f"--port={port}"], stdout=subprocess.DEVNULL)
+    supervised = [sys.executable, "-I", "-S", str(_SUPERVISOR), *words, f"--port={port}"]
+    process = subprocess.Popen(
+        supervised, stdin=subprocess.PIPE, stdout=subprocess.DEVNULL, start_new_session=True, bufsize=0
+    )
     driver = Driver(f"http://127.0.0.1:{port}", process)
     end = time.monotonic() + _START_SECONDS
-    while True:
-        try:
-            socket.create_connection(("127.0.0.1", port)).close()
-            return driver
-        except OSError:
-            if process.poll() is not None or time.monotonic() > end:
-                driver.close()
-                raise DriverError("session not created", f"{words[0]} didn't start") from None
-            time.sleep(0.05)
+    try:
+        while True:
+            try:
+                socket.create_connection(("127.0.0.1", port)).close()
+                return driver
+            except OSError:
+                if process.poll() is not None or time.monotonic() > end:
+                    raise DriverError("session not created", f"{words[0]} didn't start") from None
+                time.sleep(0.02)
+    except BaseException:
+        driver.close()
+        raise

@@ -6,19 +6,21 @@ import json
 import re
 import threading
 import uuid
-from http.server import BaseHTTPRequestHandler, ThreadingHTTPServer
 from pathlib import Path
 from typing import Any
+from urllib.parse import unquote
 
 from .authenticator import LISTED, Authenticator, read_options
-from .driver import Answer, Driver
-from .errors import DriverError, invalid
+from .driver import Driver
+from .errors import Answer, DriverError, invalid, parse
 from .page import Pages
 
 Json = dict[str, Any]
-_SESSION = re.compile(r"/session/([^/]+)(/.*)?$")
+_SESSION = re.compile(r"/session/([A-Za-z0-9._~-]{1,128})(/.*)?\Z")
+# What else a driver is asked. Its other commands, as chromedriver's /shutdown, are the proxy's own business.
+_OTHERS = (("GET", "/status"), ("GET", "/sessions"), ("POST", "/session"))
 _AUTHENTICATOR = re.compile(
-    r"/webauthn/authenticator(?:/([^/]+)(?:/(credentials?|uv|presence|faults|log)(?:/([^/]+)(/props)?)?)?)?$"
+    r"/webauthn/authenticator(?:/([^/]+)(?:/(credentials?|uv|presence|faults|log)(?:/([^/]+)(/props)?)?)?)?\Z"
 )
 # Commands before which what the page did is taken up, and after which another document may be there.
 _BEFORE = re.compile(r"/(url|back|forward|refresh|execute/a?sync|actions|window|element/[^/]+/(click|value))$")
@@ -116,36 +118,46 @@ class Proxy:
         """Serves a command."""
         found = _SESSION.match(path)
         if not found:
+            return self._without_session(method, path, body)
+        name, rest = found[1], found[2] or ""
+        asked = _AUTHENTICATOR.match(rest)
+        session = self._sessions.get(name)
+        if session is None and asked is None:
             return self.driver.send(method, path, body if method == "POST" else None)
-        session = self._sessions.setdefault(found[1], Session(self.driver, found[1]))
+        # A session that nobody knows is kept once it has an authenticator.
+        session = session or Session(self.driver, name)
         with session.lock:
-            rest = found[2] or ""
-            asked = _AUTHENTICATOR.match(rest)
             if asked:
                 return self._webauthn(session, method, asked.groups(""), body)
             return self._passed(session, method, rest, body)
 
+    def _without_session(self, method: str, path: str, body: bytes) -> Answer:
+        """Serves a command that isn't one of a session."""
+        if (method, path) not in _OTHERS:
+            raise DriverError("unknown command", f"{method} {path} isn't a command of WebDriver")
+        return self.driver.send(method, path, body if method == "POST" else None)
+
     def _webauthn(self, session: Session, method: str, words: tuple[str, ...], body: bytes) -> Answer:
         """Serves a command on virtual authenticators, and answers as a driver does."""
         try:
-            given = json.loads(body or b"{}")
+            given = parse(body or b"{}")
             if not isinstance(given, dict):
                 raise invalid("the parameters have to be an object")
             value = self._value(session, method, words, given)
             return Answer(200, json.dumps({"value": value}).encode())
-        except DriverError as error:
-            return Answer(error.status, json.dumps({"value": error.value}).encode())
-        except ValueError:
-            wrong = invalid("the parameters aren't JSON")
-            return Answer(wrong.status, json.dumps({"value": wrong.value}).encode())
+        except ValueError as error:
+            raise invalid(f"the parameters aren't JSON: {error}") from None
 
     def _value(self, session: Session, method: str, words: tuple[str, ...], given: Json) -> Any:
-        name, part, credential, props = words
+        name, part, encoded, props = words
+        credential = unquote(encoded)
         if not name:
             if method != "POST":
                 raise DriverError("unknown method", f"{method} isn't served there")
             self.driver.call("GET", f"/session/{session.name}/window")
-            return session.add(given)
+            added = session.add(given)
+            self._sessions[session.name] = session
+            return added
         if not part:
             if method != "DELETE":
                 raise DriverError("unknown method", f"{method} isn't served there")
@@ -170,36 +182,3 @@ class Proxy:
         for session in list(self._sessions.values()):
             session.keep(self.folder)
         self.driver.close()
-
-
-class _Handler(BaseHTTPRequestHandler):
-    protocol_version = "HTTP/1.1"
-    server: Server
-
-    def _serve(self) -> None:
-        try:
-            length = int(self.headers.get("Content-Length") or 0)
-            answer = self.server.proxy.serve(self.command, self.path, self.rfile.read(length))
-        except DriverError as error:
-            answer = Answer(error.status, json.dumps({"value": error.value}).encode())
-        self.send_response(answer.status)
-        self.send_header("Content-Type", "application/json; charset=utf-8")
-        self.send_header("Cache-Control", "no-cache")
-        self.send_header("Content-Length", str(len(answer.data)))
-        self.end_headers()
-        self.wfile.write(answer.data)
-
-    do_GET = do_POST = do_DELETE = _serve
-
-    def log_message(self, *_: Any) -> None:
-        """Says nothing of each request."""
-
-
-class Server(ThreadingHTTPServer):
-    """The server of a proxy, on this machine alone."""
-
-    daemon_threads = True
-
-    def __init__(self, proxy: Proxy, port: int):
-        self.proxy = proxy
-        super().__init__(("127.0.0.1", port), _Handler)

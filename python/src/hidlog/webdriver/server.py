@@ -1,0 +1,247 @@
+"""The HTTP server of the proxy: what it accepts is what the gate admits, and each wait has an end."""
+
+from __future__ import annotations
+
+import socket
+import sys
+import threading
+import time
+from collections.abc import Callable
+from contextlib import suppress
+from http import HTTPStatus
+from http.server import BaseHTTPRequestHandler, ThreadingHTTPServer
+from typing import Any
+
+from .errors import Answer, DriverError
+from .gate import Head, Policy, admit
+
+# Seconds that a connection may wait for a request, and that a request's head and body, and its response may take.
+IDLE_SECONDS = 600.0
+HEAD_SECONDS = 10.0
+BODY_SECONDS = 120.0
+CONNECTIONS_MAX = 128
+_BLOCK = 1 << 16
+
+Serve = Callable[[str, str, bytes], Answer]
+
+
+class _Lines:
+    """A connection's bytes, with the last line that was read: http.server takes an end of the bytes for an end of a
+    head."""
+
+    def __init__(self, file: Any):
+        self._file = file
+        self.last = b""
+        self.peek, self.read1, self.close = file.peek, file.read1, file.close
+
+    def readline(self, most: int) -> bytes:
+        self.last = self._file.readline(most)
+        return self.last
+
+
+class _Handler(BaseHTTPRequestHandler):
+    """A connection. Its deadline is when the server closes it, or None while a command is being served."""
+
+    protocol_version = "HTTP/1.1"
+    disable_nagle_algorithm = True
+    wbufsize = _BLOCK
+    server: Server
+
+    def setup(self) -> None:
+        super().setup()
+        self._lines = self.rfile = _Lines(self.rfile)  # type: ignore[assignment]
+        self.deadline: float | None = None
+        self.is_idle = True
+        self.server.opened(self)
+
+    def finish(self) -> None:
+        with suppress(OSError):
+            super().finish()
+
+    def handle(self) -> None:
+        with suppress(OSError):
+            super().handle()
+
+    def _wait(self, seconds: float | None) -> None:
+        self.deadline = None if seconds is None else time.monotonic() + seconds
+
+    def handle_one_request(self) -> None:
+        self.is_idle = True
+        self._wait(IDLE_SECONDS)
+        is_open = bool(self._lines.peek(1))
+        self.is_idle = False
+        if not is_open:
+            self.close_connection = True
+            return
+        self._wait(HEAD_SECONDS)
+        super().handle_one_request()
+
+    def handle_expect_100(self) -> bool:
+        return True  # the gate comes first
+
+    def _head(self) -> Head:
+        def values(name: str) -> list[str]:
+            return list(self.headers.get_all(name, []))
+
+        if self.headers.defects or self.headers.get_payload():
+            raise DriverError("invalid argument", "a header is malformed", 400)
+        return Head(
+            self.command,
+            self.path,
+            values("Host"),
+            values("Origin"),
+            values("Sec-Fetch-Site"),
+            values("Content-Type"),
+            values("Content-Length"),
+            values("Transfer-Encoding"),
+        )
+
+    def _policy(self) -> Policy:
+        address = str(self.connection.getsockname()[0]).replace("::ffff:", "")
+        return Policy(self.server.port, address, self.server.hosts)
+
+    def _body(self, length: int) -> bytes | None:
+        """Reads the body, or nothing if the client goes away before its end."""
+        blocks = []
+        while length:
+            block = self._lines.read1(min(length, _BLOCK))
+            if not block:
+                return None
+            blocks.append(block)
+            length -= len(block)
+        return b"".join(blocks)
+
+    def _serve(self) -> None:
+        if not self.request_version.startswith("HTTP/1."):
+            self.send_error(HTTPStatus.HTTP_VERSION_NOT_SUPPORTED)
+            return
+        if self._lines.last not in (b"\r\n", b"\n"):
+            self.close_connection = True
+            return
+        try:
+            length = admit(self._head(), self._policy())
+        except DriverError as error:
+            self._refuse(error)
+            return
+        self._wait(BODY_SECONDS)
+        if "100-continue" in self.headers.get("Expect", "").lower():
+            self.wfile.write(b"HTTP/1.1 100 Continue\r\n\r\n")
+            self.wfile.flush()
+        body = self._body(length)
+        if body is None:
+            self.close_connection = True
+            return
+        self._wait(None)
+        self._respond(self.server.answer(self.command, self.path, body))
+
+    def _refuse(self, error: DriverError) -> None:
+        """Answers with an error, and closes the connection, since what follows may be anything."""
+        self.close_connection = True
+        self._respond(error.answer)
+
+    def _respond(self, answer: Answer) -> None:
+        self._wait(BODY_SECONDS)
+        self.send_response_only(answer.status)
+        self.send_header("Content-Type", "application/json; charset=utf-8")
+        self.send_header("Cache-Control", "no-cache")
+        self.send_header("Content-Length", str(len(answer.data)))
+        if self.close_connection:
+            self.send_header("Connection", "close")
+        self.end_headers()
+        self.wfile.write(answer.data)
+
+    do_GET = do_POST = do_DELETE = _serve
+
+    def send_error(self, code: int, message: str | None = None, explain: str | None = None) -> None:
+        """Answers a request that http.server itself refuses."""
+        name = "unknown method" if code == HTTPStatus.NOT_IMPLEMENTED else "invalid argument"
+        status = 405 if code == HTTPStatus.NOT_IMPLEMENTED else code
+        # The head may not have been read, and then nothing is known of its version.
+        self.request_version = "HTTP/1.1"
+        self._refuse(DriverError(name, f"invalid request: {message or HTTPStatus(code).phrase}", status))
+
+    def log_message(self, *_: Any) -> None:
+        """Says nothing of each request."""
+
+
+class Server(ThreadingHTTPServer):
+    """Serves commands on an address, on this machine alone by default. The number of connections is bounded."""
+
+    daemon_threads = True
+    request_queue_size = CONNECTIONS_MAX
+
+    def __init__(self, serve: Serve, port: int, address: str = "127.0.0.1", hosts: tuple[str, ...] = ()):
+        self.hosts = hosts
+        self._serve = serve
+        # By socket: its handler, once that has begun.
+        self._open: dict[socket.socket, _Handler | None] = {}
+        self._lock = threading.Lock()
+        self.address_family = socket.AF_INET6 if ":" in address else socket.AF_INET
+        super().__init__((address, port), _Handler)
+        self.port: int = self.server_address[1]
+
+    def server_bind(self) -> None:
+        """Binds without a look-up of this machine's name."""
+        self.socket.setsockopt(socket.SOL_SOCKET, socket.SO_REUSEADDR, 1)
+        self.socket.bind(self.server_address)
+        self.server_address = self.socket.getsockname()
+
+    def answer(self, method: str, path: str, body: bytes) -> Answer:
+        """Serves a command. Whatever fails is a WebDriver error."""
+        try:
+            return self._serve(method, path, body)
+        except DriverError as error:
+            return error.answer
+        except (OSError, ValueError, RecursionError, MemoryError) as error:
+            return DriverError("unknown error", f"{type(error).__name__}: {error}").answer
+
+    # Connections.
+
+    def opened(self, handler: _Handler) -> None:
+        """Notes the handler of a connection."""
+        with self._lock:
+            self._open[handler.connection] = handler
+
+    def get_request(self) -> tuple[socket.socket, Any]:
+        try:
+            return super().get_request()
+        except OSError:
+            time.sleep(0.05)  # no descriptors are left, and the connection waits
+            raise
+
+    def process_request(self, request: Any, client_address: Any) -> None:
+        """Serves a connection, in the place of one that waits if there are too many."""
+        with self._lock:
+            idle = [it for it in self._open.values() if it and it.is_idle and it.deadline is not None]
+            is_full = len(self._open) >= CONNECTIONS_MAX
+            if not is_full or idle:
+                self._open[request] = None
+        if is_full and not idle:
+            self.shutdown_request(request)
+            return
+        if is_full:
+            _cut(min(idle, key=lambda handler: handler.deadline or 0).connection)
+        super().process_request(request, client_address)
+
+    def shutdown_request(self, request: Any) -> None:
+        with self._lock:
+            self._open.pop(request, None)
+        super().shutdown_request(request)
+
+    def service_actions(self) -> None:
+        """Closes the connections whose time is over."""
+        now = time.monotonic()
+        with self._lock:
+            handlers = [it for it in self._open.values() if it]
+        for handler in handlers:
+            if handler.deadline is not None and handler.deadline < now:
+                _cut(handler.connection)
+
+    def handle_error(self, request: Any, client_address: Any) -> None:
+        """Says in one line what ended a connection."""
+        print(f"hidlog webdriver: a connection failed: {sys.exc_info()[1]!r}", file=sys.stderr)
+
+
+def _cut(connection: socket.socket) -> None:
+    with suppress(OSError):
+        connection.shutdown(socket.SHUT_RDWR)

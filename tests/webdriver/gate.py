@@ -1,0 +1,344 @@
+#!/usr/bin/python3
+"""The request gate of `hidlog webdriver`: tables of heads and what they get, and random heads beside a second statement
+of the rules, which is written as a list of what is refused.
+
+    tests/webdriver/gate.py [--count 20000] [--seed 1]
+"""
+
+from __future__ import annotations
+
+import argparse
+import random
+import sys
+from pathlib import Path
+
+sys.path.insert(0, str(Path(__file__).resolve().parents[2] / "python" / "src"))
+
+from hidlog.webdriver.errors import DriverError
+from hidlog.webdriver.gate import BODY_MAX, Head, Policy, admit
+
+PORT = 4444
+OWN = f"127.0.0.1:{PORT}"
+JSON = ["application/json"]
+POLICY = Policy(PORT, "127.0.0.1", ("chrome", "ci.example:8080"))
+GOOD_POST = Head("POST", "/session", [OWN], [], [], JSON, ["2"])
+GOOD_GET = Head("GET", "/status", [OWN])
+
+ACCEPTED = [
+    GOOD_GET,
+    GOOD_POST,
+    GOOD_GET._replace(method="DELETE", path="/session/a1b2-c3"),
+    GOOD_GET._replace(lengths=["0"]),
+    # What clients of WebDriver send.
+    GOOD_POST._replace(types=["application/json;charset=UTF-8"]),
+    GOOD_POST._replace(types=["Application/JSON ; charset=utf-8"]),
+    GOOD_POST._replace(lengths=[str(BODY_MAX)]),
+    GOOD_GET._replace(path="/session/x/element/f.A1.d.B2.e.3/attribute/data-x"),
+    GOOD_GET._replace(path="/session/x/cookie/__Host-id"),
+    # Java's encoded padding of a credential's ID.
+    GOOD_GET._replace(method="DELETE", path="/session/x/webauthn/authenticator/y/credentials/AQ%3D%3d"),
+    # This server by its names, and a client that names no port of 80.
+    GOOD_GET._replace(hosts=[f"LocalHost:{PORT}"]),
+    GOOD_GET._replace(hosts=[f"[::1]:{PORT}"]),
+    # Hosts that the option allows: on any port, or on one.
+    GOOD_GET._replace(hosts=["chrome"]),
+    GOOD_GET._replace(hosts=["Chrome:5555"]),
+    GOOD_GET._replace(hosts=["ci.example:8080"]),
+    # A page of this server.
+    GOOD_GET._replace(origins=[f"http://{OWN}"], sites=["same-origin"]),
+    # An address that a person types.
+    GOOD_GET._replace(sites=["none"]),
+]
+
+REFUSED = {
+    405: [
+        GOOD_GET._replace(method=it) for it in ("PUT", "OPTIONS", "HEAD", "PATCH", "CONNECT", "TRACE", "get", "", "G T")
+    ],
+    403: [
+        # DNS rebinding, and names that only look like this server's.
+        *[
+            GOOD_POST._replace(hosts=[it])
+            for it in (
+                "evil.example",
+                f"evil.example:{PORT}",
+                f"localhost.evil.example:{PORT}",
+                f"127.0.0.1.evil.example:{PORT}",
+                f"a.localhost:{PORT}",
+                f"localhost.:{PORT}",
+                "127.0.0.1",
+                "127.0.0.1:4445",
+                f"127.0.0.2:{PORT}",
+                f"0.0.0.0:{PORT}",
+                f"2130706433:{PORT}",
+                f"[::]:{PORT}",
+                "ci.example",
+                "ci.example:80",
+                "a.chrome",
+            )
+        ],
+        # Pages.
+        *[
+            GOOD_POST._replace(origins=it)
+            for it in (
+                ["http://evil.example"],
+                ["null"],
+                [""],
+                [f"https://{OWN}"],
+                [f"http://localhost:{PORT}"],
+                ["http://127.0.0.1"],
+                [f"http://{OWN}.evil.example"],
+                [f"http://{OWN}/"],
+                [f"http://{OWN}", "http://evil.example"],
+                [f"http://{OWN}", f"http://{OWN}"],
+            )
+        ],
+        # What a page gets without an Origin: an image, a frame, a link.
+        *[GOOD_GET._replace(sites=it) for it in (["cross-site"], ["same-site"], [""], ["none", "cross-site"])],
+    ],
+    415: [
+        GOOD_POST._replace(types=it)
+        for it in (
+            [],
+            ["text/plain"],
+            ["text/plain;application/json"],
+            ["application/x-www-form-urlencoded"],
+            ["multipart/form-data"],
+            ["application/json5"],
+            ["application/jsonp"],
+            ["application/json, text/plain"],
+            ["application/json", "text/plain"],
+            [""],
+        )
+    ]
+    + [GOOD_GET._replace(lengths=["5"])],
+    411: [GOOD_POST._replace(lengths=[])],
+    413: [GOOD_POST._replace(lengths=[it]) for it in (str(BODY_MAX + 1), "107374182400", "9" * 18)],
+    414: [GOOD_GET._replace(path="/session/" + "a" * 5000)],
+    400: [
+        *[
+            GOOD_POST._replace(lengths=it)
+            for it in (
+                ["-1"],
+                ["+2"],
+                [" 2"],
+                ["2 "],
+                ["2\n"],
+                ["0x2"],
+                ["1_0"],
+                ["2.0"],
+                [""],
+                ["two"],
+                ["\u0662"],
+                ["2", "2"],
+                ["2, 2"],
+                ["2", "3"],
+                ["9" * 19],
+                ["9" * 5000],
+            )
+        ],
+        *[GOOD_POST._replace(encodings=it) for it in (["chunked"], ["identity"], ["gzip, chunked"], [""])],
+        GOOD_POST._replace(encodings=["chunked"], lengths=[]),
+        *[GOOD_GET._replace(hosts=it) for it in ([], [OWN, OWN], [""], ["a b"], [f"{OWN}/"], [f"x@{OWN}"])],
+        *[
+            GOOD_GET._replace(hosts=[it])
+            for it in ("127.0.0.1:", "127.0.0.1:0", "127.0.0.1:99999", "[::1", "\u24db\u24de")
+        ],
+        # Paths that have another reading, or none.
+        *[
+            GOOD_GET._replace(path=it)
+            for it in (
+                "",
+                "/",
+                "status",
+                "*",
+                "//status",
+                "/session//url",
+                "/session/x/",
+                "../credentials",
+                "/session/../status",
+                "/session/x/./url",
+                "/session/x/..",
+                "/session/x/%2e%2e/url",
+                "/session/x/%2E./url",
+                "/session/x%2furl",
+                "/session/x%5curl",
+                "/session/x\\url",
+                "/session/%77x",
+                "/session/x/%7Ewebauthn",
+                "/session/x%00",
+                "/session/x%0d%0aHost:%20y",
+                "/session/x%",
+                "/session/x%2",
+                "/session/x%zz",
+                "/session/x%25",
+                "/session/x%C3%A4",
+                "/session/\u00e4",
+                "/session/x\x00",
+                "/session/x\r\nHost: evil",
+                "/session/x\n",
+                "/session/x\t",
+                "/session/x\x7f",
+                "/session/x y",
+                "/session?x",
+                "/session#x",
+                f"http://{OWN}/session",
+                "http://evil.example/session",
+                "evil.example:443",
+            )
+        ],
+    ],
+}
+LISTENING = {
+    # Container: a request to the address itself is no rebinding, and a name has to be allowed.
+    ("172.17.0.2", "172.17.0.2:4444"): True,
+    ("172.17.0.2", "172.17.0.3:4444"): False,
+    ("172.17.0.2", "proxy:4444"): False,
+    ("fd00::2", "[fd00::2]:4444"): True,
+    ("fd00::2", "[fd00::3]:4444"): False,
+}
+
+
+def status_of(head: Head, policy: Policy = POLICY) -> int:
+    """Returns 200 or the status of the error."""
+    try:
+        admit(head, policy)
+        return 200
+    except DriverError as error:
+        assert set(error.value) == {"error", "message", "stacktrace"}
+        assert str(error).isprintable() and len(str(error)) < 500, str(error)
+        return int(error.status)
+
+
+def table() -> list[str]:
+    """Returns what a row of the tables gets otherwise."""
+    wrong = [f"{it} gets {status_of(it)}" for it in ACCEPTED if status_of(it) != 200]
+    for status, heads in REFUSED.items():
+        wrong += [f"{it} gets {status_of(it)}, not {status}" for it in heads if status_of(it) != status]
+    for (address, host), is_right in LISTENING.items():
+        if (status_of(GOOD_GET._replace(hosts=[host]), Policy(PORT, address)) == 200) != is_right:
+            wrong.append(f"{host} at {address}")
+    if status_of(GOOD_GET._replace(hosts=["127.0.0.1"]), Policy(80)) != 200:
+        wrong.append("a host without a port is at port 80")
+    return wrong
+
+
+# Random heads: each member good or made of parts that attacks are made of.
+PARTS = [
+    OWN,
+    "localhost",
+    ":4444",
+    "evil.example",
+    "null",
+    "http://",
+    "https://",
+    ".",
+    "..",
+    "/",
+    "%2e",
+    "%2f",
+    "%",
+    "\\",
+]
+PARTS += [
+    "\r\n",
+    "\x00",
+    " ",
+    "\t",
+    "\u00e4",
+    "-1",
+    "+1",
+    "1",
+    "99999999999999999999",
+    "application/json",
+    "text/plain",
+    ";",
+]
+PARTS += [
+    ",",
+    "chunked",
+    "session",
+    "status",
+    "?",
+    "#",
+    "@",
+    "[::1]",
+    "cross-site",
+    "none",
+    "same-origin",
+    "a",
+    "=",
+    "%3D",
+]
+
+
+def random_head(rng: random.Random) -> Head:
+    """Returns a head that is good but for some members."""
+    head = rng.choice([GOOD_GET, GOOD_POST])
+
+    def text() -> str:
+        return "".join(rng.choices(PARTS, k=rng.randint(0, 4)))
+
+    for name in rng.sample(Head._fields, rng.randint(1, 3)):
+        if name in ("method", "path"):
+            value = text() if name == "method" else rng.choice(["/", "/session/", "/status", ""]) + text()
+            head = head._replace(**{name: value})
+        else:
+            head = head._replace(**{name: [text() for _ in range(rng.randint(0, 2))]})
+    return head
+
+
+def faults_of(head: Head) -> list[str]:
+    """Returns what is wrong with a head: the rules again, from RFC 9110 and 9112, Fetch and WebDriver."""
+    found = []
+    host = head.hosts[0].lower() if len(head.hosts) == 1 else None
+    if head.method not in ("GET", "POST", "DELETE"):
+        found.append("method")
+    own = {f"{it}:{PORT}" for it in ("127.0.0.1", "localhost", "[::1]")} | {"chrome", "ci.example:8080"}
+    if host not in own and not (host or "").startswith("chrome:"):
+        found.append("host")
+    if [it.lower() for it in head.origins] not in ([], [f"http://{host}"]):
+        found.append("origin")
+    if set(map(str.lower, head.sites)) - {"none", "same-origin"}:
+        found.append("site")
+    if head.encodings:
+        found.append("encoding")
+    digits = "".join(head.lengths)
+    is_length = len(head.lengths) == 1 and digits.isascii() and digits.isdecimal() and int(digits) <= BODY_MAX
+    if not is_length and (head.lengths or head.method == "POST"):
+        found.append("length")
+    if head.method == "POST" or (is_length and int(digits)):
+        kinds = [it.partition(";")[0].strip().lower() for it in head.types]
+        found += [] if kinds == ["application/json"] else ["type"]
+    path = head.path.replace("%3D", "=")
+    is_plain = path.isascii() and path.isprintable() and not set(path) & set(' "#%<>?[\\]^`{|}')
+    if not is_plain or not path.startswith("/") or set(path[1:].split("/")) & {"", ".", ".."}:
+        found.append("path")
+    return found
+
+
+def main() -> int:
+    parser = argparse.ArgumentParser()
+    parser.add_argument("--count", type=int, default=20_000)
+    parser.add_argument("--seed", type=int, default=1)
+    given = parser.parse_args()
+    wrong = table()
+    rng = random.Random(given.seed)
+    accepted = 0
+    for _ in range(given.count):
+        head = random_head(rng)
+        is_accepted = status_of(head) == 200
+        accepted += is_accepted
+        if is_accepted == bool(faults_of(head)):
+            wrong.append(
+                f"{head} is {'accepted' if is_accepted else 'refused'}, and has {faults_of(head) or 'no fault'}"
+            )
+    for text in wrong[:20]:
+        print(f"FAILED  {text}")
+    rows = len(ACCEPTED) + sum(map(len, REFUSED.values())) + len(LISTENING)
+    if not wrong:
+        print(f"ok  {rows} heads of the tables, and {given.count} random heads of which {accepted} are accepted")
+    return 1 if wrong else 0
+
+
+if __name__ == "__main__":
+    sys.exit(main())
