@@ -34,6 +34,7 @@ DIFFERS = {
     "test_broken_private_key": "chromedriver answers unknown error, and the standard says invalid argument",
     "test_two_windows": "Chromium's authenticator is of one window, and the standard's of all in a session",
 }
+ENVIRONMENT = {**os.environ, "PYTHONPATH": str(TOP / "python" / "src"), "PYTHONDONTWRITEBYTECODE": "1"}
 # Only what hangs takes so many seconds.
 HANGS = 300
 LEAST = {"Python": 27, "Ruby": 22}
@@ -84,8 +85,7 @@ def wait_for_port(port: int, started: subprocess.Popen[bytes]) -> None:
 @contextmanager
 def process(words: list[str], port: int) -> Iterator[str]:
     """Returns the address of a driver or proxy that is started."""
-    environment = {**os.environ, "PYTHONPATH": str(TOP / "python" / "src"), "PYTHONDONTWRITEBYTECODE": "1"}
-    started = subprocess.Popen([*words, f"--port={port}"], stdout=subprocess.DEVNULL, env=environment)
+    started = subprocess.Popen([*words, f"--port={port}"], stdout=subprocess.DEVNULL, env=ENVIRONMENT)
     try:
         wait_for_port(port, started)
         yield f"http://127.0.0.1:{port}"
@@ -147,6 +147,8 @@ class WithoutDevTools(BaseHTTPRequestHandler):
             status, value = 404, {"error": "unknown command", "message": "", "stacktrace": ""}
         else:
             status, value = call(self.command, self.driver + self.path, json.loads(body) if body else {})
+            if self.path == "/session" and status == 200:
+                value["capabilities"].pop("goog:chromeOptions")
         data = json.dumps({"value": value}).encode()
         self.send_response(status)
         self.send_header("Content-Length", str(len(data)))
@@ -162,8 +164,8 @@ class WithoutDevTools(BaseHTTPRequestHandler):
 class Commands:
     """What the proxy alone has, command by command."""
 
-    def __init__(self, url: str, page: str):
-        self.page = page
+    def __init__(self, url: str, page: str, has_devtools: bool = True):
+        self.page, self.has_devtools = page, has_devtools
         options = {"args": ["--headless=new", "--no-sandbox", "--disable-dev-shm-usage"]}
         wanted = {"capabilities": {"alwaysMatch": {"goog:chromeOptions": options}}}
         self.url = f"{url}/session/{call('POST', f'{url}/session', wanted)[1]['sessionId']}"
@@ -223,7 +225,8 @@ class Commands:
         self.refused("invalid argument", "cutShort", f"{key}/faults", {"wrong": 1})
         ((origin, parts),) = call("GET", f"{self.url}{key}/log")[1].items()
         assert self.page.startswith(origin) and "# fault: the answer is status 0x28" in parts[-1]["log"]
-        assert parts[-1]["log"].count(" denied\n") == 1, parts[-1]["log"]
+        assert sum(it["log"].count(" denied\n") for it in parts) == 1, parts
+        assert [it["part"] for it in parts] == list(range(1, len(parts) + 1)), parts
         assert call("DELETE", self.url + key) == (200, None)
 
     def other_origins(self) -> None:
@@ -261,15 +264,16 @@ class Commands:
         key = self.add()
         self.post("/url", {"url": self.page})
         first = {"script": "return document.getElementById('at-first').textContent", "args": []}
-        assert self.post("/execute/sync", first) == (200, "false"), "the key is there before the page's own script"
+        is_native = str(not self.has_devtools).lower()
+        assert self.post("/execute/sync", first) == (200, is_native), "with DevTools the key is there before the page"
         assert call("DELETE", self.url + key) == (200, None)
 
     def end(self) -> None:
         call("DELETE", self.url)
 
 
-def run_commands(url: str, page: str) -> bool:
-    commands = Commands(url, page)
+def run_commands(url: str, page: str, has_devtools: bool = True) -> bool:
+    commands = Commands(url, page, has_devtools)
     failed = False
     for test in (
         commands.options_are_checked,
@@ -288,16 +292,29 @@ def run_commands(url: str, page: str) -> bool:
 
 
 def check_recordings(folder: Path) -> bool:
-    """Checks the logs that were kept, each with its snapshot."""
+    """Checks the logs that were kept, each with its snapshot: by the program, and by check-many, which finds them."""
     logs = sorted(folder.rglob("*.log"))
     wrong = []
     for log in logs:
-        snapshot = log.with_suffix(".snapshot")
+        snapshot = log.with_name(f"{log.name}.snapshot")
         words = ["--load", str(snapshot)] if snapshot.exists() else []
         if subprocess.run([PROGRAM, "check", *words, str(log)], capture_output=True, check=False).returncode:
             wrong.append(str(log))
-    ok = len(logs) > 20 and not wrong
-    print(f"{'ok' if ok else 'FAILED'}  hidlog check of {len(logs)} recordings {wrong or ''}")
+    many = subprocess.run(
+        [sys.executable, "-m", "hidlog", "check-many", str(folder)],
+        capture_output=True,
+        text=True,
+        env=ENVIRONMENT,
+        check=False,
+    )
+    others = [str(path) for path in folder.rglob("*") if path.is_file() and path.stat().st_mode & 0o777 != 0o600]
+    has_snapshot = sum(log.with_name(f"{log.name}.snapshot").exists() for log in logs)
+    is_same = many.returncode == 0 and many.stderr.strip() == f"{len(logs)} same"
+    ok = len(logs) > 20 and has_snapshot > 10 and not wrong and is_same and not others
+    text = (
+        f"hidlog check of {len(logs)} recordings, {has_snapshot} with a snapshot, and check-many: {many.stderr.strip()}"
+    )
+    print(f"{'ok' if ok else 'FAILED'}  {text} {wrong or ''} {many.stdout} {others or ''}")
     return ok
 
 
@@ -314,6 +331,7 @@ def run_suites(driver: str, page: str, folder: Path) -> list[bool]:
                 results.append(compare(language, at_driver, saw(language, proxy, page), "the proxy"))
                 without = "the proxy before a driver without DevTools"
                 results.append(compare(language, at_driver, saw(language, late, page), without))
+            results.append(run_commands(late, page, False))
         results.append(run_commands(proxy, page))
     return results
 

@@ -62,6 +62,12 @@ def _is_above(domain: str, host: str) -> bool:
     return domain == host or ("." in domain and host.endswith(f".{domain}"))
 
 
+def may_use(rp_id: str, origin: str) -> bool:
+    """Returns whether pages of an origin may use an RP ID."""
+    host = host_of(origin)
+    return not _is_address(host) and _is_above(rp_id, host)
+
+
 @lru_cache(maxsize=64)
 def _host_of_page(origin: str) -> str:
     """Returns the host of a page that has WebAuthn at all."""

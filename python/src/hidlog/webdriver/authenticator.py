@@ -1,136 +1,65 @@
-"""The virtual authenticator of a session: its options and credentials, by WebDriver's names (WebAuthn section 11)."""
+"""The virtual authenticator of a session. It holds the credentials of all relying parties with their private keys, and
+a page gets what its origin may use of them."""
 
 from __future__ import annotations
 
+import os
+import threading
 from hashlib import sha256
 from typing import Any
 
-from cryptography.hazmat.primitives.serialization import Encoding, NoEncryption, PrivateFormat
+from cryptography.hazmat.primitives.asymmetric.utils import decode_dss_signature
 
 from .. import private_keys
-from ..errors import ArgumentError
-from ..outside import CORE_ID, ID_MOST
+from ..relying_party import host_of, may_use
 from ..webauthn_json import data_of, text_of
-from .errors import DriverError, invalid
+from .credential_json import (
+    boolean,
+    one_of,
+    read_credential,
+    read_point,
+    read_private_key,
+    read_reported,
+)
+from .errors import invalid
 
 Json = dict[str, Any]
 FORM = "hidlog web key 1"
-_PROTOCOLS = ("ctap1/u2f", "ctap2", "ctap2_1")
-_TRANSPORTS = ("usb", "nfc", "ble", "smart-card", "hybrid", "internal")
-_BOOLEANS = {
-    "hasResidentKey": False,
-    "hasUserVerification": False,
-    "isUserConsenting": True,
-    "isUserVerified": False,
-    "defaultBackupEligibility": False,
-    "defaultBackupState": False,
-}
 PRESENCE = ("granted", "denied", "timeout", "none")
 FAULTS = ("status", "delay", "cutShort", "wrongSignature", "counterStays", "otherRp")
-_USER_MOST = 64
-_MOST = 64
-_ADDED = ("credentialId", "isResidentCredential", "rpId", "privateKey", "userHandle", "signCount", "largeBlob")
-_NAMES = (*_ADDED, "backupEligibility", "backupState", "userName", "userDisplayName")
-LISTED = ("credentialId", "isResidentCredential", "rpId", "privateKey", "userHandle", "signCount")
+_CREDENTIALS_MAX = 64
+_PRESENCE_MAX = 1000
+# New key pairs of pages whose credential hasn't come: a registration has one.
+_PENDING_MAX = 64
+# Authenticator data, and the hash of client data.
+_SIGNED_MIN, _SIGNED_MAX = 37 + 32, 65_536
+# PKCS #8 of a key on P-256 whose number is 0: a page has it in the place of a private key.
+_PKCS8_HEAD = bytes.fromhex("308187020100301306072a8648ce3d020106082a8648ce3d030107046d306b0201010420")
+_PKCS8_MIDDLE = bytes.fromhex("a14403420004")
 
 
-def _one_of(name: str, value: Any, words: tuple[str, ...]) -> str:
-    if value not in words:
-        raise invalid(f"{name} is {value!r}; it has to be one of {', '.join(words)}")
-    return str(value)
-
-
-def _boolean(name: str, value: Any) -> bool:
-    if not isinstance(value, bool):
-        raise invalid(f"{name} is {value!r}; it has to be true or false")
-    return value
-
-
-def read_options(given: Json) -> Json:
-    """Returns the options of an authenticator with their defaults. What the key hasn't is refused by name."""
-    options: Json = {name: _boolean(name, given.get(name, default)) for name, default in _BOOLEANS.items()}
-    options["protocol"] = _one_of("protocol", given.get("protocol"), _PROTOCOLS)
-    transport = {"cable": "hybrid"}.get(given.get("transport", ""), given.get("transport"))
-    options["transport"] = _one_of("transport", transport, _TRANSPORTS)
-    extensions = given.get("extensions") or []
-    if not isinstance(extensions, list):
-        raise invalid("extensions has to be a list")
-    if extensions:
-        raise DriverError("unsupported operation", f"the key has no extension {', '.join(map(str, extensions))}")
-    for name in ("hasResidentKey", "hasUserVerification"):
-        if options["protocol"] == "ctap1/u2f" and options[name]:
-            raise invalid(f"{name} is true; an authenticator of ctap1/u2f has none")
-    return options
-
-
-def _bytes(given: Json, name: str, least: int, most: int) -> bytes:
-    value = given.get(name)
-    try:
-        data = data_of(value.rstrip("="), name) if isinstance(value, str) else None
-    except ArgumentError:
-        data = None
-    if data is None or not least <= len(data) <= most:
-        raise invalid(f"{name} has to be base64url of {least} to {most} bytes")
-    return data
-
-
-def _private_key(given: Json) -> private_keys.PrivateKey:
-    data = _bytes(given, "privateKey", 1, 10_000)
-    try:
-        return private_keys.from_any(data)
-    except ArgumentError as error:
-        raise invalid(
-            f"privateKey has to be PKCS #8 of a key on P-256 (ES256), which alone this key has: {error}"
-        ) from None
-
-
-def read_credential(given: Json, options: Json) -> Json:
-    """Returns a credential that a suite adds, as the key's state has it."""
-    is_resident = _boolean("isResidentCredential", given.get("isResidentCredential"))
-    rp_id = given.get("rpId")
-    if not isinstance(rp_id, str) or not rp_id:
-        raise invalid("rpId has to be the id of a relying party")
-    count = given.get("signCount")
-    if isinstance(count, bool) or not isinstance(count, int) or not 0 <= count < 2**32:
-        raise invalid("signCount has to be a number from 0 to 2^32-1")
-    if is_resident and not options["hasResidentKey"]:
-        raise invalid("the authenticator has no resident credentials (hasResidentKey is false)")
-    if given.get("largeBlob") is not None:
-        raise invalid("the key has no large blobs")
-    if is_resident and given.get("userHandle") is None:
-        raise invalid("a resident credential needs a userHandle")
-    user = b"" if given.get("userHandle") is None else _bytes(given, "userHandle", 0, _USER_MOST)
-    credential_id = _bytes(given, "credentialId", 1, ID_MOST)
-    private = _private_key(given).private_bytes(Encoding.DER, PrivateFormat.PKCS8, NoEncryption())
-    name = given.get("userName") or ""
-    made = {
-        "credentialId": text_of(credential_id),
-        "isResidentCredential": is_resident,
-        "rpId": rp_id,
-        "privateKey": text_of(private),
-        "userHandle": text_of(user),
-        "userName": name,
-        "userDisplayName": given.get("userDisplayName") or name,
-        "signCount": count,
-        "backupEligibility": given.get("backupEligibility", options["defaultBackupEligibility"]),
-        "backupState": given.get("backupState", options["defaultBackupState"]),
-        "rpIdHash": text_of(sha256(rp_id.encode()).digest()),
-    }
-    if len(credential_id) != CORE_ID:
-        made["coreId"] = text_of(sha256(b"hidlog webdriver" + credential_id).digest())
-    return made
+def _without_key(point: bytes) -> str:
+    """Returns what a page has in the place of a private key: it names the public key."""
+    return text_of(_PKCS8_HEAD + bytes(32) + _PKCS8_MIDDLE + point)
 
 
 class Authenticator:
-    """A virtual authenticator, with the credentials as they were last seen."""
+    """A virtual authenticator. Commands of the suite and pages use it at once."""
 
     def __init__(self, options: Json):
         self.options = options
         self.credentials: list[Json] = []
         self.faults: Json = {}
-        self.moment = 0
         # What the user does. One who doesn't consent does nothing, as in Chromium.
         self.presence: str | list[str] = "granted" if options["isUserConsenting"] else "none"
+        # How often that was set, and how many words of a list are used.
+        self.serial, self.used = 0, 0
+        self.lock = threading.RLock()
+        # By the public key: private keys of credentials, and of key pairs that a page of an origin is given.
+        self._keys: dict[bytes, private_keys.PrivateKey] = {}
+        self._pending: dict[bytes, tuple[str, private_keys.PrivateKey]] = {}
+
+    # What pages are told.
 
     @property
     def abilities(self) -> Json:
@@ -142,57 +71,184 @@ class Authenticator:
         return {**made, "hasUserVerification": has_verification, "isUserVerified": is_verified}
 
     @property
-    def state(self) -> Json:
-        """The credentials, as the key in a page takes them."""
-        return {"form": FORM, "moment": self.moment, "credentials": self.credentials}
+    def settings(self) -> Json:
+        """What the key in a page is set to, without credentials."""
+        done = {"presence": self.presence, "serial": self.serial, "used": self.used}
+        return {"abilities": self.abilities, "faults": self.faults, **done}
 
-    def take(self, state: Json) -> None:
-        """Takes up what a page's key has."""
-        self.credentials = state["credentials"]
-        self.moment = max(self.moment, state["moment"])
+    def of_origin(self, origin: str, has_keys: bool) -> list[Json]:
+        """Returns the credentials that a page of an origin may use, with their private keys or without."""
+        with self.lock:
+            own = [credential for credential in self.credentials if may_use(credential["rpId"], origin)]
+        if has_keys:
+            return own
+        return [{**credential, "privateKey": _without_key(read_point(credential))} for credential in own]
+
+    def next_presence(self) -> str:
+        """Returns what the user does now. The last word of a list stays."""
+        with self.lock:
+            if isinstance(self.presence, str):
+                return self.presence
+            word = self.presence[min(self.used, len(self.presence) - 1)]
+            self.used += 1
+            return word
+
+    def used_presence(self, serial: Any, used: Any) -> None:
+        """Notes how many words of a list a page has used."""
+        with self.lock:
+            if serial == self.serial and isinstance(used, int) and not isinstance(used, bool):
+                self.used = max(self.used, min(used, _PRESENCE_MAX))
+
+    # What pages ask for.
+
+    def make_key(self, origin: str) -> tuple[bytes, bytes]:
+        """Makes a key pair for a page of an origin, and returns its public key."""
+        private = private_keys.make(os.urandom)
+        x, y = private_keys.point_of(private)
+        with self.lock:
+            self._pending[x + y] = (origin, private)
+            while len(self._pending) > _PENDING_MAX:
+                del self._pending[next(iter(self._pending))]
+        return x, y
+
+    def sign(self, origin: str, point: bytes, data: bytes) -> bytes:
+        """Signs authenticator data and a hash for a page of an origin. Returns r and s, 32 bytes each.
+
+        The private key is one of a credential that the origin may use, or was made for it, and the data is of a relying
+        party that it may use.
+        """
+        private, hashes = self._usable(origin, point)
+        if not _SIGNED_MIN <= len(data) <= _SIGNED_MAX or data[:32] not in hashes:
+            raise invalid("only authenticator data of a relying party of this origin is signed")
+        r, s = decode_dss_signature(private_keys.sign(private, data))
+        return r.to_bytes(32, "big") + s.to_bytes(32, "big")
+
+    def _usable(self, origin: str, point: bytes) -> tuple[private_keys.PrivateKey, set[bytes]]:
+        """Returns a private key that an origin may use, and the RP ID hashes for which."""
+        with self.lock:
+            other = self.faults.get("otherRp")
+            hashes = set() if other is None else {sha256(other.encode()).digest()}
+            for_origin, pending = self._pending.get(point, ("", None))
+            if pending and for_origin == origin:
+                names = [name for name in _names_above(host_of(origin)) if may_use(name, origin)]
+                return pending, hashes | {sha256(name.encode()).digest() for name in names}
+            for credential in self.of_origin(origin, True):
+                if read_point(credential) == point:
+                    return self._keys[point], hashes | {data_of(credential["rpIdHash"], "rpIdHash")}
+        raise invalid("this origin has no such key")
+
+    def take(self, origin: str, reported: Any, gone: Any, has_keys: bool) -> None:
+        """Takes up the credentials that a page of an origin reports, and that some of those it knew were replaced.
+
+        Of a credential that is known only the counter rises.
+        """
+        if not isinstance(reported, list) or len(reported) > _CREDENTIALS_MAX or not isinstance(gone, list):
+            raise invalid(f"credentials has to be a list of at most {_CREDENTIALS_MAX}, and gone a list")
+        listed = {made["credentialId"]: (made, raw) for made, raw in ((read_reported(raw), raw) for raw in reported)}
+        if len(listed) != len(reported) or not all(may_use(made["rpId"], origin) for made, _ in listed.values()):
+            raise invalid("a credential isn't one of this origin")
+        with self.lock:
+            own = {credential["credentialId"] for credential in self.of_origin(origin, True)}
+            if any(it["credentialId"] in listed and it["credentialId"] not in own for it in self.credentials):
+                raise invalid("a credential isn't one of this origin")
+            dropped = {name for name in gone if isinstance(name, str) and name in own and name not in listed}
+            fresh = [self._adopted(origin, *listed[name], has_keys) for name in listed if name not in own]
+            counts = {name: made["signCount"] for name, (made, _) in listed.items()}
+            kept = [
+                {**credential, "signCount": max(credential["signCount"], counts.get(credential["credentialId"], 0))}
+                for credential in self.credentials
+                if credential["credentialId"] not in dropped
+            ]
+            if len(kept) + len(fresh) > _CREDENTIALS_MAX:
+                raise invalid(f"the authenticator has {_CREDENTIALS_MAX} credentials, and that is the most")
+            for credential, private in fresh:
+                self._hold(credential, private)
+            self.credentials = kept + [credential for credential, _ in fresh]
+
+    def _adopted(self, origin: str, made: Json, raw: Json, has_keys: bool) -> tuple[Json, private_keys.PrivateKey]:
+        """Returns a new credential of a page with its private key, which was made for this very origin."""
+        if has_keys:
+            private = read_private_key(raw)
+        else:
+            for_origin, pending = self._pending.get(read_point(raw), ("", None))
+            if pending is None or for_origin != origin:
+                raise invalid("this origin has no such key")
+            private = pending
+        return {**made, "privateKey": text_of(private_keys.to_pkcs8(private))}, private
+
+    def _hold(self, credential: Json, private: private_keys.PrivateKey) -> None:
+        point = read_point(credential)
+        if len(self._keys) > 2 * _CREDENTIALS_MAX:
+            held = {read_point(held) for held in self.credentials}
+            self._keys = {name: key for name, key in self._keys.items() if name in held}
+        self._keys[point] = private
+        self._pending.pop(point, None)
+
+    # What the suite's commands do.
 
     def set_presence(self, given: Any) -> None:
         """Sets what the user does: a word, or a list of them, of which the last one stays."""
         words = given if isinstance(given, list) and given else [given]
+        if len(words) > _PRESENCE_MAX:
+            raise invalid(f"presence has {len(words)} words; at most {_PRESENCE_MAX} are allowed")
         for word in words:
-            _one_of("presence", word, PRESENCE)
-        self.presence = given
+            one_of("presence", word, PRESENCE)
+        with self.lock:
+            self.presence, self.used = given, 0
+            self.serial += 1
 
     def set_faults(self, given: Json) -> None:
         """Sets the faults that are on, by the names of the key in a page. All others are off."""
         for name in given:
-            _one_of("a fault", name, FAULTS)
-        self.faults = given
+            one_of("a fault", name, FAULTS)
+        other = given.get("otherRp")
+        if other is not None and (not isinstance(other, str) or not other.isascii()):
+            raise invalid("otherRp has to be the id of a relying party")
+        with self.lock:
+            self.faults = given
+
+    def set_user_verified(self, given: Any) -> None:
+        """Sets whether the user passes verification."""
+        self.options["isUserVerified"] = boolean("isUserVerified", given)
 
     def add(self, given: Json) -> None:
         """Adds a credential."""
-        made = read_credential(given, self.options)
-        if any(it["credentialId"] == made["credentialId"] for it in self.credentials):
-            raise invalid("the authenticator has a credential with this id already")
-        account = (made["rpIdHash"], made["userHandle"], True)
-        kept = [
-            it
-            for it in self.credentials
-            if not made["isResidentCredential"]
-            or (it["rpIdHash"], it["userHandle"], it["isResidentCredential"]) != account
-        ]
-        if len(kept) >= _MOST:
-            raise invalid(f"the authenticator has {_MOST} credentials, and that is the most")
-        self.credentials = [*kept, made]
+        made, private = read_credential(given, self.options)
+        with self.lock:
+            if any(it["credentialId"] == made["credentialId"] for it in self.credentials):
+                raise invalid("the authenticator has a credential with this id already")
+            account = (made["rpIdHash"], made["userHandle"], True)
+            kept = [
+                it
+                for it in self.credentials
+                if not made["isResidentCredential"]
+                or (it["rpIdHash"], it["userHandle"], it["isResidentCredential"]) != account
+            ]
+            if len(kept) >= _CREDENTIALS_MAX:
+                raise invalid(f"the authenticator has {_CREDENTIALS_MAX} credentials, and that is the most")
+            self._hold(made, private)
+            self.credentials = [*kept, made]
 
     def remove(self, credential_id: str) -> None:
-        """Removes a credential."""
+        """Removes a credential, or all if no ID is given."""
         name = credential_id.rstrip("=")
-        kept = [it for it in self.credentials if it["credentialId"] != name]
-        if len(kept) == len(self.credentials):
-            raise invalid(f"the authenticator has no credential {name}")
-        self.credentials = kept
+        with self.lock:
+            kept = [it for it in self.credentials if name and it["credentialId"] != name]
+            if name and len(kept) == len(self.credentials):
+                raise invalid(f"the authenticator has no credential {name}")
+            self.credentials = kept
 
     def change(self, credential_id: str, given: Json) -> None:
         """Sets the flags of a credential's backup."""
         name = credential_id.rstrip("=")
-        found = [it for it in self.credentials if it["credentialId"] == name]
-        if not found:
-            raise invalid(f"the authenticator has no credential {name}")
-        changed = {it: _boolean(it, given[it]) for it in ("backupEligibility", "backupState") if it in given}
-        self.credentials = [{**it, **changed} if it is found[0] else it for it in self.credentials]
+        changed = {it: boolean(it, given[it]) for it in ("backupEligibility", "backupState") if it in given}
+        with self.lock:
+            if all(it["credentialId"] != name for it in self.credentials):
+                raise invalid(f"the authenticator has no credential {name}")
+            self.credentials = [{**it, **changed} if it["credentialId"] == name else it for it in self.credentials]
+
+
+def _names_above(host: str) -> list[str]:
+    """Returns a host and the names above it."""
+    labels = host.split(".")
+    return [".".join(labels[start:]) for start in range(len(labels))]

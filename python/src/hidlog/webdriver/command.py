@@ -14,8 +14,8 @@ from typing import Any
 from .driver import Driver, is_address, start
 from .errors import DriverError
 from .gate import parse_host
-from .page import script
 from .proxy import Proxy
+from .script import script
 from .server import Server
 
 _ABOUT = "Serves WebDriver's virtual authenticators with a key in the page, in front of any driver."
@@ -119,5 +119,5 @@ def main(words: list[str] | None = None) -> int:
         server.serve_forever()
     finally:
         server.server_close()
-        proxy.close()
-    return 0
+        is_written = proxy.close()
+    return 0 if is_written else 2

@@ -68,6 +68,11 @@ class Driver:
         return self._process is not None
 
     @property
+    def is_local(self) -> bool:
+        """Whether the driver runs on this machine, so that its browser's debugger is here."""
+        return self._host in ("127.0.0.1", "localhost", "::1")
+
+    @property
     def address(self) -> str:
         """The address without credentials."""
         host = f"[{self._host}]" if ":" in self._host else self._host

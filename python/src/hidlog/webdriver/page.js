@@ -1,94 +1,256 @@
-// What the proxy runs in the documents of a session. `given` has the authenticator's abilities, presence and faults, its
-// state, and the session's name; the script of the key in a page comes before it.
+// What the proxy runs in the documents of a session, behind the script of the key in a page. A document has the
+// credentials that its own origin may use, and no other. Where the browser has a channel to the proxy, the private keys
+// stay there, and this script asks for signatures; otherwise they are in its closure.
 const hidlogPage = (() => {
-    const [STORE, SEEN, PRESENCE] = ["hidlogKey", "hidlogSeen", "hidlogPresence"];
-    const listed = (state) => JSON.stringify(state.credentials);
+    const { parse, stringify } = JSON;
+    const isPage = /^https?:$/.test(location.protocol) && globalThis.origin === location.origin;
+    const FORM = "hidlog web key 1";
+    const [SEALED, PROOF] = ["hidlogSealed", "hidlogProof"];
+    const NO_KEY = "A".repeat(43);
+    const POINT_BYTES = 64;
 
-    /** What this origin had when it was last the same as the proxy. */
-    const seen = (session) => {
-        const found = JSON.parse(localStorage.getItem(SEEN) ?? "null");
-        return found?.session === session ? found.credentials : null;
+    const toText = (bytes) => btoa(Array.from(bytes, (it) => String.fromCharCode(it)).join(""));
+    const toUrl = (bytes) => toText(bytes).replace(/\+/g, "-").replace(/\//g, "_").replace(/=+$/, "");
+    const toBytes = (text) => Uint8Array.from(atob(text), (it) => it.charCodeAt(0));
+    const toHex = (bytes) => Array.from(bytes, (it) => it.toString(16).padStart(2, "0")).join("");
+
+    /** The key in this document, and what the proxy last said and was told. */
+    let key = null;
+    let link = null;
+    let serial = -1;
+    let faultsSet = "{}";
+    let known = [];
+    // Names this document among those of its origin.
+    const id = isPage ? toText(crypto.getRandomValues(new Uint8Array(12))) : "";
+    const sent = new Map();
+    const idsOf = (credentials) => credentials.map((it) => it.credentialId);
+
+    // The channel to the proxy: calls and their results. A result of call 0 is a change of the settings.
+
+    const openChannel = (send) => {
+        const waiting = new Map();
+        let last = 0;
+        const call = (name, given = {}) => new Promise((done, fail) => {
+            last += 1;
+            waiting.set(last, { done, fail });
+            send(stringify({ ...given, id: last, name }));
+        });
+        const reply = (id, value, error) => {
+            const { done, fail } = waiting.get(id) ?? {};
+            waiting.delete(id);
+            if (error) {
+                fail?.(new Error(`hidlog webdriver: ${error}`));
+            } else {
+                done?.(value);
+            }
+        };
+        return { call, reply };
     };
 
-    const see = (session, credentials) => localStorage.setItem(SEEN, JSON.stringify({ session, credentials }));
-
-    /** A user who answers in turn, on whatever page; the last answer stays. */
-    const answering = (words) => () => {
-        const left = JSON.parse(localStorage.getItem(PRESENCE) ?? JSON.stringify(words));
-        localStorage.setItem(PRESENCE, JSON.stringify(left.length > 1 ? left.slice(1) : left));
-        return left[0];
+    /** WebCrypto whose private keys that can be kept are the proxy's. */
+    const cryptoOf = ({ call }) => {
+        const { subtle } = crypto;
+        const ours = new WeakSet();
+        const keyOf = (point) => {
+            const made = { point };
+            ours.add(made);
+            return made;
+        };
+        return {
+            getRandomValues: (bytes) => crypto.getRandomValues(bytes),
+            subtle: {
+                digest: (...given) => subtle.digest(...given),
+                async generateKey(algorithm, isExtractable, uses) {
+                    if (!isExtractable) {
+                        return subtle.generateKey(algorithm, isExtractable, uses);
+                    }
+                    return { privateKey: keyOf(toBytes((await call("make")).point)) };
+                },
+                importKey: async (form, bytes) => keyOf(bytes.slice(-POINT_BYTES)),
+                exportKey: async (form, { point }) =>
+                    ({ d: NO_KEY, x: toUrl(point.subarray(0, 32)), y: toUrl(point.subarray(32)) }),
+                async sign(algorithm, held, data) {
+                    if (!ours.has(held)) {
+                        return subtle.sign(algorithm, held, data);
+                    }
+                    const { signature } = await call("sign", { point: toText(held.point), data: toText(data) });
+                    return toBytes(signature).buffer;
+                },
+            },
+        };
     };
 
-    const setUp = (key, { abilities, presence, faults }) => {
+    // What the key is set to.
+
+    const setUp = ({ abilities, presence, serial: at, faults }) => {
         key.setAbilities(abilities);
-        if (globalThis.hidlogPresenceOf !== JSON.stringify(presence)) {
-            globalThis.hidlogPresenceOf = JSON.stringify(presence);
-            key.presence = Array.isArray(presence) ? answering(presence) : presence;
+        if (serial !== at) {
+            serial = at;
+            key.presence = Array.isArray(presence) ? link.presence(presence) : presence;
         }
-        if (globalThis.hidlogFaultsOf !== JSON.stringify(faults)) {
-            globalThis.hidlogFaultsOf = JSON.stringify(faults);
+        if (stringify(faults) !== faultsSet) {
+            faultsSet = stringify(faults);
             key.faults.clear();
             Object.assign(key.faults, faults);
         }
     };
 
-    /** Puts the key into this document, where it isn't yet. */
-    const install = (given) => {
-        if (!/^https?:$/.test(location.protocol) || hidlogKey.current()) {
-            return hidlogKey.current();
+    /** Goes on with credentials, where they aren't those that the key has. */
+    const restore = async (credentials) => {
+        const state = key.state();
+        if (stringify(credentials) !== stringify(state.credentials)) {
+            await key.restore({ form: FORM, moment: state.moment, credentials });
         }
-        if (!seen(given.session)) {
-            [STORE, SEEN, PRESENCE].forEach((name) => localStorage.removeItem(name));
-            see(given.session, given.state.credentials);
+        known = idsOf(credentials);
+    };
+
+    const update = async (settings) => {
+        setUp(settings);
+        await restore(settings.credentials);
+    };
+
+    /** The recordings since they were asked for last: of each the log from where it is new. */
+    const news = () => key.recordings().flatMap(({ part, log, snapshot }) => {
+        const before = sent.get(part) ?? "";
+        // The last line counts what came before it, and changes.
+        const same = before.slice(0, before.lastIndexOf("\n", before.length - 2) + 1);
+        const from = log.startsWith(same) ? same.length : 0;
+        if (log === before || !/^> /m.test(log)) {
+            return [];
         }
-        const key = hidlogKey.install({ state: given.state, store: localStorage, allowOrigins: [location.origin] });
-        setUp(key, given);
+        sent.set(part, log);
+        return [{ part, from, text: log.slice(from), snapshot: toHex(snapshot) }];
+    });
+
+    /** What the key has, and which of the credentials that were known aren't there any more. */
+    const report = () => {
+        const { credentials } = key.state();
+        const ids = idsOf(credentials);
+        const gone = known.filter((id) => !ids.includes(id));
+        known = ids;
+        return { credentials, gone, recordings: news(), document: id };
+    };
+
+    /** Has the proxy and the key be the same before a call of the page and after it. */
+    const surround = (name) => {
+        const { prototype } = CredentialsContainer;
+        const served = prototype[name];
+        const around = { async [name](...given) {
+            if (given[0]?.publicKey === undefined) {
+                return served.apply(this, given);
+            }
+            await link.begin();
+            try {
+                return await served.apply(this, given);
+            } finally {
+                await link.end();
+            }
+        } }[name];
+        Object.defineProperty(prototype, name, { ...Object.getOwnPropertyDescriptor(prototype, name), value: around });
+    };
+
+    const put = (options) => {
+        key = hidlogKey.install({ allowOrigins: [location.origin], ...options });
+        ["create", "get"].forEach(surround);
         return key;
     };
 
-    /** The proxy's credentials with what this page changed of those that it had. */
-    const merged = (page, before, proxy) => {
-        const byId = (all) => new Map(all.map((it) => [it.credentialId, it]));
-        const isSame = (one, other) => JSON.stringify(one) === JSON.stringify(other);
-        const [had, has, wants] = [before, page, proxy].map(byId);
-        const changed = page.filter((it) => !isSame(it, had.get(it.credentialId)));
-        const kept = proxy.filter(({ credentialId: id }) => has.has(id) || !had.has(id));
-        const fresh = changed.filter((it) => !wants.has(it.credentialId));
-        const newer = byId(changed);
-        return [...kept.map((it) => newer.get(it.credentialId) ?? it), ...fresh];
+    // With a channel.
+
+    /** Puts the key into this document. @param {(text: string) => void} send */
+    const connect = (send, abilities) => {
+        if (!isPage || key) {
+            return;
+        }
+        const channel = openChannel(send);
+        link = {
+            begin: async () => update(await channel.call("begin")),
+            end: () => channel.call("end", report()),
+            presence: () => async () => (await channel.call("presence")).word,
+        };
+        put({ crypto: cryptoOf(channel) });
+        key.setAbilities(abilities);
+        Object.defineProperty(globalThis, "hidlogReply", { value: channel.reply, configurable: true });
+        Object.defineProperty(globalThis, "hidlogUpdate", { value: update, configurable: true });
     };
 
-    const recorded = (key, length) => {
-        const all = key.recordings();
-        const now = all.reduce((sum, { log }) => sum + log.length, 0);
-        const parts = all.map(({ part, log, snapshot }) => ({ part, log, snapshot: Array.from(snapshot) }));
-        return { length: now, recordings: now === length ? null : parts };
+    // Without one: the proxy calls `sync` now and then. What it hasn't seen when the page goes to another document is
+    // in sessionStorage, sealed by a secret that the proxy gives to documents of this origin alone.
+
+    let seal = null;
+    let used = 0;
+
+    const sealOf = async (secret) =>
+        crypto.subtle.importKey("raw", toBytes(secret), "AES-GCM", false, ["encrypt", "decrypt"]);
+
+    const save = async () => {
+        const iv = crypto.getRandomValues(new Uint8Array(12));
+        const text = new TextEncoder().encode(stringify({ credentials: key.state().credentials, known, used, serial }));
+        const sealed = await crypto.subtle.encrypt({ name: "AES-GCM", iv }, seal, text);
+        sessionStorage.setItem(SEALED, `${toText(iv)} ${toText(new Uint8Array(sealed))}`);
     };
 
-    /** Makes this page and the proxy have the same. */
-    const sync = async (given) => {
-        const key = install(given);
-        if (!key) {
+    /** What an earlier document of this origin saved, or null. */
+    const saved = async () => {
+        try {
+            const [iv, sealed] = sessionStorage.getItem(SEALED).split(" ").map(toBytes);
+            return parse(new TextDecoder().decode(await crypto.subtle.decrypt({ name: "AES-GCM", iv }, seal, sealed)));
+        } catch {
             return null;
         }
-        setUp(key, given);
-        const page = key.state();
-        const before = seen(given.session) ?? globalThis.hidlogHad ?? [];
-        const credentials = merged(page.credentials, before, given.state.credentials);
-        if (JSON.stringify(credentials) !== listed(page)) {
-            await key.restore({ ...page, credentials });
+    };
+
+    /** The proxy's credentials with what this page changed of those that it knew. */
+    const merged = (proxy) => {
+        const { credentials } = key.state();
+        const own = new Map(credentials.map((it) => [it.credentialId, it]));
+        const ids = idsOf(proxy);
+        const kept = proxy.filter(({ credentialId: id }) => own.has(id) || !known.includes(id));
+        const counted = kept.map((it) =>
+            ({ ...it, signCount: Math.max(it.signCount, own.get(it.credentialId)?.signCount ?? 0) }));
+        return [...counted, ...credentials.filter(({ credentialId: id }) => !ids.includes(id) && !known.includes(id))];
+    };
+
+    const begun = async ({ secret }) => {
+        seal = await sealOf(secret);
+        link = {
+            begin: async () => {},
+            end: () => save().catch(() => {}),
+            presence: (words) => () => {
+                used += 1;
+                return words[Math.min(used, words.length) - 1];
+            },
+        };
+        put({});
+        const before = await saved();
+        if (before) {
+            await restore(before.credentials);
+            known = before.known;
+            return before;
         }
-        const state = key.state();
-        globalThis.hidlogHad = state.credentials;
-        see(given.session, state.credentials);
-        return { origin: location.origin, state, ...recorded(key, given.lengths[location.origin]) };
+        return null;
+    };
+
+    /** Makes this page and the proxy have the same, and returns what the proxy hasn't. */
+    const sync = async (settings) => {
+        const before = key ? { used, serial } : await begun(settings);
+        used = Math.max(settings.used, before?.serial === settings.serial ? before.used : 0);
+        setUp(settings);
+        const gone = known.filter((id) => !idsOf(key.state().credentials).includes(id));
+        await restore(merged(settings.credentials));
+        sessionStorage.removeItem(SEALED);
+        sessionStorage.setItem(PROOF, settings.proof);
+        return { credentials: key.state().credentials, gone, recordings: news(), document: id, used, serial };
     };
 
     /** Takes the key out of this document. */
     const remove = () => {
-        hidlogKey.current()?.uninstall();
-        [STORE, SEEN, PRESENCE].forEach((name) => localStorage.removeItem(name));
+        key?.uninstall();
+        if (seal) {
+            [SEALED, PROOF].forEach((name) => sessionStorage.removeItem(name));
+        }
+        ["hidlogReply", "hidlogUpdate", "hidlogPage", "hidlogKey"].forEach((name) => delete globalThis[name]);
     };
 
-    return { install, sync, remove };
+    return { connect, sync, remove, isPage };
 })();

@@ -212,15 +212,17 @@ class Server(ThreadingHTTPServer):
     def process_request(self, request: Any, client_address: Any) -> None:
         """Serves a connection, in the place of one that waits if there are too many."""
         with self._lock:
-            idle = [it for it in self._open.values() if it and it.is_idle and it.deadline is not None]
+            idle = [handler for handler in self._open.values() if handler and handler.is_idle]
             is_full = len(self._open) >= CONNECTIONS_MAX
+            if is_full and idle:
+                oldest = min(idle, key=lambda handler: handler.deadline or 0).connection
+                del self._open[oldest]
+                _cut(oldest)
             if not is_full or idle:
                 self._open[request] = None
         if is_full and not idle:
             self.shutdown_request(request)
             return
-        if is_full:
-            _cut(min(idle, key=lambda handler: handler.deadline or 0).connection)
         super().process_request(request, client_address)
 
     def shutdown_request(self, request: Any) -> None:
