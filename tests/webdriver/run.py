@@ -39,7 +39,7 @@ ENVIRONMENT = {**os.environ, "PYTHONPATH": str(TOP / "python" / "src"), "PYTHOND
 HANGS = 300
 LEAST = {"Python": 27, "Ruby": 22}
 # Tests of their own, which need no browser's driver.
-PARTS = ("gate.py", "sockets.py")
+PARTS = ("gate.py", "sockets.py", "messages.py")
 
 
 class Files(SimpleHTTPRequestHandler):
@@ -144,7 +144,8 @@ class WithoutDevTools(BaseHTTPRequestHandler):
     def serve(self) -> None:
         body = self.rfile.read(int(self.headers.get("Content-Length") or 0))
         if "/goog/cdp/" in self.path or "/webauthn/" in self.path:
-            status, value = 404, {"error": "unknown command", "message": "", "stacktrace": ""}
+            status: int = 404
+            value: Any = {"error": "unknown command", "message": "", "stacktrace": ""}
         else:
             status, value = call(self.command, self.driver + self.path, json.loads(body) if body else {})
             if self.path == "/session" and status == 200:

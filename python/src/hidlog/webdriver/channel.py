@@ -39,7 +39,10 @@ class Channel:
     def __init__(self, address: str, window: str):
         self._authenticator: Authenticator | None = None
         self._recorder: Recorder | None = None
+        self._set_calls()
         self._devtools = DevTools(address, window, self._receive)
+
+    def _set_calls(self) -> None:
         self._calls: dict[str, Callable[[Authenticator, Document, Json], Json | None]] = {
             "begin": self._begin,
             "presence": self._presence,

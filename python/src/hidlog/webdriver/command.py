@@ -7,6 +7,7 @@ import ipaddress
 import shlex
 import signal
 import sys
+import tempfile
 import threading
 from pathlib import Path
 from typing import Any
@@ -74,6 +75,16 @@ def _driver(given: str) -> Driver:
     return start(words)
 
 
+def _prepare(folder: Path | None) -> None:
+    """Makes the folder of the recordings, and refuses one in which no file can be made."""
+    if folder is not None:
+        try:
+            folder.mkdir(parents=True, exist_ok=True)
+            tempfile.TemporaryFile(dir=folder).close()
+        except OSError as error:
+            raise DriverError("unknown error", f"--recordings {folder} can't be written: {error.strerror}") from None
+
+
 def _shown(host: str) -> str:
     return f"[{host}]" if ":" in host else host
 
@@ -93,6 +104,7 @@ def main(words: list[str] | None = None) -> int:
     options = _parser().parse_args(words)
     try:
         script()
+        _prepare(options.recordings)
         driver = _driver(options.driver)
     except (DriverError, OSError, ValueError) as error:
         print(f"hidlog webdriver: {error}", file=sys.stderr)

@@ -90,10 +90,10 @@ class Recorder:
             self._is_full = True
         if self._is_full:
             return
+        if offset > (len(part.log) if part else 0):
+            raise invalid("a recording has a gap")
         if part is None:
             part = self._parts[key] = self._new_part(origin, snapshot)
-        if offset > len(part.log):
-            raise invalid("a recording has a gap")
         self._size += offset + len(text) - len(part.log)
         part.log = part.log[:offset] + text
         if self._folder is not None:
