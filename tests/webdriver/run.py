@@ -38,8 +38,8 @@ ENVIRONMENT = {**os.environ, "PYTHONPATH": str(TOP / "python" / "src"), "PYTHOND
 # Only what hangs takes so many seconds.
 HANGS = 300
 LEAST = {"Python": 27, "Ruby": 22}
-# Tests of their own, which need no browser's driver.
-PARTS = ("gate.py", "sockets.py", "messages.py")
+# Tests of their own, which need no chromedriver.
+PARTS = ("gate.py", "sockets.py", "messages.py", "processes.py", "browsers.py")
 
 
 class Files(SimpleHTTPRequestHandler):
