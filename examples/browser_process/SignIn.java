@@ -5,6 +5,7 @@
 import java.io.BufferedReader;
 import java.io.IOException;
 import java.io.PrintWriter;
+import java.nio.charset.StandardCharsets;
 import java.security.KeyFactory;
 import java.security.MessageDigest;
 import java.security.PublicKey;
@@ -18,6 +19,7 @@ import java.util.regex.Pattern;
 
 public class SignIn {
     private static final String CHALLENGE = "AAECAwQFBgcICQoLDA0ODw";
+    private static final String ORIGIN = "https://example.com";
     private static final String CREATE = """
         {"create": {"rp": {"id": "example.com", "name": "Example"}, "challenge": "%s",
         "user": {"id": "YW5u", "name": "ann", "displayName": "Ann"},
@@ -52,15 +54,26 @@ public class SignIn {
         return Base64.getUrlDecoder().decode(member(answer, name));
     }
 
+    /** Verifies that the client data names this ceremony, and exactly this origin. */
+    static void verifyClientData(String answer, String type) {
+        String json = new String(bytes(answer, "clientDataJSON"), StandardCharsets.UTF_8);
+        List<String> found = List.of(member(json, "type"), member(json, "challenge"), member(json, "origin"));
+        if (!found.equals(List.of(type, CHALLENGE, ORIGIN))) {
+            throw new IllegalStateException("unexpected client data: " + json);
+        }
+    }
+
     public static void main(String[] words) throws Exception {
         List<String> command = new ArrayList<>(List.of(words));
-        command.addAll(List.of("--origin", "https://example.com"));
+        command.addAll(List.of("--origin", ORIGIN));
         Process process = new ProcessBuilder(command).redirectError(ProcessBuilder.Redirect.INHERIT).start();
         SignIn browser = new SignIn(process);
         String made = browser.ask(CREATE.formatted(CHALLENGE));
+        verifyClientData(made, "webauthn.create");
         PublicKey key = KeyFactory.getInstance("EC").generatePublic(new X509EncodedKeySpec(bytes(made, "publicKey")));
         String get = GET.formatted(CHALLENGE, member(made, "id"));
         String used = browser.ask(get);
+        verifyClientData(used, "webauthn.get");
         Signature signature = Signature.getInstance("SHA256withECDSA");
         signature.initVerify(key);
         signature.update(bytes(used, "authenticatorData"));

@@ -23,7 +23,7 @@ class Service:
 
     def __init__(self, origin="http://localhost:5000", rp_id="localhost"):
         entity = PublicKeyCredentialRpEntity(id=rp_id, name="Example")
-        self.server = Fido2Server(entity, verify_origin=origin.__eq__)
+        self.server = Fido2Server(entity, verify_origin=lambda found: found == origin)
         self.accounts = {}
         self.state = None
 

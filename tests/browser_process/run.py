@@ -9,6 +9,7 @@ from __future__ import annotations
 
 import json
 import os
+import shlex
 import shutil
 import subprocess
 import sys
@@ -212,21 +213,36 @@ def run_tests(commands: dict[str, list[str]]) -> bool:
     return not failed
 
 
-def run_examples(commands: dict[str, list[str]]) -> bool:
-    """Runs the examples in other languages with both processes."""
-    failed = False
+def run_example(words: list[str], command: list[str]) -> tuple[bool, str]:
+    """Runs an example with a browser. Returns whether it passed, and what it printed."""
+    path = TOP / "examples" / "browser_process"
     environment = {**os.environ, "GOPATH": "/usr/share/gocode", "GO111MODULE": "off"}
+    done = subprocess.run(
+        [*words, *command], cwd=path, env=environment, capture_output=True, text=True, check=False, timeout=600
+    )
+    return done.stdout.strip() == "ok", f"{done.stdout}{done.stderr}"[-600:].strip()
+
+
+def at_another_origin(command: list[str]) -> list[str]:
+    """Returns a command of a browser at another origin of the relying party, whichever origin is asked for."""
+    return ["sh", "-c", f"exec {shlex.join(command)} --origin https://login.example.com"]
+
+
+def run_examples(commands: dict[str, list[str]]) -> bool:
+    """Runs the examples in other languages with both processes, and with a browser at another origin."""
+    failed = False
     for language, words in EXAMPLES.items():
         if not shutil.which(words[0]):
             print(f"    {words[0]} is missing, and its example wasn't run")
             continue
-        path = TOP / "examples" / "browser_process"
         for name, command in commands.items():
-            all_words = [*words, *command]
-            done = subprocess.run(all_words, cwd=path, env=environment, capture_output=True, text=True, check=False)
-            good = done.stdout.strip() == "ok"
-            failed |= not good
-            print(f"{'ok' if good else 'FAILED'}  {language} with {name} {'' if good else done.stderr[-600:]}")
+            passed, printed = run_example(words, command)
+            failed |= not passed
+            print(f"{'ok' if passed else 'FAILED'}  {language} with {name} {'' if passed else printed}")
+        passed, printed = run_example(words, at_another_origin(commands["the npm package"]))
+        refused = not passed and ("rigin" in printed or "client data" in printed)
+        failed |= not refused
+        print(f"{'ok' if refused else 'FAILED'}  {language} refuses another origin: {printed.splitlines()[:1]}")
     return not failed
 
 
