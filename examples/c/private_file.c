@@ -56,21 +56,43 @@ int private_file_lock(const char *path) {
     return file;
 }
 
-// Whether a file that was opened is one to believe, as OpenSSH looks at private keys.
-static bool is_private(const char *path, int file, size_t most) {
-    struct stat facts;
-    if (fstat(file, &facts) != 0) {
+// Whether a file that was opened is one to believe, as OpenSSH looks at private keys. It has what `contents` names.
+static bool is_private(const char *path, int file, const char *contents, struct stat *facts) {
+    if (fstat(file, facts) != 0) {
         return failed(path, "it can't be looked at");
     }
-    if (!S_ISREG(facts.st_mode)) {
+    if (!S_ISREG(facts->st_mode)) {
         return refused(path, "it is no regular file");
     }
-    if ((facts.st_mode & 077) != 0) {
-        fprintf(stderr, "hidlog: %s: its permissions %04o are too open, since it has private keys: chmod 600 it\n",
-                path, (unsigned)facts.st_mode & 07777);
+    if ((facts->st_mode & 077) != 0) {
+        fprintf(stderr, "hidlog: %s: its permissions %04o are too open, since it has %s: chmod 600 it\n", path,
+                (unsigned)facts->st_mode & 07777, contents);
         return false;
     }
-    return (uint64_t)facts.st_size <= most || refused(path, "it is too long");
+    return true;
+}
+
+// Whether a file that was opened is private, and no longer than this.
+static bool may_read(const char *path, int file, size_t most) {
+    struct stat facts;
+    return is_private(path, file, "private keys", &facts) &&
+           ((uint64_t)facts.st_size <= most || refused(path, "it is too long"));
+}
+
+// Whether a file that was opened may be written anew: no other user owns it, and it has no other name.
+static bool may_write(const char *path, int file) {
+    struct stat facts;
+    if (!is_private(path, file, "names of services and users", &facts)) {
+        return false;
+    }
+    if (facts.st_uid != geteuid()) {
+        return refused(path, "it belongs to another user: remove it or name another file");
+    }
+    return facts.st_nlink == 1 || refused(path, "it has a second name (a hard link): remove it or name another file");
+}
+
+static const char *why_not_opened(void) {
+    return errno == ELOOP ? "name the file that the link leads to" : "it can't be opened";
 }
 
 // Reads up to the end of a file, or up to so many bytes. Returns -1 where that fails.
@@ -96,16 +118,29 @@ long private_file_read(const char *path, uint8_t *bytes, size_t most) {
         return PRIVATE_FILE_NONE;
     }
     if (file < 0) {
-        failed(path, errno == ELOOP ? "name the file that the link leads to" : "it can't be opened");
+        failed(path, why_not_opened());
         return PRIVATE_FILE_REFUSED;
     }
-    long len = is_private(path, file, most) ? read_whole(file, bytes, most) : PRIVATE_FILE_REFUSED;
+    long len = may_read(path, file, most) ? read_whole(file, bytes, most) : PRIVATE_FILE_REFUSED;
     if (len == -1) {
         failed(path, "it can't be read");
         len = PRIVATE_FILE_REFUSED;
     }
     close(file);
     return len;
+}
+
+int private_file_to_write(const char *path) {
+    int file = open(path, O_WRONLY | O_CREAT | O_NOFOLLOW | O_NONBLOCK | O_CLOEXEC, 0600);
+    if (file < 0) {
+        failed(path, why_not_opened());
+        return -1;
+    }
+    if (!may_write(path, file)) {
+        close(file);
+        return -1;
+    }
+    return file;
 }
 
 bool write_whole(int file, const uint8_t *bytes, size_t len) {

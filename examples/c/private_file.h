@@ -19,6 +19,10 @@ int private_file_lock(const char *path);
 // write are refused.
 long private_file_read(const char *path, uint8_t *bytes, size_t most);
 
+// Opens a file that the caller empties and writes, and returns its descriptor, or -1. A new one has mode 0600. A link,
+// what isn't a file, and a file that others own, or may read or write, are refused.
+int private_file_to_write(const char *path);
+
 // Writes a file beside the other to the disk, and then puts it in the other's place.
 bool private_file_replace(const char *path, const uint8_t *bytes, size_t len);
 

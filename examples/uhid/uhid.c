@@ -30,7 +30,15 @@
 
 // A KEEPALIVE is due every 100 ms; a message has to go on within 500 ms. A line has at most 255 bytes,
 // and the text of its answer at most 18,000. The kernel keeps 32 events.
-enum { KEEPALIVE_MS = 100, MESSAGE_MS = 500, LINE_MOST = 255, TEXT_MOST = 18000, PACKET = 64, EVENTS_MOST = 64 };
+enum {
+    KEEPALIVE_MS = 100,
+    MESSAGE_MS = 500,
+    LINE_MOST = 255,
+    TEXT_MOST = 18000,
+    PACKET = 64,
+    EVENTS_MOST = 64,
+    PATH = 4096
+};
 
 // The report descriptor of CTAP 2.1, "HID report descriptor and device discovery": usage page 0xF1D0, 64 bytes each
 // way.
@@ -318,19 +326,6 @@ static bool plug_in(void) {
     return write(device, &event, sizeof event) == sizeof event || failed("the device can't be made");
 }
 
-// Writes the snapshot that a recording begins with.
-static bool write_snapshot(const char *recorded, const uint8_t *snapshot, size_t len) {
-    char beside[4096];
-    if (snprintf(beside, sizeof beside, "%s.snapshot", recorded) >= (int)sizeof beside) {
-        errno = ENAMETOOLONG;
-        return failed(recorded);
-    }
-    int file = open(beside, O_WRONLY | O_CREAT | O_TRUNC | O_CLOEXEC, 0666);
-    bool is_written = file >= 0 && write_whole(file, snapshot, len);
-    is_written = (file < 0 || close(file) == 0) && is_written;
-    return is_written || failed(beside);
-}
-
 // Whether a recording may be written to a path: not where that is the key's file, or where it can't be known.
 static bool may_record(const char *path) {
     struct stat one, other;
@@ -350,8 +345,41 @@ static bool may_record(const char *path) {
     return true;
 }
 
-// Opens the recording, and beside it the snapshot that it begins with where the key has credentials. The key is made
-// anew with an AAGUID of zeros, which is the program's: so `hidlog check` compares the recording.
+// Makes the path of the snapshot that a recording begins with.
+static bool snapshot_path(const char *recorded, char path[PATH]) {
+    if (snprintf(path, PATH, "%s.snapshot", recorded) >= PATH) {
+        errno = ENAMETOOLONG;
+        return failed(recorded);
+    }
+    return true;
+}
+
+// Empties a file and writes it.
+static bool write_anew(const char *path, int file, const uint8_t *bytes, size_t len) {
+    return (ftruncate(file, 0) == 0 && write_whole(file, bytes, len)) || failed(path);
+}
+
+// Opens the recording, and beside it the snapshot that it begins with, if any. Neither is emptied where the other can't
+// be opened.
+static bool begin_recording(const char *path, const uint8_t *snapshot, size_t len) {
+    char beside[PATH];
+    if (!snapshot_path(path, beside) || !may_record(path) || !may_record(beside)) {
+        return false;
+    }
+    recording = private_file_to_write(path);
+    int file = recording >= 0 && len > 0 ? private_file_to_write(beside) : -1;
+    if (recording < 0 || (len > 0 && file < 0)) {
+        return false;
+    }
+    bool is_written = write_anew(path, recording, NULL, 0) && (len == 0 || write_anew(beside, file, snapshot, len));
+    if (file >= 0 && close(file) != 0 && is_written) {
+        is_written = failed(beside);
+    }
+    return is_written;
+}
+
+// Begins the recording, if any. The key is made anew with an AAGUID of zeros, which is the program's: so `hidlog check`
+// compares the recording.
 static bool begin(const char *path) {
     static const uint8_t aaguid[16];
     static uint8_t snapshot[SNAPSHOT_MOST];
@@ -361,14 +389,7 @@ static bool begin(const char *path) {
         fprintf(stderr, "hidlog-uhid: the key can't be made\n");
         return false;
     }
-    if (path == NULL) {
-        return true;
-    }
-    if (!may_record(path) || (len > 0 && !write_snapshot(path, snapshot, len))) {
-        return false;
-    }
-    recording = open(path, O_WRONLY | O_CREAT | O_TRUNC | O_CLOEXEC, 0666);
-    return recording >= 0 || failed(path);
+    return path == NULL || begin_recording(path, snapshot, len);
 }
 
 // Returns what a signal that ends the bridge makes readable, or -1.

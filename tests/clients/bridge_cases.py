@@ -20,7 +20,7 @@ import tempfile
 import threading
 import time
 from pathlib import Path
-from typing import Sequence
+from typing import Callable, Sequence
 
 from bridge import (
     BROADCAST,
@@ -222,16 +222,6 @@ def a_second_bridge_waits(room: Path) -> None:
     assert state.read_bytes() == old
 
 
-def the_state_is_not_recorded_over(room: Path) -> None:
-    """A recording that would replace the state file is refused."""
-    state, old = made(room)
-    for path in (str(state), f"{room}/./key.state"):
-        bridge = Bridge([UHID, "-r", path, str(state)])
-        assert not bridge.plugged_in(), "it was plugged in"
-        wants(bridge.ended(), 1, "it is the key's file, which a recording would replace")
-    assert state.read_bytes() == old
-
-
 def wrong_words_are_told(room: Path) -> None:
     state = str(room / "key.state")
     wrong: list[list[str]] = [
@@ -416,7 +406,6 @@ TESTS = [
     what_is_no_file_is_refused,
     what_was_not_plugged_in_saves_nothing,
     a_second_bridge_waits,
-    the_state_is_not_recorded_over,
     wrong_words_are_told,
     a_full_disk_keeps,
     a_slow_reader_is_waited_for,
@@ -425,12 +414,13 @@ TESTS = [
 ]
 
 
-def main() -> int:
+def run(tests: Sequence[Callable[[Path], None]]) -> int:
+    """Runs each test in a folder of its own, and returns the exit status."""
     failed = 0
     if not UHID or shutil.which("prlimit") is None or shutil.which("strace") is None:
         print((__doc__ or "").strip(), file=sys.stderr)
         return 2
-    for test in TESTS:
+    for test in tests:
         with tempfile.TemporaryDirectory() as folder:
             Path(folder).chmod(0o755)
             try:
@@ -440,9 +430,9 @@ def main() -> int:
                 failed += 1
             finally:
                 Bridge.end_all()
-    print(f"{len(TESTS) - failed} of {len(TESTS)} tests of the bridges passed")
+    print(f"{len(tests) - failed} of {len(tests)} tests of the bridges passed")
     return 1 if failed else 0
 
 
 if __name__ == "__main__":
-    sys.exit(main())
+    sys.exit(run(TESTS))

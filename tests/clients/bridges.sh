@@ -2,7 +2,7 @@
 # The bridges of examples/uhid and examples/ssh beside bad files, faults of the system and floods, with a stand-in for
 # the kernel's device. Ends with 3 where something is missing.
 #
-#     tests/clients/bridges.sh          what bridge_cases.py has, and faults at each call that touches files
+#     tests/clients/bridges.sh          what bridge_cases.py and bridge_recordings.py have, and faults at each call that touches files
 #     tests/clients/bridges.sh --all    faults at each system call
 # shellcheck disable=SC1091,SC2154 # top, name and library are set by common.sh
 set -euo pipefail
@@ -23,5 +23,6 @@ compile -g -fsanitize=address,undefined -fno-sanitize-recover=all -I "$top/examp
 compile -I "$top/examples/ssh" -o "$room/sk_call" "$top/tests/clients/sk_call.c" "$top/examples/ssh/hidlog_sk.c" \
     "$top/examples/c/fido_device.c" "${parts[@]}" "$library/libhidlog.a" -lfido2 -lcrypto
 python3 "$top/tests/clients/bridge_cases.py" "$room/uhid" "$room/uhid_checked"
+python3 "$top/tests/clients/bridge_recordings.py" "$room/uhid" "$room/uhid_checked"
 python3 "$top/tests/clients/bridge_users.py" "$room/uhid_checked"
 python3 "$top/tests/clients/bridge_faults.py" "$room/uhid" "$room/sk_call" "$@"
