@@ -1,92 +1,20 @@
-"""What of a release goes into the wheel and the sdist: the version, the program and the C library.
-
-In a clone these files are in ../release, and in an sdist in prebuilt/. A wheel is for the processor of this machine, or
-for the one that HIDLOG_PROCESSOR names, x86_64 or aarch64. On another system it has neither program nor library.
-"""
+"""What hatchling adds to the wheel and the sdist: the files of release_files.py."""
 
 from __future__ import annotations
 
-import os
-import platform
-import shutil
-import subprocess
+import sys
 import tempfile
 from pathlib import Path
 from typing import Any
 
 from hatchling.builders.hooks.plugin.interface import BuildHookInterface
 
-TOP = Path(__file__).resolve().parent
-# The modules of the conformance corpus that `hidlog import` and `hidlog judge` use: one set of rules for both.
-CORPUS = "hidlog_conformance"
-LIBRARY = "libhidlog.so.0"
-PAGE_SCRIPT = "security_key.js"
-# Neither program nor library needs a C library by name, so both run on any Linux of their processor.
-TAG = "py3-none-manylinux_2_17_{0}.manylinux2014_{0}.musllinux_1_1_{0}"
-# By processor: where a clone has the files of prebuilt/PROCESSOR.
-FILES = {
-    "x86_64": {"hidlog": "../release/hidlog", LIBRARY: f"../release/{LIBRARY}"},
-    "aarch64": {"hidlog": "../release/aarch64/hidlog", "libhidlog.a": "../release/aarch64/libhidlog.a"},
-}
+# hatchling runs this file from anywhere.
+sys.path.insert(0, str(Path(__file__).resolve().parent))
 
+from release_files import TAG, processor_here, sdist_files, version, wheel_files
 
-def released(processor: str, name: str) -> Path:
-    """Returns a file of the release."""
-    for path in (TOP / "prebuilt" / processor / name, TOP / FILES[processor][name]):
-        if path.is_file():
-            return path
-    raise SystemExit(f"hatch_build.py: {name} is neither in prebuilt/{processor} nor at {FILES[processor][name]}")
-
-
-def build_file() -> Path:
-    """Returns the file that names the version and the sources of the release."""
-    found = [it for it in (TOP / "prebuilt" / "BUILD", TOP.parent / "release" / "BUILD") if it.is_file()]
-    if not found:
-        raise SystemExit("hatch_build.py: BUILD is neither in prebuilt nor in ../release")
-    return found[0]
-
-
-def corpus_files() -> list[Path]:
-    """Returns the corpus's modules, which are in prebuilt of an sdist."""
-    for folder in (TOP / "prebuilt" / CORPUS, TOP.parent / "conformance" / CORPUS):
-        if folder.is_dir():
-            return sorted(folder.glob("*.py"))
-    raise SystemExit(f"hatch_build.py: {CORPUS} is neither in prebuilt nor in ../conformance")
-
-
-def page_script() -> Path:
-    """Returns the script of the key in a page, which `hidlog webdriver` puts into pages."""
-    for path in (TOP / "prebuilt" / PAGE_SCRIPT, TOP.parent / "web" / "dist" / PAGE_SCRIPT):
-        if path.is_file():
-            return path
-    raise SystemExit(f"hatch_build.py: {PAGE_SCRIPT} is neither in prebuilt nor in ../web/dist")
-
-
-def version() -> str:
-    """Returns the version of the release."""
-    lines = build_file().read_text(encoding="utf-8").splitlines()
-    return next(line[len("version: ") :] for line in lines if line.startswith("version: "))
-
-
-def processor_here() -> str | None:
-    """Returns the processor that the wheel is for, or None where there are no files for it."""
-    named = os.environ.get("HIDLOG_PROCESSOR")
-    if named and named not in FILES:
-        raise SystemExit(f"hatch_build.py: HIDLOG_PROCESSOR is {named}; it has to be {' or '.join(FILES)}")
-    is_linux = platform.system() == "Linux"
-    return named or (platform.machine() if is_linux and platform.machine() in FILES else None)
-
-
-def linked(archive: Path, folder: Path) -> Path:
-    """Links the shared library for aarch64."""
-    own = ["ld"] if platform.machine() == "aarch64" else []
-    linker = next((it for it in ("ld.lld", "aarch64-linux-gnu-ld", *own) if shutil.which(it)), None)
-    if linker is None:
-        raise SystemExit("hatch_build.py: a linker for aarch64 is missing: install lld, or binutils-aarch64-linux-gnu")
-    words = ["-m", "aarch64linux", "-shared", "-soname", LIBRARY, "-z", "relro", "-z", "now", "--strip-all"]
-    library = folder / LIBRARY
-    subprocess.run([linker, *words, "-o", library, "--whole-archive", archive], check=True)
-    return library
+__all__ = ["CustomBuildHook", "version"]
 
 
 class CustomBuildHook(BuildHookInterface[Any]):
@@ -94,31 +22,13 @@ class CustomBuildHook(BuildHookInterface[Any]):
 
     def initialize(self, version: str, build_data: dict[str, Any]) -> None:
         """Names the files that the target has beside the sources."""
-        added = build_data["force_include"]
+        added: dict[Path, str] = {}
         if self.target_name == "sdist":
-            added[str(build_file())] = "prebuilt/BUILD"
-            added[str(page_script())] = f"prebuilt/{PAGE_SCRIPT}"
-            for path in corpus_files():
-                added[str(path)] = f"prebuilt/{CORPUS}/{path.name}"
-            for processor, names in FILES.items():
-                for name in names:
-                    added[str(released(processor, name))] = f"prebuilt/{processor}/{name}"
+            added = sdist_files()
         elif version != "editable":
-            self._add_to_wheel(build_data)
-
-    def _add_to_wheel(self, build_data: dict[str, Any]) -> None:
-        added, processor = build_data["force_include"], processor_here()
-        added[str(build_file())] = "hidlog/BUILD"
-        added[str(page_script())] = f"hidlog/webdriver/{PAGE_SCRIPT}"
-        for path in corpus_files():
-            added[str(path)] = f"hidlog/corpus/{CORPUS}/{path.name}"
-        if processor is None:
-            return
-        build_data["pure_python"], build_data["tag"] = False, TAG.format(processor)
-        if processor == "aarch64":
             self._folder = tempfile.TemporaryDirectory()
-            added[str(linked(released(processor, "libhidlog.a"), Path(self._folder.name)))] = f"hidlog/{LIBRARY}"
-            added[str(released(processor, "hidlog"))] = "hidlog/hidlog"
-            return
-        for name in FILES[processor]:
-            added[str(released(processor, name))] = f"hidlog/{name}"
+            processor = processor_here()
+            added = wheel_files(processor, Path(self._folder.name))
+            if processor is not None:
+                build_data["pure_python"], build_data["tag"] = False, TAG.format(processor)
+        build_data["force_include"].update({str(path): name for path, name in added.items()})

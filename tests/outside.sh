@@ -67,14 +67,44 @@ steps = yaml.safe_load(open(sys.argv[1]))['runs']['steps']
 print(next(it['run'] for it in steps if $1))" "$top/action.yml"
 }
 
+# Runs the action's first step, where pip finds our own wheels alone: install_by_action VENV [REQUIREMENTS]
+install_by_action() {
+    rm -rf "$room/temp"
+    mkdir -p "$room/temp"
+    rm -f "$room/path" "$room/env" "$room/output"
+    RUNNER_TEMP=$room/temp GITHUB_PATH=$room/path GITHUB_ENV=$room/env GITHUB_OUTPUT=$room/output ACTION=$top \
+        PYTHON=$room/$1/bin/python REQUIREMENTS=${2-} PYTHONDONTWRITEBYTECODE=1 \
+        PIP_NO_DEPS=1 PIP_NO_INDEX=1 PIP_FIND_LINKS=$room/dist bash -e "$room/install.sh" >"$room/said" 2>&1
+}
+
+# The action installs what a commit has, or what a file names with its hashes, and nothing else.
+fetches_nothing() {
+    /usr/bin/python3 -m venv --without-pip "$room/bare" || stop "there is no venv"
+    run_of 'it.get("id") == "install"' >"$room/install.sh"
+    ! install_by_action bare || stop "the action installs without cryptography"
+    grep -q '^::error::the Python package cryptography is missing' "$room/said" || stop "it says: $(cat "$room/said")"
+    # The package itself, in another's place.
+    local wheel=("$room"/dist/*x86_64.whl) version
+    version=$(sed -n 's/^version: //p' "$top/release/BUILD")
+    echo "hidlog==$version" >"$room/requirements.txt"
+    ! install_by_action venv "$room/requirements.txt" || stop "the action installs a package without a hash"
+    grep -q 'Hashes are required' "$room/said" || stop "the action says: $(cat "$room/said")"
+    [ -z "$(find "$room/temp" -name '*.whl')" ] || stop "the action went on without the requirements"
+    echo "hidlog==$version --hash=sha256:$(printf %064d 0)" >"$room/requirements.txt"
+    ! install_by_action venv "$room/requirements.txt" || stop "the action installs a package of another hash"
+    echo "hidlog==$version --hash=sha256:$(sha256sum "${wheel[0]}" | cut -c1-64)" >"$room/requirements.txt"
+    install_by_action venv "$room/requirements.txt" || stop "the action refuses the right hash: $(cat "$room/said")"
+    [ "$(grep -c 'pip' "$room/install.sh")" = "$(grep -cE -- '--require-hashes|--no-index|^ *pip=' "$room/install.sh")" ] ||
+        stop "the action calls pip without --require-hashes or --no-index"
+    echo "tests/outside.sh: the action fetches nothing without a hash"
+}
+
 if /usr/bin/python3 -c 'import yaml, hatchling, venv, pytest, cryptography' 2>/dev/null; then
     /usr/bin/python3 -m venv --system-site-packages "$room/venv"
-    run_of 'it.get("id") == "install"' >"$room/install.sh"
-    mkdir "$room/temp"
-    touch "$room/path" "$room/env" "$room/output"
-    RUNNER_TEMP=$room/temp GITHUB_PATH=$room/path GITHUB_ENV=$room/env GITHUB_OUTPUT=$room/output ACTION=$top \
-        PYTHON=$room/venv/bin/python PIP_NO_INDEX=1 PIP_NO_BUILD_ISOLATION=0 PIP_NO_DEPS=1 \
-        bash -e "$room/install.sh" >"$room/said" || stop "the action doesn't install"
+    "$top/python/build.sh" "$room/dist" >/dev/null
+    fetches_nothing
+    install_by_action venv || stop "the action doesn't install: $(cat "$room/said")"
+    /usr/bin/python3 "$top/tests/wheels_same.py" "$room"/temp/hidlog/wheel/*.whl "$room"/dist/*x86_64.whl
     grep -q '^hidlog [0-9]' "$room/said" || stop "the action says: $(cat "$room/said")"
     PATH=$(cat "$room/path"):$PATH
     [ "$(hidlog check "$log")" = "same 14 inputs 22 packets" ] || stop "the action's program isn't on the path"

@@ -1,0 +1,67 @@
+#!/usr/bin/env python3
+"""Compares the wheel of python/wheel.py with hatchling's: wheels_same.py OWN HATCHLING
+
+The same files and bytes, and the same facts: version, requirements, tags and entry points. Ends with 1 at a difference.
+"""
+
+from __future__ import annotations
+
+import configparser
+import email
+import sys
+import zipfile
+from pathlib import Path
+
+FACTS = ("Name", "Version", "Summary", "Requires-Python", "Requires-Dist", "Provides-Extra")
+TAGS = ("Wheel-Version", "Root-Is-Purelib", "Tag")
+
+
+def values(text: str, names: tuple[str, ...]) -> dict[str, list[str]]:
+    """Returns fields of METADATA or WHEEL, in the order that doesn't matter."""
+    message = email.message_from_string(text)
+    return {
+        name: sorted(value.replace('"', "'").replace(" ; ", "; ") for value in message.get_all(name, []))
+        for name in names
+    }
+
+
+def entry_points(text: str) -> dict[str, dict[str, str]]:
+    parser = configparser.ConfigParser()
+    parser.read_string(text)
+    return {name: dict(parser[name]) for name in parser.sections()}
+
+
+def read(path: Path) -> dict[str, object]:
+    """Returns what is compared of a wheel, by name."""
+    found: dict[str, object] = {"the name": path.name}
+    with zipfile.ZipFile(path) as archive:
+        assert archive.testzip() is None
+        for entry in archive.infolist():
+            data, name = archive.read(entry), entry.filename.rpartition("/")[2]
+            if name == "METADATA":
+                found[entry.filename] = values(data.decode(), FACTS)
+            elif name == "WHEEL":
+                found[entry.filename] = values(data.decode(), TAGS)
+            elif name == "entry_points.txt":
+                found[entry.filename] = entry_points(data.decode())
+            elif name == "RECORD":
+                found[entry.filename] = sorted(line.split(",")[0] for line in data.decode().splitlines())
+            else:
+                found[entry.filename] = data, bool(entry.external_attr >> 16 & 0o100)
+    return found
+
+
+def main() -> int:
+    if len(sys.argv) != 3:
+        print((__doc__ or "").strip(), file=sys.stderr)
+        return 2
+    own, other = read(Path(sys.argv[1])), read(Path(sys.argv[2]))
+    different = sorted(name for name in own.keys() | other.keys() if own.get(name) != other.get(name))
+    for name in different:
+        print(f"{name} differs: {str(own.get(name, 'missing'))[:300]} / {str(other.get(name, 'missing'))[:300]}")
+    print(f"{len(own)} files and facts of the wheel, {len(different)} differ from hatchling's")
+    return 1 if different or len(own) < 20 else 0
+
+
+if __name__ == "__main__":
+    sys.exit(main())
