@@ -112,6 +112,7 @@ make_tarball() {
         put 644 docs/use/hidlog-uhid.8 "$root/share/man/man8/hidlog-uhid.8"
         put 644 packages/uhid/70-hidlog.rules "$root/share/hidlog-uhid/70-hidlog.rules"
         put 644 packages/uhid/hidlog-uhid@.service "$root/share/hidlog-uhid/hidlog-uhid@.service"
+        put 644 packages/uhid/hidlog-uhid.conf "$root/share/hidlog-uhid/hidlog-uhid.conf"
     fi
     for name in LICENSE-APACHE LICENSE-MIT packages/NOTICE CHANGELOG.md release/BUILD; do
         put 644 "$name" "$root/$(basename "$name")"

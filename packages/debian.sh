@@ -145,7 +145,16 @@ make_uhid() {
     gzip -9n "$root/usr/share/man/man8/hidlog-uhid.8"
     put 644 packages/uhid/70-hidlog.rules "$root/lib/udev/rules.d/70-hidlog.rules"
     put 644 packages/uhid/hidlog-uhid@.service "$root/lib/systemd/system/hidlog-uhid@.service"
+    put 644 packages/uhid/hidlog-uhid.conf "$root/usr/lib/sysusers.d/hidlog-uhid.conf"
     put 644 packages/readme/hidlog-uhid.md "$root/usr/share/doc/hidlog-uhid/README.md"
+    # The unit's user. Without systemd there is no unit, and the user isn't needed.
+    put_script "$root" postinst <<'END'
+#!/bin/sh
+set -e
+if [ "$1" = configure ] && command -v systemd-sysusers >/dev/null; then
+    systemd-sysusers hidlog-uhid.conf
+fi
+END
     override hidlog-uhid "$root" "The key is software: nothing that is plugged in asks for the package." \
         "appstream-metadata-missing-modalias-provide *"
     pack hidlog-uhid amd64 utils "libc6 (>= 2.34), libssl3 (>= 3.0.0), kmod" \

@@ -73,6 +73,19 @@ ssh_signs() {
         ssh-keygen -Y verify -f signers -I hidlog -n file -s text.sig <text
 }
 
+# The user, capabilities and filter of the service's process, and that only it may make devices.
+is_confined() {
+    start alice && pid=$(systemctl show -P MainPID hidlog-uhid@alice) && cat "/proc/$pid/status" || return
+    [ "$(stat -c %U "/proc/$pid")" = hidlog-uhid ] && [ "$(stat -c '%a %G' /dev/uhid)" = "660 hidlog-uhid" ] &&
+        grep -qE '^CapEff:[[:space:]]+0+$' "/proc/$pid/status" && grep -qE '^Seccomp:[[:space:]]+2' "/proc/$pid/status" &&
+        [ "$(stat -c '%a %U' /var/lib/hidlog-uhid/alice.state)" = "600 hidlog-uhid" ] && stop alice
+}
+
+# Older versions ran as root, and their files are root's.
+has_been_root() {
+    chown -R root:root /var/lib/hidlog-uhid /var/log/hidlog-uhid && start alice && signs_in && stop alice
+}
+
 # A script denies the first touch, and grants the second.
 denied_once() {
     printf 'denied\ngranted\n' >/etc/hidlog-script
@@ -120,6 +133,8 @@ package() {
     works "systemctl start again" start alice
     works "fido2-assert signs in with the credential of before" signs_in
     works "systemctl stop again" stop alice
+    works "the service runs as its own user, without a capability" is_confined
+    works "it goes on with the state of a version that ran as root" has_been_root
     works "the second recording begins with a snapshot" check_recording alice
     works "--presence script denies once, as a user sees" denied_once
     works "its recording" check_recording bob
@@ -135,6 +150,6 @@ for browser in "${parts[@]}"; do
     [ ! -e versions ] || sed 's/^/@@ /' versions
 done
 stop carol
-works "the recording of the browsers" check_recording carol
+[ "${parts[*]}" = package ] || works "the recording of the browsers" check_recording carol
 echo "@@ end after $(cut -d' ' -f1 /proc/uptime) s"
 systemctl poweroff
