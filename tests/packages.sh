@@ -142,6 +142,15 @@ if command -v node >/dev/null; then
     echo "tests/packages.sh: the npm package is loaded"
 fi
 python3 "$top/tests/packages_hold.py" "$room/first"
+"$top/tests/packages_signed.sh" "$room/first" || [ $? = 3 ] || stop "releases aren't signed as they should be"
+# What systemd says of the unit's rights, from 0 to 100: as root, without a filter, it had 44.
+if command -v systemd-analyze >/dev/null; then
+    systemd-analyze security --no-pager --offline=yes --threshold=19 "$room/root/lib/systemd/system/hidlog-uhid@.service" \
+        >"$room/said" || stop "the unit of hidlog-uhid has too many rights: $(tail -1 "$room/said")"
+    echo "tests/packages.sh: $(tail -1 "$room/said")"
+else
+    echo "tests/packages.sh: systemd-analyze was not run (apt-get install systemd)"
+fi
 for it in "${waiting[@]}"; do
     wait "${it% *}" || stop "the command of ${it#* }: $(cat "$room/cases.${it#* }")"
     echo "tests/packages.sh: the command of ${it#* }: $(tail -1 "$room/cases.${it#* }")"
