@@ -20,6 +20,7 @@ from .lines import Engine
 from .outside import Backup
 from .recording_files import snapshot_path
 from .session import Recording, Session
+from .snapshot_files import verify_sum, with_sum
 
 if TYPE_CHECKING:
     from .browser import Browser
@@ -190,7 +191,7 @@ class SecurityKey(Session):
             "ids": {core.hex(): it.id.hex() for core, it in zip(cores, held) if core != it.id},
             "backups": {core.hex(): [*it.backup] for core, it in zip(cores, held) if any(it.backup)},
         }
-        return json.dumps(written, indent=1)
+        return json.dumps(with_sum(written), indent=1)
 
     @classmethod
     def load(cls: type[_Key], path: str | os.PathLike[str], *, counter_margin: int = 0, **options: Any) -> _Key:
@@ -227,6 +228,7 @@ class SecurityKey(Session):
             raise ArgumentError(f"{path} isn't what SecurityKey.save writes: {error}") from None
         if form != _FORM:
             raise ArgumentError(f"{path} has the form {form!r}, and {_FORM!r} is read")
+        verify_sum(path, kept)
         if margin:
             raised = [(it, min(it.counter + margin, 2**32 - 1)) for it in read_snapshot(snapshot)]
             snapshot = write_snapshot([replace(it, counter=counter) for it, counter in raised])
