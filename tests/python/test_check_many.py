@@ -17,7 +17,7 @@ from typing import Any
 import pytest
 
 import hidlog
-from hidlog.errors import STATUS_NAMES
+from hidlog.standard import STATUS_NAMES
 from hidlog.many import check_block
 
 EXAMPLES = Path(os.environ["HIDLOG_EXAMPLES"])

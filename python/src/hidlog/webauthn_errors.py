@@ -6,7 +6,8 @@ member `name` is the DOM's.
 
 from __future__ import annotations
 
-from .errors import STATUS_NAMES, ArgumentError, ArgumentTypeError, CtapError, HidlogError
+from .errors import ArgumentError, ArgumentTypeError, CtapError, HidlogError
+from .standard import STATUS_NAMES
 
 
 class WebAuthnError(HidlogError):

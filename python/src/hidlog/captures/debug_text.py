@@ -79,12 +79,12 @@ class _Libfido2:
         elif found := _DUMP.match(line):
             name, length = found[1].decode(), int(found[2])
             is_packet = name.startswith("rx") and length in (hid.PACKET, hid.PACKET + 1)
-            if (name == "fido_tx" and length <= hid.MOST_BYTES) or is_packet:
+            if (name == "fido_tx" and length <= hid.LONGEST_MESSAGE) or is_packet:
                 self._expect(name, length)
 
     def _expect(self, kind: str, length: int) -> None:
         """Begins to collect a dump."""
-        self._kind, self._length, self._data = kind, min(length, hid.MOST_BYTES), b""
+        self._kind, self._length, self._data = kind, min(length, hid.LONGEST_MESSAGE), b""
         if not length:
             self._finish()
 

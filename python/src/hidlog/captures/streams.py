@@ -228,4 +228,4 @@ def _may_begin(data: bytes) -> bool:
     """Returns whether a packet may be an initialization packet of CTAPHID."""
     if len(data) < 7 or not data[4] & 0x80 or data[:4] == b"\0\0\0\0":
         return False
-    return data[4] & 0x7F in _COMMANDS and int.from_bytes(data[5:7], "big") <= hid.MOST_BYTES
+    return data[4] & 0x7F in _COMMANDS and int.from_bytes(data[5:7], "big") <= hid.LONGEST_MESSAGE
