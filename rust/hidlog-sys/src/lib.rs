@@ -72,6 +72,22 @@ pub struct hidlog_meters {
     pub zero: u32,
 }
 
+/// `enum hidlog_client_ceremony`.
+pub const HIDLOG_CLIENT_CREATE: u32 = 0;
+pub const HIDLOG_CLIENT_GET: u32 = 1;
+/// `enum hidlog_client_ability`.
+pub const HIDLOG_CLIENT_RESIDENT_KEY: u32 = 8;
+
+/// `struct hidlog_client_report`.
+#[repr(C)]
+#[derive(Clone, Copy, Debug, Default, PartialEq, Eq)]
+pub struct hidlog_client_report {
+    pub timeout_ms: u32,
+    pub is_verified: u32,
+    pub member_len: u32,
+    pub reason_len: u32,
+}
+
 macro_rules! commands {
     ($($name:ident)*) => { extern "C" { $(
         pub fn $name(log: *const u8, log_len: usize, snapshot: *const u8, snapshot_len: usize, out: *mut u8, room: usize,
@@ -133,4 +149,36 @@ extern "C" {
         room: usize,
         outcome: *mut hidlog_outcome,
     ) -> i32;
+    pub fn hidlog_client_request(
+        ceremony: u32,
+        options: *const u8,
+        options_len: usize,
+        mediation: *const u8,
+        mediation_len: usize,
+        origin: *const u8,
+        origin_len: usize,
+        suffix: *const u8,
+        suffix_len: usize,
+        abilities: u32,
+        report: *mut hidlog_client_report,
+        out: *mut u8,
+        out_cap: usize,
+    ) -> i64;
+    pub fn hidlog_client_response(
+        ceremony: u32,
+        options: *const u8,
+        options_len: usize,
+        mediation: *const u8,
+        mediation_len: usize,
+        origin: *const u8,
+        origin_len: usize,
+        suffix: *const u8,
+        suffix_len: usize,
+        abilities: u32,
+        response: *const u8,
+        response_len: usize,
+        report: *mut hidlog_client_report,
+        out: *mut u8,
+        out_cap: usize,
+    ) -> i64;
 }

@@ -1,4 +1,6 @@
+use crate::base64url;
 use crate::cbor::Item;
+use crate::client::{Ceremony, Client};
 use crate::private_keys::{sha256, PrivateKey};
 use crate::{Error, Id, SecurityKey};
 use std::collections::HashMap;
@@ -67,6 +69,7 @@ pub struct Registration {
     pub authenticator_data: Vec<u8>,
     /// `getPublicKey()`: a SubjectPublicKeyInfo.
     pub public_key: Vec<u8>,
+    json: String,
 }
 
 /// What a page sends of a sign-in.
@@ -82,50 +85,103 @@ pub struct Assertion {
     pub signature: Vec<u8>,
     /// `userHandle`.
     pub user_handle: Option<Vec<u8>>,
+    json: String,
+}
+
+impl Creation {
+    /// Returns the options as `PublicKeyCredentialCreationOptionsJSON`.
+    fn to_json(&self) -> String {
+        let rp_id = self.rp_id.iter().map(|id| format!(r#""id":{},"#, quoted(id))).collect::<String>();
+        let name = quoted(&self.user_name);
+        let (challenge, user_id) = (base64url::encode(&self.challenge), base64url::encode(&self.user_id));
+        let resident_key = if self.discoverable { "required" } else { "discouraged" };
+        format!(
+            concat!(
+                r#"{{"rp":{{{}"name":""}},"user":{{"id":"{}","name":{},"displayName":{}}},"challenge":"{}","#,
+                r#""pubKeyCredParams":[{{"type":"public-key","alg":-7}}],"excludeCredentials":[{}],"#,
+                r#""authenticatorSelection":{{"residentKey":"{}","userVerification":"discouraged"}}}}"#
+            ),
+            rp_id,
+            user_id,
+            name,
+            name,
+            challenge,
+            descriptors(&self.exclude),
+            resident_key
+        )
+    }
+}
+
+impl Request {
+    /// Returns the options as `PublicKeyCredentialRequestOptionsJSON`.
+    fn to_json(&self) -> String {
+        let rp_id = self.rp_id.iter().map(|id| format!(r#""rpId":{},"#, quoted(id))).collect::<String>();
+        let (challenge, allow) = (base64url::encode(&self.challenge), descriptors(&self.allow));
+        format!(r#"{{{rp_id}"challenge":"{challenge}","allowCredentials":[{allow}],"userVerification":"discouraged"}}"#)
+    }
+}
+
+/// Returns a text as a string of JSON.
+fn quoted(text: &str) -> String {
+    let mut found = String::from('"');
+    for letter in text.chars() {
+        match letter {
+            '"' | '\\' => found.extend(['\\', letter]),
+            control if control < ' ' => found += &format!("\\u{:04x}", control as u32),
+            other => found.push(other),
+        }
+    }
+    found.push('"');
+    found
+}
+
+/// Returns descriptors of credentials, as the entries of an array of JSON.
+fn descriptors(ids: &[Id]) -> String {
+    let each = |id: &Id| format!(r#"{{"type":"public-key","id":"{}"}}"#, base64url::encode(id));
+    ids.iter().map(each).collect::<Vec<_>>().join(",")
 }
 
 impl Registration {
     /// Returns the JSON of WebAuthn Level 3, RegistrationResponseJSON.
     pub fn to_json(&self) -> String {
-        let members = [
-            ("clientDataJSON", &self.client_data),
-            ("attestationObject", &self.attestation_object),
-            ("authenticatorData", &self.authenticator_data),
-            ("publicKey", &self.public_key),
-        ];
-        response(&self.id, &members, r#","publicKeyAlgorithm":-7,"transports":["usb"]"#)
+        self.json.clone()
+    }
+
+    fn parse(json: String) -> Option<Registration> {
+        Some(Registration {
+            id: member(&json, "id")?.try_into().ok()?,
+            client_data: member(&json, "clientDataJSON")?,
+            attestation_object: member(&json, "attestationObject")?,
+            authenticator_data: member(&json, "authenticatorData")?,
+            public_key: member(&json, "publicKey").unwrap_or_default(),
+            json,
+        })
     }
 }
 
 impl Assertion {
     /// Returns the JSON of WebAuthn Level 3, AuthenticationResponseJSON.
     pub fn to_json(&self) -> String {
-        let mut members = vec![
-            ("clientDataJSON", &self.client_data),
-            ("authenticatorData", &self.authenticator_data),
-            ("signature", &self.signature),
-        ];
-        members.extend(self.user_handle.iter().map(|it| ("userHandle", it)));
-        response(&self.id, &members, "")
+        self.json.clone()
+    }
+
+    fn parse(json: String) -> Option<Assertion> {
+        Some(Assertion {
+            id: member(&json, "id")?.try_into().ok()?,
+            client_data: member(&json, "clientDataJSON")?,
+            authenticator_data: member(&json, "authenticatorData")?,
+            signature: member(&json, "signature")?,
+            user_handle: member(&json, "userHandle"),
+            json,
+        })
     }
 }
 
-fn response(id: &Id, members: &[(&str, &Vec<u8>)], more: &str) -> String {
-    let id = base64url(id);
-    let texts: Vec<String> = members.iter().map(|(name, it)| format!(r#""{name}":"{}""#, base64url(it))).collect();
-    let front = format!(r#""id":"{id}","rawId":"{id}","type":"public-key","authenticatorAttachment":"cross-platform""#);
-    format!(r#"{{{front},"clientExtensionResults":{{}},"response":{{{}{more}}}}}"#, texts.join(","))
-}
-
-/// Returns base64url without padding (RFC 4648, section 5).
-fn base64url(bytes: &[u8]) -> String {
-    const LETTERS: &[u8; 64] = b"ABCDEFGHIJKLMNOPQRSTUVWXYZabcdefghijklmnopqrstuvwxyz0123456789-_";
-    let mut text = String::new();
-    for chunk in bytes.chunks(3) {
-        let number = (0..3).fold(0usize, |sum, place| sum << 8 | usize::from(*chunk.get(place).unwrap_or(&0)));
-        text.extend((0..=chunk.len()).map(|place| LETTERS[number >> (18 - 6 * place) & 63] as char));
-    }
-    text
+/// Returns the bytes of a member of a credential's JSON. The library writes it with no blanks, and a member's name isn't
+/// part of any base64url.
+fn member(json: &str, name: &str) -> Option<Vec<u8>> {
+    let (_, rest) = json.split_once(&format!(r#""{name}":""#))?;
+    base64url::decode(rest.split_once('"')?.0)
 }
 
 /// Does what a page's `navigator.credentials` does, at an origin.
@@ -136,101 +192,93 @@ pub struct Browser {
     counters: HashMap<Id, [u8; 4]>,
 }
 
-fn dom<T>(name: &'static str, text: impl Into<String>) -> Result<T, Error> {
-    Err(Error::Dom(name, text.into()))
-}
-
 impl Browser {
     /// Opens an origin, such as `https://example.com` or `http://localhost:5000`, with a key plugged in.
     pub fn new(origin: &str, key: SecurityKey) -> Browser {
         Browser { key, origin: origin.into(), counters: HashMap::new() }
     }
 
-    /// Returns the RP id, which has to be the origin's host or a domain above it.
-    fn rp_id(&self, given: Option<&str>) -> Result<String, Error> {
-        let (scheme, rest) = self.origin.split_once("://").unwrap_or(("", ""));
-        let host = rest.split(':').next().unwrap_or("");
-        let is_local = host == "localhost" || host.ends_with(".localhost");
-        if host.is_empty() || host.contains('/') || !(scheme == "https" || scheme == "http" && is_local) {
-            return dom("SecurityError", format!("the origin {:?} has to be https, or http at localhost", self.origin));
-        }
-        match given {
-            None => Ok(host.into()),
-            Some(id) if id == host || id.contains('.') && host.ends_with(&format!(".{id}")) => Ok(id.into()),
-            Some(id) => dom("SecurityError", format!("the RP id {id:?} is no domain of {}", self.origin)),
-        }
+    /// Registers. What a page would see as an error is an [`Error::Dom`].
+    pub fn create(&mut self, options: &Creation) -> Result<Registration, Error> {
+        Registration::parse(self.create_json(&options.to_json())?).ok_or(Error::Answer)
     }
 
-    fn client_data(&self, kind: &str, challenge: &[u8]) -> Result<(Vec<u8>, [u8; 32]), Error> {
-        if challenge.is_empty() {
-            return dom("TypeError", "the challenge is empty");
-        }
-        let (challenge, origin) = (base64url(challenge), &self.origin);
-        let text = format!(r#"{{"type":"{kind}","challenge":"{challenge}","origin":"{origin}","crossOrigin":false}}"#);
-        let hash = sha256(text.as_bytes());
-        Ok((text.into_bytes(), hash))
+    /// Registers, with a service's PublicKeyCredentialCreationOptionsJSON, and returns RegistrationResponseJSON. It refuses
+    /// what Chromium refuses.
+    pub fn create_json(&mut self, options: &str) -> Result<String, Error> {
+        self.call(Ceremony::Create, options, 0)
     }
 
-    /// Sends a request, and returns its answer with a status as a page sees it.
-    fn ask(&mut self, command: u8, parameters: Vec<(Item, Item)>) -> Result<Item, Error> {
-        let mut request = vec![command];
-        if !parameters.is_empty() {
-            Item::Map(parameters).encode(&mut request);
-        }
-        match self.key.exchange(&request) {
-            Ok(answer) => Item::decode(&answer).ok_or(Error::Answer),
-            Err(Error::Status(status)) => {
-                let name = match status {
-                    0x19 => "InvalidStateError",
-                    0x26 => "NotSupportedError",
-                    _ => "NotAllowedError",
-                };
-                dom(name, Error::Status(status).to_string())
+    /// Signs in. What a page would see as an error is an [`Error::Dom`].
+    pub fn get(&mut self, options: &Request) -> Result<Assertion, Error> {
+        let json = self.call(Ceremony::Get, &options.to_json(), options.account)?;
+        Assertion::parse(json).ok_or(Error::Answer)
+    }
+
+    /// Signs in, with a service's PublicKeyCredentialRequestOptionsJSON, and returns AuthenticationResponseJSON. Of several
+    /// accounts it is the newest.
+    pub fn get_json(&mut self, options: &str) -> Result<String, Error> {
+        self.call(Ceremony::Get, options, 0)
+    }
+
+    fn call(&mut self, ceremony: Ceremony, options: &str, account: usize) -> Result<String, Error> {
+        let origin = self.origin.clone();
+        let client = Client { ceremony, options, origin: &origin };
+        let request = client.request()?;
+        let mut response = self.exchange(&request)?;
+        for _ in 0..account {
+            if response[0] == 0 {
+                response = self.exchange(&[GET_NEXT_ASSERTION])?;
             }
+        }
+        if response[0] == 0 {
+            response = self.with_faults(ceremony, &request, &response).ok_or(Error::Answer)??;
+        }
+        client.response(&response)
+    }
+
+    /// Sends a request, and returns the response with its status.
+    fn exchange(&mut self, request: &[u8]) -> Result<Vec<u8>, Error> {
+        match self.key.exchange(request) {
+            Ok(data) => Ok([&[0], &data[..]].concat()),
+            Err(Error::Status(status)) => Ok(vec![status]),
             Err(other) => Err(other),
         }
     }
 
-    /// Registers. What a page would see as an error is an [`Error::Dom`].
-    pub fn create(&mut self, given: &Creation) -> Result<Registration, Error> {
-        let rp = self.rp_id(given.rp_id.as_deref())?;
-        let (client_data, hash) = self.client_data("webauthn.create", &given.challenge)?;
-        let user = [("id", Item::Bytes(given.user_id.clone())), ("name", Item::text(&given.user_name))];
-        let algorithm = Item::map([("alg", Item::Number(-7)), ("type", Item::text("public-key"))]);
-        let mut parameters = vec![
-            (Item::Number(1), Item::Bytes(hash.to_vec())),
-            (Item::Number(2), Item::map([("id", Item::text(&rp))])),
-            (Item::Number(3), Item::map(user)),
-            (Item::Number(4), Item::Array(vec![algorithm])),
-        ];
-        if !given.exclude.is_empty() {
-            parameters.push((Item::Number(5), list(&given.exclude)));
-        }
-        if given.discoverable {
-            parameters.push((Item::Number(7), Item::map([("rk", Item::Bool(true))])));
-        }
-        let answer = self.ask(1, parameters)?;
-        self.registration(client_data, &hash, &answer).ok_or(Error::Answer)?
-    }
-
-    fn registration(
-        &mut self,
-        client_data: Vec<u8>,
-        hash: &[u8],
-        answer: &Item,
-    ) -> Option<Result<Registration, Error>> {
+    /// Returns a response as the faults that are on change it, and notes its signature counter.
+    fn with_faults(&mut self, ceremony: Ceremony, request: &[u8], response: &[u8]) -> Option<Result<Vec<u8>, Error>> {
+        let asked = Item::decode(&request[1..])?;
+        let answer = Item::decode(&response[1..])?;
         let data = answer.bytes(&Item::Number(2))?;
-        let signature = answer.get(&Item::Number(3))?.bytes(&Item::text("sig"))?;
-        let id: Id = data.get(55..87)?.try_into().ok()?;
-        let public_key = self.key.private_key(&id)?.public_key();
-        Some(self.altered(&id, data, hash, signature).and_then(|(authenticator_data, signature)| {
-            let mut attestation_object = Vec::new();
-            // A self attestation with an AAGUID of zeros is handed on whatever the service asks for (WebAuthn, 5.1.3).
-            let packed = Item::map([("alg", Item::Number(-7)), ("sig", Item::Bytes(signature))]);
-            let data = Item::Bytes(authenticator_data.clone());
-            Item::map([("fmt", Item::text("packed")), ("attStmt", packed), ("authData", data)])
-                .encode(&mut attestation_object);
-            Ok(Registration { id, client_data, attestation_object, authenticator_data, public_key: public_key? })
+        let (id, hash, signature): (Id, _, _) = match ceremony {
+            Ceremony::Create => (
+                data.get(55..87)?.try_into().ok()?,
+                asked.bytes(&Item::Number(1))?,
+                answer.get(&Item::Number(3))?.bytes(&Item::text("sig"))?,
+            ),
+            Ceremony::Get => (
+                answer.get(&Item::Number(1))?.bytes(&Item::text("id"))?.try_into().ok()?,
+                asked.bytes(&Item::Number(2))?,
+                answer.bytes(&Item::Number(3))?,
+            ),
+        };
+        Some(self.altered(&id, data, hash, signature).map(|(data, signature)| {
+            let third = match ceremony {
+                Ceremony::Create => Item::map([("alg", Item::Number(-7)), ("sig", Item::Bytes(signature))]),
+                Ceremony::Get => Item::Bytes(signature),
+            };
+            let entries = (1..=4).filter_map(|key| {
+                let value = match key {
+                    2 => Some(Item::Bytes(data.clone())),
+                    3 => Some(third.clone()),
+                    _ => answer.get(&Item::Number(key)).cloned(),
+                };
+                value.map(|value| (Item::Number(key), value))
+            });
+            let mut changed = vec![0];
+            Item::Map(entries.collect()).encode(&mut changed);
+            changed
         }))
     }
 
@@ -255,51 +303,7 @@ impl Browser {
         kept.truncate(kept.len().saturating_sub(faults.cut_short));
         Ok((kept, signature))
     }
-
-    /// Signs in. What a page would see as an error is an [`Error::Dom`].
-    pub fn get(&mut self, given: &Request) -> Result<Assertion, Error> {
-        let rp = self.rp_id(given.rp_id.as_deref())?;
-        let (client_data, hash) = self.client_data("webauthn.get", &given.challenge)?;
-        let mut parameters = vec![(Item::Number(1), Item::text(&rp)), (Item::Number(2), Item::Bytes(hash.to_vec()))];
-        if !given.allow.is_empty() {
-            parameters.push((Item::Number(3), list(&given.allow)));
-        }
-        let mut answer = self.ask(2, parameters)?;
-        for _ in 0..given.account {
-            answer = self.ask(8, Vec::new())?;
-        }
-        self.assertion(client_data, &hash, &answer).ok_or(Error::Answer)?
-    }
-
-    fn assertion(&mut self, client_data: Vec<u8>, hash: &[u8], answer: &Item) -> Option<Result<Assertion, Error>> {
-        let id: Id = answer.get(&Item::Number(1))?.bytes(&Item::text("id"))?.try_into().ok()?;
-        let (data, signature) = (answer.bytes(&Item::Number(2))?, answer.bytes(&Item::Number(3))?);
-        let user = answer.get(&Item::Number(4)).and_then(|it| it.bytes(&Item::text("id")));
-        let user_handle = user.map(<[u8]>::to_vec);
-        Some(self.altered(&id, data, hash, signature).map(|(authenticator_data, signature)| Assertion {
-            id,
-            client_data,
-            authenticator_data,
-            signature,
-            user_handle,
-        }))
-    }
 }
 
-fn list(ids: &[Id]) -> Item {
-    let each = |id: &Id| Item::map([("id", Item::Bytes(id.to_vec())), ("type", Item::text("public-key"))]);
-    Item::Array(ids.iter().map(each).collect())
-}
-
-#[cfg(test)]
-mod tests {
-    /// The table of RFC 4648, section 10, without padding.
-    #[test]
-    fn base64url_of_the_standard() {
-        let rows = [("", ""), ("f", "Zg"), ("fo", "Zm8"), ("foo", "Zm9v"), ("foob", "Zm9vYg"), ("fooba", "Zm9vYmE")];
-        for (text, encoded) in rows {
-            assert_eq!(super::base64url(text.as_bytes()), encoded);
-        }
-        assert_eq!(super::base64url(&[0xfb, 0xff]), "-_8");
-    }
-}
+/// authenticatorGetNextAssertion (CTAP 2.1, section 6.3).
+const GET_NEXT_ASSERTION: u8 = 0x08;

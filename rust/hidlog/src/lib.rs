@@ -31,9 +31,13 @@ mod key;
 mod standard;
 
 #[cfg(feature = "openssl")]
+mod base64url;
+#[cfg(feature = "openssl")]
 mod browser;
 #[cfg(feature = "openssl")]
 mod cbor;
+#[cfg(feature = "openssl")]
+mod client;
 #[cfg(feature = "openssl")]
 mod private_keys;
 #[cfg(feature = "openssl")]

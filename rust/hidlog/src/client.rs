@@ -1,0 +1,107 @@
+//! A call of `navigator.credentials` by the C library, which checks the options, and writes the request and the
+//! credential's JSON.
+use crate::standard::LONGEST_MESSAGE;
+use crate::Error;
+use hidlog_sys as sys;
+
+/// A credential's JSON has at most so many bytes.
+const CREDENTIAL_CAPACITY: usize = 16384;
+const MEDIATION: &[u8] = b"optional";
+
+/// A call of `navigator.credentials`.
+#[derive(Clone, Copy, PartialEq, Eq)]
+pub(crate) enum Ceremony {
+    Create,
+    Get,
+}
+
+/// A ceremony with its options and its origin.
+pub(crate) struct Client<'a> {
+    pub(crate) ceremony: Ceremony,
+    pub(crate) options: &'a str,
+    pub(crate) origin: &'a str,
+}
+
+impl Client<'_> {
+    fn ceremony(&self) -> u32 {
+        match self.ceremony {
+            Ceremony::Create => sys::HIDLOG_CLIENT_CREATE,
+            Ceremony::Get => sys::HIDLOG_CLIENT_GET,
+        }
+    }
+
+    /// Checks the options, and returns the request for the key: the command's byte, then CBOR.
+    pub(crate) fn request(&self) -> Result<Vec<u8>, Error> {
+        let mut report = sys::hidlog_client_report::default();
+        let mut out = vec![0; LONGEST_MESSAGE];
+        // SAFETY: each pointer is beside its length, and `out` and `report` overlap nothing.
+        let length = unsafe {
+            sys::hidlog_client_request(
+                self.ceremony(),
+                self.options.as_ptr(),
+                self.options.len(),
+                MEDIATION.as_ptr(),
+                MEDIATION.len(),
+                self.origin.as_ptr(),
+                self.origin.len(),
+                MEDIATION.as_ptr(),
+                0,
+                sys::HIDLOG_CLIENT_RESIDENT_KEY,
+                &mut report,
+                out.as_mut_ptr(),
+                out.len(),
+            )
+        };
+        written(length, &report, out)
+    }
+
+    /// Returns the credential as JSON, from the key's response: a status, then CBOR.
+    pub(crate) fn response(&self, response: &[u8]) -> Result<String, Error> {
+        let mut report = sys::hidlog_client_report::default();
+        let mut out = vec![0; CREDENTIAL_CAPACITY];
+        // SAFETY: each pointer is beside its length, and `out` and `report` overlap nothing.
+        let length = unsafe {
+            sys::hidlog_client_response(
+                self.ceremony(),
+                self.options.as_ptr(),
+                self.options.len(),
+                MEDIATION.as_ptr(),
+                MEDIATION.len(),
+                self.origin.as_ptr(),
+                self.origin.len(),
+                MEDIATION.as_ptr(),
+                0,
+                sys::HIDLOG_CLIENT_RESIDENT_KEY,
+                response.as_ptr(),
+                response.len(),
+                &mut report,
+                out.as_mut_ptr(),
+                out.len(),
+            )
+        };
+        String::from_utf8(written(length, &report, out)?).map_err(|_| Error::Answer)
+    }
+}
+
+/// Returns what a call wrote, or its error.
+fn written(length: i64, report: &sys::hidlog_client_report, mut out: Vec<u8>) -> Result<Vec<u8>, Error> {
+    if let Ok(length) = usize::try_from(length) {
+        out.truncate(length);
+        return Ok(out);
+    }
+    let name = match length {
+        -1 => "TypeError",
+        -2 => "EncodingError",
+        -3 => "RangeError",
+        -4 => "NotSupportedError",
+        -5 => "SecurityError",
+        -6 => "NotAllowedError",
+        -7 => "InvalidStateError",
+        -8 => "SyntaxError",
+        _ => return Err(Error::Argument("the request or the credential is too long")),
+    };
+    let (member, reason) = (report.member_len as usize, report.reason_len as usize);
+    let text = |from: &[u8]| String::from_utf8_lossy(from).into_owned();
+    let reason = text(&out[member..member + reason]);
+    Err(Error::Dom(name, if member == 0 { reason } else { format!("{}: {reason}", text(&out[..member])) }))
+}
