@@ -108,6 +108,11 @@ class Machine:
         self.sent: collections.deque[tuple[int, bytes]] = collections.deque()
         self.strays: collections.Counter[str] = collections.Counter()
         self.is_stray = False
+        # Why the key sends an ERROR with this code at the input that was stepped last.
+        self.reasons: dict[int, str] = {}
+        # When the KEEPALIVE before the input was sent, if any.
+        self.alive_before: Optional[int] = None
+        self.is_kept_alive = False
         self.answers: dict[int, Optional[Transaction]] = {}
         self.message: tuple[int, bytes] = (0, b"")
         self.told: dict[int, int] = {}
@@ -129,6 +134,8 @@ class Machine:
         self.sent = sent
         self.owners[number] = None
         self.is_stray = False
+        self.reasons = {}
+        self.alive_before = self.alive if self.is_kept_alive else None
         self.pass_time()
         if words[0] == b">":
             self.serve(number, bytes.fromhex(words[2].decode()))
@@ -166,7 +173,8 @@ class Machine:
         self.message = number, message[:length]
         return packet
 
-    def refuse(self, owner: Transaction, code: int) -> None:
+    def refuse(self, owner: Transaction, code: int, reason: str) -> None:
+        self.reasons[code] = reason
         self.expect(owner, owner.channel, ERROR, code)
         owner.end = ("error", code)
 
@@ -217,10 +225,12 @@ class Machine:
         self.expect(self.work, self.work.channel, KEEPALIVE)
         self.work.keepalives += 1
         self.alive = self.now
+        self.is_kept_alive = True
 
     def pass_time(self) -> None:
         if self.open and self.now - self.open.last >= 500:
-            self.refuse(self.open, 0x05)
+            times = f"its last packet came at {self.open.last}, 500 ms or more before {self.now}"
+            self.refuse(self.open, 0x05, f"the message timed out: {times}")
             self.open = None
         elif self.work and self.now - self.alive >= 100:
             self.keep_alive()
@@ -256,7 +266,7 @@ class Machine:
             return
         self.owners[number] = message.line
         if packet[4] != message.next:
-            self.refuse(message, 0x04)
+            self.refuse(message, 0x04, f"expected continuation packet +{message.next}, got +{packet[4]}")
             self.open = None
             return
         message.next += 1
@@ -272,24 +282,27 @@ class Machine:
         is_init = begun.command == INIT
         is_given = 1 <= channel <= self.given
         if not is_given and not (channel == BROADCAST and is_init):
-            self.refuse(begun, 0x0B)
+            allocated = f"only channels 1 to {self.given} have been allocated"
+            self.refuse(begun, 0x0B, allocated if self.given else "no channel has been allocated yet")
         elif is_init and begun.length != 8:
-            self.refuse(begun, 0x03)
+            self.refuse(begun, 0x03, f"INIT must have 8 data bytes, not {begun.length}")
             if opened and opened.channel == channel:
                 opened.end = ("dropped", begun.line)
                 self.open = None
         elif is_init:
             self.greet(begun)
         elif any(it and it.channel != channel for it in (opened, work)) or work:
-            self.refuse(begun, 0x06)
+            self.refuse(begun, 0x06, "a request is waiting on this channel")
         elif opened:
-            self.refuse(begun, 0x04)
+            began = "a new message began before the open one on its channel was complete"
+            self.refuse(begun, 0x04, f"{began}: expected packet +{opened.next}")
             opened.end = ("replaced", begun.line)
             self.open = None
         elif begun.command not in (PING, CBOR):
-            self.refuse(begun, 0x01)
+            self.refuse(begun, 0x01, f"CTAPHID command 0x{begun.command:02x} is not supported")
         elif begun.length > LONGEST or begun.command == CBOR and not begun.length:
-            self.refuse(begun, 0x03)
+            sizes = f"{begun.length} bytes: CBOR has 1 to 7609, PING 0 to 7609"
+            self.refuse(begun, 0x03, f"a message of command 0x{begun.command:02x} cannot have {sizes}")
         elif begun.is_whole:
             self.finish(begun)
         else:
