@@ -1,10 +1,10 @@
 // CTAP2 over CTAPHID to the proved core: requests in, answers out, and the caller that hands the key what it needs.
 import { toHex } from "./bytes.js";
 import { namesOf } from "./outside.js";
-import { CANCEL, CBOR, Collector, INIT } from "./packets.js";
+import { Collector } from "./packets.js";
 import { checkEnded, clearInterval, pause, setInterval, unlessEnded } from "./platform.js";
 import { Recordings } from "./recordings.js";
-import { BROADCAST, KEEPALIVE_MS } from "./standard.js";
+import { BROADCAST, CANCEL, CBOR, INIT, KEEPALIVE_MS } from "./standard.js";
 import { statusName } from "./statuses.js";
 
 // The first channel that the key gives out: no other host speaks to it.

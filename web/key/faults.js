@@ -2,7 +2,8 @@
 // each one is a comment in it.
 import { isSame, joined, toHex, utf8 } from "./bytes.js";
 import { checkKind, checkName } from "./checks.js";
-import { STATUSES, statusName } from "./statuses.js";
+import { STATUSES } from "./standard.js";
+import { statusName } from "./statuses.js";
 
 const OFF = {
     status: null, delay: 0, cutShort: 0, wrongSignature: false, counterStays: false, otherRp: null,

@@ -2,7 +2,7 @@
 // call costs the same however many came before.
 import wasm from "../../release/hidlog.wasm";
 import { copyOf, fromBase64 } from "./bytes.js";
-import { PACKET } from "./packets.js";
+import { PACKET_SIZE } from "./standard.js";
 import { compiled } from "./platform.js";
 
 const PAGE = 65536;
@@ -90,7 +90,7 @@ export class HeldKey {
         const packets = [];
         for (let left = waiting; left > 0; ) {
             left = this.call("next", this.at.packet);
-            packets.push(this.bytes.slice(this.at.packet, this.at.packet + PACKET));
+            packets.push(this.bytes.slice(this.at.packet, this.at.packet + PACKET_SIZE));
         }
         return packets;
     }

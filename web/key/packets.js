@@ -1,8 +1,6 @@
 // Packets of CTAPHID, and the messages that they carry (CTAP 2.1, "USB HID").
 import { joined } from "./bytes.js";
-import { CANCEL, CBOR, INIT, KEEPALIVE, PACKET_SIZE } from "./standard.js";
-
-export { CANCEL, CBOR, INIT };
+import { KEEPALIVE, PACKET_SIZE } from "./standard.js";
 
 /** @typedef {{ command: number, bytes: Uint8Array }} Message */
 

@@ -1,7 +1,8 @@
 // A session of the key: each input is handed to the proved core, and recorded with what it sends and needs.
 import { fromHex, toHex } from "./bytes.js";
 import { HeldKey, PRESENCE } from "./held.js";
-import { PACKET, packetsOf } from "./packets.js";
+import { packetsOf } from "./packets.js";
+import { PACKET_SIZE } from "./standard.js";
 import { Recording } from "./recording.js";
 import { snapshotOf } from "./snapshots.js";
 
@@ -83,7 +84,7 @@ export class Session {
         const at = Number(moment);
         const { held } = this;
         const enter = {
-            ">": () => held.packet(at, fieldOf(first, PACKET)),
+            ">": () => held.packet(at, fieldOf(first, PACKET_SIZE)),
             t: () => held.tick(at),
             p: () => held.presence(at, PRESENCE.find((it) => it === first) ?? ""),
             k: () => held.newKey(at, fieldOf(first, 32), fieldOf(rest[0], 32), fieldOf(rest[1], 32)),

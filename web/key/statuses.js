@@ -1,8 +1,6 @@
 // The names of CTAP2's status codes (CTAP 2.1, section 8.2).
 import { STATUSES } from "./standard.js";
 
-export { STATUSES };
-
 /** @param {number} status */
 export const statusName = (status) =>
     `0x${status.toString(16).padStart(2, "0")} ${STATUSES[status] ?? ""}`.trimEnd();
