@@ -7,5 +7,5 @@ returns-in_default-clause-begins g c = ([], rw c.in_default.is refl, begins c.ar
 
 pub returns-in-Ok-load-clause-begins : goal.returns-in-Ok-load-clause-begins
 returns-in-Ok-load-clause-begins g c =
-    let e = c.in-Ok-load.ensures in
+    let e = c.in-Ok-load.ensures.value in
     (e.0, rw c.in-Some.is (_, c.in-Ok.ensures, rw (sym c.deref.ensures.value) e.1), begins c.load.new.self _ e.2)
