@@ -128,6 +128,12 @@ def test_standard_error_changes_no_status(folder: Path, words: str, kind: str) -
     assert (status, text) == (right.returncode, right.stdout) and right.returncode in (0, 1)
 
 
+@pytest.mark.parametrize("kind", ["full", "closed", "broken"])
+def test_a_failure_after_something_was_printed(folder: Path, kind: str) -> None:
+    status, _, said = ended(WITH, "check --signatures same.log nothing.log", folder, kind)
+    assert status == 2 and all(it.startswith(b"hidlog") for it in said.splitlines()), said
+
+
 @pytest.mark.parametrize(
     "words", ["import -", "export -", "judge -", "shrink - false", "browser --origin http://a", "mermaid"]
 )

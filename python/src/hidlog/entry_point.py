@@ -102,9 +102,14 @@ def _replace_streams() -> None:
 
 
 def _stop(number: int, _: object) -> None:
-    """Ends the command; a second signal ends the process at once."""
-    _release_signals()
+    """Ends the command."""
+    _handle_signals(_stop, _go_on)
     raise StoppedError(number)
+
+
+def _go_on(_number: int, _frame: object) -> None:
+    """Lets the command end, since `timeout` sends each signal twice. A third signal ends the process at once."""
+    _handle_signals(_go_on, signal.SIG_DFL)
 
 
 def _catch_signals() -> None:
@@ -116,12 +121,18 @@ def _catch_signals() -> None:
             signal.signal(number, _stop)
 
 
+def _handle_signals(before: Any, handler: Any) -> None:
+    """Changes what happens at signals that are handled so."""
+    for number in _SIGNALS:
+        if signal.getsignal(number) is before:
+            with suppress(OSError):
+                signal.signal(number, handler)
+
+
 def _release_signals() -> None:
     """Has signals end the process."""
-    for number in _SIGNALS:
-        if signal.getsignal(number) is _stop:
-            with suppress(OSError):
-                signal.signal(number, signal.SIG_DFL)
+    _handle_signals(_stop, signal.SIG_DFL)
+    _handle_signals(_go_on, signal.SIG_DFL)
 
 
 def say(text: str) -> None:
@@ -148,10 +159,16 @@ def run(name: str, command: Callable[[], int]) -> int:
     name   what is before the text of a failure, such as "hidlog judge".
     """
     try:
-        return _run(name, command)
+        try:
+            return _run(name, command)
+        finally:
+            _handle_signals(_stop, signal.SIG_DFL)
     except StoppedError as stop:
         say(f"{name}: {stop}")
-        return stop.status
+        status = stop.status
+    _flush()
+    _release_signals()
+    return status
 
 
 def _run(name: str, command: Callable[[], int]) -> int:
@@ -167,9 +184,14 @@ def _run(name: str, command: Callable[[], int]) -> int:
     except Exception:  # a mistake of this package, which is reported with the place
         with suppress(OSError):
             traceback.print_exc()
-    finally:
-        _release_signals()
+    _flush()
     return FAILED
+
+
+def _flush() -> None:
+    """Writes what a command printed before it failed, where that is possible."""
+    with suppress(OutputError, OSError):
+        sys.stdout.flush()
 
 
 def run_as_program(command: Callable[[], int]) -> int:

@@ -35,6 +35,7 @@ import signal
 import subprocess
 import sys
 from collections.abc import Callable, Iterable
+from contextlib import suppress
 from dataclasses import dataclass
 from typing import Optional
 
@@ -241,7 +242,8 @@ def each_part(count: int, leave_out: Callable[[int, int], bool]) -> None:
 
 
 def tell(text: str) -> None:
-    print(text, file=sys.stderr, flush=True)
+    with suppress(OSError):
+        print(text, file=sys.stderr, flush=True)
 
 
 def read_log(name: str) -> list[Block]:
@@ -259,9 +261,9 @@ class StoppedError(BaseException):
 
 
 def stop(number: int, _: object) -> None:
-    """Ends the search; another signal ends the process."""
+    """Ends the search. Signals that follow, as `timeout` sends each twice, don't stop the log from being written."""
     for other in (signal.SIGINT, signal.SIGTERM):
-        signal.signal(other, signal.SIG_DFL)
+        signal.signal(other, signal.SIG_IGN)
     raise StoppedError(number)
 
 
@@ -318,10 +320,18 @@ def shrink(command: Command, blocks: list[Block]) -> int:
         tell(f"hidlog shrink: {stopped}")
         tell("the shortest log so far is written" if shrinking else "nothing is written")
         status = stopped.status
-    if shrinking is not None:
-        sys.stdout.buffer.write(joined(shrinking.blocks))
-        sys.stdout.buffer.flush()
-    return status
+    return status if shrinking is None else write(joined(shrinking.blocks)) or status
+
+
+def write(log: bytes) -> int:
+    """Writes a log to standard output, and returns the status."""
+    try:
+        while log:
+            log = log[os.write(1, log) :]
+    except OSError:
+        tell("hidlog: writing failed")
+        return 2
+    return 0
 
 
 if __name__ == "__main__":
