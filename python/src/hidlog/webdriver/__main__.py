@@ -2,7 +2,8 @@
 
 import sys
 
+from ..entry_point import run
 from .command import main
 
 if __name__ == "__main__":
-    sys.exit(main(sys.argv[1:]))
+    sys.exit(run("hidlog webdriver", lambda: main(sys.argv[1:])))
