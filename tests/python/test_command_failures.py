@@ -107,6 +107,15 @@ def test_a_pipe_with_a_writer_is_read(folder: Path) -> None:
         assert run(folder, "judge", "pipe.log").stdout == run(folder, "judge", "log").stdout
 
 
+@pytest.mark.parametrize(
+    "words", ["import .", "export .", "judge .", "check-many ./.", "check --signatures .", "shrink . true"]
+)
+def test_a_folder_is_no_file(folder: Path, words: str) -> None:
+    (folder / "x.log").mkdir()
+    ran = run(folder, *words.replace("./.", "x.log").split())
+    assert ran.returncode == 2 and b"Traceback" not in ran.stderr and ran.stderr.count(b"3") == 0, ran.stderr
+
+
 def test_an_unreadable_recording_is_a_failure_among_verdicts(folder: Path, example: Example) -> None:
     (folder / "broken.log").write_bytes(example("failing/counter_stays.log"))
     assert run(folder, "check-many", "log", "broken.log").returncode == 1

@@ -6,11 +6,14 @@ The commands of the program end as the program does, to the byte, also through t
 from __future__ import annotations
 
 import os
+import resource
+import signal
 import subprocess
 import sys
 from collections.abc import Iterator
 from contextlib import contextmanager
 from pathlib import Path
+from tempfile import TemporaryFile
 
 import pytest
 
@@ -67,6 +70,9 @@ def output(kind: str) -> Iterator[int]:
     """Gives a descriptor that can't be written."""
     if kind == "full":
         number = os.open("/dev/full", os.O_WRONLY)
+    elif kind == "short":
+        with TemporaryFile() as file:
+            number = os.dup(file.fileno())
     else:
         reader, number = os.pipe()
         os.close(reader)
@@ -76,6 +82,12 @@ def output(kind: str) -> Iterator[int]:
         os.close(number)
 
 
+def limit_files() -> None:
+    """Has a write behind the tenth byte of a file fail; SIGXFSZ kills whoever doesn't ignore it."""
+    resource.setrlimit(resource.RLIMIT_CORE, (0, 0))
+    resource.setrlimit(resource.RLIMIT_FSIZE, (10, 10))
+
+
 def ended(command: list[str], words: str, folder: Path, kind: str, stream: int = 1) -> tuple[int, bytes, bytes]:
     """Returns how a command ends whose standard output, error or input is full, closed or broken."""
     log = LINE if "browser" in words else (folder / "same.log").read_bytes()
@@ -83,7 +95,13 @@ def ended(command: list[str], words: str, folder: Path, kind: str, stream: int =
     with output("broken" if kind == "closed" else kind) as number:
         streams = {1: subprocess.PIPE, 2: subprocess.PIPE, **({} if kind == "closed" else {stream: number})}
         ran = subprocess.run(
-            [*line, *words.split()], input=log, stdout=streams[1], stderr=streams[2], cwd=folder, timeout=600
+            [*line, *words.split()],
+            input=log,
+            stdout=streams[1],
+            stderr=streams[2],
+            cwd=folder,
+            timeout=600,
+            preexec_fn=limit_files if kind == "short" else None,
         )
     return ran.returncode, ran.stdout or b"", ran.stderr or b""
 
@@ -108,7 +126,14 @@ def test_what_the_program_serves_alone(folder: Path, words: str, kind: str) -> N
     assert (status, said.count(b"\n")) == (2, 1) and b"the program is missing" in said
 
 
-@pytest.mark.parametrize("kind", ["full", "closed", "broken"])
+@pytest.mark.parametrize("words", OF_PROGRAM)
+def test_a_short_write_ends_the_programs_commands_as_the_program(folder: Path, words: str) -> None:
+    theirs = ended([program()], words, folder, "short")
+    assert theirs == ended(WITH, words, folder, "short") == ended(THROUGH, words, folder, "short")
+    assert theirs[::2] == (-signal.SIGXFSZ, b"")
+
+
+@pytest.mark.parametrize("kind", ["full", "closed", "broken", "short"])
 @pytest.mark.parametrize("words", [*OWN, *OF_BOTH])
 def test_the_packages_commands_end_with_a_line(folder: Path, words: str, kind: str) -> None:
     status, _, said = ended(WITH, words, folder, kind)

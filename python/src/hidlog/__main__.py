@@ -76,6 +76,7 @@ def _become_program(words: list[str]) -> int:
         return entry_point.run_as_program(lambda: int(by_library.run(words)))
     if _is_help(words):
         return _help(path, words)
+    entry_point.restore_signals()
     try:
         os.execv(path, ["hidlog", *words])
     except OSError as error:

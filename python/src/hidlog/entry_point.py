@@ -135,6 +135,12 @@ def _release_signals() -> None:
     _handle_signals(_go_on, signal.SIG_DFL)
 
 
+def restore_signals() -> None:
+    """Has signals do what they do to the program. Python ignores SIGXFSZ, and SIGPIPE, which the program ignores too."""
+    _release_signals()
+    signal.signal(signal.SIGXFSZ, signal.SIG_DFL)
+
+
 def say(text: str) -> None:
     """Writes a line to standard error, where that is possible."""
     with suppress(OSError, ValueError):
@@ -196,7 +202,7 @@ def _flush() -> None:
 
 def run_as_program(command: Callable[[], int]) -> int:
     """Runs a command within `run` that ends as the program `hidlog` does, also at failures and signals."""
-    _release_signals()
+    restore_signals()
     try:
         return _flushed(command)
     except OutputError as error:

@@ -59,7 +59,10 @@ def open_input(path: Named) -> io.BufferedReader:
         return io.BufferedReader(_Input(0, "rb", closefd=False))
     number = os.open(path, os.O_RDONLY | os.O_NONBLOCK | os.O_CLOEXEC)
     try:
-        front = _front_of_pipe(number, path) if stat.S_ISFIFO(os.fstat(number).st_mode) else b""
+        mode = os.fstat(number).st_mode
+        if stat.S_ISDIR(mode):
+            raise IsADirectoryError(errno.EISDIR, os.strerror(errno.EISDIR), os.fspath(path))
+        front = _front_of_pipe(number, path) if stat.S_ISFIFO(mode) else b""
         os.set_blocking(number, True)
         file = _Input(number, "rb")
     except BaseException:
@@ -89,8 +92,12 @@ def read_to_end(number: int) -> bytes:
 
 def read_input(path: Named) -> bytes:
     """Returns the bytes of a file, or of standard input for "-"."""
-    with open_input(path) as file:
-        return file.read()
+    try:
+        with open_input(path) as file:
+            return file.read()
+    except OSError as error:
+        error.filename = name_of(path)
+        raise
 
 
 def is_regular(path: Path) -> bool:
