@@ -96,6 +96,7 @@ make_tarball() {
     ln -s libhidlog.so.0 "$root/lib/libhidlog.so"
     put 644 release/hidlog.h "$root/include/hidlog.h"
     put 644 release/hidlog_recording.h "$root/include/hidlog_recording.h"
+    put 644 release/hidlog_standard.h "$root/include/hidlog_standard.h"
     put_pkg_config "$root" hidlog
     if [ "$1" = x86_64 ]; then
         install -D -m 755 "$top/release/libhidlog-256.so.0" "$root/lib/libhidlog-256.so.0"

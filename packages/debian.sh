@@ -126,6 +126,7 @@ make_library() {
     root=$room/$1/libhidlog-dev
     put 644 release/hidlog.h "$root/usr/include/hidlog.h"
     put 644 release/hidlog_recording.h "$root/usr/include/hidlog_recording.h"
+    put 644 release/hidlog_standard.h "$root/usr/include/hidlog_standard.h"
     install -D -m 644 "$top/$4" "$root/$libraries/libhidlog.a"
     ln -s libhidlog.so.0 "$root/$libraries/libhidlog.so"
     mkdir -p "$root/$libraries/pkgconfig"

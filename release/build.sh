@@ -216,8 +216,8 @@ make_slow() {
     build_large_library
 }
 
-names=(BUILD hidlog hidlog.h hidlog_recording.h hidlog.pc hidlog-256.pc hidlog.wasm libhidlog.a libhidlog.so.0
-    aarch64/libhidlog.a)
+names=(BUILD hidlog hidlog.h hidlog_recording.h hidlog_standard.h hidlog.pc hidlog-256.pc hidlog.wasm libhidlog.a
+    libhidlog.so.0 aarch64/libhidlog.a)
 slow=(aarch64/hidlog libhidlog-256.a libhidlog-256.so.0)
 case "$*" in
 "" | --check | "--check all") ;;
@@ -232,7 +232,7 @@ build_module
 write_build
 write_pkg_config hidlog
 write_pkg_config hidlog-256 -DHIDLOG_CAPACITY=256
-cp crates/hidlog_c/hidlog.h crates/hidlog_c/hidlog_recording.h "$made"
+cp crates/hidlog_c/hidlog.h crates/hidlog_c/hidlog_recording.h crates/hidlog_c/hidlog_standard.h "$made"
 if [ "$*" != --check ]; then
     make_slow
     names+=("${slow[@]}")

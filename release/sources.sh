@@ -12,6 +12,7 @@ paths() {
     echo HANDLES
     echo crates/hidlog_c/hidlog.h
     echo crates/hidlog_c/hidlog_recording.h
+    echo crates/hidlog_c/hidlog_standard.h
     awk '
         /^#/ || !NF { next }
         {
