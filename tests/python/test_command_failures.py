@@ -216,7 +216,8 @@ def test_a_signal_ends_a_command_in_a_line(folder: Path, number: int, status: in
         started.stdin.write(b'{"id": 1, "log": 0}\n')
         started.stdin.flush()
         started.stdout.readline()  # it has begun
-        started.send_signal(number)
+        for _ in range(2):  # as `timeout` does
+            started.send_signal(number)
         said = started.stderr.read()
     assert started.returncode == status and said.startswith(b"hidlog browser: ") and said.count(b"\n") == 1, said
 
@@ -236,7 +237,8 @@ def test_shrink_writes_the_shortest_log_so_far(folder: Path, number: int, status
         assert started.stdout and started.stderr
         while not (folder / "waits").exists() and started.poll() is None:
             pass
-        started.send_signal(number)
+        for _ in range(2):  # as `timeout` does
+            started.send_signal(number)
         log, said = started.stdout.read(), started.stderr.read()
     lines = log.splitlines()
     assert started.returncode == status and lines[-1] == b"p 100 granted" and len(lines) < 101, said

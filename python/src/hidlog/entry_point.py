@@ -129,15 +129,9 @@ def _handle_signals(before: Any, handler: Any) -> None:
                 signal.signal(number, handler)
 
 
-def _release_signals() -> None:
-    """Has signals end the process."""
-    _handle_signals(_stop, signal.SIG_DFL)
-    _handle_signals(_go_on, signal.SIG_DFL)
-
-
 def restore_signals() -> None:
     """Has signals do what they do to the program. Python ignores SIGXFSZ, and SIGPIPE, which the program ignores too."""
-    _release_signals()
+    _handle_signals(_stop, signal.SIG_DFL)
     signal.signal(signal.SIGXFSZ, signal.SIG_DFL)
 
 
@@ -173,7 +167,7 @@ def run(name: str, command: Callable[[], int]) -> int:
         say(f"{name}: {stop}")
         status = stop.status
     _flush()
-    _release_signals()
+    _handle_signals(_go_on, signal.SIG_IGN)  # so that the second signal of a pair doesn't change the status
     return status
 
 

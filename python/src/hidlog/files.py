@@ -48,6 +48,10 @@ class _Input(io.FileIO):
             raise BlockingIOError(errno.EAGAIN, os.strerror(errno.EAGAIN))
         return found
 
+    def close(self) -> None:
+        with suppress(OSError):  # what was read is there
+            super().close()
+
     def readall(self) -> bytes:
         front, self.front = self.front, b""
         return front + read_to_end(self.fileno())
