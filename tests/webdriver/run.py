@@ -38,8 +38,8 @@ ENVIRONMENT = {**os.environ, "PYTHONPATH": str(TOP / "python" / "src"), "PYTHOND
 # Only what hangs takes so many seconds.
 HANGS = 300
 LEAST = {"Python": 27, "Ruby": 22}
-# Tests of their own, which need no chromedriver.
-PARTS = ("gate.py", "sockets.py", "messages.py", "processes.py", "browsers.py")
+# Tests of their own. Each runs what it can without chromedriver.
+PARTS = ("gate.py", "sockets.py", "messages.py", "processes.py", "browsers.py", "origins.py")
 
 
 class Files(SimpleHTTPRequestHandler):
@@ -339,7 +339,8 @@ def run_suites(driver: str, page: str, folder: Path) -> list[bool]:
 
 def run_parts() -> bool:
     """Runs the tests of their own. Returns whether all passed."""
-    return not any([subprocess.run([sys.executable, str(HERE / it)], check=False).returncode for it in PARTS])
+    statuses = [subprocess.run([sys.executable, str(HERE / part)], check=False).returncode for part in PARTS]
+    return all(status in (0, 3) for status in statuses)
 
 
 def main() -> int:

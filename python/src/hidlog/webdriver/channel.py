@@ -56,7 +56,7 @@ class Channel:
         self._authenticator, self._recorder = authenticator, recorder
         abilities = json.dumps(authenticator.abilities)
         connect = f"hidlogPage.connect(globalThis.{BINDING}, {abilities}); delete globalThis.{BINDING};"
-        condition = "!globalThis.hidlogPage && /^https?:$/.test(location.protocol)"
+        condition = "!globalThis.hidlogPage && /^https?:/.test(globalThis.origin)"
         self._devtools.install(f"if ({condition}) {{\n{script()}\n{connect}\n}}")
 
     def detach(self) -> None:

@@ -3,7 +3,9 @@
 // stay there, and this script asks for signatures; otherwise they are in its closure.
 const hidlogPage = (() => {
     const { parse, stringify } = JSON;
-    const isPage = /^https?:$/.test(location.protocol) && globalThis.origin === location.origin;
+    // A window that a page opens is empty at first, with the page's origin, and may go on as another document.
+    const { origin } = globalThis;
+    const isPage = /^https?:/.test(origin);
     const FORM = "hidlog web key 1";
     const [SEALED, PROOF] = ["hidlogSealed", "hidlogProof"];
     const NO_KEY = "A".repeat(43);
@@ -150,7 +152,7 @@ const hidlogPage = (() => {
     };
 
     const put = (options) => {
-        key = hidlogKey.install({ allowOrigins: [location.origin], ...options });
+        key = hidlogKey.install({ allowOrigins: [origin], origin, ...options });
         ["create", "get"].forEach(surround);
         return key;
     };

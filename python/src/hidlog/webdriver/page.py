@@ -8,6 +8,7 @@ from __future__ import annotations
 
 import base64
 import os
+from collections.abc import Callable
 from typing import Any
 
 from ..errors import HidlogError
@@ -28,12 +29,10 @@ _PROOF = "try { return [location.origin, sessionStorage.getItem('hidlogProof')];
 class Pages:
     """An authenticator in the page that is driven."""
 
-    def __init__(self, driver: Driver, session: str):
-        self._driver, self._path = driver, f"/session/{session}"
+    def __init__(self, driver: Driver, session: str, is_top: Callable[[], bool]):
+        self._driver, self._path, self._is_top = driver, f"/session/{session}", is_top
         self._authenticator: Authenticator | None = None
         self._recorder: Recorder | None = None
-        # Whether the page that is driven is surely the one at the top.
-        self.is_top = True
         # What documents of an origin share: a secret, and what shows that a frame is one of them.
         self._secrets: dict[str, tuple[str, str]] = {}
 
@@ -77,7 +76,7 @@ class Pages:
             top = origin_of(_site(str(self._driver.call("GET", f"{self._path}/url"))))
         except HidlogError:
             return None
-        if not self.is_top:
+        if not self._is_top():
             shown = self._run(_PROOF)
             if not isinstance(shown, list) or shown != [top, self._secrets.get(top, ("", ""))[1]]:
                 return None

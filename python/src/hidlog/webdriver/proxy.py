@@ -7,6 +7,7 @@ import re
 import sys
 import threading
 import uuid
+from collections.abc import Callable
 from contextlib import suppress
 from pathlib import Path
 from typing import Any, Protocol
@@ -37,6 +38,17 @@ _END_SECONDS = 10.0
 _SESSIONS_MAX = 256
 
 
+def _is_top(rest: str, body: bytes) -> bool:
+    """Returns whether the page that is driven is the one at the top after a command."""
+    if rest != "/frame":
+        return rest in ("/url", "/window")
+    try:
+        value = parse(body)
+    except ValueError:
+        return False
+    return isinstance(value, dict) and "id" in value and value["id"] is None
+
+
 class Link(Protocol):
     """How an authenticator comes into pages: by a channel of the browser, or by commands of WebDriver."""
 
@@ -62,8 +74,8 @@ class Link(Protocol):
 class Session:
     """A session of the driver, and its authenticator if a suite has added one."""
 
-    def __init__(self, driver: Driver, name: str, debugger: str | None = None):
-        self.name = name
+    def __init__(self, driver: Driver, name: str, debugger: str | None = None, is_top: bool = False):
+        self.name, self.is_top = name, is_top
         self.lock = threading.RLock()
         self._driver, self._debugger = driver, debugger
         self._link: Link | None = None
@@ -90,7 +102,7 @@ class Session:
                 return Channel(self._debugger, window)
             except (DriverError, OSError) as error:
                 print(f"hidlog webdriver: no DevTools, so pages hold their own keys: {error}", file=sys.stderr)
-        return Pages(self._driver, self.name)
+        return Pages(self._driver, self.name, lambda: self.is_top)
 
     def add(self, given: Json, folder: Path | None) -> str:
         """Adds an authenticator, and returns its name."""
@@ -118,25 +130,27 @@ class Session:
         """The recordings of the authenticator."""
         return self._recorder.value
 
-    def passes(self, method: str, rest: str, send: Any) -> Answer:
+    def passes(self, method: str, rest: str, body: bytes, send: Callable[[], Answer]) -> Answer:
         """Sends a command of the suite to the driver. Pages have the same as the authenticator before and after it."""
         link = self._link if self._key else None
         if link is None or isinstance(link, Channel):
-            return send()  # type: ignore[no-any-return]
+            return self._sent(rest, body, send)
         with self.lock:
             if method in ("POST", "DELETE") and _BEFORE.search(rest):
                 link.before()
-            answer: Answer = send()
+            answer = self._sent(rest, body, send)
             if answer.status == 200 and method == "POST" and _AFTER.search(rest):
                 link.after()
             return answer
 
-    def moved(self, rest: str, body: bytes) -> None:
-        """Notes a command that chooses the frame that is driven."""
-        if isinstance(self._link, Pages) and rest in ("/frame", "/url", "/window"):
-            value = parse(body)
-            is_top = rest != "/frame" or (isinstance(value, dict) and value.get("id", 0) is None)
-            self._link.is_top = is_top
+    def _sent(self, rest: str, body: bytes, send: Callable[[], Answer]) -> Answer:
+        """Sends a command, and notes whether the page that is driven is surely the one at the top."""
+        if rest.startswith("/frame"):
+            self.is_top = False
+        answer = send()
+        if answer.status == 200 and _is_top(rest, body):
+            self.is_top = True
+        return answer
 
     def end(self) -> None:
         """Takes up what pages did, if that can be had still."""
@@ -215,10 +229,7 @@ class Proxy:
             return send()
         if (method, rest) == ("DELETE", ""):
             return self._ended(session, send)
-        answer = session.passes(method, rest, send)
-        if answer.status == 200 and method == "POST":
-            session.moved(rest, body)
-        return answer
+        return session.passes(method, rest, body, send)
 
     def _without_session(self, method: str, path: str, body: bytes) -> Answer:
         """Serves a command that isn't one of a session."""
@@ -239,7 +250,7 @@ class Proxy:
         options = capabilities.get("goog:chromeOptions") if isinstance(capabilities, dict) else None
         address = options.get("debuggerAddress") if isinstance(options, dict) else None
         with self._lock:
-            self._sessions[name] = Session(self.driver, name, address if isinstance(address, str) else None)
+            self._sessions[name] = Session(self.driver, name, address if isinstance(address, str) else None, True)
             while len(self._sessions) > _SESSIONS_MAX:
                 with suppress(DriverError):
                     self._sessions.pop(next(iter(self._sessions))).close()
@@ -271,10 +282,10 @@ class Proxy:
             return session.remove(name)
         return _serve_key(session, session.key(name), method, (part, unquote(encoded), bool(props)), given)
 
-    def _ended(self, session: Session, send: Any) -> Answer:
+    def _ended(self, session: Session, send: Callable[[], Answer]) -> Answer:
         """Ends a session of the driver, whatever becomes of its recordings."""
         session.end()
-        answer: Answer = send()
+        answer = send()
         with self._lock:
             self._sessions.pop(session.name, None)
         session.close()
