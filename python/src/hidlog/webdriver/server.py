@@ -2,6 +2,7 @@
 
 from __future__ import annotations
 
+import re
 import socket
 import sys
 import threading
@@ -21,21 +22,29 @@ HEAD_SECONDS = 10.0
 BODY_SECONDS = 120.0
 CONNECTIONS_MAX = 128
 _BLOCK = 1 << 16
+# What a request begins with (RFC 9112 section 3).
+_REQUEST = re.compile(rb"[A-Z]+ [\x21-\x7e]+ HTTP/1\.[0-9]\r?\n\Z")
+# The name of a header (RFC 9110 section 5.6.2).
+_TOKEN = re.compile(r"[!#$%&'*+.^_`|~0-9A-Za-z-]+\Z")
+# A control character other than a tab and the end of a line, or a line that goes on with the one before.
+_CONTROL = re.compile(rb"\A[ \t]|[\x00-\x08\x0b\x0c\x0e-\x1f\x7f]|\r(?!\n)")
 
 Serve = Callable[[str, str, bytes], Answer]
 
 
 class _Lines:
-    """A connection's bytes, with the last line that was read: http.server takes an end of the bytes for an end of a
-    head."""
+    """A connection's bytes, and what http.server doesn't look at in a head: whether its last line came, and whether
+    there are control characters, of which some end a line for its parser and for no other."""
 
     def __init__(self, file: Any):
         self._file = file
-        self.last = b""
+        self.last, self.is_clean = b"", True
         self.peek, self.read1, self.close = file.peek, file.read1, file.close
 
     def readline(self, most: int) -> bytes:
+        """Reads a line of a head."""
         self.last = self._file.readline(most)
+        self.is_clean = self.is_clean and not _CONTROL.search(self.last)
         return self.last
 
 
@@ -73,6 +82,7 @@ class _Handler(BaseHTTPRequestHandler):
         if not is_open:
             self.close_connection = True
             return
+        self._lines.is_clean = True
         self._wait(HEAD_SECONDS)
         super().handle_one_request()
 
@@ -83,8 +93,11 @@ class _Handler(BaseHTTPRequestHandler):
         def values(name: str) -> list[str]:
             return list(self.headers.get_all(name, []))
 
-        if self.headers.defects or self.headers.get_payload():
+        is_sound = self._lines.is_clean and not self.headers.defects and not self.headers.get_payload()
+        if not is_sound or not all(map(_TOKEN.match, self.headers.keys())):
             raise DriverError("invalid argument", "a header is malformed", 400)
+        # http.server changes a path that begins with two slashes.
+        self.path = self.raw_requestline.decode("latin-1").split(" ")[1]
         return Head(
             self.command,
             self.path,
@@ -112,8 +125,8 @@ class _Handler(BaseHTTPRequestHandler):
         return b"".join(blocks)
 
     def _serve(self) -> None:
-        if not self.request_version.startswith("HTTP/1."):
-            self.send_error(HTTPStatus.HTTP_VERSION_NOT_SUPPORTED)
+        if not _REQUEST.match(self.raw_requestline):
+            self.send_error(HTTPStatus.BAD_REQUEST)
             return
         if self._lines.last not in (b"\r\n", b"\n"):
             self.close_connection = True
