@@ -68,12 +68,14 @@ ENVIRONMENT = {"PATH": os.environ["PATH"], "PYTHONPATH": str(TOP / "python/src")
 def wrong_file(run: Run, program: str, folder: Path, new: bytes, status: int, said: str) -> Optional[str]:
     """Returns what is wrong with the files that a run left."""
     path, whole = run.at(folder), {new} if run.old is None else {run.old, new}
-    others = [it for it in folder.iterdir() if it.name not in ("keys", "strace")]
+    others = [it for it in folder.iterdir() if it.name not in ("keys", "strace", "keys.hidlog-sum")]
     there = path.read_bytes() if path.exists() else None
     if status == 0 and (there != new or others):
         return f"status 0, and the file isn't the new one, or a copy is left: {[it.name for it in others]}"
-    if there in whole or (there is None and run.old is None):
+    if there is None and run.old is None:
         return None
+    if there in whole:
+        return refused_after(program, path) if there in (new, SHORT) else None
     copies = [it for it in others if it.read_bytes() in whole]
     if not copies:
         return f"neither the old nor the new snapshot is left: {len(there or b'')} bytes"
@@ -82,6 +84,14 @@ def wrong_file(run: Run, program: str, folder: Path, new: bytes, status: int, sa
     if loaded.returncode == 0 or copies[0].name not in loaded.stderr.decode(errors="replace"):
         return f"--load doesn't name the copy {copies[0].name}: {loaded.stderr!r}"
     return None if status == -signal.SIGKILL or copies[0].name in said else f"the copy isn't named: {said!r}"
+
+
+def refused_after(program: str, path: Path) -> Optional[str]:
+    """Returns what is wrong where a snapshot that is whole isn't loaded. What Python saves is no snapshot."""
+    if Path(program).name != "hidlog":
+        return None
+    loaded = subprocess.run([program, "replay", "--load", str(path)], input=b"", capture_output=True, timeout=60)
+    return None if loaded.returncode == 0 else f"the new snapshot isn't loaded: {loaded.stderr!r}"
 
 
 def wrong_words(place: Place, log: Path, status: int, said: str) -> Optional[str]:

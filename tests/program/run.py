@@ -25,6 +25,7 @@ from typing import Any, Callable, Optional, Sequence
 
 import held
 import person
+import saving
 from running import AGAIN, COUNTS, EXAMPLES, INIT, PROGRAM, SNAPSHOT, STACK, TOP, Said, explained, run, wants
 
 NOBODY = 65534
@@ -60,7 +61,7 @@ def live_refuses_first(room: Path) -> None:
     wants(explained(["live", "--save", inside], INIT), 2, lacks(room, inside, "Not a directory (os error 20)"), b"")
     said = explained(["live", "--save", f"{room}/keys"], b"t 5\n")
     wants(said, 0, b"")
-    assert sorted(os.listdir(room)) == ["keys"], os.listdir(room)
+    assert sorted(os.listdir(room)) == ["keys", "keys.hidlog-sum"], os.listdir(room)
 
 
 def live_needs_permission(room: Path) -> None:
@@ -143,13 +144,14 @@ def saving_replaces(room: Path) -> None:
 
 
 def a_failed_write_keeps(room: Path) -> None:
-    """A write of the snapshot that fails, or a kill at it, leaves the old file as it was. The first one is the copy's."""
+    """A write of the snapshot that fails, or a kill at it, leaves the old file as it was. The first ones are those of its
+    sums and of the copy."""
     for old in (SNAPSHOT.read_bytes(), bytes.fromhex("a201020280")):
         for fault in ("error=ENOSPC", "error=EIO", "signal=KILL"):
             keys = room / "keys"
             keys.write_bytes(old)
             words = ["replay", "--load", str(SNAPSHOT), "--save", str(keys)]
-            trace = ["-e", f"inject=pwrite64:{fault}:when=2"]
+            trace = ["-e", f"inject=pwrite64:{fault}:when=3"]
             said = run(words, AGAIN.read_bytes(), trace=trace)
             assert said.returncode != 0, f"{fault}: nothing was injected"
             assert keys.read_bytes() == old, f"{fault}: the file has {len(keys.read_bytes())} bytes"
@@ -196,10 +198,10 @@ def filled(path: Path) -> None:
 
 
 def two_at_once(room: Path) -> None:
-    """With `--save new` and `mv`, as the manual has it, none of 200 programs on one file finds half a snapshot."""
+    """With `--save new` and `mv` none of 200 programs on one file finds half a snapshot."""
     keys = room / "keys"
     shutil.copy(SNAPSHOT, keys)
-    script = '"$0" replay --load "$1" --save "$1.$2" <"$3" >/dev/null && mv "$1.$2" "$1"'
+    script = '"$0" replay --load "$1" --save "$1.$2" <"$3" >/dev/null && mv "$1.$2" "$1" && rm "$1.$2.hidlog-sum"'
 
     def once(number: int) -> Said:
         words = ["sh", "-c", script, PROGRAM, str(keys), str(number), str(AGAIN)]
@@ -728,6 +730,7 @@ TESTS = [
     little_stack_is_enough,
     *held.TESTS,
     *person.TESTS,
+    *saving.TESTS,
 ]
 
 

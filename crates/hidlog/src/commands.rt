@@ -1,12 +1,13 @@
 //! The commands that play a log.
-ghost use Rattle.std.specs.Prelude.{◌≡◌, [], None, Some, IfErr, IfOk, IsSomeAnd, MatchOption, OnOk};
+ghost use Rattle.std.specs.Prelude.{◌≡◌, ◌⊎◌, [], None, Some, IfErr, IfOk, IsSomeAnd, MatchOption, OnOk};
 ghost use Rattle.session_log.specs.Command.{start_with};
 ghost use Rattle.token_session.specs.Meters.{session_of};
 ghost use Rattle.hidlog.specs.CommandLine.{named, path_of};
-ghost use Rattle.hidlog.specs.Commands.{RunsCommand};
+ghost use Rattle.hidlog.specs.Commands.{Begins, RunsCommand, RunsOn, looked_at};
 ghost use Rattle.hidlog.specs.Fault.{came_of, reasoned, told_of};
 ghost use Rattle.hidlog.specs.Model.{CanFail};
 ghost use Rattle.hidlog.specs.Program.{cannot_read_log};
+ghost use Rattle.hidlog.specs.Saved.{FailsToSave};
 
 use crate::fault::ProgramFault;
 use crate::files::Files;
@@ -14,7 +15,7 @@ use crate::held::{Output, settled};
 use crate::host::{Host, Modeled};
 use crate::logs::Logs;
 use crate::remarks::ComparisonEnd;
-use crate::snapshots::{load, look, save_rows};
+use crate::snapshots::{hold, load, look, save_rows};
 use session_log::{CAPACITY, LogCommand, Target};
 use token_session::Session;
 
@@ -61,23 +62,27 @@ pub fn fresh() -> Session<CAPACITY>
 }
 
 impl<D: Files, L: Logs, O: Output, E: Target> Host<D, L, O, E> {
-    /// Plays the log on a session of its own, and saves the credentials that the session has after it, where there is a
-    /// path for them. Returns how the log ended.
+    /// Plays the log, which is open, on a session of its own, and saves the credentials that the session has after it,
+    /// where there is a path for them. Returns how the log ended.
     #[inline(never)]
-    pub fn play_log<'a>(&mut self, play: &Play<'a>) -> Result<ComparisonEnd, ProgramFault<'a>>
+    fn play_open<'a>(
+        &mut self,
+        play: &Play<'a>,
+        log: Option<&str>,
+        is_held: bool,
+    ) -> Result<ComparisonEnd, ProgramFault<'a>>
         requires { CanFail ⟦<Self as Modeled>⟧.model self.old }
-        ensures { RunsCommand ⟦<Self as Modeled>⟧.model play.now.command (path_of play.now.load) (path_of play.now.save)
-            (path_of play.now.log) (came_of result) self.old self.new }
+        ensures { Begins ⟦<Self as Modeled>⟧.model (path_of play.now.load)
+            (λ start. ((self.new ≡ self.old) × FailsToSave D.unwritable self.old.files
+            (looked_at play.now.command (path_of play.now.save)) (came_of result))
+            ⊎ RunsOn ⟦<Self as Modeled>⟧.model play.now.command (path_of play.now.save) (came_of result) self.old self.new start)
+            (came_of result) self.old self.new }
     {
         let session = &mut fresh();
-        let log = match open_log(&mut self.input, play.log) {
-            Ok(log) => log,
-            Err(fault) => return Err(fault),
-        };
         if let Err(fault) = load(session, &self.files, play.load) {
             return Err(fault);
         }
-        if let Err(fault) = look(&self.files, play.command, play.save, log) {
+        if let Err(fault) = look(&self.files, play.command, play.save, log, is_held) {
             return Err(fault);
         }
         let answer = play
@@ -86,9 +91,37 @@ impl<D: Files, L: Logs, O: Output, E: Target> Host<D, L, O, E> {
         if let Err(fault) = settled(&mut self.output, answer) {
             return Err(ProgramFault::Log(fault));
         }
-        match save_rows(&mut self.files, self.alloc, play.save, log, session) {
+        match save_rows(
+            &mut self.files,
+            self.alloc,
+            play.save,
+            log,
+            is_held,
+            session,
+        ) {
             Ok(()) => Ok(ComparisonEnd::of(session)),
             Err(fault) => Err(fault),
         }
+    }
+
+    /// Plays the log on a session of its own, and saves the credentials that the session has after it, where there is a
+    /// path for them. Where that is the path of those that it begins with, no other program saves to it meanwhile. Returns
+    /// how the log ended.
+    pub fn play_log<'a>(&mut self, play: &Play<'a>) -> Result<ComparisonEnd, ProgramFault<'a>>
+        requires { CanFail ⟦<Self as Modeled>⟧.model self.old }
+        ensures { RunsCommand ⟦<Self as Modeled>⟧.model play.now.command (path_of play.now.load) (path_of play.now.save)
+            (path_of play.now.log) (came_of result) self.old self.new }
+    {
+        let log = match open_log(&mut self.input, play.log) {
+            Ok(log) => log,
+            Err(fault) => return Err(fault),
+        };
+        let held = match hold(&self.files, play.load, play.save) {
+            Ok(held) => held,
+            Err(fault) => return Err(fault),
+        };
+        let came = self.play_open(play, log, held.is_some());
+        drop(held);
+        came
     }
 }

@@ -56,14 +56,21 @@ pub trait Disk {
     /// Looks at what is at a path. A folder is refused, and so are the log and the file that standard output goes to.
     fn look(&self, path: &str, log: Option<&str>) -> io::Result<Found>;
 
-    /// Opens a file to write over it, and returns how many bytes it has. No other program writes to it meanwhile.
-    fn open(&self, path: &str) -> io::Result<(Self::File, u64)>
+    /// Returns the number of the file at a path on its system of files, or 0.
+    fn number(&self, path: &str) -> u64;
+
+    /// Returns whether two paths lead to one file.
+    fn is_same(&self, path: &str, other: &str) -> bool;
+
+    /// Opens a file to write over it, and returns how many bytes it has. No other program writes to it meanwhile: that
+    /// is so already where this program holds it.
+    fn open(&self, path: &str, is_held: bool) -> io::Result<(Self::File, u64)>
         ensures place { IfOk result (λ opened. Self.File.is_at path.now opened.0) }
         ensures size { IfOk result (λ opened. IfSome (Self.File.bytes opened.0) (λ has. length has ≡ opened.1)) }
         ensures known { IfOk result (λ opened. Self.File.is_known ≡ true → is_some (Self.File.bytes opened.0) ≡ true) };
 
-    /// Makes a new file of these bytes, to the disk. One that an earlier call was cut off at makes way; a link isn't
-    /// followed.
+    /// Makes a new file of these bytes, to the disk. What is at the path already is kept, a link too, and the error
+    /// is `AlreadyExists`.
     fn create(&self, path: &str, bytes: &[u8]) -> io::Result<Self::File>
         ensures place { IfOk result (λ file. Self.File.is_at path.now file) }
         ensures known { IfOk result (λ file. Self.File.is_known ≡ true → Self.File.bytes file ≡ Some bytes.now) };
@@ -170,10 +177,24 @@ impl Disk for HostDisk<'_> {
         Err(Error::new(ErrorKind::InvalidInput, message))
     }
 
-    fn open(&self, path: &str) -> io::Result<(File, u64)> {
+    fn number(&self, path: &str) -> u64 {
+        match fs::metadata(self.0, path) {
+            Ok(found) => found.ino(),
+            Err(_) => 0,
+        }
+    }
+
+    fn is_same(&self, path: &str, other: &str) -> bool {
+        match fs::metadata(self.0, path) {
+            Ok(found) => found.is_file() && is_at(self.0, other, &found),
+            Err(_) => false,
+        }
+    }
+
+    fn open(&self, path: &str, is_held: bool) -> io::Result<(File, u64)> {
         let file = OpenOptions::new().write(true).open(self.0, path)?;
         // Not each system of files has locks.
-        if let Err(TryLockError::WouldBlock) = file.try_lock() {
+        if !is_held && let Err(TryLockError::WouldBlock) = file.try_lock() {
             let message = "another program is writing to it";
             return Err(Error::new(ErrorKind::WouldBlock, message));
         }
@@ -182,16 +203,15 @@ impl Disk for HostDisk<'_> {
     }
 
     fn create(&self, path: &str, bytes: &[u8]) -> io::Result<File> {
-        let mut made = File::create_new(self.0, path);
-        if let Err(error) = &made
-            && matches!(error.kind(), ErrorKind::AlreadyExists)
-        {
-            fs::remove_file(self.0, path)?;
-            made = File::create_new(self.0, path);
+        let mut file = File::create_new(self.0, path)?;
+        let mut written = file.put_at(bytes, 0);
+        if written.is_ok() {
+            written = file.cut(bytes.len() as u64);
         }
-        let mut file = made?;
-        file.put_at(bytes, 0)?;
-        file.cut(bytes.len() as u64)?;
+        if let Err(error) = written {
+            let _ = fs::remove_file(self.0, path);
+            return Err(error);
+        }
         Ok(file)
     }
 

@@ -1,12 +1,12 @@
 //! What can go wrong, as a value until it is printed.
 ghost use Rattle.std.specs.Prelude.{◌≡◌, ◌⊎◌};
 
-use crate::files::{COPY, Unwritten};
+use crate::files::{COPY, DAMAGED, HELD, Unwritten};
 use crate::texts::write_shown;
 use cred_table::SnapshotFault;
 use session_log::{CAPACITY, LogFault};
 use session_show::{Pen, Written, write_escaped};
-use std::io;
+use std::io::{self, ErrorKind};
 
 /// What ended the work on a log, with the path that it is about.
 #[derive(Drop)]
@@ -62,6 +62,38 @@ impl ProgramFault<'_> {
             ProgramFault::UnsavedSnapshot(..) => b"hidlog: cannot write snapshot\n",
         }
     }
+
+    /// Returns what is said of it also where faults aren't explained.
+    pub fn notice(&self) -> Option<Notice> {
+        let ProgramFault::UnreadSnapshot(_, error) = self else {
+            return None;
+        };
+        match error.kind() {
+            ErrorKind::WouldBlock => Some(Notice::Held),
+            ErrorKind::InvalidData => Some(Notice::Damaged),
+            _ => None,
+        }
+    }
+}
+
+/// A line about a fault, without the path that it is about.
+#[derive(Clone, Copy)]
+pub enum Notice {
+    /// Another program holds the snapshot.
+    Held,
+    /// The snapshot's bytes aren't those of its sums.
+    Damaged,
+}
+
+impl Written for Notice {
+    fn write(&self, pen: &mut Pen) {
+        pen.text("  ");
+        pen.text(match self {
+            Notice::Held => HELD,
+            Notice::Damaged => DAMAGED,
+        });
+        pen.text("\n");
+    }
 }
 
 /// Why there is a fault, for people: a line.
@@ -70,8 +102,8 @@ pub struct FaultReason<'a> {
     pub fault: &'a ProgramFault<'a>,
     /// The path that it is about.
     pub path: &'a str,
-    /// Whether the copy of a write that was cut off is beside the snapshot.
-    pub has_copy: bool,
+    /// The number of the copy of a write that was cut off, if one is beside the snapshot.
+    pub copy: Option<u64>,
 }
 
 /// Writes why a snapshot of these bytes is refused.
@@ -99,13 +131,22 @@ fn write_refusal(pen: &mut Pen, fault: SnapshotFault, bytes: &[u8]) {
     }
 }
 
+/// Writes the path of a copy of a snapshot.
+fn write_copy_path(pen: &mut Pen, path: &[u8], number: u64) {
+    write_escaped(pen, path);
+    pen.text(COPY);
+    if number > 0 {
+        pen.form(b".%d", &[Some(number)]);
+    }
+}
+
 impl Written for FaultReason<'_> {
     fn write(&self, pen: &mut Pen) {
         let path = self.path.as_bytes();
         pen.text("  ");
         write_escaped(pen, path);
         pen.text(": ");
-        // What is said before the path of the copy.
+        // What is said before the path of the copy, and the copy's number.
         let mut copied = None;
         match self.fault {
             ProgramFault::Memory | ProgramFault::Log(_) => {}
@@ -117,25 +158,29 @@ impl Written for FaultReason<'_> {
                 write_shown(pen, error);
                 pen.text("; it may be broken now");
             }
-            ProgramFault::UnsavedSnapshot(_, Unwritten::Copied(error)) => {
+            ProgramFault::UnsavedSnapshot(_, Unwritten::Copied(error, number)) => {
                 write_shown(pen, error);
-                copied = Some("; it may be broken now, and the new snapshot is whole in ");
+                copied = Some((
+                    "; it may be broken now, and the new snapshot is whole in ",
+                    *number,
+                ));
             }
-            ProgramFault::UnsavedSnapshot(_, Unwritten::Left(error)) => {
+            ProgramFault::UnsavedSnapshot(_, Unwritten::Left(error, number)) => {
                 pen.text("it is saved, but its copy ");
-                write_escaped(pen, path);
-                pen.text(COPY);
+                write_copy_path(pen, path, *number);
                 pen.text(" couldn't be removed: ");
                 write_shown(pen, error);
             }
         }
-        if self.has_copy {
-            copied = Some("; what a --save that was cut off had to write is in ");
+        if let Some(number) = self.copy {
+            copied = Some((
+                "; what a --save that was cut off had to write is in ",
+                number,
+            ));
         }
-        if let Some(text) = copied {
+        if let Some((text, number)) = copied {
             pen.text(text);
-            write_escaped(pen, path);
-            pen.text(COPY);
+            write_copy_path(pen, path, number);
         }
         pen.text("\n");
     }

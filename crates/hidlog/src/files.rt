@@ -1,9 +1,10 @@
 //! The files of snapshots.
-ghost use Rattle.std.specs.Prelude.{◌≡◌, ◌⊎◌, ◌^◌, ℕ, List, Some, length, IfErr, IfOk, IfSome, MatchResult, OnOk};
+ghost use Rattle.std.specs.Prelude.{◌≡◌, ◌⊎◌, ◌^◌, ℕ, List, Some, true, length, IfErr, IfOk, IfSome, MatchResult, OnOk};
 ghost use Rattle.std.specs.IoError.{error_kind};
 ghost use Rattle.hidlog.specs.Streams.{IsWritten};
 
 use crate::disk::{Disk, Found, Place};
+use crate::sums::{SUMS, SumLine, are_sums};
 use std::alloc::Global;
 use std::io::{self, Error, ErrorKind};
 
@@ -12,16 +13,19 @@ use std::io::{self, Error, ErrorKind};
 pub enum Unwritten {
     /// It holds what it held.
     Kept(Error),
-    /// It may hold some of the bytes. All of them are in the copy beside it.
-    Copied(Error),
+    /// It may hold some of the bytes. All of them are in the copy of this number beside it.
+    Copied(Error, u64),
     /// It may hold some of the bytes, and there is no copy.
     Broken(Error),
-    /// It holds the bytes. The copy beside it couldn't be removed.
-    Left(Error),
+    /// It holds the bytes. The copy of this number beside it couldn't be removed.
+    Left(Error, u64),
 }
 
 /// Files, by their paths.
 pub trait Files {
+    /// A file that no other program may load and then save to.
+    type Held: Drop;
+
     /// The file at a path has these bytes.
     ghost holds: { Self → List ℕ → List ℕ → Type 0 };
 
@@ -42,15 +46,26 @@ pub trait Files {
         ensures { MatchResult result (λ bytes. holds self.now path.now bytes.items)
             (λ error. (error_kind error ≡ ErrorKind.OutOfMemory) ⊎ unreadable self.now path.now) };
 
+    /// Holds the file that is read at a path, where it is the one to be written to at another one, until what is
+    /// returned is dropped. Fails where another program holds it.
+    fn hold(&self, path: &str, save: &str) -> io::Result<Option<Self::Held>>
+        ensures { IfErr result (λ _. unreadable self.now path.now) };
+
     /// Looks whether a file can be written to, as far as that is seen before it is. The log is none that may be.
-    fn look(&self, path: &str, log: Option<&str>) -> io::Result<()>
+    fn look(&self, path: &str, log: Option<&str>, is_held: bool) -> io::Result<()>
         ensures { IfErr result (λ _. unwritable self.now path.now) };
 
-    /// Returns whether the copy of a write that was cut off is beside the file at a path.
-    fn has_copy(&self, path: &str) -> bool;
+    /// Returns the number of the copy of a write that was cut off, if one is beside the file at a path.
+    fn copy(&self, path: &str) -> Option<u64>;
 
     /// Writes a file whole and in place, but not over the log.
-    fn write(&mut self, path: &str, bytes: &[u8], log: Option<&str>) -> Result<(), Unwritten>
+    fn write(
+        &mut self,
+        path: &str,
+        bytes: &[u8],
+        log: Option<&str>,
+        is_held: bool,
+    ) -> Result<(), Unwritten>
         ensures { MatchResult result (λ _. written self.old path.now bytes.now self.new)
             (λ _. unwritten self.old path.now bytes.now self.new) };
 }
@@ -66,15 +81,120 @@ const MOST: u64 = 1 << 20;
 /// The system's number for a path where nothing is.
 const ENOENT: i32 = 2;
 
-/// What is behind the path of a file in that of the copy beside it, and of the part of one. What is there is removed, so
-/// nobody else should name a file so.
+/// What is behind the path of a file in that of a copy beside it. Behind it there is a dot and a number, if not 0.
 pub const COPY: &str = ".hidlog-copy";
 
-const PART: &str = ".hidlog-copy.part";
+/// How many copies may be beside a file. A name that is taken isn't used: what has it may be anybody's.
+const COPIES: u64 = 100;
 
-/// Returns the path of a file beside another one.
-fn beside(alloc: Global, path: &str, ending: &str) -> io::Result<String> {
-    Ok(format!(in alloc; "{path}{ending}")?)
+/// What is behind the path of a file in that of its sums (src/sums.rt): a line of the bytes that it has, or is about to
+/// have, and in front of it, if they were whole, one of those that it had before.
+const SUMS_OF: &str = ".hidlog-sum";
+
+/// Returns the path of the sums of a file.
+fn sums_path(alloc: Global, path: &str) -> io::Result<String> {
+    Ok(format!(in alloc; "{path}{SUMS_OF}")?)
+}
+
+/// Returns the path of a copy of a file.
+fn copy_path(alloc: Global, path: &str, number: u64) -> io::Result<String> {
+    if number == 0 {
+        return Ok(format!(in alloc; "{path}{COPY}")?);
+    }
+    Ok(format!(in alloc; "{path}{COPY}.{number}")?)
+}
+
+/// Why a file that another program holds can't be loaded, where that is written over.
+pub const HELD: &str = "another program has loaded it, and is going to save to it";
+
+/// Why a file can't be loaded whose bytes aren't those of its sums. An error has at most 80 bytes.
+pub const DAMAGED: &str =
+    "its bytes don't match its .hidlog-sum: it is damaged; else remove that file";
+
+/// A file that was made beside another one.
+#[derive(Drop)]
+struct Beside<F> {
+    file: F,
+    name: String,
+    number: u64,
+}
+
+/// Makes a file of these bytes beside a path, under the first name of a copy that nothing has.
+fn make_beside<D: Disk>(
+    files: &HostFiles<D>,
+    path: &str,
+    bytes: &[u8],
+) -> io::Result<Beside<D::File>>
+    ensures { IfOk result (λ made. D.File.is_known ≡ true → D.File.bytes made.file ≡ Some bytes.now) }
+{
+    for number in 0..COPIES {
+        let name = copy_path(files.1, path, number)?;
+        match files.0.create(name.as_str(), bytes) {
+            Ok(file) => {
+                return Ok(Beside { file, name, number });
+            }
+            Err(error) => {
+                if !matches!(error.kind(), ErrorKind::AlreadyExists) {
+                    return Err(error);
+                }
+            }
+        }
+    }
+    Err(Error::new(
+        ErrorKind::AlreadyExists,
+        "there are too many copies beside it",
+    ))
+}
+
+/// Returns the sums of a file, if there are any.
+fn sums_of<D: Disk>(files: &HostFiles<D>, path: &str) -> io::Result<Option<Vec<u8>>> {
+    let name = sums_path(files.1, path)?;
+    match files.0.read(name.as_str(), SUMS as u64 + 1) {
+        Ok(sums) if are_sums(&sums) => Ok(Some(sums)),
+        Ok(_) => Err(Error::new(
+            ErrorKind::InvalidInput,
+            "the file of its name and .hidlog-sum has no sums: remove it",
+        )),
+        Err(error) => match error.kind() {
+            ErrorKind::NotFound | ErrorKind::InvalidFilename => Ok(None),
+            ErrorKind::OutOfMemory => Err(error),
+            _ => Err(Error::new(
+                error.kind(),
+                "the file of its name and .hidlog-sum can't be read",
+            )),
+        },
+    }
+}
+
+/// Writes the sums of the file of this number that is about to be written: of these bytes, and of those that it has,
+/// unless they are damaged. So whichever it has after a write that was cut off, it can be loaded. A file that has no sums
+/// may go without them.
+fn write_sums<D: Disk>(
+    files: &HostFiles<D>,
+    path: &str,
+    number: u64,
+    old: Option<&[u8]>,
+    bytes: &[u8],
+) -> io::Result<()> {
+    let known = sums_of(files, path)?;
+    let name = sums_path(files.1, path)?;
+    let mut text = Vec::new(files.1);
+    if let Some(old) = old {
+        let line = SumLine::of(old, number);
+        let is_whole = match &known {
+            Some(sums) => line.is_in(sums) || !line.is_of(sums),
+            None => true,
+        };
+        if is_whole {
+            text.extend_from_slice(line.text())?;
+        }
+    }
+    text.extend_from_slice(SumLine::of(bytes, number).text())?;
+    let written = write_beside(files, path, name.as_str(), &text);
+    match (written, known) {
+        (Err(error), Some(_)) => Err(error),
+        _ => Ok(()),
+    }
 }
 
 /// Writes over a file that is open and has so many bytes, to the disk, and cuts it to what was written. What the file
@@ -104,47 +224,70 @@ fn write_beside<D: Disk>(
 ) -> io::Result<D::File>
     ensures { IfOk result (λ file. IsWritten D.File.is_at D.File.is_known D.File.bytes to.now bytes.now file) }
 {
-    let part = beside(files.1, path, PART)?;
-    let written = match files.0.create(part.as_str(), bytes) {
-        Ok(file) => files.0.rename(file, part.as_str(), to),
+    let Beside { file, name, .. } = make_beside(files, path, bytes)?;
+    let written = files.0.rename(file, name.as_str(), to);
+    if written.is_err() {
+        let _ = files.0.remove(name.as_str());
+    }
+    written
+}
+
+/// Writes a file where none is, with its sums.
+fn write_new<D: Disk>(files: &HostFiles<D>, path: &str, bytes: &[u8]) -> io::Result<D::File>
+    ensures { IfOk result (λ file. IsWritten D.File.is_at D.File.is_known D.File.bytes path.now bytes.now file) }
+{
+    let Beside { file, name, .. } = make_beside(files, path, bytes)?;
+    let number = files.0.number(name.as_str());
+    let written = match write_sums(files, path, number, None, bytes) {
+        Ok(()) => files.0.rename(file, name.as_str(), path),
         Err(error) => Err(error),
     };
     if written.is_err() {
-        let _ = files.0.remove(part.as_str());
+        let _ = files.0.remove(name.as_str());
     }
     written
 }
 
 /// Writes over a file. Until that is done a copy of the bytes is beside it, if the folder allows that; where it fails,
 /// the file gets back what it held.
-fn replace<D: Disk>(files: &HostFiles<D>, path: &str, bytes: &[u8]) -> Result<D::File, Unwritten>
+fn replace<D: Disk>(
+    files: &HostFiles<D>,
+    path: &str,
+    bytes: &[u8],
+    is_held: bool,
+) -> Result<D::File, Unwritten>
     ensures { IfOk result (λ file. IsWritten D.File.is_at D.File.is_known D.File.bytes path.now bytes.now file) }
 {
     let disk = &files.0;
-    let (mut file, size) = match disk.open(path) {
+    let (mut file, size) = match disk.open(path, is_held) {
         Ok(opened) => opened,
         Err(error) => return Err(Unwritten::Kept(error)),
     };
-    let old = disk.read(path, u64::MAX);
-    let copy = match beside(files.1, path, COPY) {
-        Ok(copy) => copy,
-        Err(error) => return Err(Unwritten::Kept(error)),
+    let old = disk.read(path, u64::MAX).ok();
+    let had = match &old {
+        Some(old) => Some(old.as_slice()),
+        None => None,
     };
-    let is_copied = write_beside(files, path, copy.as_str(), bytes).is_ok();
+    if let Err(error) = write_sums(files, path, disk.number(path), had, bytes) {
+        return Err(Unwritten::Kept(error));
+    }
+    let copy = make_beside(files, path, bytes).ok();
     if let Err(error) = write_over(&mut file, size, bytes) {
         let is_back = match &old {
-            Ok(old) => write_over(&mut file, old.len() as u64, old.as_slice()).is_ok(),
-            Err(_) => false,
+            Some(old) => write_over(&mut file, old.len() as u64, old.as_slice()).is_ok(),
+            None => false,
         };
-        return Err(match (is_back, is_copied) {
-            (true, false) => Unwritten::Kept(error),
-            (true, true) if disk.remove(copy.as_str()).is_ok() => Unwritten::Kept(error),
-            (_, true) => Unwritten::Copied(error),
-            (false, false) => Unwritten::Broken(error),
+        return Err(match (is_back, &copy) {
+            (true, None) => Unwritten::Kept(error),
+            (true, Some(copy)) if disk.remove(copy.name.as_str()).is_ok() => Unwritten::Kept(error),
+            (_, Some(copy)) => Unwritten::Copied(error, copy.number),
+            (false, None) => Unwritten::Broken(error),
         });
     }
-    if is_copied && let Err(error) = disk.remove(copy.as_str()) {
-        return Err(Unwritten::Left(error));
+    if let Some(copy) = &copy
+        && let Err(error) = disk.remove(copy.name.as_str())
+    {
+        return Err(Unwritten::Left(error, copy.number));
     }
     Ok(file)
 }
@@ -161,21 +304,63 @@ impl<D: Disk> Files for HostFiles<D> {
 
     ghost unwritable = { λ _ _. Unit {0} };
 
-    fn read(&self, path: &str) -> io::Result<Vec<u8>> {
-        self.0.read(path, MOST)
-    }
+    type Held = D::File;
 
-    fn has_copy(&self, path: &str) -> bool {
-        match beside(self.1, path, COPY) {
-            Ok(copy) => matches!(self.0.look(copy.as_str(), None), Ok(Found::File)),
-            Err(_) => false,
+    fn hold(&self, path: &str, save: &str) -> io::Result<Option<D::File>> {
+        if !self.0.is_same(path, save) {
+            return Ok(None);
+        }
+        match self.0.open(save, false) {
+            Ok((file, _)) => Ok(Some(file)),
+            Err(error) => {
+                if !matches!(error.kind(), ErrorKind::WouldBlock) {
+                    // Why else it can't be written to is said once it is to be.
+                    return Ok(None);
+                }
+                Err(Error::new(ErrorKind::WouldBlock, HELD))
+            }
         }
     }
 
-    fn look(&self, path: &str, log: Option<&str>) -> io::Result<()> {
+    fn read(&self, path: &str) -> io::Result<Vec<u8>> {
+        // It may be written meanwhile, and its sums before it.
+        for _ in 0..3 {
+            let bytes = self.0.read(path, MOST)?;
+            let Some(sums) = sums_of(self, path)? else {
+                return Ok(bytes);
+            };
+            let line = SumLine::of(&bytes, self.0.number(path));
+            if line.is_in(&sums) || !line.is_of(&sums) {
+                return Ok(bytes);
+            }
+        }
+        Err(Error::new(ErrorKind::InvalidData, DAMAGED))
+    }
+
+    fn copy(&self, path: &str) -> Option<u64> {
+        let sums = sums_of(self, path).ok()?;
+        let file = self.0.number(path);
+        for number in 0..COPIES {
+            let name = copy_path(self.1, path, number).ok()?;
+            if let Ok(Found::File) = self.0.look(name.as_str(), None)
+                && let Ok(bytes) = self.0.read(name.as_str(), MOST)
+            {
+                let is_last = match &sums {
+                    Some(sums) => sums.ends_with(SumLine::of(&bytes, file).text()),
+                    None => true,
+                };
+                if is_last {
+                    return Some(number);
+                }
+            }
+        }
+        None
+    }
+
+    fn look(&self, path: &str, log: Option<&str>, is_held: bool) -> io::Result<()> {
         let found = self.0.look(path, log)?;
         if let Found::File = found {
-            self.0.open(path)?;
+            self.0.open(path, is_held)?;
         }
         let Found::Nothing = found else {
             return Ok(());
@@ -184,18 +369,23 @@ impl<D: Disk> Files for HostFiles<D> {
             return Err(Error::from_raw_os_error(ENOENT));
         }
         // Where no file is, one can be made if another one can be beside it.
-        let part = beside(self.1, path, PART)?;
-        self.0.create(part.as_str(), b"")?;
-        self.0.remove(part.as_str())
+        let made = make_beside(self, path, b"")?;
+        self.0.remove(made.name.as_str())
     }
 
-    fn write(&mut self, path: &str, bytes: &[u8], log: Option<&str>) -> Result<(), Unwritten> {
+    fn write(
+        &mut self,
+        path: &str,
+        bytes: &[u8],
+        log: Option<&str>,
+        is_held: bool,
+    ) -> Result<(), Unwritten> {
         match self.0.look(path, log) {
-            Ok(Found::Nothing) => match write_beside(self, path, path, bytes) {
+            Ok(Found::Nothing) => match write_new(self, path, bytes) {
                 Ok(_) => Ok(()),
                 Err(error) => Err(Unwritten::Kept(error)),
             },
-            Ok(Found::File) => match replace(self, path, bytes) {
+            Ok(Found::File) => match replace(self, path, bytes, is_held) {
                 Ok(_) => Ok(()),
                 Err(unwritten) => Err(unwritten),
             },

@@ -93,17 +93,16 @@ impl<D: Files, L: Logs, O: Output, E: Target> Host<D, L, O, E> {
             | ProgramFault::UnreadSnapshot(path, _)
             | ProgramFault::RefusedSnapshot(path, _, _)
             | ProgramFault::UnsavedSnapshot(path, _) => {
-                let has_copy = explains
-                    && matches!(
-                        fault,
-                        ProgramFault::UnreadSnapshot(..) | ProgramFault::RefusedSnapshot(..)
-                    )
-                    && self.files.has_copy(path);
-                let why = FaultReason {
+                let is_unread = matches!(
                     fault,
-                    path,
-                    has_copy,
+                    ProgramFault::UnreadSnapshot(..) | ProgramFault::RefusedSnapshot(..)
+                );
+                let copy = if explains && is_unread {
+                    self.files.copy(path)
+                } else {
+                    None
                 };
+                let why = FaultReason { fault, path, copy };
                 tell_why(&mut self.faults, explains, fault.text(), &why);
             }
         }

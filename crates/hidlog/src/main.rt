@@ -31,6 +31,7 @@ mod several;
 mod sides;
 mod snapshots;
 mod streams;
+mod sums;
 mod terminal;
 mod texts;
 mod wish;
@@ -62,6 +63,9 @@ impl<D: Files, L: Logs, O: Output, E: Target> Host<D, L, O, E> {
     {
         let mut more = Vec::new(self.alloc);
         let mut target = ToWrite::new(&mut more);
+        if let Some(notice) = &outcome.notice {
+            say(&mut target, notice);
+        }
         match &outcome.fault {
             None => {
                 if let Some(ending) = &outcome.ending

@@ -12,7 +12,7 @@ ghost use Rattle.hidlog.specs.Commands.{Answers, Does, DoesCommand, Explains, Re
 
 use crate::command_line::{Form, ProgramTask, task_of};
 use crate::commands::{Play, open_log};
-use crate::fault::ProgramFault;
+use crate::fault::{Notice, ProgramFault};
 use crate::files::Files;
 use crate::held::{Output, settled};
 use crate::host::{Host, Modeled};
@@ -35,6 +35,8 @@ pub struct RunOutcome<'a> {
     pub explains: bool,
     /// The log's fault.
     pub fault: Option<LogFault>,
+    /// What is said of another fault, where faults aren't explained.
+    pub notice: Option<Notice>,
     /// How the log ended that has none.
     pub ending: Option<ComparisonEnd>,
     /// How differences are said, where the log was compared.
@@ -50,6 +52,7 @@ impl RunOutcome<'_> {
             status,
             explains,
             fault: None,
+            notice: None,
             ending: None,
             wish: None,
         }
@@ -189,6 +192,9 @@ impl<D: Files, L: Logs, O: Output, E: Target> Host<D, L, O, E> {
         let mut outcome = RunOutcome::of(Err(fault.status()), explains);
         if let ProgramFault::Log(fault) = fault {
             outcome.fault = Some(*fault);
+        }
+        if !explains {
+            outcome.notice = fault.notice();
         }
         outcome
     }

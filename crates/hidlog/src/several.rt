@@ -180,6 +180,11 @@ impl<D: Files, L: Logs, O: Output, E: Target> Host<D, L, O, E> {
             }
         } else {
             self.tell(fault, wish.explains);
+            if !wish.explains
+                && let Some(notice) = fault.notice()
+            {
+                say(&mut self.faults, &notice);
+            }
         }
         if wish.is_json {
             let output = &mut self.output;

@@ -48,6 +48,24 @@ pub fn load<'a, D: Files>(
     }
 }
 
+/// Holds the snapshot at the path, where it is loaded and then saved to, as long as what is returned is kept: so of two
+/// programs that do that at a time none loses what the other saved.
+pub fn hold<'a, D: Files>(
+    files: &D,
+    path: Option<&'a str>,
+    save: Option<&str>,
+) -> Result<Option<D::Held>, ProgramFault<'a>>
+    ensures { IfErr result (λ fault. FailsToOpen D.holds D.unreadable files.now (path_of path.entry) (Err (told_of fault))) }
+{
+    let (Some(path), Some(save)) = (path, save) else {
+        return Ok(None);
+    };
+    match files.hold(path, save) {
+        Ok(held) => Ok(held),
+        Err(error) => Err(ProgramFault::UnreadSnapshot(path, error)),
+    }
+}
+
 /// Looks whether a snapshot can be written to the path, if there is one. That is done for `live` alone, whose log may
 /// take long to come.
 pub fn look<'a, D: Files>(
@@ -55,6 +73,7 @@ pub fn look<'a, D: Files>(
     command: LogCommand,
     path: Option<&'a str>,
     log: Option<&str>,
+    is_held: bool,
 ) -> Result<(), ProgramFault<'a>>
     ensures { IfErr result (λ fault.
         FailsToSave D.unwritable files.now (looked_at command (path_of path.entry)) (Err (told_of fault))) }
@@ -62,7 +81,7 @@ pub fn look<'a, D: Files>(
     let (LogCommand::Live, Some(path)) = (command, path) else {
         return Ok(());
     };
-    match files.look(path, log) {
+    match files.look(path, log, is_held) {
         Ok(()) => Ok(()),
         Err(error) => Err(ProgramFault::UnsavedSnapshot(path, Unwritten::Kept(error))),
     }
@@ -74,6 +93,7 @@ pub fn save_rows<'a, D: Files>(
     alloc: Global,
     path: Option<&'a str>,
     log: Option<&str>,
+    is_held: bool,
     session: &Session<CAPACITY>,
 ) -> Result<(), ProgramFault<'a>>
     ensures { Saves D.written D.unwritten (path_of path.entry) session.now (came_of result) (files.old, files.new) }
@@ -85,7 +105,7 @@ pub fn save_rows<'a, D: Files>(
     if save(session.table(), &mut bytes).is_err() {
         return Err(ProgramFault::Memory);
     }
-    match files.write(path, bytes.as_slice(), log) {
+    match files.write(path, bytes.as_slice(), log, is_held) {
         Ok(()) => Ok(()),
         Err(unwritten) => Err(ProgramFault::UnsavedSnapshot(path, unwritten)),
     }

@@ -1,85 +1,9 @@
-use Rattle.std.proofs.Common.{[], inl, inr, refl}
-use Rattle.session_log.specs.Command.{start_with}
+use Rattle.std.proofs.Common.{inl, inr, refl}
 use Rattle.hidlog.proofs.host.Host.play_log.Goals as goal
 
-pub returns-in-Err-load : goal.returns-in-Err-load
-returns-in-Err-load g c =
-    inr (c.open_log.new.input, c.in-Ok.ensures.opened, inl (refl, c.in-Err-load.ensures.fails))
+pub returns-in-Err-hold : goal.returns-in-Err-hold
+returns-in-Err-hold g c =
+    inr (c.open_log.new.input, c.in-Ok.ensures.opened, inl (refl, c.in-Err-hold.ensures))
 
-pub returns-in-Err-look : goal.returns-in-Err-look
-returns-in-Err-look g c =
-    let begun = c.in_default.ensures.begins in
-    inr (
-      c.open_log.new.input,
-      c.in-Ok.ensures.opened,
-      inr (begun.0, begun.1, inl (refl, c.in-Err-look.ensures)),
-    )
-
-pub returns-in-Err-settled : goal.returns-in-Err-settled
-returns-in-Err-settled g c =
-    let begun = c.in_default.ensures.begins in
-    let played = c.play-answer in
-    inr (
-      c.open_log.new.input,
-      c.in-Ok.ensures.opened,
-      inr (
-        begun.0,
-        begun.1,
-        inr (
-          played.result,
-          c.settled.result,
-          played.new.session,
-          played.new.writer,
-          played.ensures.plays (start_with begun.0) [] begun.2,
-          c.settled.ensures,
-          rw c.in-Err-settled.is (refl, refl),
-          refl,
-        ),
-      ),
-    )
-
-pub returns-in-Err-save_rows : goal.returns-in-Err-save_rows
-returns-in-Err-save_rows g c =
-    let begun = c.in_default.ensures.begins in
-    let played = c.play-answer in
-    inr (
-      c.open_log.new.input,
-      c.in-Ok.ensures.opened,
-      inr (
-        begun.0,
-        begun.1,
-        inr (
-          played.result,
-          c.settled.result,
-          played.new.session,
-          played.new.writer,
-          played.ensures.plays (start_with begun.0) [] begun.2,
-          c.settled.ensures,
-          rw c.in_default-settled.is c.in-Err-save_rows.ensures,
-          refl,
-        ),
-      ),
-    )
-
-pub returns-in-Ok-save_rows : goal.returns-in-Ok-save_rows
-returns-in-Ok-save_rows g c =
-    let begun = c.in_default.ensures.begins in
-    let played = c.play-answer in
-    inr (
-      c.open_log.new.input,
-      c.in-Ok.ensures.opened,
-      inr (
-        begun.0,
-        begun.1,
-        inr (
-          played.result,
-          c.settled.result,
-          played.new.session,
-          played.new.writer,
-          played.ensures.plays (start_with begun.0) [] begun.2,
-          c.settled.ensures,
-          rw c.in_default-settled.is c.in-Ok-save_rows.ensures,
-          refl,
-        ),
-      ),
-    )
+pub returns : goal.returns
+returns g c = inr (c.open_log.new.input, c.in-Ok.ensures.opened, c.play_open-came.ensures)

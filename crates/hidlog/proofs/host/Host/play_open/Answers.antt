@@ -1,0 +1,68 @@
+use Rattle.std.proofs.Common.{[], inl, inr, refl}
+use Rattle.session_log.specs.Command.{start_with}
+use Rattle.hidlog.proofs.host.Host.play_open.Goals as goal
+
+pub returns-in-Err : goal.returns-in-Err
+returns-in-Err g c = inl (refl, c.in-Err.ensures.fails)
+
+pub returns-in-Err-look : goal.returns-in-Err-look
+returns-in-Err-look g c =
+    let begun = c.in_default.ensures.begins in
+    inr (begun.0, begun.1, inl (refl, c.in-Err-look.ensures))
+
+pub returns-in-Err-settled : goal.returns-in-Err-settled
+returns-in-Err-settled g c =
+    let begun = c.in_default.ensures.begins in
+    let played = c.play-answer in
+    inr (
+      begun.0,
+      begun.1,
+      inr (
+        played.result,
+        c.settled.result,
+        played.new.session,
+        played.new.writer,
+        played.ensures.plays (start_with begun.0) [] begun.2,
+        c.settled.ensures,
+        rw c.in-Err-settled.is (refl, refl),
+        refl,
+      ),
+    )
+
+pub returns-in-Err-save_rows : goal.returns-in-Err-save_rows
+returns-in-Err-save_rows g c =
+    let begun = c.in_default.ensures.begins in
+    let played = c.play-answer in
+    inr (
+      begun.0,
+      begun.1,
+      inr (
+        played.result,
+        c.settled.result,
+        played.new.session,
+        played.new.writer,
+        played.ensures.plays (start_with begun.0) [] begun.2,
+        c.settled.ensures,
+        rw c.in_default-settled.is c.in-Err-save_rows.ensures,
+        refl,
+      ),
+    )
+
+pub returns-in-Ok : goal.returns-in-Ok
+returns-in-Ok g c =
+    let begun = c.in_default.ensures.begins in
+    let played = c.play-answer in
+    inr (
+      begun.0,
+      begun.1,
+      inr (
+        played.result,
+        c.settled.result,
+        played.new.session,
+        played.new.writer,
+        played.ensures.plays (start_with begun.0) [] begun.2,
+        c.settled.ensures,
+        rw c.in_default-settled.is c.in-Ok.ensures,
+        refl,
+      ),
+    )
