@@ -1,4 +1,4 @@
-"""Faults of the system at each call of the Python package's commands: each call after the imports fails in turn, and kills.
+"""Faults of the system at each call of the Python package's commands: each after the imports fails in turn, and kills.
 
 A command ends as without the fault, or with one line and a status that no verdict has; what it writes is whole, or the
 status says that it isn't; an older file is whole; only a kill leaves a file beside it.
@@ -69,7 +69,7 @@ class Run:
     output: str = ""
     # Whether strace follows the processes that it starts.
     follows: bool = True
-    # Whether a fault may be said of one recording among others on standard output.
+    # Whether a failure may show on standard output: of one recording among others, or as a log that isn't the shortest.
     reports: bool = False
 
     def start(self, folder: Path, trace: Sequence[str]) -> "subprocess.CompletedProcess[bytes]":
@@ -126,6 +126,7 @@ RUNS = [
         "hidlog.shrink",
         kept={"in": TICKS},
         follows=False,
+        reports=True,
     ),
 ]
 

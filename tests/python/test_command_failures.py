@@ -1,4 +1,4 @@
-"""Failures of the package's commands: input files are kept, hostile input is refused, signals end a command in order."""
+"""Failures of the package's commands: input files are kept, hostile input is refused, a signal ends in a line."""
 
 from __future__ import annotations
 
@@ -84,14 +84,15 @@ def test_an_empty_recording_is_a_failure(folder: Path, data: bytes) -> None:
     assert (ran.returncode, ran.stdout, ran.stderr) == (2, b"", text)
 
 
-def test_pipes_in_folders_are_skipped(folder: Path, monkeypatch: pytest.MonkeyPatch) -> None:
+def test_pipes_in_folders_are_skipped(folder: Path) -> None:
     logs = folder / "logs"
     (logs / "inner.log").mkdir(parents=True)
     (logs / "inner.log" / "one.log").write_bytes((folder / "log").read_bytes())
     os.mkfifo(logs / "pipe.log")
+    (logs / "loop.log").symlink_to("loop.log")
     ran = run(folder, "check-many", "logs")
-    text = "hidlog check-many: skipped logs/pipe.log: not a regular file\n1 same\n"
-    assert (ran.returncode, ran.stdout, ran.stderr.decode()) == (0, b"", text)
+    skipped = ["hidlog check-many: skipped logs/%s.log: not a regular file" % it for it in ("loop", "pipe")]
+    assert (ran.returncode, ran.stdout) == (0, b"") and sorted(ran.stderr.decode().splitlines()) == ["1 same", *skipped]
 
 
 @pytest.mark.parametrize("command", ["check-many", "judge", "import", "export"])
@@ -243,6 +244,19 @@ def test_shrink_writes_the_shortest_log_so_far(folder: Path, number: int, status
     lines = log.splitlines()
     assert started.returncode == status and lines[-1] == b"p 100 granted" and len(lines) < 101, said
     assert said.endswith(b"\nthe shortest log so far is written\n")
+
+
+def test_shrink_writes_what_it_has_where_the_command_is_gone(folder: Path) -> None:
+    (folder / "long").write_bytes(b"".join(b"t %d\n" % it for it in range(100)) + b"p 100 granted\n")
+    (folder / "tool").write_text("#!/bin/sh\necho >> runs; [ $(wc -l < runs) -lt 9 ] || rm tool; ! grep -q granted\n")
+    (folder / "tool").chmod(0o755)
+    ran = run(folder, "shrink", "long", "./tool")
+    lines = ran.stdout.splitlines()
+    assert ran.returncode == 2 and lines[-1] == b"p 100 granted" and len(lines) < 101
+    assert ran.stderr.splitlines()[-2:] == [
+        b"hidlog shrink: ./tool can't be run any longer: No such file or directory",
+        b"the shortest log so far is written",
+    ]
 
 
 def test_live_answers_line_by_line_through_the_library(folder: Path) -> None:

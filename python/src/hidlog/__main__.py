@@ -1,8 +1,8 @@
 """The program hidlog that is in the package: `hidlog` and `python -m hidlog` are the same, with every word of it.
 
-Some commands are the package's own: `COMMANDS` names them. All other words are the program's; where the package has none,
-as on other processors than its wheels', the library serves those that need no more. At a terminal the help of the program is followed by the
-package's own commands.
+Some commands are the package's own: `COMMANDS` names them. All other words are the program's; where the package has
+none, as on other processors than its wheels', the library serves those that need no more. At a terminal the help of the
+program is followed by the package's own commands.
 """
 
 from __future__ import annotations

@@ -1,7 +1,7 @@
 """The entry point of every command: a failure ends in one line on standard error and in a status that no verdict has.
 
-A verdict (a difference, a violation) has the status 1; a usage error or a failure 2; SIGINT 130, SIGTERM 143, SIGHUP 129.
-Where standard output can't be written, the text is that of the program `hidlog`.
+A verdict (a difference, a violation) has the status 1; a usage error or a failure 2; SIGINT 130, SIGTERM 143, and
+SIGHUP 129. Where standard output can't be written, the text is that of the program `hidlog`.
 """
 
 from __future__ import annotations
@@ -130,7 +130,7 @@ def _handle_signals(before: Any, handler: Any) -> None:
 
 
 def restore_signals() -> None:
-    """Has signals do what they do to the program. Python ignores SIGXFSZ, and SIGPIPE, which the program ignores too."""
+    """Has signals do what they do to the program: Python ignores SIGXFSZ. Both ignore SIGPIPE."""
     _handle_signals(_stop, signal.SIG_DFL)
     signal.signal(signal.SIGXFSZ, signal.SIG_DFL)
 

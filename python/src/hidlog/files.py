@@ -108,8 +108,10 @@ def is_regular(path: Path) -> bool:
     """Returns whether a path leads to a regular file, which neither blocks nor is endless."""
     try:
         return stat.S_ISREG(path.stat().st_mode)
-    except FileNotFoundError:
-        return False
+    except OSError as error:
+        if error.errno in (errno.ENOENT, errno.ELOOP):
+            return False
+        raise
 
 
 def refuse_input(output: Path, inputs: Iterable[Named]) -> None:

@@ -113,8 +113,8 @@ def _write(found: Iterator[Checked], report: str) -> Counter[str]:
 
 
 def check_many_command(words: Sequence[str]) -> int:
-    """Checks recordings. The status is 0 if all are the same, 1 if one differs or its snapshot is refused, and 2 at a usage
-    error or if one couldn't be checked."""
+    """Checks recordings. The status is 0 if all are the same, 1 if one differs or its snapshot is refused, and 2 at a
+    usage error or if one couldn't be checked."""
     given = _parser().parse_args(words)
     try:
         paths = _logs(given.paths)

@@ -18,10 +18,11 @@ what can't be left out becomes a tick of its moment. All of that as long as the 
   sends the same packet there;
 - with --same, its output or its standard error has that text, and only that is compared besides the status.
 
-The shortest log found goes to standard output, also at SIGINT (Ctrl-C) and SIGTERM, and how far it is to standard error.
-LOG is - for standard input. The status is 2 where the words are wrong, the command can't be started, it doesn't fail on
-the whole log in this way, or it fails so on an empty log too; 130 at SIGINT, 143 at SIGTERM. Making the log quiet first (`hidlog quiet`) takes the noise
-out in one go, where the command doesn't look at `<` lines.
+The shortest log found goes to standard output, also at SIGINT (Ctrl-C), at SIGTERM and where the command can't be run
+any longer; how far it is goes to standard error. LOG is - for standard input. The status is 2 where the words are wrong,
+the command can't be run, it doesn't fail on the whole log in this way, or it fails so on an empty log too; 130 at SIGINT,
+and 143 at SIGTERM. Making the log quiet first (`hidlog quiet`) takes the noise out in one go, where the command doesn't
+look at `<` lines.
 
 This file needs nothing of the package: it runs alone, too.
 """
@@ -307,19 +308,25 @@ def main(words: Optional[list[str]] = None) -> int:
 
 
 def shrink(command: Command, blocks: list[Block]) -> int:
-    """Writes the shortest log that is found, and returns the status: not 0 where a signal ended the search."""
+    """Writes the shortest log that is found, and returns the status: not 0 where something ended the search."""
     shrinking = None
     status = 0
-    for number in (signal.SIGINT, signal.SIGTERM):
-        if signal.getsignal(number) != signal.SIG_IGN:
-            signal.signal(number, stop)
     try:
+        for number in (signal.SIGINT, signal.SIGTERM):
+            if signal.getsignal(number) != signal.SIG_IGN:
+                signal.signal(number, stop)
         shrinking = begun(command, blocks)
         shrinking.run()
     except StoppedError as stopped:
         tell(f"hidlog shrink: {stopped}")
-        tell("the shortest log so far is written" if shrinking else "nothing is written")
         status = stopped.status
+    except OSError as error:
+        if shrinking is None:
+            raise
+        tell(f"hidlog shrink: {command.words[0]} can't be run any longer: {error.strerror}")
+        status = 2
+    if status:
+        tell("the shortest log so far is written" if shrinking else "nothing is written")
     return status if shrinking is None else write(joined(shrinking.blocks)) or status
 
 
