@@ -19,10 +19,10 @@ what can't be left out becomes a tick of its moment. All of that as long as the 
 - with --same, its output or its standard error has that text, and only that is compared besides the status.
 
 The shortest log found goes to standard output, also at SIGINT (Ctrl-C), at SIGTERM and where the command can't be run
-any longer; how far it is goes to standard error. LOG is - for standard input. The status is 2 where the words are wrong,
-the command can't be run, it doesn't fail on the whole log in this way, or it fails so on an empty log too; 130 at SIGINT,
-and 143 at SIGTERM. Making the log quiet first (`hidlog quiet`) takes the noise out in one go, where the command doesn't
-look at `<` lines.
+any longer; how far it is goes to standard error. LOG is - for standard input. The status is 2 where the words are
+wrong, the command can't be run, it doesn't fail on the whole log in this way, or it fails so on an empty log too; 130
+at SIGINT, and 143 at SIGTERM. Making the log quiet first (`hidlog quiet`) takes the noise out in one go, where the
+command doesn't look at `<` lines.
 
 This file needs nothing of the package: it runs alone, too.
 """
