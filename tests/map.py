@@ -1,0 +1,140 @@
+#!/usr/bin/env python3
+"""Compares docs/change/MAP.md with the sources: it names every file with the first sentence of the file's own comment, or
+of that of its first type or function.
+
+    tests/map.py            ends with 1 if the page is out of date, or if a file has no comment at its top
+    tests/map.py --write    writes the page
+"""
+
+from __future__ import annotations
+
+import re
+import subprocess
+import sys
+from pathlib import Path
+
+TOP = Path(__file__).resolve().parent.parent
+PAGE = TOP / "docs" / "change" / "MAP.md"
+# Folders in the order of the page, each with a pattern of its files.
+FOLDERS = (
+    *(
+        (f"crates/{name}/{part}", pattern)
+        for name in (
+            "hid_packet",
+            "hid_assemble",
+            "ctap_cbor",
+            "ctap_message",
+            "fido_authdata",
+            "cred_table",
+            "authn_core",
+            "token_session",
+            "session_log",
+            "session_walk",
+            "session_show",
+            "webauthn_client",
+            "hidlog",
+            "hidlog_c",
+        )
+        for part, pattern in (("specs", "*.antt"), ("src", "**/*.rt"))
+    ),
+    ("python/src/hidlog", "**/*.py"),
+    ("web", "*.js"),
+    ("web/key", "*.js"),
+    ("go", "*.go"),
+    ("rust/hidlog/src", "*.rs"),
+    ("rust/hidlog-sys/src", "*.rs"),
+    ("conformance/hidlog_conformance", "*.py"),
+    ("examples/c", "*.[ch]"),
+    ("examples/ssh", "*.[ch]"),
+    ("examples/uhid", "*.[ch]"),
+    ("standard", "*.py"),
+    ("tests", "*.py"),
+    ("tests", "*.sh"),
+    ("packages", "*.py"),
+    ("packages", "*.sh"),
+    ("release", "*.sh"),
+)
+# Files whose name says what they are: a crate's list of modules, and what only lists or tests others.
+UNLISTED = re.compile(r"(?:^|/)(?:Lib\.antt|hidlog_test\.go|cases_test\.go)$")
+HEAD = """# Every source file, by folder
+
+Made by `tests/map.py --write` from the first sentence of each file's comment, so that it isn't stale.
+[ARCHITECTURE.md](ARCHITECTURE.md) says where to change what.
+"""
+
+
+def comment(path: Path) -> str:
+    """Returns the comment at the top of a file, in one line."""
+    text = path.read_text(encoding="utf-8")
+    text = re.sub(r"\A#![^\n]*\n", "", text)
+    if path.suffix == ".py":
+        found = re.match(r'\s*(?:#[^\n]*\n)*"""(.*?)"""', text, re.DOTALL)
+        return " ".join(found[1].split()) if found else ""
+    if block := re.match(r"\s*/\*+(.*?)\*/", text, re.DOTALL):
+        return " ".join(re.sub(r"^\s*\*", "", block[1], flags=re.MULTILINE).split())
+    # A file without a comment of its own is about its first type or function.
+    if not re.match(r"\s*(?://|--|#)", text) or re.match(r"\s*// #include|\s*// /\*", text):
+        mark = r"//(?! [#/])" if path.suffix == ".go" else r"///"
+        kinds = r"(?:#\[[^\n]*\n)*(?:pub (?:struct|enum|trait) |type [A-Z])", "(?:pub|type|const|var|func)"
+        found = next(
+            (f for kind in kinds if (f := re.search(rf"((?:^{mark}[^\n]*\n)+){kind}", text, re.MULTILINE))), None
+        )
+        text = found[1] if found else text
+    lines = []
+    for line in text.splitlines():
+        found = re.match(r"\s*(?://[/!]?|--|#)\s?(.*)", line)
+        if not found:
+            break
+        lines.append(found[1])
+    return " ".join(" ".join(lines).split())
+
+
+def first_sentence(text: str) -> str:
+    """Returns the first sentence of a text, without links and with the table's bar escaped."""
+    sentence = re.split(r"(?<=[.:!?])\s", text + " ", maxsplit=1)[0].rstrip(".: ")
+    return re.sub(r"\[(`[^`]*`)\]", r"\1", sentence).replace("|", "\\|")
+
+
+def tracked() -> list[Path]:
+    """Returns the files of the repository."""
+    words = ["git", "ls-files", "-co", "--exclude-standard"]
+    listed = subprocess.run(words, cwd=TOP, capture_output=True, text=True, check=True).stdout
+    return sorted(path for line in listed.splitlines() if (path := TOP / line).is_file())
+
+
+def page() -> tuple[str, list[str]]:
+    """Returns the page, and the files that have no comment."""
+    files, lines, bare = tracked(), [HEAD], list[str]()
+    for folder, pattern in FOLDERS:
+        inside = [path for path in files if path in set((TOP / folder).glob(pattern))]
+        rows = []
+        for path in inside:
+            name = str(path.relative_to(TOP / folder))
+            if UNLISTED.search(name):
+                continue
+            sentence = first_sentence(comment(path))
+            rows.append(f"| `{name}` | {sentence} |")
+            if not sentence:
+                bare.append(str(path.relative_to(TOP)))
+        if rows:
+            lines += [f"## `{folder}`", "", "| File | What it is |", "|---|---|", *rows, ""]
+    return "\n".join(lines), bare
+
+
+def main() -> int:
+    """Writes the page, or compares it."""
+    text, bare = page()
+    if sys.argv[1:] == ["--write"]:
+        PAGE.write_text(text, encoding="utf-8")
+        return 0
+    for name in bare:
+        print(f"{name} has no comment at its top")
+    is_stale = not PAGE.is_file() or PAGE.read_text(encoding="utf-8") != text
+    if is_stale:
+        print("docs/change/MAP.md is out of date: tests/map.py --write")
+    print(f"{text.count('| `')} files, {len(bare)} without a comment")
+    return 1 if bare or is_stale else 0
+
+
+if __name__ == "__main__":
+    sys.exit(main())
