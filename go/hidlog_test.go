@@ -173,19 +173,30 @@ func TestWrongCallsAreRefused(t *testing.T) {
 	browser := key.Browser(origin)
 	used, err := browser.Create(create)
 	made := parsed(t, used, err)
-	excluded := fmt.Sprintf(`{"rp": {"id": "example.com", "name": ""}, "challenge": "AA", "user": {"id": "AA", "name": "a"},
-		"excludeCredentials": [{"type": "public-key", "id": "%s"}]}`, made.ID)
+	// options returns complete options for a registration, with these members changed.
+	options := func(rp, user, rest string) string {
+		return fmt.Sprintf(`{"rp": {%s"name": "Example"}, "challenge": "AAECAwQFBgcICQoLDA0ODw",
+			"user": {"id": "%s", "name": "a", "displayName": "A"}, "pubKeyCredParams": [{"type": "public-key", "alg": -7}]%s}`,
+			rp, user, rest)
+	}
+	excluded := options(`"id": "example.com", `, "AA",
+		fmt.Sprintf(`, "excludeCredentials": [{"type": "public-key", "id": "%s"}]`, made.ID))
 	for _, it := range []struct {
 		origin, options, name string
 		isGet                 bool
 	}{
 		{origin, excluded, "InvalidStateError", false},
-		{origin, `{"rp": {"id": "example.org"}, "challenge": "AA", "user": {"id": "AA"}}`, "SecurityError", false},
-		{origin, `{"rp": {"id": "com"}, "challenge": "AA", "user": {"id": "AA"}}`, "SecurityError", false},
-		{"http://example.com", `{"rp": {}, "challenge": "AA", "user": {"id": "AA"}}`, "SecurityError", false},
+		{origin, options(`"id": "example.org", `, "AA", ""), "SecurityError", false},
+		{origin, options(`"id": "com", `, "AA", ""), "SecurityError", false},
+		{"http://example.com", options("", "AA", ""), "SecurityError", false},
+		{"https://127.0.0.1", options("", "AA", ""), "SecurityError", false},
+		{origin, options("", "", ""), "TypeError", false},
+		// What a laxer client took: options without rp, user or parameters, which browsers refuse.
+		{origin, `{"challenge": "AAECAwQFBgcICQoLDA0ODw"}`, "TypeError", false},
+		{origin, `{"rp": {"id": "example.com"}, "challenge": "AA", "user": {"id": "AA", "name": "a"}}`, "TypeError", false},
 		{origin, `{"rp": {"id": "example.com"}, "user": {"id": "AA"}}`, "TypeError", false},
 		{origin, `{"rp": `, "TypeError", false},
-		{origin, `{"rp": {"id": "example.com"}, "challenge": "AA", "user": {"id": "AA", "name": "a"},
+		{origin, `{"rp": {"name": "E"}, "challenge": "AA", "user": {"id": "AA", "name": "a", "displayName": "A"},
 			"pubKeyCredParams": [{"type": "public-key", "alg": -257}]}`, "NotSupportedError", false},
 		{origin, `{"challenge": "AA", "rpId": "example.com", "userVerification": "required"}`, "NotAllowedError", true},
 		{origin, `{"challenge": "AA", "rpId": "login.example.com"}`, "NotAllowedError", true},

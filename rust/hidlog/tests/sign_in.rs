@@ -78,6 +78,21 @@ fn registers_and_signs_in() {
     check(browser.key.recordings());
 }
 
+/// A service's options, as JSON, with a name that JSON escapes; and what a page sends back.
+#[test]
+fn options_are_json() {
+    let mut browser = browser();
+    let options = r#"{"rp":{"id":"example.com","name":"Example"},"challenge":"YSBjaGFsbGVuZ2U","user":{"id":"YW5u",
+        "name":"Ann \"the \u00e9\"","displayName":""},"pubKeyCredParams":[{"type":"public-key","alg":-7}],
+        "authenticatorSelection":{"residentKey":"required"}}"#;
+    let made = browser.create_json(options).unwrap();
+    assert!(made.contains(r#""clientExtensionResults":{}"#) && made.contains(r#""attestationObject":""#), "{made}");
+    let used = browser.get_json(r#"{"challenge":"YSBjaGFsbGVuZ2U","rpId":"example.com"}"#).unwrap();
+    assert!(used.contains(r#""userHandle":"YW5u""#), "{used}");
+    assert!(browser.create(&Creation { user_name: "\"\\\u{1}".into(), ..creation() }).is_ok());
+    check(browser.key.recordings());
+}
+
 #[test]
 fn the_user_answers_in_turn() {
     let mut browser = browser();
@@ -99,12 +114,19 @@ fn wrong_calls_are_refused() {
     for id in ["example.org", "com", "other.login.example.com", "ample.com"] {
         assert_eq!(refused(&mut browser, Creation { rp_id: Some(id.into()), ..creation() }), Some("SecurityError"));
     }
-    assert_eq!(refused(&mut browser, Creation { challenge: Vec::new(), ..creation() }), Some("TypeError"));
+    // What a laxer client took: options without rp, user or parameters.
+    let bare = browser.create_json(r#"{"challenge":"AAECAwQFBgcICQoLDA0ODw"}"#).unwrap_err();
+    assert_eq!(bare.name(), Some("TypeError"));
     let nobody = browser.get(&Request { allow: vec![[9; 32]], ..request() });
     assert_eq!(nobody.unwrap_err().name(), Some("NotAllowedError"));
-    for origin in ["http://example.com", "example.com", "https://", "https://example.com/"] {
+    for (origin, name) in [
+        ("http://example.com", "SecurityError"),
+        ("example.com", "TypeError"),
+        ("https://", "TypeError"),
+        ("https://example.com/", "TypeError"),
+    ] {
         let mut other = Browser::new(origin, SecurityKey::new().unwrap());
-        assert_eq!(refused(&mut other, Creation::new(b"a", b"a", "a")), Some("SecurityError"));
+        assert_eq!(refused(&mut other, Creation::new(b"a", b"a", "a")), Some(name));
     }
     assert_eq!(browser.key.exchange(&[]), Err(Error::Argument("a request has 1 to 7609 bytes")));
     assert!(browser.key.exchange(&[0; 7610]).is_err());
