@@ -3,12 +3,13 @@
 #include "private_file.h"
 
 #include <openssl/crypto.h>
+#include <openssl/evp.h>
 #include <stdio.h>
 #include <stdlib.h>
 #include <string.h>
 #include <unistd.h>
 
-static const char magic[8] = "hidlogS1";
+static const char magic[8] = "hidlogS2", magic_without_sum[8] = "hidlogS1";
 
 static const struct record *find(const struct state *state, const uint8_t id[32]) {
     for (size_t i = 0; i < state->count; i++) {
@@ -42,7 +43,7 @@ static bool add_keys(struct state *state) {
 
 // Takes the records of a file's bytes and returns where the snapshot begins, or 0 where they are no such file.
 static size_t read_records(struct state *state, const uint8_t *bytes, size_t len) {
-    if (len < STATE_RECORDS_AT || memcmp(bytes, magic, sizeof magic) != 0 || bytes[STATE_COUNT_AT] > SOFTWARE_KEYS) {
+    if (len < STATE_RECORDS_AT || bytes[STATE_COUNT_AT] > SOFTWARE_KEYS) {
         return 0;
     }
     state->count = bytes[STATE_COUNT_AT];
@@ -59,7 +60,32 @@ static size_t read_records(struct state *state, const uint8_t *bytes, size_t len
     return STATE_RECORDS_AT + records;
 }
 
+static bool begins_with(const uint8_t *bytes, size_t len, const char wanted[8]) {
+    return len >= sizeof magic && memcmp(bytes, wanted, sizeof magic) == 0;
+}
+
+static bool sum_of(const uint8_t *bytes, size_t len, uint8_t sum[STATE_SUM]) {
+    return EVP_Digest(bytes, len, sum, NULL, EVP_sha256(), NULL) == 1;
+}
+
+// Takes the sum off the length of a file's bytes. False where it isn't that of the bytes before it.
+static bool take_sum(const uint8_t *bytes, size_t *len) {
+    uint8_t sum[STATE_SUM];
+    if (*len < sizeof magic + sizeof sum || !sum_of(bytes, *len - sizeof sum, sum)) {
+        return false;
+    }
+    *len -= sizeof sum;
+    return memcmp(bytes + *len, sum, sizeof sum) == 0;
+}
+
 const char *state_read(struct state *state, const uint8_t *bytes, size_t len) {
+    if (begins_with(bytes, len, magic)) {
+        if (!take_sum(bytes, &len)) {
+            return "it is damaged: its bytes don't match its checksum";
+        }
+    } else if (!begins_with(bytes, len, magic_without_sum)) {
+        return "it is no state file, or is damaged";
+    }
     size_t snapshot = read_records(state, bytes, len);
     if (snapshot == 0) {
         return "it is no state file, or is damaged";
@@ -151,7 +177,8 @@ size_t state_write(struct state *state, uint8_t bytes[STATE_MOST]) {
     bytes[STATE_COUNT_AT] = (uint8_t)state->count;
     memcpy(bytes + STATE_RECORDS_AT, state->records, records);
     uint8_t *snapshot = bytes + STATE_RECORDS_AT + records;
-    return STATE_RECORDS_AT + records + snapshot_write(&state->held.key, snapshot);
+    size_t len = STATE_RECORDS_AT + records + snapshot_write(&state->held.key, snapshot);
+    return sum_of(bytes, len, bytes + len) ? len + STATE_SUM : 0;
 }
 
 bool state_save(struct state *state) {
@@ -161,6 +188,12 @@ bool state_save(struct state *state) {
         return false;
     }
     size_t len = state_write(state, bytes);
+    if (len == 0) {
+        fprintf(stderr, "hidlog: %s: no memory for its checksum: nothing was saved, and the old file is kept\n",
+                state->path);
+        OPENSSL_cleanse(bytes, sizeof bytes);
+        return false;
+    }
     bool is_saved = len == state->saved_len && memcmp(bytes, state->saved, len) == 0;
     if (!is_saved && private_file_replace(state->path, bytes, len)) {
         memcpy(state->saved, bytes, len);

@@ -16,9 +16,10 @@ struct record {
     char application[APPLICATION]; // zeros after it
 };
 
-// The file: the magic, how many records, the records, and the snapshot to the end.
-enum { STATE_COUNT_AT = 8, STATE_RECORDS_AT = 9 };
-enum { STATE_MOST = STATE_RECORDS_AT + SOFTWARE_KEYS * sizeof(struct record) + SNAPSHOT_MOST };
+// The file: the magic, how many records, the records, the snapshot, and the SHA-256 sum of all before. Files of older
+// versions have another magic and no sum.
+enum { STATE_COUNT_AT = 8, STATE_RECORDS_AT = 9, STATE_SUM = 32 };
+enum { STATE_MOST = STATE_RECORDS_AT + SOFTWARE_KEYS * sizeof(struct record) + SNAPSHOT_MOST + STATE_SUM };
 
 struct state {
     struct held_key held;
@@ -37,7 +38,7 @@ bool state_open(struct state *state);
 // Makes the key of a file's bytes, as state_open does. Returns NULL, or what is wrong with them.
 const char *state_read(struct state *state, const uint8_t *bytes, size_t len);
 
-// Writes the bytes of the file, which state_read reads. Returns how many.
+// Writes the bytes of the file, which state_read reads. Returns how many, or 0 where there is no memory for their sum.
 size_t state_write(struct state *state, uint8_t bytes[STATE_MOST]);
 
 // Keeps the application of a new credential.

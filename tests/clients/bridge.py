@@ -11,6 +11,7 @@ import struct
 import subprocess
 import threading
 import time
+from hashlib import sha256
 from pathlib import Path
 from typing import Iterator, Optional, Sequence
 
@@ -204,7 +205,8 @@ def credential_of(answer: bytes) -> bytes:
 
 
 def credentials_in(file: bytes) -> list[bytes]:
-    """Returns the ids of the credentials of a state file: the magic, a count, and 128 bytes a record."""
-    if file[:8] != b"hidlogS1" or len(file) < 9 + 128 * file[8]:
+    """Returns the ids of the credentials of a state file: the magic, a count, 128 bytes a record, and a sum at the end."""
+    is_summed = file[:8] == b"hidlogS2" and sha256(file[:-32]).digest() == file[-32:]
+    if not (is_summed or file[:8] == b"hidlogS1") or len(file) < 9 + 128 * file[8]:
         raise ValueError("no state file")
     return [file[9 + 128 * place : 9 + 128 * place + 32] for place in range(file[8])]

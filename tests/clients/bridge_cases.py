@@ -19,6 +19,7 @@ import sys
 import tempfile
 import threading
 import time
+from hashlib import sha256
 from pathlib import Path
 from typing import Callable, Sequence
 
@@ -172,17 +173,35 @@ def a_folder_in_the_way_is_told(room: Path) -> None:
 
 
 def damage_is_refused(room: Path) -> None:
-    """A file that is cut off anywhere, is longer, or has another private key is refused, and stays as it is."""
-    state, old = made(room)
+    """A file that is cut off anywhere, is longer, or has another private key is refused, and stays as it is: with the
+    checksum of what it has then, and in the form of older versions, which have none."""
+    state, saved = made(room)
+    old = saved[:-32]
     application_end = 9 + 32 + 32 + 63
     wrong = [old[:length] for length in {0, 1, 8, 9, 40, 136, 137, 138, 200, len(old) - 1}]
-    wrong += [old + b"\0", old + b"\0" * 40000, b"hidlogS2" + old[8:], old[:8] + b"\x42" + old[9:]]
+    wrong += [old + b"\0", old + b"\0" * 40000, b"hidlogS3" + old[8:], old[:8] + b"\x42" + old[9:]]
     wrong += [old[:9] + bytes(32) + old[41:], old[:41] + bytes(31) + b"\x01" + old[73:]]
     wrong += [old[:application_end] + b"a" + old[application_end + 1 :], old[:8] + b"\x02" + old[9:137] * 2 + old[137:]]
     for data in wrong:
-        state.write_bytes(data)
-        refuses(state, "key.state: it")
-        assert state.read_bytes() == data
+        older = b"hidlogS1" + data[8:] if data[:8] == old[:8] else data
+        for form in (data + sha256(data).digest(), older, data):
+            state.write_bytes(form)
+            refuses(state, "key.state: it")
+            assert state.read_bytes() == form
+
+
+def each_byte_is_summed(room: Path) -> None:
+    """A file with another bit is refused. One of an older version, without a checksum, is taken, and gets one."""
+    state, saved = made(room)
+    for place in range(len(saved)):
+        state.write_bytes(saved[:place] + bytes([saved[place] ^ 1 << place % 8]) + saved[place + 1 :])
+        said = subprocess.run([UHID_PLAIN, "-f", "99", str(state)], capture_output=True, text=True)
+        assert said.returncode == 1 and "key.state: it is" in said.stderr, (place, said.stderr)
+    state.write_bytes(b"hidlogS1" + saved[8:-32])
+    bridge = Bridge([UHID, str(state)])
+    assert bridge.plugged_in(), bridge.ended()
+    wants(bridge.end(), 0, "")
+    assert state.read_bytes() == saved
 
 
 def what_is_no_file_is_refused(room: Path) -> None:
@@ -403,6 +422,7 @@ TESTS = [
     a_link_planted_meanwhile_is_not_written_over,
     a_folder_in_the_way_is_told,
     damage_is_refused,
+    each_byte_is_summed,
     what_is_no_file_is_refused,
     what_was_not_plugged_in_saves_nothing,
     a_second_bridge_waits,

@@ -40,6 +40,7 @@ LINE = re.compile(
     % {b"m": MOMENT, b"p": DIGITS + rb"{128}", b"k": KEY, b"d": DIGITS},
     re.DOTALL,
 )
+DAMAGED = re.compile(rb"hidlog: cannot read snapshot\n  [^\n]+: its bytes don't match its [.]hidlog-sum: [^\n]+\n")
 REFUSED = re.compile(rb"hidlog: snapshot refused: (?:1|2|3)\n  [^\n]+: (?:it|credential \d+) [^\n]+\n")
 # What `check` notes of a log in which nothing differs.
 NOTES = (
@@ -295,8 +296,8 @@ def read(path):
 
 
 def judge_saved(log, output, fault, run, folder, damaged):
-    """Looks at the snapshot of a log's session, and at one that is damaged."""
-    first, second = os.path.join(folder, "first"), os.path.join(folder, "second")
+    """Looks at the snapshot of a log's session, and at one that is damaged, without sums and with those of the first."""
+    first, second, third = (os.path.join(folder, name) for name in ("first", "second", "third"))
     if fault:
         run("replay", log, "--save", first)
         hold(not os.path.exists(first), "saved", "it was saved after a fault")
@@ -306,14 +307,19 @@ def judge_saved(log, output, fault, run, folder, damaged):
     hold((status, said) == (0, b"") and read(first) == read(second), "saved", f"{status}, {said!r}")
     rows, most = (int(COUNTS.fullmatch(lines_of(it)[-1])[2]) for it in (counts, output))
     hold(rows <= most, "saved", f"{rows} rows of {most}")
-    with open(second, "wb") as file:
-        file.write(damaged(read(first)))
-    status, written, said = run("replay", log, "--load", second)
+    whole, wrong = read(first), damaged(read(first))
+    for path in (first, third):
+        with open(path, "wb") as file:
+            file.write(wrong)
+    status, written, said = run("replay", log, "--load", third)
     if status == 2:
         hold(written == b"" and re.fullmatch(REFUSED, said), "refused", repr(said))
     else:
         hold((status, said) == (0, b""), "refused", f"{status}, {said!r}")
         judge_written(lines_of(log), written)
+    status, written, said = run("replay", log, "--load", first)
+    is_refused = (status, written) == (2, b"") and re.fullmatch(DAMAGED, said)
+    hold(is_refused or whole == wrong, "refused", f"with the sums of another: {status}, {said!r}")
 
 
 def judge(log, run):

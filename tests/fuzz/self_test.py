@@ -165,6 +165,8 @@ CASES = [
     ("refused", GOOD, "replay", 7, said(b"refused: 1", b"refused: 4")),
     ("refused", GOOD, "replay", 7, status(1)),
     ("refused", GOOD, "replay", 7, output(lambda text: b"t 0\n")),
+    ("refused", GOOD, "replay", 8, said(b"cannot read", b"cannot write")),
+    ("refused", GOOD, "replay", 8, lambda ended: (0, b"t 0\n", b"")),
 ]
 
 
