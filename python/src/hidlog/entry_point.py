@@ -121,12 +121,12 @@ def _catch_signals() -> None:
             signal.signal(number, _stop)
 
 
-def _handle_signals(before: Any, handler: Any) -> None:
-    """Changes what happens at signals that are handled so."""
-    for number in _SIGNALS:
+def _handle_signals(before: Any, handler: Any = None) -> None:
+    """Changes what happens at signals that are handled so: to what happened before the command, unless it is named."""
+    for number, first in _SIGNALS.items():
         if signal.getsignal(number) is before:
             with suppress(OSError):
-                signal.signal(number, handler)
+                signal.signal(number, first if handler is None else handler)
 
 
 def restore_signals() -> None:
@@ -158,17 +158,19 @@ def run(name: str, command: Callable[[], int]) -> int:
 
     name   what is before the text of a failure, such as "hidlog judge".
     """
+    streams = sys.stdout, sys.stderr
     try:
         try:
             return _run(name, command)
         finally:
-            _handle_signals(_stop, signal.SIG_DFL)
+            _handle_signals(_stop)
     except StoppedError as stop:
         say(f"{name}: {stop}")
-        status = stop.status
-    _flush()
-    _handle_signals(_go_on, signal.SIG_IGN)  # so that the second signal of a pair doesn't change the status
-    return status
+        _flush()
+        _handle_signals(_go_on, signal.SIG_IGN)  # so that the second signal of a pair doesn't change the status
+        return stop.status
+    finally:
+        sys.stdout, sys.stderr = streams
 
 
 def _run(name: str, command: Callable[[], int]) -> int:
@@ -191,7 +193,8 @@ def _run(name: str, command: Callable[[], int]) -> int:
 def _flush() -> None:
     """Writes what a command printed before it failed, where that is possible."""
     with suppress(OutputError, OSError):
-        sys.stdout.flush()
+        if sys.stdout is not None:
+            sys.stdout.flush()
 
 
 def run_as_program(command: Callable[[], int]) -> int:
