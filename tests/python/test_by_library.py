@@ -4,6 +4,7 @@ from __future__ import annotations
 
 import subprocess
 import sys
+from hashlib import sha256
 from pathlib import Path
 from typing import Callable
 
@@ -62,6 +63,27 @@ def test_files_and_snapshots(example: Callable[[str], bytes], tmp_path: Path) ->
     ):
         own, theirs = both(words, example("sign_in_again.log"), tmp_path)
         assert own == theirs, words
+
+
+def test_a_snapshot_that_is_not_that_of_its_sums(example: Callable[[str], bytes], tmp_path: Path) -> None:
+    """The texts are those of docs/use/LOG_FORMAT.md and of the program's own tests."""
+    words, data = [sys.executable, "-c", WITHOUT, "check", "--load", "key", "-"], example("example_com.snapshot")
+    key, sums, log = tmp_path / "key", tmp_path / "key.hidlog-sum", example("sign_in_again.log")
+    key.write_bytes(data)
+    number = b" %016x\n" % key.stat().st_ino
+    own, other = (sha256(it).hexdigest().encode() for it in (data, b"other"))
+    same = ends(words, log, tmp_path)
+    assert same[0] == 0
+    for text in (own + number, other + number + own + number, own + number + other + number, other + b" %016x\n" % 1):
+        sums.write_bytes(text)
+        assert ends(words, log, tmp_path) == same
+    unread = b"hidlog: cannot read snapshot\n"
+    for text in (b"", b"mine\n", own + number[:-1], (own + number) * 3):
+        sums.write_bytes(text)
+        assert ends(words, log, tmp_path) == (2, b"", unread)
+    sums.write_bytes(other + number)
+    damaged = b"  its bytes don't match its .hidlog-sum: it is damaged; else remove that file\n"
+    assert ends(words, log, tmp_path) == (2, b"", unread + damaged)
 
 
 @pytest.mark.parametrize("words", [["check", "--all"], ["show", "--json"], ["replay", "--save", "x"], ["chek"], []])

@@ -6,9 +6,14 @@ words that need more, as `--save`, are the program's.
 
 from __future__ import annotations
 
+import errno
+import os
+import re
 import sys
 from collections.abc import Callable, Iterator
+from hashlib import sha256
 from io import BufferedReader
+from pathlib import Path
 
 from . import logs
 from .core import Handle
@@ -25,6 +30,9 @@ _RUN: dict[str, Callable[[bytes, bytes], logs.Result]] = {
 _PIECE = 1 << 16
 _TOO_LONG, _READ = 2, 4
 _REFUSED = 2
+# A line of the sums of a snapshot, and what is said where its bytes aren't those.
+_SUM = re.compile(rb"[0-9a-fA-F]{64} [0-9a-fA-F]{16}\n")
+_DAMAGED = "its bytes don't match its .hidlog-sum: it is damaged; else remove that file"
 
 
 def takes(words: list[str]) -> bool:
@@ -69,6 +77,30 @@ def _say(text: str, status: int, front: str = "") -> int:
     return status
 
 
+class _DamagedError(OSError):
+    """A snapshot whose bytes aren't those of its sums."""
+
+
+def _read_snapshot(path: str) -> bytes:
+    """Returns the bytes of a snapshot, if they are those of its sums or if it has none (docs/use/LOG_FORMAT.md)."""
+    for _ in range(2):  # a program may write both between the two reads
+        data = read_input(Path(path))
+        try:
+            sums = read_input(Path(f"{path}.hidlog-sum"))
+        except OSError as error:
+            if error.errno in (errno.ENOENT, errno.ENAMETOOLONG):
+                return data
+            raise
+        lines = sums.splitlines(keepends=True)
+        if len(lines) not in (1, 2) or not all(map(_SUM.fullmatch, lines)):
+            raise OSError(errno.EINVAL, "the file of its sums has none", path)
+        number = b" %016x\n" % os.stat(path).st_ino
+        # Where another file was put in the place of theirs, they say nothing of that.
+        if not sums.endswith(number) or sha256(data).hexdigest().encode() + number in lines:
+            return data
+    raise _DamagedError(path)
+
+
 class _Log:
     """A log that is read in pieces. Where reading fails it ends there."""
 
@@ -108,9 +140,10 @@ def run(words: list[str]) -> int:
             status = max(status, _say("cannot read log", 1))
             continue
         try:
-            snapshot = read_input(f"./{load}" if load == "-" else load) if load is not None else b""
-        except OSError:
-            return _say("cannot read snapshot", _REFUSED)
+            snapshot = _read_snapshot(load) if load is not None else b""
+        except OSError as error:
+            more = f"\n  {_DAMAGED}" if isinstance(error, _DamagedError) else ""
+            return _say(f"cannot read snapshot{more}", _REFUSED)
         front = f"{file}: " if len(files) > 1 else ""
         one = _live(log, snapshot) if command == "live" else _one(command, log, snapshot, explain, front)
         status = max(status, one)

@@ -11,7 +11,6 @@ import os
 import signal
 import sys
 import threading
-import traceback
 from collections.abc import Callable
 from contextlib import suppress
 from typing import Any, TextIO
@@ -184,6 +183,8 @@ def _run(name: str, command: Callable[[], int]) -> int:
         # A RuntimeError is that of a thread that can't be started, or of a recursion.
         say(f"{name}: {reason_of(error)}")
     except Exception:  # a mistake of this package, which is reported with the place
+        import traceback
+
         with suppress(OSError):
             traceback.print_exc()
     _flush()
