@@ -10,7 +10,7 @@ import subprocess
 from concurrent.futures import ThreadPoolExecutor
 from hashlib import sha256
 from pathlib import Path
-from typing import Iterator
+from typing import Callable, Iterator
 
 from running import AGAIN, COUNTS, INIT, PROGRAM, SNAPSHOT, Said, explained, run, wants
 
@@ -201,6 +201,22 @@ def sums_that_are_none(room: Path) -> None:
         wants(explained(words(keys), INIT), 2, CANNOT_READ + told, b"")
         wants(explained(["replay", "--save", str(keys)]), 2, CANNOT_WRITE + told, COUNTS)
         assert keys.read_bytes() == old and sums.read_bytes() == wrong, wrong
+    # What is no file isn't waited for.
+    makers: list[Callable[[Path], None]] = [os.mkfifo, os.mkdir, lambda path: path.symlink_to(room / "nowhere")]
+    for make in makers:
+        sums.rmdir() if sums.is_dir() else sums.unlink()
+        make(sums)
+        wants(explained(words(keys), INIT), 2, CANNOT_READ + f"  {keys}: ".encode() + NO_SUMS, b"")
+        wants(explained(["replay", "--save", str(keys)]), 2, CANNOT_WRITE + f"  {keys}: ".encode() + NO_SUMS, COUNTS)
+    assert keys.read_bytes() == old
+
+
+def a_long_name_has_no_sums(room: Path) -> None:
+    """A file whose name is too long for another one beside it is loaded and saved as it is."""
+    keys = room / ("k" * 250)
+    keys.write_bytes(SNAPSHOT.read_bytes())
+    wants(run(words(keys), AGAIN.read_bytes()), 0, b"")
+    assert counter(keys) == 1 and os.listdir(room) == [keys.name]
 
 
 TESTS = [
@@ -212,4 +228,5 @@ TESTS = [
     sums_are_of_a_file,
     files_without_sums_are_loaded,
     sums_that_are_none,
+    a_long_name_has_no_sums,
 ]

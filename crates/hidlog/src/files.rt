@@ -146,22 +146,38 @@ fn make_beside<D: Disk>(
     ))
 }
 
+/// Returns the error of a file under the name of sums that can't be read, or has none.
+fn not_sums(kind: ErrorKind) -> Error {
+    match kind {
+        ErrorKind::InvalidInput => Error::new(
+            kind,
+            "the file of its name and .hidlog-sum has no sums: remove it",
+        ),
+        _ => Error::new(kind, "the file of its name and .hidlog-sum can't be read"),
+    }
+}
+
 /// Returns the sums of a file, if there are any.
 fn sums_of<D: Disk>(files: &HostFiles<D>, path: &str) -> io::Result<Option<Vec<u8>>> {
     let name = sums_path(files.1, path)?;
-    match files.0.read(name.as_str(), SUMS as u64 + 1) {
-        Ok(sums) if are_sums(&sums) => Ok(Some(sums)),
-        Ok(_) => Err(Error::new(
-            ErrorKind::InvalidInput,
-            "the file of its name and .hidlog-sum has no sums: remove it",
-        )),
+    match files.0.look(name.as_str(), None) {
+        Ok(Found::Nothing) => Ok(None),
+        Ok(Found::File) => match files.0.read(name.as_str(), SUMS as u64 + 1) {
+            Ok(sums) if are_sums(&sums) => Ok(Some(sums)),
+            Ok(_) => Err(not_sums(ErrorKind::InvalidInput)),
+            Err(error) => match error.kind() {
+                ErrorKind::OutOfMemory => Err(error),
+                kind => Err(not_sums(kind)),
+            },
+        },
+        // A pipe would be waited for.
+        Ok(_) => Err(not_sums(ErrorKind::InvalidInput)),
         Err(error) => match error.kind() {
-            ErrorKind::NotFound | ErrorKind::InvalidFilename => Ok(None),
+            // No file can have so long a name.
+            ErrorKind::InvalidFilename => Ok(None),
             ErrorKind::OutOfMemory => Err(error),
-            _ => Err(Error::new(
-                error.kind(),
-                "the file of its name and .hidlog-sum can't be read",
-            )),
+            ErrorKind::IsADirectory => Err(not_sums(ErrorKind::InvalidInput)),
+            kind => Err(not_sums(kind)),
         },
     }
 }
