@@ -96,6 +96,7 @@ RUNS = [
         kept={"out": b"old"},
         output="out",
     ),
+    Run("import -o to a new file", ("import", str(CAPTURE), "-o", "{}/out"), LOADED_BY_IMPORT, output="out"),
     Run("import", ("import", str(CAPTURE)), LOADED_BY_IMPORT),
     Run(
         "export -o",
@@ -203,15 +204,17 @@ def wrong(
 
 def wrong_files(run: Run, new: bytes, is_done: bool, is_killed: bool, space: Path) -> Optional[str]:
     """Returns what is wrong with the files that a run left."""
-    others = sorted(it.name for it in space.iterdir() if it.name not in run.kept)
+    names = {*run.kept, *([run.output] if run.output else [])}
+    others = sorted(it.name for it in space.iterdir() if it.name not in names)
     if others and not is_killed:
         return f"files are left: {others}"
-    for name, old in run.kept.items():
-        there = (space / name).read_bytes()
+    for name in names:
+        path, old = space / name, run.kept.get(name)
+        there = path.read_bytes() if path.exists() else None
         if name != run.output and there != old:
             return f"{name} was changed"
         if name == run.output and there != new and (is_done or there != old):
-            return f"{name} has {len(there)} bytes, neither the old ones nor the new ones"
+            return f"{name} has neither the old bytes nor the new ones: {(there or b'')[:80]!r}"
     return None
 
 
