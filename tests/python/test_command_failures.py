@@ -11,6 +11,7 @@ import signal
 import struct
 import subprocess
 import sys
+import time
 from collections.abc import Callable
 from pathlib import Path
 
@@ -237,7 +238,7 @@ def test_shrink_writes_the_shortest_log_so_far(folder: Path, number: int, status
     with subprocess.Popen(command, cwd=folder, stdout=-1, stderr=-1, preexec_fn=default_signals) as started:
         assert started.stdout and started.stderr
         while not (folder / "waits").exists() and started.poll() is None:
-            pass
+            time.sleep(0.01)
         for _ in range(2):  # as `timeout` does
             started.send_signal(number)
         log, said = started.stdout.read(), started.stderr.read()
