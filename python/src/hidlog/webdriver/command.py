@@ -4,16 +4,15 @@ from __future__ import annotations
 
 import argparse
 import ipaddress
+import os
 import shlex
 import signal
-import sys
 import tempfile
 import threading
 from pathlib import Path
-from typing import Any
 
 from .driver import Driver, is_address, start
-from .errors import DriverError
+from .errors import DriverError, report
 from .gate import parse_host
 from .proxy import Proxy
 from .script import script
@@ -92,44 +91,77 @@ def _shown(host: str) -> str:
 def _warn(address: str, port: int) -> None:
     """Says what a server risks that other machines can reach."""
     if not ipaddress.ip_address(address).is_loopback:
-        print(
-            f"hidlog webdriver: warning: other machines can reach {_shown(address)}:{port}, and whoever does runs"
-            " programs on this one; use it in a container or a closed network alone",
-            file=sys.stderr,
+        report(
+            f"warning: other machines can reach {_shown(address)}:{port}, and whoever does runs programs on this one;"
+            " use it in a container or a closed network alone"
         )
 
 
+def _say(text: object) -> int:
+    """Says in one line why nothing more is served, and returns the status for that."""
+    report(text)
+    return 2
+
+
+def _serve(server: Server) -> BaseException | None:
+    """Serves until a signal ends it, or an error, which is returned."""
+    end, wake = os.pipe()
+    os.set_blocking(wake, False)
+    failed: list[BaseException] = []
+
+    def serve() -> None:
+        try:
+            server.serve_forever()
+        except BaseException as error:  # whatever it is, the driver is to be ended
+            failed.append(error)
+            os.write(wake, b".")
+
+    # A signal may come to any thread, and wakes this one by the pipe.
+    signal.set_wakeup_fd(wake, warn_on_full_buffer=False)
+    for number in (signal.SIGTERM, signal.SIGINT, signal.SIGHUP):
+        signal.signal(number, lambda *_: None)
+    threading.Thread(target=serve, daemon=True).start()
+    os.read(end, 1)
+    if not failed:
+        server.shutdown()
+    return failed[0] if failed else None
+
+
+def _run(options: argparse.Namespace, proxy: Proxy) -> int:
+    """Serves commands in front of a driver that runs."""
+    try:
+        server = Server(proxy.serve, options.port, options.listen, tuple(options.allow_hosts))
+    except OSError as error:
+        return _say(f"{_shown(options.listen)}:{options.port} can't be used: {error.strerror}")
+    try:
+        _warn(options.listen, server.port)
+        name = proxy.driver.address if is_address(options.driver) else options.driver
+        address = f"http://{_shown(options.listen)}:{server.port}"
+        print(f"hidlog webdriver: {address} is {name} with virtual authenticators of a test key", flush=True)
+        failure = _serve(server)
+        return _say(f"it ended: {failure}") if failure else 0
+    finally:
+        server.server_close()
+
+
 def main(words: list[str] | None = None) -> int:
-    """Serves until it is interrupted."""
+    """Serves until it is interrupted. What fails in a thread is one line, and the others go on."""
     options = _parser().parse_args(words)
+    threading.excepthook = lambda given: report(f"a thread failed: {given.exc_value!r}")
     try:
         script()
         _prepare(options.recordings)
         driver = _driver(options.driver)
-    except (DriverError, OSError, ValueError) as error:
-        print(f"hidlog webdriver: {error}", file=sys.stderr)
-        return 2
+    except (DriverError, OSError, ValueError, RuntimeError) as error:
+        return _say(error)
+    except KeyboardInterrupt:
+        return _say("interrupted")
     proxy = Proxy(driver, options.recordings)
     try:
-        server = Server(proxy.serve, options.port, options.listen, tuple(options.allow_hosts))
-    except OSError as error:
-        proxy.close()
-        where = f"{_shown(options.listen)}:{options.port}"
-        print(f"hidlog webdriver: {where} can't be used: {error.strerror}", file=sys.stderr)
-        return 2
-
-    def end(*_: Any) -> None:
-        threading.Thread(target=server.shutdown).start()
-
-    signal.signal(signal.SIGTERM, end)
-    signal.signal(signal.SIGINT, end)
-    _warn(options.listen, server.port)
-    name = driver.address if is_address(options.driver) else options.driver
-    address = f"http://{_shown(options.listen)}:{server.port}"
-    print(f"hidlog webdriver: {address} is {name} with virtual authenticators of a test key", flush=True)
-    try:
-        server.serve_forever()
-    finally:
-        server.server_close()
-        is_written = proxy.close()
-    return 0 if is_written else 2
+        status = _run(options, proxy)
+    except (OSError, RuntimeError) as error:
+        status = _say(error)
+    except KeyboardInterrupt:
+        status = _say("interrupted")
+    is_written = proxy.close()
+    return status if is_written else 2

@@ -7,7 +7,6 @@ from __future__ import annotations
 
 import json
 import re
-import sys
 import threading
 import urllib.request
 from collections.abc import Callable, Iterator
@@ -16,7 +15,7 @@ from concurrent.futures import TimeoutError as FutureTimeoutError
 from contextlib import suppress
 from typing import Any
 
-from .errors import DriverError, parse
+from .errors import DriverError, parse, report
 from .websocket import WebSocket, WebSocketError
 
 Json = dict[str, Any]
@@ -158,7 +157,7 @@ class DevTools:
             try:
                 self._receive(document, given["payload"])
             except Exception as error:  # whatever a page sends, those of others are served
-                print(f"hidlog webdriver: a page's message failed: {error!r}", file=sys.stderr)
+                report(f"a page's message failed: {error!r}")
 
     def _take_document(self, context: Json, target: str) -> None:
         if context.get("auxData", {}).get("isDefault") and _ORIGIN.match(context["origin"]):

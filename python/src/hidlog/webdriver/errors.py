@@ -3,6 +3,8 @@
 from __future__ import annotations
 
 import json
+import sys
+from contextlib import suppress
 from typing import Any, NamedTuple
 
 _STATUS = {
@@ -52,6 +54,13 @@ class DriverError(Exception):
     def answer(self) -> Answer:
         """The response."""
         return Answer(self.status, json.dumps({"value": self.value}).encode())
+
+
+def report(text: object) -> None:
+    """Writes a line to standard error, if that can be written."""
+    with suppress(OSError, ValueError):
+        if sys.stderr:
+            print(f"hidlog webdriver: {text}", file=sys.stderr, flush=True)
 
 
 def invalid(message: str) -> DriverError:

@@ -4,7 +4,6 @@ from __future__ import annotations
 
 import json
 import re
-import sys
 import threading
 import uuid
 from collections.abc import Callable
@@ -17,7 +16,7 @@ from .authenticator import Authenticator
 from .channel import Channel
 from .credential_json import LISTED, read_options
 from .driver import Driver
-from .errors import Answer, DriverError, invalid, parse
+from .errors import Answer, DriverError, invalid, parse, report
 from .page import Pages
 from .recorder import Recorder
 
@@ -101,7 +100,7 @@ class Session:
             try:
                 return Channel(self._debugger, window)
             except (DriverError, OSError) as error:
-                print(f"hidlog webdriver: no DevTools, so pages hold their own keys: {error}", file=sys.stderr)
+                report(f"no DevTools, so pages hold their own keys: {error}")
         return Pages(self._driver, self.name, lambda: self.is_top)
 
     def add(self, given: Json, folder: Path | None) -> str:
@@ -302,6 +301,6 @@ class Proxy:
                 session.close()
             except DriverError as error:
                 is_written = False
-                print(f"hidlog webdriver: {error}", file=sys.stderr)
+                report(f"{error}")
         self.driver.close()
         return is_written

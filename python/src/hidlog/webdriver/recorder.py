@@ -7,14 +7,13 @@ Files are written by a thread of their own as recordings arrive, so no page wait
 from __future__ import annotations
 
 import re
-import sys
 import threading
 from hashlib import sha256
 from pathlib import Path
 from typing import Any
 
 from ..recording_files import write_recording
-from .errors import DriverError, invalid
+from .errors import DriverError, invalid, report
 
 Json = dict[str, Any]
 # Bytes of all recordings of an authenticator, and how many there are; what comes after is not recorded.
@@ -86,7 +85,7 @@ class Recorder:
         part = self._parts.get(key)
         if self._size + len(text) > _BYTES_MAX or (part is None and len(self._parts) >= _PARTS_MAX):
             if not self._is_full:
-                print(f"hidlog webdriver: {self._name}: later recordings are dropped", file=sys.stderr)
+                report(f"{self._name}: later recordings are dropped")
             self._is_full = True
         if self._is_full:
             return
@@ -150,7 +149,7 @@ class Recorder:
         except OSError as error:
             with self._changes:
                 if self._error is None:
-                    print(f"hidlog webdriver: {path} can't be written: {error.strerror}", file=sys.stderr)
+                    report(f"{path} can't be written: {error.strerror}")
                 self._error = error
 
     def flush(self) -> None:

@@ -13,7 +13,7 @@ from http import HTTPStatus
 from http.server import BaseHTTPRequestHandler, ThreadingHTTPServer
 from typing import Any
 
-from .errors import Answer, DriverError
+from .errors import Answer, DriverError, report
 from .gate import Head, Policy, admit
 
 # Seconds that a connection may wait for a request, and that a request's head and body, and its response may take.
@@ -55,6 +55,7 @@ class _Handler(BaseHTTPRequestHandler):
     disable_nagle_algorithm = True
     wbufsize = _BLOCK
     server: Server
+    raw_requestline: bytes
 
     def setup(self) -> None:
         super().setup()
@@ -205,7 +206,7 @@ class Server(ThreadingHTTPServer):
             return self._serve(method, path, body)
         except DriverError as error:
             return error.answer
-        except (OSError, ValueError, RecursionError, MemoryError) as error:
+        except (OSError, ValueError, RuntimeError, MemoryError) as error:
             return DriverError("unknown error", f"{type(error).__name__}: {error}").answer
 
     # Connections.
@@ -254,7 +255,7 @@ class Server(ThreadingHTTPServer):
 
     def handle_error(self, request: Any, client_address: Any) -> None:
         """Says in one line what ended a connection."""
-        print(f"hidlog webdriver: a connection failed: {sys.exc_info()[1]!r}", file=sys.stderr)
+        report(f"a connection failed: {sys.exc_info()[1]!r}")
 
 
 def _cut(connection: socket.socket) -> None:
