@@ -150,7 +150,7 @@ def places(folder: Path) -> list[Place]:
     counts = {name: max((found[it] for it in found if it[1] == name), default=0) for name in CALLS}
     counts = {name: count for name, count in counts.items() if count}
     injection.FAULTS.update(FAULTS)
-    return injection.places_of(counts)
+    return list(injection.places_of(counts))
 
 
 def main() -> int:

@@ -39,7 +39,8 @@ ENVIRONMENT = {**os.environ, "PYTHONPATH": str(TOP / "python" / "src"), "PYTHOND
 HANGS = 300
 LEAST = {"Python": 27, "Ruby": 22}
 # Tests of their own. Each runs what it can without chromedriver.
-PARTS = ("gate.py", "sockets.py", "messages.py", "processes.py", "browsers.py", "origins.py", "../fuzz/webdriver.py")
+PARTS = ["gate.py", "sockets.py", "../fuzz/webdriver.py", "messages.py", "websockets.py", "processes.py", "faults.py"]
+PARTS += ["browsers.py", "origins.py"]
 
 
 class Files(SimpleHTTPRequestHandler):
