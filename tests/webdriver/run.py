@@ -35,6 +35,8 @@ DIFFERS = {
     "test_two_windows": "Chromium's authenticator is of one window, and the standard's of all in a session",
 }
 ENVIRONMENT = {**os.environ, "PYTHONPATH": str(TOP / "python" / "src"), "PYTHONDONTWRITEBYTECODE": "1"}
+KEY = "MIGHAgEAMBMGByqGSM49AgEGCCqGSM49AwEHBG0wawIBAQQg8_zMDQDYAxlU-Qhk1Dwkf0v18GZca1DMF3SaJ9HPdmShRANCAASNYX5lyVCOZLzF"
+KEY += "ZzrIKmeZ2jwURmgsJYxGP__fWN_S-j5sN4tT15XEpN_7QZnt14YvI6uvAgO0uJEboFaZlOEB"
 # Only what hangs takes so many seconds.
 HANGS = 300
 LEAST = {"Python": 27, "Ruby": 22}
@@ -231,6 +233,24 @@ class Commands:
         assert [it["part"] for it in parts] == list(range(1, len(parts) + 1)), parts
         assert call("DELETE", self.url + key) == (200, None)
 
+    def waiting_requests(self) -> None:
+        """What a command changes reaches a request of the page that waits."""
+        key = self.add(isUserConsenting=False)
+        self.post("/execute/sync", {"script": "window.made = register({ residentKey: 'required' })", "args": []})
+        assert self.post(f"{key}/presence", {"presence": "granted"}) == (200, None)
+        status, made = self.post("/execute/async", {"script": "made.then(arguments[0])", "args": []})
+        assert status == 200 and made["id"], made
+        assert call("DELETE", f"{self.url}{key}/credentials") == (200, None)
+        options = "{ mediation: 'conditional', publicKey: { challenge: new Uint8Array(9) } }"
+        begin = f"window.used = navigator.credentials.get({options}).then((it) => it.id, String)"
+        self.post("/execute/sync", {"script": begin, "args": []})
+        credential = {"isResidentCredential": True, "rpId": "localhost", "privateKey": KEY, "signCount": 0}
+        added = {**credential, "credentialId": "AQID", "userHandle": "AQ"}
+        assert self.post(f"{key}/credential", added) == (200, None)
+        choose = "hidlogKey.current().choose().then(() => used).then(arguments[0], (error) => arguments[0](`${error}`))"
+        assert self.post("/execute/async", {"script": choose, "args": []}) == (200, "AQID")
+        assert call("DELETE", self.url + key) == (200, None)
+
     def other_origins(self) -> None:
         """The credentials are those of the session on each origin."""
         key = self.add()
@@ -280,6 +300,7 @@ def run_commands(url: str, page: str, has_devtools: bool = True) -> bool:
     for test in (
         commands.options_are_checked,
         commands.presence_and_faults,
+        commands.waiting_requests,
         commands.other_origins,
         commands.other_commands,
     ):

@@ -51,6 +51,11 @@ class Channel:
             "end": self._end,
         }
 
+    @property
+    def is_broken(self) -> bool:
+        """Whether the browser's debugger went away."""
+        return self._devtools.failure is not None
+
     def attach(self, authenticator: Authenticator, recorder: Recorder) -> None:
         """Puts the key into all documents."""
         self._authenticator, self._recorder = authenticator, recorder

@@ -8,6 +8,7 @@ from __future__ import annotations
 import json
 import re
 import threading
+import time
 import urllib.request
 from collections.abc import Callable, Iterator
 from concurrent.futures import Future
@@ -16,7 +17,7 @@ from contextlib import suppress
 from typing import Any
 
 from .errors import DriverError, parse, report
-from .websocket import WebSocket, WebSocketError
+from .websocket import WebSocket
 
 Json = dict[str, Any]
 BINDING = "hidlogChannel"
@@ -57,6 +58,7 @@ class DevTools:
         self._targets: dict[str, _Target] = {}
         self._documents: dict[tuple[str, int], Document] = {}
         self._source: str | None = None
+        self.failure: DriverError | None = None
         self._begun: list[Future[Json]] = []
         self._socket = WebSocket(_url(address), _SECONDS)
         self._reader = threading.Thread(target=self._read, daemon=True)
@@ -77,6 +79,9 @@ class DevTools:
         """Sends a command, and returns its result to come."""
         future: Future[Json] = Future()
         with self._lock:
+            if self.failure:
+                future.set_exception(self.failure)
+                return future
             self._last += 1
             number = self._last
             self._waiting[number] = future
@@ -98,16 +103,22 @@ class DevTools:
 
     def _wait_for(self, futures: list[Future[Json]]) -> None:
         """Waits for results. A document that is gone meanwhile has none, and one that is stopped has it later."""
+        end = time.monotonic() + _SECONDS
         for future in futures:
             with suppress(DriverError, FutureTimeoutError):
-                future.result(_SECONDS)
+                future.result(max(0.0, end - time.monotonic()))
+        if self.failure:
+            raise self.failure
 
     def _fail(self, error: BaseException) -> None:
+        """Ends what waits. The connection is closed, so that no new page waits for it."""
         with self._lock:
+            self.failure = self.failure or DriverError("unknown error", f"the browser's debugger went away: {error}")
             waiting, self._waiting = self._waiting, {}
+        self._socket.close()
         for future in waiting.values():
             if not future.done():
-                future.set_exception(DriverError("unknown error", f"the browser's debugger went away: {error}"))
+                future.set_exception(self.failure)
 
     def _read(self) -> None:
         try:
@@ -117,7 +128,7 @@ class DevTools:
                     self._take_result(message)
                 else:
                     self._take_event(message.get("method", ""), message.get("params", {}), message.get("sessionId", ""))
-        except (WebSocketError, OSError, ValueError) as error:
+        except Exception as error:  # whatever a browser sends, what waits for it ends
             self._fail(error)
 
     def _take_result(self, message: Json) -> None:

@@ -90,7 +90,7 @@ class Session:
 
     def link(self) -> Link:
         """Returns how an authenticator comes into the session's pages."""
-        if self._link is None:
+        if self._link is None or (isinstance(self._link, Channel) and self._link.is_broken and not self._key):
             self._link = self._made_link()
         return self._link
 
@@ -121,8 +121,10 @@ class Session:
         link = self.link()
         link.before()
         self._key = None
-        link.detach()
-        self._recorder.flush()
+        try:
+            link.detach()
+        finally:
+            self._recorder.flush()
 
     @property
     def recordings(self) -> Json:
@@ -241,7 +243,10 @@ class Proxy:
 
     def _keep(self, answer: Answer) -> None:
         """Keeps a session that the driver began, and where its browser's debugger is."""
-        value = answer.value
+        try:
+            value = answer.value
+        except ValueError:
+            return
         name = value.get("sessionId") if isinstance(value, dict) else None
         if not isinstance(name, str) or not _NAME.match(name):
             return
