@@ -50,12 +50,8 @@ func readJSON(t *testing.T, name string, to any) {
 func filled(value any, ids []string) any {
 	switch value := value.(type) {
 	case object:
-		if numbers, is := value["$bytes"].([]any); is {
-			var data []byte
-			for _, number := range numbers {
-				data = append(data, byte(number.(float64)))
-			}
-			return base64.RawURLEncoding.EncodeToString(data)
+		if count, is := value["$bytes"].(float64); is {
+			return base64.RawURLEncoding.EncodeToString(make([]byte, int(count)))
 		}
 		if count, is := value["$repeat"].(float64); is {
 			var found []any
