@@ -148,12 +148,16 @@ make_uhid() {
     put 644 packages/uhid/hidlog-uhid@.service "$root/lib/systemd/system/hidlog-uhid@.service"
     put 644 packages/uhid/hidlog-uhid.conf "$root/usr/lib/sysusers.d/hidlog-uhid.conf"
     put 644 packages/readme/hidlog-uhid.md "$root/usr/share/doc/hidlog-uhid/README.md"
-    # The unit's user. Without systemd there is no unit, and the user isn't needed.
+    # The unit's user. Without systemd there is no unit, and the user isn't needed. udev may have read the rule before
+    # there was the group that it names.
     put_script "$root" postinst <<'END'
 #!/bin/sh
 set -e
 if [ "$1" = configure ] && command -v systemd-sysusers >/dev/null; then
     systemd-sysusers hidlog-uhid.conf
+fi
+if [ "$1" = configure ] && command -v udevadm >/dev/null; then
+    udevadm control --reload || true
 fi
 END
     override hidlog-uhid "$root" "The key is software: nothing that is plugged in asks for the package." \
