@@ -10,6 +10,7 @@ from __future__ import annotations
 
 import argparse
 import collections
+import gzip
 import random
 import resource
 import sys
@@ -34,7 +35,7 @@ def captures() -> list[bytes]:
     register = (DATA / "libfido2_register.pcap").read_bytes()
     log = (DATA / "python_cancel.log").read_bytes()
     chromium = b'FIDODebug[10:00:01.250] <- 1 {1: h\'AB\', 2: {"id": "a"}}\nFIDODebug[10:00:01.300] -> {1: ["b"]}\n'
-    return [*found, usbpcap_of(events_of(register)), pcapng_of(log), chromium * 20]
+    return [*found, usbpcap_of(events_of(register)), pcapng_of(log), chromium * 20, gzip.compress(register, mtime=0)]
 
 
 def damaged(data: bytes, chance: random.Random) -> bytes:
@@ -42,7 +43,7 @@ def damaged(data: bytes, chance: random.Random) -> bytes:
     changed = bytearray(data[: chance.randrange(len(data)) + 1] if chance.random() < 0.2 else data)
     for _ in range(chance.choice((1, 1, 2, 5, 30))):
         place = chance.randrange(len(changed)) if changed else 0
-        kind = chance.randrange(5)
+        kind = chance.randrange(6)
         size = chance.choice((1, 2, 4, 8))
         if kind == 0 and changed:
             changed[place] ^= 1 << chance.randrange(8)
@@ -53,6 +54,8 @@ def damaged(data: bytes, chance: random.Random) -> bytes:
             del changed[place : place + chance.choice((1, 3, 4, 16, 500))]
         elif kind == 3:
             changed[place:place] = changed[place : place + chance.choice((1, 4, 64, 2000))]
+        elif kind == 4:
+            changed[place:place] = b"9" * chance.choice((1, 12, 20, 5000))
         else:
             changed[place:place] = bytes(chance.randrange(256) for _ in range(size))
     return bytes(changed)
