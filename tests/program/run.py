@@ -325,7 +325,10 @@ def bad_lines_say_where(_: Path) -> None:
 
 def other_faults_have_no_reason(_: Path) -> None:
     """A fault of another kind says nothing about lines that weren't played."""
-    said = b"  the log has in line 1:\n    < 00000000 +0\n  the key sends no packet here\n"
+    said = (
+        b"  the log has in line 1:\n    < 00000000 +0\n  the key sends no packet here\n"
+        b"  no input comes before this packet\n"
+    )
     different, long = b"< " + b"0" * 128 + b"\nt 5x\n", b"#" * 256 + b"\nt 5x\n"
     wants(run(["check"], different), 1, b"hidlog: line 0: differs at packet 1\n", b"")
     wants(explained(["check"], different), 1, b"hidlog: line 0: differs at packet 1\n" + said, b"")
@@ -480,6 +483,7 @@ MISSING = """\
   the log has no packet here, up to line 2
   the key sends:
     < ffffffff INIT 17  nonce 0001020304050607 channel 00000001 version 2 device 1.0.0 capabilities 0c CBOR NMSG
+  line 1 completes the message, which is answered
   the log has no packet of the key: hidlog replay plays a log of inputs, and check compares its result
 """
 
