@@ -56,7 +56,7 @@ class Driver(BaseHTTPRequestHandler):
     @staticmethod
     def executed(body: Any) -> Any:
         """Answers as a page with the key and one recording does."""
-        if "sync(" not in body["script"]:
+        if "sync(" not in body.get("script", ""):
             return None
         recording = {"part": 1, "from": 0, "text": "> 0 00\n", "snapshot": ""}
         return {"credentials": [], "gone": [], "recordings": [recording], "document": "d", "used": 0, "serial": 0}
@@ -71,7 +71,9 @@ def drive(words: list[str]) -> None:
     """What this file does as a driver: --drive --port=N."""
     port = int(words[-1].partition("=")[2])
     signal.signal(signal.SIGTERM, signal.SIG_IGN if "--stubborn" in words else signal.SIG_DFL)
-    ThreadingHTTPServer(("127.0.0.1", port), Driver).serve_forever()
+    server = ThreadingHTTPServer(("127.0.0.1", port), Driver)
+    server.handle_error = lambda *_: None  # type: ignore[assignment]
+    server.serve_forever()
 
 
 def is_running(pid: int) -> bool:

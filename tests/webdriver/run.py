@@ -244,7 +244,12 @@ class Commands:
         options = "{ mediation: 'conditional', publicKey: { challenge: new Uint8Array(9) } }"
         begin = f"window.used = navigator.credentials.get({options}).then((it) => it.id, String)"
         self.post("/execute/sync", {"script": begin, "args": []})
-        credential = {"isResidentCredential": True, "rpId": "localhost", "privateKey": KEY, "signCount": 0}
+        credential: dict[str, Any] = {
+            "isResidentCredential": True,
+            "rpId": "localhost",
+            "privateKey": KEY,
+            "signCount": 0,
+        }
         added = {**credential, "credentialId": "AQID", "userHandle": "AQ"}
         assert self.post(f"{key}/credential", added) == (200, None)
         choose = "hidlogKey.current().choose().then(() => used).then(arguments[0], (error) => arguments[0](`${error}`))"

@@ -33,6 +33,12 @@ def _text(data: bytes) -> str:
     return base64.b64encode(data).decode()
 
 
+def _library() -> str:
+    """Returns the key and its page's functions, for documents that have the channel and not yet these."""
+    condition = f"globalThis.{BINDING} && !globalThis.hidlogPage && /^https?:/.test(globalThis.origin)"
+    return f"(function library() {{ if ({condition}) {{\n{script()}\nhidlogPage.library = library;\n}} }})();"
+
+
 class Channel:
     """An authenticator in all documents of a browser, of which each gets what its own origin may use."""
 
@@ -40,7 +46,7 @@ class Channel:
         self._authenticator: Authenticator | None = None
         self._recorder: Recorder | None = None
         self._set_calls()
-        self._devtools = DevTools(address, window, self._receive)
+        self._devtools = DevTools(address, window, self._receive, _library())
 
     def _set_calls(self) -> None:
         self._calls: dict[str, Callable[[Authenticator, Document, Json], Json | None]] = {
@@ -61,8 +67,7 @@ class Channel:
         self._authenticator, self._recorder = authenticator, recorder
         abilities = json.dumps(authenticator.abilities)
         connect = f"hidlogPage.connect(globalThis.{BINDING}, {abilities}); delete globalThis.{BINDING};"
-        condition = "!globalThis.hidlogPage && /^https?:/.test(globalThis.origin)"
-        self._devtools.install(f"if ({condition}) {{\n{script()}\n{connect}\n}}")
+        self._devtools.install(f"if (globalThis.hidlogPage) {{ {connect} }}")
 
     def detach(self) -> None:
         """Takes the key out of all documents."""

@@ -34,6 +34,8 @@ class Document:
 
     def __init__(self, target: str, number: int, unique_id: str, origin: str):
         self.target, self.number, self.unique_id, self.origin = target, number, unique_id, origin
+        # An object with the library as a function, in a document from which the key was taken out.
+        self.library: str | None = None
 
 
 Receive = Callable[[Document, str], None]
@@ -44,20 +46,23 @@ class _Target:
 
     def __init__(self) -> None:
         self.has_dialog = False
-        self.script: str | None = None
+        # Whether new documents begin with the library, and the script that they begin with then.
+        self.has_library = False
+        self.start: str | None = None
 
 
 class DevTools:
-    """A connection to a browser. While a script is installed, each document begins with it."""
+    """A connection to a browser. While a script is installed, each document begins with it, and before it a library:
+    that is long, is sent once, and does nothing where there is no channel."""
 
-    def __init__(self, address: str, window: str, receive: Receive):
-        self._receive = receive
+    def __init__(self, address: str, window: str, receive: Receive, library: str):
+        self._receive, self._library = receive, library
         self._lock = threading.Lock()
         self._last = 0
         self._waiting: dict[int, Future[Json]] = {}
         self._targets: dict[str, _Target] = {}
         self._documents: dict[tuple[str, int], Document] = {}
-        self._source: str | None = None
+        self._start: str | None = None
         self.failure: DriverError | None = None
         self._begun: list[Future[Json]] = []
         self._socket = WebSocket(_url(address), _SECONDS)
@@ -181,48 +186,68 @@ class DevTools:
             self._begun.append(self._post("Runtime.enable", target))
             self._begun.append(self._post("Page.enable", target))
             self._post("Target.setAutoAttach", target, autoAttach=True, waitForDebuggerOnStart=True, flatten=True)
-            source = self._source
-            if source is not None:
-                self._begin(target, source)
+            start = self._start
+            if start is not None:
+                self._begin(target, start)
         self._begun.append(self._post("Runtime.runIfWaitingForDebugger", target))
         self._begun = [future for future in self._begun if not future.done()]
 
     # The script.
 
-    def _begin(self, target: str, source: str) -> list[Future[Json]]:
-        """Runs the script in the documents of a target, and has new ones begin with it."""
-        bound = self._post("Runtime.addBinding", target, name=BINDING)
-        added = self._post("Page.addScriptToEvaluateOnNewDocument", target, source=source, runImmediately=True)
-        added.add_done_callback(lambda future: self._note_script(target, future))
-        return [bound, added]
+    def _begin(self, name: str, start: str) -> list[Future[Json]]:
+        """Has new documents of a target begin with the library and the script."""
+        target = self._targets[name]
+        futures = [self._post("Runtime.addBinding", name, name=BINDING)]
+        if not target.has_library:
+            target.has_library = True
+            futures.append(self._post("Page.addScriptToEvaluateOnNewDocument", name, source=self._library))
+        futures.append(self._post("Page.addScriptToEvaluateOnNewDocument", name, source=start))
+        futures[-1].add_done_callback(lambda added: self._note_script(name, added))
+        return futures
 
-    def _note_script(self, target: str, added: Future[Json]) -> None:
-        if not added.exception() and target in self._targets:
-            self._targets[target].script = added.result()["identifier"]
+    def _note_script(self, name: str, added: Future[Json]) -> None:
+        if not added.exception() and name in self._targets:
+            self._targets[name].start = added.result()["identifier"]
 
-    def _everywhere(self, expression: str) -> list[Future[Json]]:
-        """Evaluates an expression in all documents. The results of those that a dialog stops aren't waited for."""
-        stopped = {name for name, target in list(self._targets.items()) if target.has_dialog}
-        results = [(document.target, self.evaluate(document, expression)) for document in self.documents()]
-        return [future for target, future in results if target not in stopped]
+    def _run(self, document: Document, start: str) -> list[Future[Json]]:
+        """Runs the library, which a document may have from before, and the script in a document that is there."""
+        if document.library is None:
+            ran = self.evaluate(document, self._library)
+        else:
+            given = {"objectId": document.library, "functionDeclaration": "function() { this.library(); }"}
+            ran = self._post("Runtime.callFunctionOn", document.target, **given)
+        return [ran, self.evaluate(document, start)]
 
-    def install(self, source: str) -> None:
+    def _is_stopped(self, name: str) -> bool:
+        """Returns whether a dialog is open, until whose end nothing runs in a target."""
+        target = self._targets.get(name)
+        return target is not None and target.has_dialog
+
+    def install(self, start: str) -> None:
         """Puts a script into all documents, and those that come."""
-        self._source = source
-        stopped = {name for name, target in self._targets.items() if target.has_dialog}
-        begun = {name: self._begin(name, source) for name in list(self._targets)}
-        self._wait_for([future for name, futures in begun.items() if name not in stopped for future in futures])
+        self._start = start
+        begun = {name: self._begin(name, start) for name in list(self._targets)}
+        running = [(document, self._run(document, start)) for document in self.documents()]
+        for name, futures in [*begun.items(), *((document.target, futures) for document, futures in running)]:
+            if not self._is_stopped(name):
+                self._wait_for(futures)
 
     def uninstall(self, expression: str) -> None:
-        """Has documents that come begin without the script, and evaluates an expression in those that are there."""
-        self._source = None
+        """Has documents that come begin without the script, and evaluates an expression in those that are there, which
+        returns an object with the library."""
+        self._start = None
         futures = []
         for name, target in list(self._targets.items()):
-            if target.script is not None:
-                futures.append(self._post("Page.removeScriptToEvaluateOnNewDocument", name, identifier=target.script))
-            target.script = None
+            if target.start is not None:
+                futures.append(self._post("Page.removeScriptToEvaluateOnNewDocument", name, identifier=target.start))
+            target.start = None
             futures.append(self._post("Runtime.removeBinding", name, name=BINDING))
-        self._wait_for(futures + self._everywhere(expression))
+        documents = [(document, self.evaluate(document, expression)) for document in self.documents()]
+        futures += [future for document, future in documents if not self._is_stopped(document.target)]
+        self._wait_for(futures)
+        for document, future in documents:
+            has_result = future.done() and not future.exception()
+            document.library = future.result().get("result", {}).get("objectId") if has_result else None
 
     def documents(self) -> Iterator[Document]:
         """Yields the documents that are there."""

@@ -12,6 +12,7 @@ import subprocess
 import sys
 import threading
 import time
+from contextlib import suppress
 from pathlib import Path
 from typing import Any
 from urllib.parse import SplitResult, unquote, urlsplit
@@ -135,16 +136,18 @@ class Driver:
     def close(self) -> None:
         """Ends the process that was started, and all that it started."""
         with self._lock:
-            for connection in self._idle:
+            idle, self._idle = self._idle, []
+        for connection in idle:
+            with suppress(OSError):
                 connection.close()
-            self._idle.clear()
         if self._process and self._process.stdin:
-            self._process.stdin.close()
+            # Its end is what the supervisor waits for. A descriptor is closed also where closing it fails.
+            with suppress(OSError):
+                self._process.stdin.close()
             try:
                 self._process.wait(_END_SECONDS)
-            except subprocess.TimeoutExpired:
+            except (subprocess.TimeoutExpired, OSError):
                 self._process.kill()
-                self._process.wait()
 
 
 def _free_port() -> int:

@@ -245,13 +245,16 @@ const hidlogPage = (() => {
         return { credentials: key.state().credentials, gone, recordings: news(), document: id, used, serial };
     };
 
-    /** Takes the key out of this document. */
+    /** Takes the key out of this document. Returns what puts the functions of this script there again. */
     const remove = () => {
+        const { library } = globalThis.hidlogPage;
         key?.uninstall();
         if (seal) {
             [SEALED, PROOF].forEach((name) => sessionStorage.removeItem(name));
         }
         ["hidlogReply", "hidlogUpdate", "hidlogPage", "hidlogKey"].forEach((name) => delete globalThis[name]);
+        // Of a function, the browser would send the text.
+        return { library };
     };
 
     return { connect, sync, remove, isPage };
