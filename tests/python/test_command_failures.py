@@ -337,3 +337,12 @@ def test_saved_keys_are_private_and_damage_is_refused(tmp_path: Path) -> None:
         path.write_bytes(data)
         with pytest.raises(hidlog.HidlogError):
             hidlog.SecurityKey.load(path)
+
+
+def test_a_failure_of_standard_output_is_not_lost(tmp_path: Path) -> None:
+    """Also where a command, or argparse, takes it for an error of a file."""
+    text = "def command():\n try:\n  print('x' * 10**6)\n except OSError:\n  return 0\n"
+    text += "import sys\nfrom hidlog.entry_point import run\nsys.exit(run('hidlog test', command))"
+    with open("/dev/full", "wb") as full:
+        ran = subprocess.run([sys.executable, "-c", text], stdout=full, stderr=-1, timeout=600)
+    assert (ran.returncode, ran.stderr) == (2, b"hidlog: writing failed\n")

@@ -28,8 +28,8 @@ _SIGNALS: dict[int, Any] = {
 }
 
 
-class OutputError(Exception):
-    """Standard output can't be written. It is no OSError, so that no handler of a file's errors takes it."""
+class OutputError(OSError):
+    """Standard output can't be written."""
 
     def __init__(self) -> None:
         super().__init__("writing failed")
@@ -48,7 +48,7 @@ class _Output(io.RawIOBase):
 
     def __init__(self, number: int):
         self._number = number
-        self._has_failed = False
+        self.has_failed = False
 
     def fileno(self) -> int:
         return self._number
@@ -60,11 +60,11 @@ class _Output(io.RawIOBase):
         return True
 
     def write(self, data: Any, /) -> int:
-        if not self._has_failed:
+        if not self.has_failed:
             with suppress(OSError):
                 if count := os.write(self._number, data):
                     return count
-            self._has_failed = True
+            self.has_failed = True
             if self._number == 1:
                 raise OutputError
         return len(data)
@@ -221,4 +221,7 @@ def _flushed(command: Callable[[], int]) -> int:
     except SystemExit as end:  # of argparse
         status = end.code if isinstance(end.code, int) else FAILED if end.code else 0
     sys.stdout.flush()
+    raw = getattr(getattr(sys.stdout, "buffer", None), "raw", None)
+    if not status and isinstance(raw, _Output) and raw.has_failed:
+        raise OutputError  # which the command took for an error of a file
     return status

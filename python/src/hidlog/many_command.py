@@ -13,7 +13,7 @@ from collections.abc import Iterator, Sequence
 from concurrent.futures import ThreadPoolExecutor
 from pathlib import Path
 
-from .entry_point import FAILED, reason_of
+from .entry_point import FAILED
 from .errors import HidlogError, MissingPart, shown
 from .files import is_regular
 from .many import Checked, check_many
@@ -116,14 +116,10 @@ def check_many_command(words: Sequence[str]) -> int:
     """Checks recordings. The status is 0 if all are the same, 1 if one differs or its snapshot is refused, and 2 at a
     usage error or if one couldn't be checked."""
     given = _parser().parse_args(words)
-    try:
-        paths = _logs(given.paths)
-        if not paths or given.jobs < 1:
-            raise HidlogError("there is no file *.log" if not paths else "--jobs has to be at least 1")
-        counts = _write(_with_progress(_checked(paths, given.jobs, given.executor), len(paths)), given.report)
-    except (HidlogError, OSError) as error:
-        print(f"hidlog check-many: {reason_of(error)}", file=sys.stderr)
-        return FAILED
+    paths = _logs(given.paths)
+    if not paths or given.jobs < 1:
+        raise HidlogError("there is no file *.log" if not paths else "--jobs has to be at least 1")
+    counts = _write(_with_progress(_checked(paths, given.jobs, given.executor), len(paths)), given.report)
     print(", ".join(f"{count} {name}" for name, count in sorted(counts.items())), file=sys.stderr)
     if {"unread", "lost"} & set(counts):
         return FAILED

@@ -18,7 +18,6 @@ from pathlib import Path
 from typing import Any, NamedTuple
 
 from . import cbor, logs
-from .entry_point import FAILED, reason_of
 from .errors import HidlogError, MissingPart, bytes_of
 from .files import read_input
 from .process import program
@@ -181,13 +180,8 @@ def main(words: list[str]) -> int:
     parser.add_argument("--load", metavar="SNAPSHOT", help="the credentials that the logs began with")
     parser.add_argument("logs", nargs="*", metavar="LOG", help="a log; standard input where none is named")
     given = parser.parse_args(words)
-    try:
-        snapshot = read_input(Path(given.load)) if given.load else None
-        wrong = [_is_wrong(it, snapshot) for it in given.logs or ["-"]]
-    except (HidlogError, OSError) as error:
-        reason = reason_of(error)
-        print(f"hidlog check: {reason}", file=sys.stderr)
-        return FAILED
+    snapshot = read_input(Path(given.load)) if given.load else None
+    wrong = [_is_wrong(it, snapshot) for it in given.logs or ["-"]]
     return int(any(wrong))
 
 
