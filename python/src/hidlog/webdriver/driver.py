@@ -144,10 +144,19 @@ class Driver:
             # Its end is what the supervisor waits for. A descriptor is closed also where closing it fails.
             with suppress(OSError):
                 self._process.stdin.close()
-            try:
-                self._process.wait(_END_SECONDS)
-            except (subprocess.TimeoutExpired, OSError):
-                self._process.kill()
+            self._wait_for(self._process)
+
+    @staticmethod
+    def _wait_for(process: subprocess.Popen[bytes]) -> None:
+        """Waits for the supervisor, which ends once the driver and all that it started did."""
+        end = time.monotonic() + _END_SECONDS
+        while time.monotonic() < end:
+            with suppress(OSError, subprocess.TimeoutExpired):
+                process.wait(max(0.0, end - time.monotonic()))
+                return
+            time.sleep(0.02)
+        with suppress(OSError):
+            process.kill()
 
 
 def _free_port() -> int:
