@@ -4,13 +4,10 @@ from __future__ import annotations
 
 import argparse
 import ipaddress
-import os
-import select
 import shlex
 import signal
 import tempfile
 import threading
-from contextlib import suppress
 from pathlib import Path
 
 from .driver import Driver, is_address, start
@@ -24,8 +21,8 @@ _ABOUT = "Serves WebDriver's virtual authenticators with a key in the page, in f
 _AFTER = """A suite uses http://127.0.0.1:PORT in the place of its driver. It is for tests: whoever can reach the port
 drives the browser and runs programs by it, so it listens on this machine alone, and refuses what web pages send."""
 
-# How often the end is looked for where nothing wakes the main thread.
-_LOOK_SECONDS = 0.5
+# How often the end is looked for.
+_LOOK_SECONDS = 0.1
 
 
 def _address(text: str) -> str:
@@ -110,8 +107,6 @@ def _say(text: object) -> int:
 
 def _serve(server: Server) -> BaseException | None:
     """Serves until a signal ends it, or an error, which is returned."""
-    end, wake = os.pipe()
-    os.set_blocking(wake, False)
     is_over = threading.Event()
     failed: list[BaseException] = []
 
@@ -122,14 +117,12 @@ def _serve(server: Server) -> BaseException | None:
             failed.append(error)
             is_over.set()
 
-    # A signal may come to any thread, and wakes this one by the pipe.
-    signal.set_wakeup_fd(wake, warn_on_full_buffer=False)
     for number in (signal.SIGTERM, signal.SIGINT, signal.SIGHUP):
         signal.signal(number, lambda *_: is_over.set())
     threading.Thread(target=serve, daemon=True).start()
-    while not is_over.is_set():
-        with suppress(OSError):
-            select.select([end], [], [], _LOOK_SECONDS)
+    # A signal may come to any thread, and then doesn't wake this one.
+    while not is_over.wait(_LOOK_SECONDS):
+        pass
     if not failed:
         server.shutdown()
     return failed[0] if failed else None

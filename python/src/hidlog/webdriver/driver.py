@@ -141,10 +141,10 @@ class Driver:
             with suppress(OSError):
                 connection.close()
         if self._process and self._process.stdin:
-            # Its end is what the supervisor waits for. A descriptor is closed also where closing it fails.
+            # Its end is what the supervisor waits for. Where that fails, the end of this process is one.
             with suppress(OSError):
                 self._process.stdin.close()
-            self._wait_for(self._process)
+                self._wait_for(self._process)
 
     @staticmethod
     def _wait_for(process: subprocess.Popen[bytes]) -> None:
@@ -155,8 +155,6 @@ class Driver:
                 process.wait(max(0.0, end - time.monotonic()))
                 return
             time.sleep(0.02)
-        with suppress(OSError):
-            process.kill()
 
 
 def _free_port() -> int:
