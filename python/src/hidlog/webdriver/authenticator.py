@@ -149,7 +149,7 @@ class Authenticator:
             raise invalid("a credential isn't one of this origin")
         with self.lock:
             own = {credential["credentialId"] for credential in self.of_origin(origin, True)}
-            if any(it["credentialId"] in listed and it["credentialId"] not in own for it in self.credentials):
+            if any(item["credentialId"] in listed and item["credentialId"] not in own for item in self.credentials):
                 raise invalid("a credential isn't one of this origin")
             dropped = {name for name in gone if isinstance(name, str) and name in own and name not in listed}
             fresh = [self._adopted(origin, *listed[name], has_keys) for name in listed if name not in own]
@@ -215,14 +215,14 @@ class Authenticator:
         """Adds a credential."""
         made, private = read_credential(given, self.options)
         with self.lock:
-            if any(it["credentialId"] == made["credentialId"] for it in self.credentials):
+            if any(item["credentialId"] == made["credentialId"] for item in self.credentials):
                 raise invalid("the authenticator has a credential with this id already")
             account = (made["rpIdHash"], made["userHandle"], True)
             kept = [
-                it
-                for it in self.credentials
+                item
+                for item in self.credentials
                 if not made["isResidentCredential"]
-                or (it["rpIdHash"], it["userHandle"], it["isResidentCredential"]) != account
+                or (item["rpIdHash"], item["userHandle"], item["isResidentCredential"]) != account
             ]
             if len(kept) >= _CREDENTIALS_MAX:
                 raise invalid(f"the authenticator has {_CREDENTIALS_MAX} credentials, and that is the most")
@@ -233,7 +233,7 @@ class Authenticator:
         """Removes a credential, or all if no ID is given."""
         name = credential_id.rstrip("=")
         with self.lock:
-            kept = [it for it in self.credentials if name and it["credentialId"] != name]
+            kept = [item for item in self.credentials if name and item["credentialId"] != name]
             if name and len(kept) == len(self.credentials):
                 raise invalid(f"the authenticator has no credential {name}")
             self.credentials = kept
@@ -241,11 +241,13 @@ class Authenticator:
     def change(self, credential_id: str, given: Json) -> None:
         """Sets the flags of a credential's backup."""
         name = credential_id.rstrip("=")
-        changed = {it: boolean(it, given[it]) for it in ("backupEligibility", "backupState") if it in given}
+        changed = {item: boolean(item, given[item]) for item in ("backupEligibility", "backupState") if item in given}
         with self.lock:
-            if all(it["credentialId"] != name for it in self.credentials):
+            if all(item["credentialId"] != name for item in self.credentials):
                 raise invalid(f"the authenticator has no credential {name}")
-            self.credentials = [{**it, **changed} if it["credentialId"] == name else it for it in self.credentials]
+            self.credentials = [
+                {**item, **changed} if item["credentialId"] == name else item for item in self.credentials
+            ]
 
 
 def _names_above(host: str) -> list[str]:

@@ -1,4 +1,4 @@
-"""The key in the documents of a browser with DevTools: it asks the proxy for credentials and signatures by a channel."""
+"""The key in the documents of a browser with DevTools: it asks the proxy for credentials and signatures."""
 
 from __future__ import annotations
 

@@ -1,4 +1,4 @@
-"""Credentials as WebDriver has them (WebAuthn section 11), and options of an authenticator: what is wrong is refused."""
+"""Credentials and options of an authenticator as WebDriver has them (WebAuthn section 11). Wrong ones are refused."""
 
 from __future__ import annotations
 

@@ -71,9 +71,9 @@ def invalid(message: str) -> DriverError:
 def _depth(value: Any) -> int:
     """Returns how deep lists and objects are nested, without recursion."""
     depth, level = 0, [value]
-    while level := [it for it in level if isinstance(it, (dict, list))]:
+    while level := [item for item in level if isinstance(item, (dict, list))]:
         depth += 1
-        level = [inner for it in level for inner in (it.values() if isinstance(it, dict) else it)]
+        level = [inner for item in level for inner in (item.values() if isinstance(item, dict) else item)]
     return depth
 
 

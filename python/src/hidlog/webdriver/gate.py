@@ -23,7 +23,7 @@ _JSON = "application/json"
 _LENGTH = re.compile(r"[0-9]{1,18}\Z")
 # What a browser adds to a request that a page of another origin makes.
 _OWN_SITE = ("none", "same-origin")
-# Clients encode what isn't a letter, digit or one of -._~ (Java's do `=`); `/`, `\` and `%` aren't in a name, even encoded.
+# Clients may encode what isn't a letter, a digit or one of -._~ (Java's do `=`). `/`, `\` and `%` can't be encoded.
 _SEGMENT = re.compile(r"(?:[A-Za-z0-9._~!$&'()*+,;=:@-]|%(?:2[0-46-9A-C]|3[A-F]|40|5[BDE]|60|7[B-D]))*\Z", re.I)
 _HOST = re.compile(r"(\[[0-9a-fA-F:.]+\]|[A-Za-z0-9._-]+)(?::([0-9]{1,5}))?\Z")
 _LOOPBACK = ("127.0.0.1", "localhost", "[::1]")
@@ -74,7 +74,7 @@ def _check_path(path: str) -> None:
             "unknown command", f"the path has {len(path)} characters; at most {PATH_MAX} are allowed", 414
         )
     first, *segments = path.split("/")
-    if first or not segments or not all(_SEGMENT.match(it) and it not in ("", ".", "..") for it in segments):
+    if first or not segments or not all(_SEGMENT.match(item) and item not in ("", ".", "..") for item in segments):
         raise DriverError("unknown command", f"{_shown(path)} is an invalid path of a WebDriver command", 400)
 
 
@@ -104,7 +104,7 @@ def _check_host(hosts: Sequence[str], policy: Policy) -> str:
     name, port = found
     own = (*_LOOPBACK, f"[{policy.address}]" if ":" in policy.address else policy.address)
     is_own = name in own and (port or 80) == policy.port
-    if not is_own and not any(_is_allowed(found, it) for it in policy.hosts):
+    if not is_own and not any(_is_allowed(found, item) for item in policy.hosts):
         hint = f"use 127.0.0.1:{policy.port}, or start with --allow-hosts {name}"
         raise DriverError("unknown error", f"Host is {_shown(hosts[0])}, which this server doesn't serve; {hint}", 403)
     return hosts[0].lower()
@@ -120,7 +120,7 @@ def _check_origin(origins: Sequence[str], sites: Sequence[str], host: str) -> No
     """Refuses what a page sends. Only a page of this very server, of which there is none, would have its origin."""
     if len(origins) > 1 or (origins and origins[0].lower() != f"http://{host}"):
         raise DriverError("unknown error", f"Origin is {_shown(', '.join(origins))}; web pages are refused", 403)
-    if any(it.lower() not in _OWN_SITE for it in sites):
+    if any(item.lower() not in _OWN_SITE for item in sites):
         raise DriverError("unknown error", f"Sec-Fetch-Site is {_shown(', '.join(sites))}; web pages are refused", 403)
 
 

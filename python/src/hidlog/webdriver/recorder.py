@@ -108,8 +108,8 @@ class Recorder:
             raise invalid(f"the snapshot of a recording has more than {_SNAPSHOT_MAX} bytes")
         parts = self._by_origin.setdefault(origin, [])
         folder = folder_name(origin)
-        same = [it for it, listed in self._by_origin.items() if folder_name(it) == folder and listed is not parts]
-        part = _Part(len(parts) + sum(len(self._by_origin[it]) for it in same) + 1, folder, data)
+        same = [item for item, listed in self._by_origin.items() if folder_name(item) == folder and listed is not parts]
+        part = _Part(len(parts) + sum(len(self._by_origin[item]) for item in same) + 1, folder, data)
         self._size += len(data)
         parts.append(part)
         return part

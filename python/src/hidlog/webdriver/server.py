@@ -248,7 +248,7 @@ class Server(ThreadingHTTPServer):
         """Closes the connections whose time is over."""
         now = time.monotonic()
         with self._lock:
-            handlers = [it for it in self._open.values() if it]
+            handlers = [item for item in self._open.values() if item]
         for handler in handlers:
             if handler.deadline is not None and handler.deadline < now:
                 _cut(handler.connection)
