@@ -25,6 +25,7 @@ TOP = Path(__file__).resolve().parent.parent
 # each was written after, by its README, and its licence.
 CRATES = {
     "arrayvec": ("0.7.8", "MIT OR Apache-2.0"),
+    "base64": ("0.23.1", "MIT OR Apache-2.0"),
     "byteorder": ("1.5.0", "MIT"),
     "clap": ("4.6.7", "MIT OR Apache-2.0"),
     "hex": ("0.4.3", "MIT OR Apache-2.0"),
