@@ -228,6 +228,65 @@ int32_t hidlog_key_meters(struct hidlog_key *key, struct hidlog_meters *meters);
 int32_t hidlog_key_lines(struct hidlog_key *key, const uint8_t *log, size_t log_len, uint8_t *out, size_t room,
                          struct hidlog_outcome *outcome);
 
+/* ---- The WebAuthn client: what a browser does between a page and a key (WebAuthn Level 2, section 5.1).
+ *
+ * A call of navigator.credentials is two calls here: hidlog_client_request checks the options and writes the CTAP2
+ * request; send it to a key as a CBOR message, and hand the key's response to hidlog_client_response, which writes the
+ * credential as JSON. Both take the same options. Nothing is kept between them, and nothing is allocated.
+ *
+ * options     the page's options as JSON, as PublicKeyCredential.parseCreationOptionsFromJSON takes them, or
+ *             {"publicKey": {..}} around them
+ * mediation   "optional", "silent", "required" or "conditional"
+ * origin      the page's origin as browsers write it: https://example.com, http://localhost:5000
+ * suffix      the public suffix of the origin's host by your list, as co.uk; empty: the host's last label
+ * abilities   what the key can do: a sum of enum hidlog_client_ability
+ *
+ * Each returns how many bytes it wrote to the front of `out`, or an error below 0 (enum hidlog_client_error). At an
+ * error the member of the options at fault and then the reason are at the front of `out`, by the lengths in *report,
+ * which are 0 if they don't fit. A request has at most 7609 bytes, a credential's JSON at most 16384. */
+enum hidlog_client_ceremony {
+    HIDLOG_CLIENT_CREATE = 0,
+    HIDLOG_CLIENT_GET = 1
+};
+
+enum hidlog_client_ability {
+    HIDLOG_CLIENT_VERIFIES = 1,            /* the key verifies users, and does so now */
+    HIDLOG_CLIENT_VERIFICATION_FAILS = 2,  /* it verifies users, and fails now */
+    HIDLOG_CLIENT_PLATFORM = 4,            /* a platform authenticator; otherwise a USB key */
+    HIDLOG_CLIENT_RESIDENT_KEY = 8         /* it makes discoverable credentials */
+};
+
+enum hidlog_client_error {
+    HIDLOG_CLIENT_TYPE_ERROR = -1,
+    HIDLOG_CLIENT_ENCODING_ERROR = -2,
+    HIDLOG_CLIENT_RANGE_ERROR = -3,
+    HIDLOG_CLIENT_NOT_SUPPORTED_ERROR = -4,
+    HIDLOG_CLIENT_SECURITY_ERROR = -5,
+    HIDLOG_CLIENT_NOT_ALLOWED_ERROR = -6,
+    HIDLOG_CLIENT_INVALID_STATE_ERROR = -7,
+    HIDLOG_CLIENT_SYNTAX_ERROR = -8,
+    HIDLOG_CLIENT_TOO_SMALL = -100         /* `out` is too small for the result */
+};
+
+struct hidlog_client_report {
+    uint32_t timeout_ms;   /* of the options */
+    uint32_t is_verified;  /* whether the response claims user verification: sign the authenticator data with UV set */
+    uint32_t member_len;
+    uint32_t reason_len;
+};
+
+/* Checks the options, and writes the request: the command's byte, then canonical CBOR. */
+int64_t hidlog_client_request(uint32_t ceremony, const uint8_t *options, size_t options_len, const uint8_t *mediation,
+                              size_t mediation_len, const uint8_t *origin, size_t origin_len, const uint8_t *suffix,
+                              size_t suffix_len, uint32_t abilities, struct hidlog_client_report *report, uint8_t *out,
+                              size_t out_cap);
+
+/* Writes the credential as JSON, from the key's response: a status, then CBOR. */
+int64_t hidlog_client_response(uint32_t ceremony, const uint8_t *options, size_t options_len, const uint8_t *mediation,
+                               size_t mediation_len, const uint8_t *origin, size_t origin_len, const uint8_t *suffix,
+                               size_t suffix_len, uint32_t abilities, const uint8_t *response, size_t response_len,
+                               struct hidlog_client_report *report, uint8_t *out, size_t out_cap);
+
 #ifdef __cplusplus
 }
 #endif
