@@ -1,13 +1,15 @@
 """Faults of the system at each call of the Python package's commands: each after the imports fails in turn, and kills.
 
 A command ends as without the fault, or with one line and a status that no verdict has; what it writes is whole, or the
-status says that it isn't; an older file is whole; only a kill leaves a file beside it.
+status says that it isn't; an older file is whole; only a kill leaves a file beside it. Where each read and write is short,
+it ends as without that.
 """
 
 from __future__ import annotations
 
 import os
 import re
+import shutil
 import signal
 import subprocess
 import sys
@@ -240,6 +242,23 @@ def loop(run: Run, jobs: int, is_whole: bool) -> int:
     return injection.report(f"hidlog {run.name}", len(chosen), found, {})
 
 
+def short(run: Run) -> int:
+    """Runs with reads and writes that are short. Returns 1 where the end is another, or a file that was written."""
+    with tempfile.TemporaryDirectory() as first, tempfile.TemporaryDirectory() as second:
+        with tempfile.TemporaryDirectory() as library:
+            right, ended = run.start(Path(first), []), run.start(Path(second), injection.short_calls(Path(library)))
+        files = [{it.name: it.read_bytes() for it in Path(folder).iterdir()} for folder in (first, second)]
+    if (ended.returncode, ended.stdout) == (right.returncode, right.stdout) and files[0] == files[1]:
+        return 0
+    print(f"FAILED   hidlog {run.name}: short reads and writes: {ended.returncode} and not {right.returncode}, {ended}")
+    return 1
+
+
 def check(only: Sequence[str], jobs: int, is_whole: bool) -> int:
     """Runs all loops. Returns how many places are wrong."""
-    return sum(loop(run, jobs, is_whole) for run in RUNS if not only or f"hidlog {run.name}" in only)
+    runs = [run for run in RUNS if not only or f"hidlog {run.name}" in only]
+    wrong = sum(loop(run, jobs, is_whole) for run in runs)
+    if shutil.which("gcc") is None:
+        print("skipped  short reads and writes: gcc is missing")
+        return wrong
+    return wrong + sum(map(short, runs))

@@ -53,6 +53,15 @@ class Place:
         return f"{self.fault} at {self.call} {self.number}"
 
 
+def short_calls(folder: Path) -> list[str]:
+    """Returns what goes before the command, so that each read and write moves half of what it is asked to, which strace
+    doesn't do. Makes the library in a folder, with gcc."""
+    library = folder / "short_calls.so"
+    source = Path(__file__).with_name("short_calls.c")
+    subprocess.run(["gcc", "-shared", "-fPIC", "-O1", "-Wall", "-Werror", "-o", str(library), str(source)], check=True)
+    return ["env", f"LD_PRELOAD={library}"]
+
+
 def was_injected(log: Path, place: Place) -> bool:
     """Whether the call came, by what strace wrote."""
     text = log.read_text(encoding="utf-8", errors="replace")

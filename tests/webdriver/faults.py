@@ -1,7 +1,8 @@
 #!/usr/bin/python3
 """Faults of the system at each call of `hidlog webdriver` once it serves: each fails in turn, and kills. No outcome is
 wrong: what is said is a line, never a traceback; each response is one of WebDriver; the driver and what it started end;
-a recording is whole, and one that isn't written is told of.
+a recording is whole, and one that isn't written is told of. Where each read and write moves half of its bytes, all is as
+without that.
 
     tests/webdriver/faults.py [--all] [--count 40] [--seed 1] [--jobs 2]        --all: each place, not some
 
@@ -23,6 +24,7 @@ import sys
 import time
 from collections import Counter
 from pathlib import Path
+from tempfile import TemporaryDirectory
 from typing import Any, Optional
 from urllib.error import URLError
 
@@ -153,6 +155,20 @@ def places(folder: Path) -> list[Place]:
     return list(injection.places_of(counts))
 
 
+def short() -> Optional[str]:
+    """Runs with reads and writes of half their size, and returns what is wrong."""
+    with TemporaryDirectory() as folder:
+        _, library = injection.short_calls(Path(folder))
+        name, _, value = library.partition("=")
+        run = Run(DRIVER, "--recordings", f"{folder}/logs", env={name: value})
+        results = scenario(run)
+        run.process.terminate()
+        _, text = run.process.communicate(timeout=SECONDS)
+        if [status for status, _ in results] != [200] * 6 or run.process.returncode != 0 or text:
+            return f"{results} {run.process.returncode} {text}"
+        return wrong_files(Path(folder, "logs"), False, False)
+
+
 def main() -> int:
     parser = argparse.ArgumentParser()
     parser.add_argument("--all", action="store_true")
@@ -173,6 +189,8 @@ def main() -> int:
     some = found if given.all else random.Random(given.seed).sample(found, min(given.count, len(found)))
     begun = time.monotonic()
     wrong = injection.each(some, judged, given.jobs)
+    if shutil.which("gcc") and (text := short()) is not None:
+        wrong.append((Place("each call", 0, "half of the bytes"), text))
     for place, text in wrong:
         print(f"FAILED  {place}: {text}")
     took = "" if sys.stdout.isatty() is False else f" in {time.monotonic() - begun:.0f} s"
