@@ -232,6 +232,13 @@ FIDODebug[10:00:05] -> (CTAP2 error code 39)
     assert b"\n> 750 " in log and b"\np 3750 denied\n" in log
 
 
+def test_a_message_that_no_packets_hold_is_left_out() -> None:
+    """CTAPHID's messages have at most 7,609 bytes."""
+    found = only(b"FIDODebug[10:00:01] <- 4 (no payload)\nFIDODebug[10:00:02] <- 1 {1: h'" + b"ab" * 7609 + b"'}\n")
+    assert [data[7:8].hex() for _, data in packets_of(found.log)] == ["04"]
+    assert any("at most 7609 bytes" in it and "is left out" in it for it in found.notes), found.notes
+
+
 @pytest.mark.parametrize(
     "data, said",
     [

@@ -43,10 +43,10 @@ def read_chromium(lines: Iterable[bytes], source: Source) -> list[Stream]:
         text = line.decode("utf-8", "replace")
         try:
             sent, data = _message(text)
+            made = hid.packets_of(hid.Message(_CHANNEL, hid.CBOR, data))
         except HidlogError as error:
             source.note(f"a message of the log can't be read, and is left out: {error}")
             continue
-        made = hid.packets_of(hid.Message(_CHANNEL, hid.CBOR, data))
         packets += [Packet(clock.read(line), sent, packet) for packet in made]
     return [Stream("Chromium", packets)] if packets else []
 
