@@ -99,11 +99,20 @@ def is_front(text):
     return bool(is_field) or any(it.startswith(field) for it in words)
 
 
+# How files begin that aren't logs: pcap captures, pcapng behind its first line feed, gzip, zstd, UTF-16, JSON.
+OTHER_FILES = tuple(
+    bytes.fromhex(magic)
+    for magic in ("d4c3b2a1", "a1b2c3d4", "4d3cb2a1", "a1b23c4d", "0d0d", "1f8b", "28b52ffd", "fffe", "feff", "7b", "5b")
+)
+
+
 def misfit(line):
     """What is said of the byte at which a line stops being a log line, as a pattern."""
+    if line.startswith(OTHER_FILES):
+        return rb"  this is [^\n]+\n"
     fits = max(it for it in range(len(line) + 1) if is_front(line[:it]))
     if fits == len(line):
-        return rb"  it ends after byte %d, too early\n" % fits
+        return rb"  it ends after byte %d: [^\n]+\n" % fits
     return rb"  byte %d (?:is|begins) [^\n]+\n" % (fits + 1)
 
 
@@ -111,7 +120,8 @@ def fault_of(lines):
     """The number of the first line with a fault, and its words, as a pattern."""
     for number, line in enumerate(lines, 1):
         if len(line) > 255:
-            return number, b"hidlog: line %d: longer than 255 bytes\n" % number
+            hint = rb"  this is [^\n]+\n" if line.startswith(OTHER_FILES) else b""
+            return number, b"hidlog: line %d: longer than 255 bytes\n" % number + hint
         if not is_line(line):
             return number, b"hidlog: line %d: not a log line\n" % number + misfit(line)
     return None

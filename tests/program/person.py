@@ -176,7 +176,7 @@ def all_differences_are_counted(room: Path) -> None:
     assert said.stderr.decode().count("  the key sends:\n") == 20
     # A bad line ends it, with its reason, and several logs are counted each.
     said = explained(["check", "--all"], many + b"t 5x\n")
-    bad = ["hidlog: line 53: not a log line", "  byte 4 is 'x', which fits no log line here"]
+    bad = ["hidlog: line 53: not a log line", "  byte 4 is 'x': expected the end of the line"]
     assert said.stderr.decode().splitlines()[-3:] == [*bad, faults[-1]], said
     (room / "log").write_bytes(many)
     said = explained(["check", "--all", str(room / "log"), str(AGAIN), str(EXAMPLES / "registration.log")])

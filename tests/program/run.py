@@ -283,33 +283,46 @@ def snapshots_are_refused_in_words(room: Path) -> None:
 def bad_lines_say_where(_: Path) -> None:
     """A line that isn't a log line is told with the first byte that doesn't fit."""
     feed = "is a carriage return: lines end with a line feed alone (tr -d '\\r' drops the others)"
-    fits_not = "which fits no log line here"
+    letters = "a log line begins with >, <, t, p, k, s, # or ="
+    words = "expected granted, denied or timeout"
+    key = "expected no, or an id, x and y of 64 hexadecimal digits each"
+    signature = "a signature has 2 to 144 hexadecimal digits, an even number, not"
     cases = [
         (INIT.replace(b"\n", b"\r\n"), f"byte 133 {feed}"),
         (b"\r", f"byte 1 {feed}"),
         (b"\xef\xbb\xbf# a log", "byte 1 begins a byte order mark: a log has none"),
-        (b"t 05", f"byte 4 is '5', {fits_not}"),
-        (b"t", "it ends after byte 1, too early"),
-        (b"t ", "it ends after byte 2, too early"),
-        (b"t\t5", f"byte 2 is 0x09, {fits_not}"),
-        (b"t 18446744073709551616", f"byte 22 is '6', {fits_not}"),
-        (b"t 5 ", f"byte 4 is ' ', {fits_not}"),
-        (b"x 5", f"byte 1 is 'x', {fits_not}"),
-        (b"> 5 " + b"0" * 127, "it ends after byte 131, too early"),
-        (b"> 5 " + b"0" * 129, f"byte 133 is '0', {fits_not}"),
-        (b"> 5 0g", f"byte 6 is 'g', {fits_not}"),
-        (b"< 0g", f"byte 4 is 'g', {fits_not}"),
-        (b"p 5 grant", "it ends after byte 9, too early"),
-        (b"p 5 dinied", f"byte 6 is 'i', {fits_not}"),
-        (b"p 5 granted ", f"byte 12 is ' ', {fits_not}"),
-        (b"k 5 nope", f"byte 7 is 'p', {fits_not}"),
-        (b"k 5 " + b"a" * 64 + b" " + b"b" * 63 + b"x", f"byte 133 is 'x', {fits_not}"),
-        (b"k 5 " + b"a" * 64 + b" " + b"b" * 64, "it ends after byte 133, too early"),
-        (b"s 5 abc", "it ends after byte 7, too early"),
-        (b"s 5 ", "it ends after byte 4, too early"),
-        (b"s 5 " + b"a" * 146, f"byte 149 is 'a', {fits_not}"),
-        (b"  t 5", f"byte 1 is ' ', {fits_not}"),
-        (b"t \xff", f"byte 3 is 0xff, {fits_not}"),
+        (b"t 05", "byte 4 is '5': a time has no leading zero"),
+        (b"t", "it ends after byte 1: expected a space"),
+        (b"t ", "it ends after byte 2: expected a time in milliseconds"),
+        (b"t\t5", "byte 2 is 0x09: expected a space"),
+        (b"t -5", "byte 3 is '-': expected a time in milliseconds"),
+        (b"t 18446744073709551616", "byte 22 is '6': the largest time is 18446744073709551615"),
+        (b"t 5 ", "byte 4 is ' ': expected the end of the line"),
+        (b"> 5.25 00", "byte 4 is '.': expected a space and what comes behind the time"),
+        (b"x 5", f"byte 1 is 'x': {letters}"),
+        (b"P 5 granted", "byte 1 is 'P': the letters of log lines are lower case"),
+        (b"> 5 " + b"0" * 127, "it ends after byte 131: a packet has 128 hexadecimal digits, not 127"),
+        (b"> 5 " + b"0" * 129, "byte 133 is '0': a packet has 128 hexadecimal digits, not 129"),
+        (b"> 5 0g", "byte 6 is 'g': a packet is 128 hexadecimal digits"),
+        (b"> 5 00 00", "byte 7 is ' ': a packet is 128 hexadecimal digits"),
+        (b"< 0g", "byte 4 is 'g': a packet is 128 hexadecimal digits"),
+        (b"< " + b"0" * 126, "it ends after byte 128: a packet has 128 hexadecimal digits, not 126"),
+        (b"p 5 grant", f"it ends after byte 9: {words}"),
+        (b"p 5 dinied", f"byte 6 is 'i': {words}"),
+        (b"p 5 granted ", f"byte 12 is ' ': {words}"),
+        (b"k 5 nope", f"byte 7 is 'p': {key}"),
+        (b"k 5 " + b"a" * 64 + b" " + b"b" * 63 + b"x", f"byte 133 is 'x': {key}"),
+        (b"k 5 " + b"a" * 64 + b" " + b"b" * 64, f"it ends after byte 133: {key}"),
+        (b"s 5 abc", f"it ends after byte 7: {signature} 3"),
+        (b"s 5 ", f"it ends after byte 4: {signature} 0"),
+        (b"s 5 " + b"a" * 146, f"byte 149 is 'a': {signature} 146"),
+        (b"s 5 0x30", "byte 6 is 'x': expected no, or 2 to 144 hexadecimal digits"),
+        (b"  t 5", f"byte 1 is ' ': {letters}"),
+        (b"t \xff", "byte 3 is 0xff: expected a time in milliseconds"),
+        (b"\xd4\xc3\xb2\xa1\x02\x00", "this is a pcap capture: hidlog import FILE reads it"),
+        (b"\x1f\x8b\x08\x00", "this is a gzip file: gunzip it first"),
+        (b"\xff\xfet\x00 \x005\x00", "this is UTF-16, as PowerShell writes it: a log is UTF-8 (iconv -f UTF-16 -t UTF-8)"),
+        (b'{"format": 1}', "this is JSON, not a log"),
     ]
     for line, reason in cases:
         for command in ("replay", "live", "check", "quiet", "show"):
@@ -320,7 +333,7 @@ def bad_lines_say_where(_: Path) -> None:
     for front in (1, 3, 40, 5000):
         log = b"# a comment of some length, so that reads end within lines\n" * front + b"t 5x\nt 6y\n" + b"t 7\n" * 99
         said = explained(["quiet"], log)
-        wants(said, 1, f"hidlog: line {front + 1}: not a log line\n  byte 4 is 'x', {fits_not}\n".encode())
+        wants(said, 1, f"hidlog: line {front + 1}: not a log line\n  byte 4 is 'x': expected the end of the line\n".encode())
 
 
 def other_faults_have_no_reason(_: Path) -> None:
@@ -504,7 +517,7 @@ def several_are_checked(room: Path) -> None:
     bad.write_bytes(b"t 5\nt 6x\n")
     told = (
         f"{differs}: line 1: differs at packet 1\n{MISSING}"
-        f"{bad}: line 2: not a log line\n  byte 4 is 'x', which fits no log line here\n"
+        f"{bad}: line 2: not a log line\n  byte 4 is 'x': expected the end of the line\n"
         f"hidlog: cannot read log\n  {none}: No such file or directory (os error 2)\n"
     )
     paths = [str(it) for it in (differs, bad, none, good)]
@@ -545,7 +558,7 @@ def forms_are_shown(room: Path) -> None:
     bad = room / "bad.log"
     bad.write_bytes(log.read_bytes() + b"t 5x\n")
     count = len(bad.read_bytes().splitlines())
-    told = f"hidlog: line {count}: not a log line\n  byte 4 is 'x', which fits no log line here\n".encode()
+    told = f"hidlog: line {count}: not a log line\n  byte 4 is 'x': expected the end of the line\n".encode()
     said = explained(["show", "--summary", str(bad)])
     wants(said, 1, told, summary.stdout)
     said = explained(["show", "--json", str(bad)])

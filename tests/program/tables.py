@@ -199,10 +199,10 @@ LINES = [
     "1 hidlog replay --explain\n-\r\n?hidlog: line 1: not a log line\n"
     "?  byte 1 is a carriage return: lines end with a line feed alone (tr -d '\\r' drops the others)",
     "1 hidlog replay --explain\n-\ufefft 5\n?hidlog: line 1: not a log line\n?  byte 1 begins a byte order mark: a log has none",
-    "1 hidlog replay --explain\n|t 5\n-\x20\n?hidlog: line 2: not a log line\n?  byte 1 is ' ', which fits no log line here",
+    "1 hidlog replay --explain\n|t 5\n-\x20\n?hidlog: line 2: not a log line\n?  byte 1 is ' ': a log line begins with >, <, t, p, k, s, # or =",
     f"0 hidlog replay\n|{'#' * 255}\n!\n+{COUNTS}",
     f"1 hidlog replay\n-{'#' * 256}\n!\n?hidlog: line 1: longer than 255 bytes",
-    f"1 hidlog replay --explain\n-{'x' * 255}\n!\n?hidlog: line 1: not a log line\n?  byte 1 is 'x', which fits no log line here",
+    f"1 hidlog replay --explain\n-{'x' * 255}\n!\n?hidlog: line 1: not a log line\n?  byte 1 is 'x': a log line begins with >, <, t, p, k, s, # or =",
     f"1 hidlog replay\n-{'x' * 256}\n!\n?hidlog: line 1: longer than 255 bytes",
 ]
 # Of what `live` reads, comments that say what was needed before are dropped, and no others.

@@ -1,8 +1,8 @@
 -- What reading bytes whole tells of them.
-use Rattle.std.proofs.Common.{rules, ◌≡◌, ℕ, List, ◌++◌, length, drop, refl, arith, ap, ◌∙◌}
+use Rattle.std.proofs.Common.{rules, ◌≡◌, ℕ, List, ◌++◌, length, drop, refl, arith, ap, sym, Some, ◌∙◌}
 use Rattle.std.proofs.lemmas.List.{append-nil, drop_at}
-use Rattle.ctap_cbor.specs.{declared.fault.Kind.Kind, Tree.Tree, Head.AreBytes, Grammar.text, Faults.fault_steps}
-use Rattle.ctap_cbor.specs.Outcome.{Outcome, Whole, Longer, Stopped, fronts, IsOutcome, steps}
+use Rattle.ctap_cbor.specs.{declared.fault.Kind.Kind, declared.fault.Kind.TheVariants.Trailing, Tree.Tree, Head.AreBytes, Grammar.text, Faults.fault_steps}
+use Rattle.ctap_cbor.specs.Outcome.{Outcome, Whole, Longer, Stopped, fronts, IsOutcome, result_of, steps}
 use Rattle.ctap_cbor.specs.{Telling.outcome_of, Telling.whole_tree, Laws.TellsTree, Laws.TellsNone, Laws.WholeReadings}
 use Rattle.ctap_cbor.specs.Reading.{Reading, at_front, rest_of, counted, Passes, Halts, Ends, GoesOn}
 use Rattle.ctap_cbor.proofs.{Moves.at, Telling.bytes_tell}
@@ -31,25 +31,30 @@ passed b t s middle new fits p e =
     }
 
 longer : (b : List ℕ) (t : Tree) (s : ℕ) (middle new : Reading) (place : ℕ) (kind : Kind) → AreBytes b →
-    Passes 4 t (at_front b s) middle → GoesOn middle new place kind → TellsNone b s new
+    Passes 4 t (at_front b s) middle → GoesOn middle new place kind → TellsNone b s new place kind
 longer b t s middle new place kind fits p e =
     let told : outcome_of b ≡ Longer t = is b (Longer t) fits
     (text t, rest_of middle, record { enc = record { lawful = p.lawful; spelled = refl }; flat = p.flat }, e.left, p.spelled) in
+    let place_is : place ≡ length (text t) = omega (arith, e.place, ap (λ (r : Reading). r.place) p.moved) in
     record {
       none = ap whole_tree told;
+      fault_is = ap result_of told ∙ ap (λ n. Some (n, Trailing)) (sym place_is)
+          ∙ ap (λ k. Some (place, k)) (sym e.is_trailing);
       bytes_stay = ap (λ (r : Reading). r.bytes) e.moved ∙ ap (λ (r : Reading). r.bytes) p.moved;
       steps_are = omega
           (arith, ap (steps b) told, ap (λ (r : Reading). r.steps) e.moved, ap (λ (r : Reading). r.steps) p.moved);
     }
 
 stopped : (b : List ℕ) (s : ℕ) (new : Reading) (place : ℕ) (kind : Kind) → AreBytes b →
-    Halts 4 (at_front b s) new place kind → TellsNone b s new
+    Halts 4 (at_front b s) new place kind → TellsNone b s new place kind
 stopped b s new place kind fits h =
     let told : outcome_of b ≡ Stopped h.os kind = is b (Stopped h.os kind) fits (h.tail, h.halts, h.spelled) in
     let tail : drop (length (fronts h.os)) b ≡ h.tail = ap (drop (length (fronts h.os))) h.spelled
     ∙ drop_at (fronts h.os) h.tail (length (fronts h.os)) refl in
+    let place_is : place ≡ length (fronts h.os) = omega (arith, h.place) in
     record {
       none = ap whole_tree told;
+      fault_is = ap result_of told ∙ ap (λ n. Some (n, kind)) (sym place_is);
       bytes_stay = ap (λ (r : Reading). r.bytes) h.moved;
       steps_are = omega (arith, ap (steps b) told, ap (fault_steps kind) tail, ap (λ (r : Reading). r.steps) h.moved);
     }

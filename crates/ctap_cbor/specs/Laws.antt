@@ -63,9 +63,10 @@ pub record TellsTree (b : List ℕ) (s : ℕ) (t : Tree) (new : Reading) : Type 
   pub tree_is : canonical_tree b ≡ Some t
   pub moved : new ≡ record { bytes = b; place = length b; steps = counted s (check_steps b) }
 
--- It found a fault, or bytes after a tree: no tree is theirs.
-pub record TellsNone (b : List ℕ) (s : ℕ) (new : Reading) : Type 0 where
+-- It found this fault, bytes after a tree among them: no tree is theirs.
+pub record TellsNone (b : List ℕ) (s : ℕ) (new : Reading) (at : ℕ) (kind : Kind) : Type 0 where
   pub none : canonical_tree b ≡ None
+  pub fault_is : result_of (outcome_of b) ≡ Some (at, kind)
   pub bytes_stay : new.bytes ≡ b
   pub steps_are : new.steps ≡ counted s (check_steps b)
 
@@ -73,9 +74,10 @@ pub record TellsNone (b : List ℕ) (s : ℕ) (new : Reading) : Type 0 where
 pub record WholeReadings (b : List ℕ) : Type 0 where
   pub passed : (t : Tree) (s : ℕ) (middle new : Reading) → Passes 4 t (at_front b s) middle → Ends middle new
       → TellsTree b s t new
-  pub stopped : (s : ℕ) (new : Reading) (at : ℕ) (kind : Kind) → Halts 4 (at_front b s) new at kind → TellsNone b s new
+  pub stopped : (s : ℕ) (new : Reading) (at : ℕ) (kind : Kind) → Halts 4 (at_front b s) new at kind
+      → TellsNone b s new at kind
   pub longer : (t : Tree) (s : ℕ) (middle new : Reading) (at : ℕ) (kind : Kind) → Passes 4 t (at_front b s) middle
-      → GoesOn middle new at kind → TellsNone b s new
+      → GoesOn middle new at kind → TellsNone b s new at kind
 
 -- of every list, the steps that it names are at most 2 * n + 1
 abbrev pub CheckStepsAreBounded : Type 0

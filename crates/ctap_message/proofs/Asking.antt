@@ -1,8 +1,9 @@
 -- From two walks over the parameters to what they ask, and the steps.
-use Rattle.std.proofs.Common.{◌≡◌, ℕ, ◌*◌, true, false, List, Option, Some, None, Result, Ok, Err, arith, sym, ap}
+use Rattle.std.proofs.Common.{◌≡◌, ℕ, ◌*◌, List, Option, Some, None, arith, sym, ap}
 use Rattle.std.proofs.Common.{subst, ◌∙◌, inl, inr}
-use Rattle.std.specs.Prelude.{MatchResult, ◌⊎◌, is_err, min}
-use Rattle.ctap_cbor.specs.{declared.fault.Fault.Fault, Tree.Tree, Telling.canonical_tree, Telling.check_steps}
+use Rattle.std.specs.Prelude.{◌⊎◌, min}
+use Rattle.ctap_cbor.specs.{declared.fault.Fault.Fault, Tree.Tree, Outcome.result_of}
+use Rattle.ctap_cbor.specs.Telling.{canonical_tree, check_steps, outcome_of}
 use Rattle.ctap_cbor.specs.Laws.{TellsTree, TellsNone, WholeReadings}
 use Rattle.ctap_cbor.specs.Reading.{Reading, at_front, PassesOne, Halts, Ends, GoesOn}
 use Rattle.ctap_message.specs.{Requests.reading_steps, Requests.LARGEST, Walks.Reads}
@@ -18,23 +19,32 @@ abbrev pub Stops : Reading → Reading → Fault → Type 0
 Stops old new f = Halts 4 old new f.at f.kind ⊎ ((middle : Reading) × PassesOne 4 old middle
     × GoesOn middle new f.at f.kind)
 
-abbrev pub Whole-read : Reading → Reading → Result (Unit {0}) Fault → Type 0
-Whole-read old new r = MatchResult r (λ _. (middle : Reading) × PassesOne 4 old middle × Ends middle new)
-    (λ f. Stops old new f)
+-- where it passes them
+abbrev pub Ended : Reading → Reading → Type 0
+Ended old new = (middle : Reading) × PassesOne 4 old middle × Ends middle new
 
 stops : (b : List ℕ) (s : ℕ) (new : Reading) (f : Fault) → WholeReadings b → Stops (at_front b s) new f →
-    TellsNone b s new
+    TellsNone b s new f.at f.kind
 stops b s new f w (inl h) = w.stopped s new f.at f.kind h
 stops b s new f w (inr h) = w.longer h.1.0 s h.0 new f.at f.kind h.1.1 h.2
 
 -- ---- the first walk
 
-abbrev pub IsRefused : List ℕ → ℕ → Type 0
-IsRefused b n = (canonical_tree b ≡ None) × (n ≡ min (reading_steps b) LARGEST)
+-- these bytes were refused, for this fault
+pub record Refused (b : List ℕ) (new : Reading) (f : Fault) : Type 0 where
+  pub none : canonical_tree b ≡ None
+  pub fault_is : result_of (outcome_of b) ≡ Some (f.at, f.kind)
+  pub steps_are : new.steps ≡ min (reading_steps b) LARGEST
 
-pub refused : (b : List ℕ) (old new : Reading) (r : Result (Unit {0}) Fault) → WholeReadings b → old ≡ at_front b 0 →
-    is_err r ≡ true → Whole-read old new r → IsRefused b new.steps
-refused b old new r w start e h = grind arith
+pub refused : (b : List ℕ) (old new : Reading) (f : Fault) → WholeReadings b → old ≡ at_front b 0 → Stops old new f →
+    Refused b new f
+refused b old new f w start h =
+    let t : TellsNone b 0 new f.at f.kind = stops b 0 new f w (subst (λ x. Stops x new f) start h) in
+    record {
+      none = t.none;
+      fault_is = t.fault_is;
+      steps_are = grind (arith, t.none, t.steps_are);
+    }
 
 -- these bytes were accepted, and the cursor goes back
 pub record Accepted (b : List ℕ) (new : Reading) : Type 0 where
@@ -43,11 +53,9 @@ pub record Accepted (b : List ℕ) (new : Reading) : Type 0 where
   pub back : record { bytes = new.bytes; place = 0; steps = new.steps } ≡ at_front b new.steps
   pub steps_are : new.steps ≡ min (check_steps b) LARGEST
 
-pub accepted : (b : List ℕ) (old new : Reading) (r : Result (Unit {0}) Fault) → WholeReadings b → old ≡ at_front b 0 →
-    is_err r ≡ false → Whole-read old new r → Accepted b new
-accepted b old new (Err f) w start e h = absurd cc
-accepted b old new (Ok u) w start e h =
-    let k = subst (λ x. Whole-read x new (Ok u)) start h in
+pub accepted : (b : List ℕ) (old new : Reading) → WholeReadings b → old ≡ at_front b 0 → Ended old new → Accepted b new
+accepted b old new w start h =
+    let k = subst (λ x. Ended x new) start h in
     let t : TellsTree b 0 k.1.0 new = w.passed k.1.0 0 k.0 new k.1.1 k.2 in
     record {
       tree = k.1.0;

@@ -11,76 +11,79 @@ use Rattle.ctap_message.specs.{MakeCredential.make_request, GetAssertion.asserti
 
 -- ---- trees
 
-abbrev int : ℕ → Tree
+abbrev pub int : ℕ → Tree
 int n = Plain (Int (pos n))
 
 -- -1 - n
-abbrev minus : ℕ → Tree
+abbrev pub minus : ℕ → Tree
 minus n = Plain (Int (negsuc n))
 
-abbrev bytes : ℕ → Tree
+abbrev pub bytes : ℕ → Tree
 bytes n = Plain (Bytes (replicate n 0x11))
 
-abbrev text : List ℕ → Tree
+abbrev pub text : List ℕ → Tree
 text s = Plain (Text s)
 
-abbrev flag : Bool → Tree
+abbrev pub flag : Bool → Tree
 flag b = Plain (Flag b)
 
 -- a map of one member, and of two
-abbrev one : List ℕ → Tree → Tree
+abbrev pub one : List ℕ → Tree → Tree
 one name value = Map (pair (text name) value no_pairs)
 
-abbrev two : List ℕ → Tree → List ℕ → Tree → Tree
+abbrev pub two : List ℕ → Tree → List ℕ → Tree → Tree
 two name value other more = Map (pair (text name) value (pair (text other) more no_pairs))
 
-abbrev only : Tree → Tree
+abbrev pub only : Tree → Tree
 only t = Array (tree t no_trees)
 
-abbrev empty : Tree
+abbrev pub empty : Tree
 empty = Array no_trees
 
-abbrev public_key : Tree
+abbrev pub public_key : Tree
 public_key = text (codes "public-key")
 
-abbrev es256 : Tree
+abbrev pub es256 : Tree
 es256 = two (codes "alg") (minus 6) (codes "type") public_key
 
 -- a list of one descriptor, with these transports
-abbrev listing : Tree → Tree
+abbrev pub listing : Tree → Tree
 listing transports = only
     (Map (pair (text (codes "id")) (bytes 4)
     (pair (text (codes "type")) public_key (pair (text (codes "transports")) transports no_pairs))))
 
 -- with the parameter, where it is given
-abbrev with : ℕ → Option Tree → Pairs → Pairs
+abbrev pub with : ℕ → Option Tree → Pairs → Pairs
 with n None ps = ps
 with n (Some v) ps = pair (int n) v ps
 
 -- ---- authenticatorMakeCredential
 
-record Make : Type 0 where
-  client_data_hash : Option Tree
-  rp : Option Tree
-  user : Option Tree
-  parameters : Option Tree
-  exclude_list : Option Tree
-  extensions : Option Tree
-  options : Option Tree
-  pin_uv_auth_param : Option Tree
-  pin_uv_auth_protocol : Option Tree
-  enterprise_attestation : Option Tree
+pub record Make : Type 0 where
+  pub client_data_hash : Option Tree
+  pub rp : Option Tree
+  pub user : Option Tree
+  pub parameters : Option Tree
+  pub exclude_list : Option Tree
+  pub extensions : Option Tree
+  pub options : Option Tree
+  pub pin_uv_auth_param : Option Tree
+  pub pin_uv_auth_protocol : Option Tree
+  pub enterprise_attestation : Option Tree
 
-abbrev make : Make → Result Asked ℕ
-make m =
-    make_request (Some (Map
+abbrev pub make_tree : Make → Option Tree
+make_tree m =
+    Some (Map
     (with 0x01 m.client_data_hash
     (with 0x02 m.rp (with 0x03 m.user (with 0x04 m.parameters (with 0x05 m.exclude_list
     (with 0x06 m.extensions
     (with 0x07 m.options (with 0x08 m.pin_uv_auth_param
-    (with 0x09 m.pin_uv_auth_protocol (with 0x0a m.enterprise_attestation no_pairs))))))))))))
+    (with 0x09 m.pin_uv_auth_protocol (with 0x0a m.enterprise_attestation no_pairs)))))))))))
 
-abbrev base : Make
+abbrev make : Make → Result Asked ℕ
+make m = make_request (make_tree m)
+
+abbrev pub base : Make
 base =
     record {
       client_data_hash = Some (bytes 32);
@@ -214,22 +217,25 @@ make_order = (refl, refl, refl, refl, refl, refl)
 
 -- ---- authenticatorGetAssertion
 
-record Assertion : Type 0 where
-  rp_id : Option Tree
-  client_data_hash : Option Tree
-  allow_list : Option Tree
-  extensions : Option Tree
-  options : Option Tree
-  pin_uv_auth_param : Option Tree
-  pin_uv_auth_protocol : Option Tree
+pub record Assertion : Type 0 where
+  pub rp_id : Option Tree
+  pub client_data_hash : Option Tree
+  pub allow_list : Option Tree
+  pub extensions : Option Tree
+  pub options : Option Tree
+  pub pin_uv_auth_param : Option Tree
+  pub pin_uv_auth_protocol : Option Tree
+
+abbrev pub assertion_tree : Assertion → Option Tree
+assertion_tree a =
+    Some
+    (Map (with 0x01 a.rp_id (with 0x02 a.client_data_hash (with 0x03 a.allow_list (with 0x04 a.extensions
+    (with 0x05 a.options (with 0x06 a.pin_uv_auth_param (with 0x07 a.pin_uv_auth_protocol no_pairs))))))))
 
 abbrev assertion : Assertion → Result Asked ℕ
-assertion a =
-    assertion_request (Some
-    (Map (with 0x01 a.rp_id (with 0x02 a.client_data_hash (with 0x03 a.allow_list (with 0x04 a.extensions
-    (with 0x05 a.options (with 0x06 a.pin_uv_auth_param (with 0x07 a.pin_uv_auth_protocol no_pairs)))))))))
+assertion a = assertion_request (assertion_tree a)
 
-abbrev asking : Assertion
+abbrev pub asking : Assertion
 asking =
     record {
       rp_id = Some (text (codes "b"));

@@ -3,12 +3,14 @@ pub mod Canonical
 pub mod Messages
 pub mod Rows
 pub mod CheckedRows
+pub mod FaultRows
 pub mod Pushes
 pub mod Collecting
 pub mod Growing
 pub mod Listing
 pub mod Naming
 pub mod Asking
+pub mod Refusing
 pub mod AnsweredLawful
 pub mod Written
 pub mod WalkBounds

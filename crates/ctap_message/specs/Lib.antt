@@ -12,6 +12,7 @@ pub mod DescriptorWalk
 pub mod CollectedRequests
 pub mod Requests
 pub mod Commands
+pub mod RequestFaults
 pub mod Shown
 pub mod Answers
 pub mod Answered

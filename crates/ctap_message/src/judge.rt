@@ -1,52 +1,99 @@
 //! The checks of a request's parameters, in their order.
 
-ghost use Rattle.std.specs.Prelude.{◌≡◌, true};
+ghost use Rattle.std.specs.Prelude.{◌≡◌, true, Err};
 ghost use Rattle.ctap_message.specs.Judged.{make_judged};
 ghost use Rattle.ctap_message.specs.Judged.{assertion_judged};
 ghost use Rattle.ctap_message.specs.DescriptorWalk.{list_of, left_of};
 ghost use Rattle.ctap_message.specs.CollectedRequests.{shown_make, shown_assert};
-ghost use Rattle.ctap_message.specs.Shown.{shown, IsFresh, HasLengths};
+ghost use Rattle.ctap_message.specs.RequestFaults.{make_fault, assertion_fault, fault_of_make};
+ghost use Rattle.ctap_message.specs.Shown.{examined, fault_at, IsFresh, HasLengths};
 
 use crate::assert::Assert;
+use crate::fault::RequestFault;
 use crate::make::Make;
 use crate::request::{AssertRequest, MakeRequest, Request};
-use crate::status::Status;
 
-/// Returns what a makeCredential asks, or the status of the first check that it fails.
-pub(crate) fn judge_make<'a>(typed: bool, make: Make<'a>) -> Result<Request<'a>, Status>
+const MAKE_CREDENTIAL: u8 = 0x01;
+
+const GET_ASSERTION: u8 = 0x02;
+
+/// Returns that an entry of a list isn't whole.
+fn entry_not_whole(command: u8, parameter: u8) -> RequestFault
+    ensures { result ≡ RequestFault.EntryNotWhole command parameter }
+{
+    RequestFault::EntryNotWhole { command, parameter }
+}
+
+/// Returns that a required parameter isn't there.
+fn missing<'a>(command: u8, parameter: u8) -> Result<Request<'a>, RequestFault>
+    ensures { result ≡ Err (RequestFault.Missing command parameter) }
+{
+    Err(RequestFault::Missing { command, parameter })
+}
+
+/// Returns the first check that a makeCredential fails whose clientDataHash, rp.id and user.id are there.
+fn fault_of_make(make: &Make, hash: &[u8], user_id: &[u8]) -> Option<RequestFault>
+    ensures { result ≡ fault_of_make (shown_make make.now).0 hash.now user_id.now }
+{
+    if !make.has_parameters {
+        return Some(RequestFault::Missing {
+            command: MAKE_CREDENTIAL,
+            parameter: 0x04,
+        });
+    }
+    if !make.parameters.is_whole {
+        return Some(entry_not_whole(MAKE_CREDENTIAL, 0x04));
+    }
+    if !make.exclude.is_whole {
+        return Some(entry_not_whole(MAKE_CREDENTIAL, 0x05));
+    }
+    if hash.len() != 32 {
+        return Some(RequestFault::HashLength { len: hash.len() });
+    }
+    if user_id.len() > 64 {
+        let len = user_id.len();
+        return Some(RequestFault::UserIdLength { len });
+    }
+    if make.pin_uv_auth_param.is_some() {
+        return Some(RequestFault::PinUvAuthParam);
+    }
+    if !make.parameters.has_es256 {
+        return Some(RequestFault::NoAlgorithm);
+    }
+    if make.options.uv.unwrap_or(false) {
+        return Some(RequestFault::UvOption);
+    }
+    if !make.options.up.unwrap_or(true) {
+        return Some(RequestFault::UpOption);
+    }
+    if make.enterprise_attestation.is_some() {
+        return Some(RequestFault::EnterpriseAttestation);
+    }
+    None
+}
+
+/// Returns what a makeCredential asks, or the first check that it fails.
+pub(crate) fn judge_make<'a>(typed: bool, make: Make<'a>) -> Result<Request<'a>, RequestFault>
     requires { list_of make.exclude.list ≡ left_of make.exclude.list }
-    ensures request { shown result ≡ make_judged true typed (shown_make make.entry).0 }
+    ensures request { examined result ≡ make_judged true typed (shown_make make.entry).0 }
+    ensures fault { fault_at result ≡ make_fault typed (shown_make make.entry).0 }
     ensures fresh { IsFresh result }
     ensures lens { HasLengths result }
 {
     if !typed {
-        return Err(Status::CBOR_UNEXPECTED_TYPE);
+        return Err(RequestFault::WrongType);
     }
-    let (Some(hash), Some(rp_id), Some(user_id), true) = (
-        make.hash,
-        make.rp.id,
-        make.user.id,
-        make.has_parameters,
-    ) else {
-        return Err(Status::MISSING_PARAMETER);
+    let Some(hash) = make.hash else {
+        return missing(MAKE_CREDENTIAL, 0x01);
     };
-    if !make.parameters.is_whole || !make.exclude.is_whole {
-        return Err(Status::MISSING_PARAMETER);
-    }
-    if hash.len() != 32 || user_id.len() > 64 {
-        return Err(Status::INVALID_LENGTH);
-    }
-    if make.pin_uv_auth_param.is_some() {
-        return Err(Status::INVALID_PARAMETER);
-    }
-    if !make.parameters.has_es256 {
-        return Err(Status::UNSUPPORTED_ALGORITHM);
-    }
-    if make.options.uv.unwrap_or(false) || !make.options.up.unwrap_or(true) {
-        return Err(Status::INVALID_OPTION);
-    }
-    if make.enterprise_attestation.is_some() {
-        return Err(Status::INVALID_PARAMETER);
+    let Some(rp_id) = make.rp.id else {
+        return missing(MAKE_CREDENTIAL, 0x02);
+    };
+    let Some(user_id) = make.user.id else {
+        return missing(MAKE_CREDENTIAL, 0x03);
+    };
+    if let Some(fault) = fault_of_make(&make, hash, user_id) {
+        return Err(fault);
     }
     Ok(Request::Make(MakeRequest {
         hash,
@@ -58,33 +105,37 @@ pub(crate) fn judge_make<'a>(typed: bool, make: Make<'a>) -> Result<Request<'a>,
     }))
 }
 
-/// Returns what a getAssertion asks, or the status of the first check that it fails.
-pub(crate) fn judge_assert<'a>(typed: bool, assert: Assert<'a>) -> Result<Request<'a>, Status>
+/// Returns what a getAssertion asks, or the first check that it fails.
+pub(crate) fn judge_assert<'a>(typed: bool, assert: Assert<'a>) -> Result<Request<'a>, RequestFault>
     requires { list_of assert.allow.list ≡ left_of assert.allow.list }
-    ensures request { shown result ≡ assertion_judged true typed (shown_assert assert.entry).0 }
+    ensures request { examined result ≡ assertion_judged true typed (shown_assert assert.entry).0 }
+    ensures fault { fault_at result ≡ assertion_fault typed (shown_assert assert.entry).0 }
     ensures fresh { IsFresh result }
     ensures lens { HasLengths result }
 {
     if !typed {
-        return Err(Status::CBOR_UNEXPECTED_TYPE);
+        return Err(RequestFault::WrongType);
     }
-    let (Some(rp_id), Some(hash)) = (assert.rp_id, assert.hash) else {
-        return Err(Status::MISSING_PARAMETER);
+    let Some(rp_id) = assert.rp_id else {
+        return missing(GET_ASSERTION, 0x01);
+    };
+    let Some(hash) = assert.hash else {
+        return missing(GET_ASSERTION, 0x02);
     };
     if !assert.allow.is_whole {
-        return Err(Status::MISSING_PARAMETER);
+        return Err(entry_not_whole(GET_ASSERTION, 0x03));
     }
     if hash.len() != 32 {
-        return Err(Status::INVALID_LENGTH);
+        return Err(RequestFault::HashLength { len: hash.len() });
     }
     if assert.pin_uv_auth_param.is_some() {
-        return Err(Status::INVALID_PARAMETER);
+        return Err(RequestFault::PinUvAuthParam);
     }
     if assert.options.uv.unwrap_or(false) {
-        return Err(Status::INVALID_OPTION);
+        return Err(RequestFault::UvOption);
     }
     if assert.options.rk.is_some() {
-        return Err(Status::UNSUPPORTED_OPTION);
+        return Err(RequestFault::RkOption);
     }
     Ok(Request::Assert(AssertRequest {
         hash,

@@ -30,6 +30,21 @@ pub(crate) struct OpenMessage {
     pub(crate) last: u64,
 }
 
+impl OpenMessage {
+    /// Returns that which an initialization packet begins, whose data is all that is kept.
+    fn new(cid: u32, cmd: u8, len: u16, last: u64) -> Self
+        ensures { result ≡ record { cid = cid; cmd = cmd; len = len; kept = 0; last = last } }
+    {
+        OpenMessage {
+            cid,
+            cmd,
+            len,
+            kept: 0,
+            last,
+        }
+    }
+}
+
 /// What the buffer holds.
 #[derive(Clone, Copy)]
 enum Contents {
@@ -69,14 +84,15 @@ fn refuse(cid: u32, why: Refusal) -> Verdict
     Verdict::Refuse { cid, why }
 }
 
-/// Returns the channel that is busy, for a packet of another one.
-fn busy_channel(current: Option<u32>, working: Option<u32>, cid: u32) -> u32
-    ensures { result ≡ busy_channel current working cid }
+/// Returns why a packet of a channel is refused while another one is busy.
+fn busy_elsewhere(current: Option<u32>, working: Option<u32>, cid: u32) -> Refusal
+    ensures { result ≡ Refusal.BusyElsewhere (busy_channel current working cid) }
 {
-    match current {
+    let channel = match current {
         Some(channel) if channel != cid => channel,
         _ => working.unwrap_or(cid),
-    }
+    };
+    Refusal::BusyElsewhere { channel }
 }
 
 /// The channels that were given out, and the one message that may be open. A packet is served by
@@ -236,10 +252,7 @@ impl Assembler {
                 self.drop_on(cid);
                 greet(cid, cid, part, working)
             }
-            ReplyRow::BusyElsewhere => {
-                let channel = busy_channel(self.open_on(), working, cid);
-                refuse(cid, Refusal::BusyElsewhere { channel })
-            }
+            ReplyRow::BusyElsewhere => refuse(cid, busy_elsewhere(self.open_on(), working, cid)),
             ReplyRow::BusyHere => refuse(cid, Refusal::BusyHere),
             ReplyRow::BrokenOff => {
                 let due = self.due();
@@ -255,13 +268,7 @@ impl Assembler {
             }
             ReplyRow::Long => {
                 put_data(&mut self.buffer, 0, part);
-                self.contents = Contents::Open(OpenMessage {
-                    cid,
-                    cmd,
-                    len,
-                    kept: 0,
-                    last: at,
-                });
+                self.contents = Contents::Open(OpenMessage::new(cid, cmd, len, at));
                 Verdict::Kept
             }
         }

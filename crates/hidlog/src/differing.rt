@@ -3,7 +3,7 @@ use crate::commands::fresh;
 use crate::fault::ProgramFault;
 use crate::files::Files;
 use crate::finding::{DifferenceTexts, Finding};
-use crate::misfit::first_misfit;
+use crate::parse_hint::first_parse_hint;
 use crate::objects::ProgramFaultObject;
 use crate::process::say;
 use crate::remarks::{Remark, Remarked};
@@ -188,10 +188,10 @@ impl Written for DifferenceCount<'_> {
         if let Some(fault) = self.fault {
             FaultLine { wish, fault }.write(pen);
             if wish.explains
-                && matches!(fault, LogFault::BadLine(_))
-                && let Some(misfit) = first_misfit(self.ahead)
+                && matches!(fault, LogFault::BadLine(_) | LogFault::TooLong(_))
+                && let Some(hint) = first_parse_hint(self.ahead)
             {
-                misfit.write(pen);
+                hint.write(pen);
             }
         }
         wish.begin_line(pen);

@@ -17,7 +17,7 @@ mod grammar;
 mod held;
 mod host;
 mod logs;
-mod misfit;
+mod parse_hint;
 mod objects;
 mod pieces;
 mod process;

@@ -12,7 +12,7 @@ use crate::files::Files;
 use crate::held::Output;
 use crate::host::{Host, Modeled};
 use crate::logs::{LogState, Logs};
-use crate::misfit::first_misfit;
+use crate::parse_hint::first_parse_hint;
 use crate::objects::ProgramFaultObject;
 use crate::pieces::Pieces;
 use crate::process::{WRITING_FAILED, say};
@@ -63,9 +63,9 @@ pub fn say_cause<E: Target>(
     faults: &mut E,
 ) {
     match fault {
-        LogFault::BadLine(_) => {
-            if let Some(misfit) = first_misfit(state.lines) {
-                say(faults, &misfit);
+        LogFault::BadLine(_) | LogFault::TooLong(_) => {
+            if let Some(hint) = first_parse_hint(state.lines) {
+                say(faults, &hint);
             }
         }
         LogFault::Read(_) => {

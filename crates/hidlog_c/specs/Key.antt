@@ -3,17 +3,29 @@ use Rattle.std.specs.Prelude.{◌≡◌, ℕ, ℤ, pos, List, [], ◌∷◌, len
 use Rattle.authn_core.specs.Turn.{Start}
 use Rattle.token_session.specs.{declared.input.Timed.Timed, Answered.told_now}
 use Rattle.token_session.specs.Meters.{SessionState, FollowsFrom, stepped, sent_by}
+use Rattle.token_session.specs.{Causes.causes_of, declared.cause.Causes.Causes as TwoCauses}
 use Rattle.hidlog_c.specs.declared.fault.TheConstants.{NOT_MADE, PACKETS_WAIT, NO_PACKET}
 
--- a session of an authenticator with an AAGUID, and the packets of its latest input that wait to be sent
+-- a session of an authenticator with an AAGUID, the packets of its latest input that wait to be sent, and why that input
+-- was refused
 pub record DeviceState : Type 0 where
   pub aaguid : List ℕ
   pub session : SessionState
   pub waiting : List (List ℕ)
+  pub causes : TwoCauses
+
+-- where nothing was refused
+abbrev pub no_causes : TwoCauses
+no_causes = record { time = None; input = None }
 
 -- The session takes the input, and what it sends for it waits.
 abbrev pub served : DeviceState → Timed → DeviceState
-served d x = record { aaguid = d.aaguid; session = stepped d.session x; waiting = sent_by d.session x }
+served d x = record {
+  aaguid = d.aaguid;
+  session = stepped d.session x;
+  waiting = sent_by d.session x;
+  causes = causes_of d.session.machine x;
+}
 
 -- A key that isn't made takes nothing, and one for which packets wait takes no input.
 abbrev pub taken_by : DeviceState → List (List ℕ) → Timed → Option DeviceState

@@ -10,4 +10,5 @@ pub mod Owned
 pub mod Lending
 pub mod Changed
 pub mod Held
+pub mod Causes
 pub mod Shown

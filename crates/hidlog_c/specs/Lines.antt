@@ -5,7 +5,7 @@ use Rattle.token_session.specs.{declared.input.Timed.Timed, Meters.SessionState,
 use Rattle.session_log.specs.{declared.fault.LogFault.LogFault, Ending.Ending}
 use Rattle.session_log.specs.{Replay.Finds, Replay.Plays, Replay.Writes, Session.live_history, Session.live_machine}
 use Rattle.hidlog_c.specs.declared.fault.TheConstants.{NOT_MADE, PACKETS_WAIT}
-use Rattle.hidlog_c.specs.{declared.outcome.CallOutcome.CallOutcome, Commands.IsWritten, Key.DeviceState}
+use Rattle.hidlog_c.specs.{declared.outcome.CallOutcome.CallOutcome, Commands.IsWritten, Key.DeviceState, Key.no_causes}
 use Rattle.hidlog_c.specs.Numbers.{outcome_of}
 
 -- The lines were played from one state of the session to another, as `live` plays them: `bytes` of them were read,
@@ -31,7 +31,7 @@ ArePlayed s t log out outcome = (answer : Result (Unit {0}) LogFault) × (outcom
 
 -- The device with another session, for which no packet waits.
 abbrev pub played_to : DeviceState → SessionState → DeviceState
-played_to d t = record { aaguid = d.aaguid; session = t; waiting = [] }
+played_to d t = record { aaguid = d.aaguid; session = t; waiting = []; causes = no_causes }
 
 -- A key takes lines while no packet waits. A pair is the caller's memory before and after the call.
 abbrev pub PlaysOn : DeviceState → List (List ℕ) → Option DeviceState → (log : List ℕ) → (List ℕ × List ℕ)

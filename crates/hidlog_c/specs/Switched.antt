@@ -4,7 +4,7 @@ use Rattle.authn_core.specs.Turn.{Start}
 use Rattle.cred_table.specs.{declared.fault.SnapshotFault.SnapshotFault, declared.row.Row.Row, Snapshots.Refuses}
 use Rattle.cred_table.specs.declared.fault.SnapshotFault.TheVariants.{NotSnapshot, TooMany, RowBroken, Memory}
 use Rattle.token_session.specs.Meters.{FollowsFrom}
-use Rattle.hidlog_c.specs.{Begin.Opens, declared.capacity.TheConstants.CAPACITY, Key.DeviceState}
+use Rattle.hidlog_c.specs.{Begin.Opens, declared.capacity.TheConstants.CAPACITY, Key.DeviceState, Key.no_causes}
 use Rattle.hidlog_c.specs.declared.fault.TheConstants.{ALREADY_MADE, NOT_SNAPSHOT, TOO_MANY_ROWS, ROW_BROKEN, NO_MEMORY}
 
 -- the start of a session with capacity for as many credentials as a key of this library
@@ -21,10 +21,10 @@ refusal TooMany = TOO_MANY_ROWS
 refusal (RowBroken place) = ROW_BROKEN
 refusal Memory = NO_MEMORY
 
--- The device holds a session at its start with these credentials, and no packet waits.
+-- The device holds a session at its start with these credentials; no packet waits, and nothing was refused.
 abbrev pub IsStarted : DeviceState → (aaguid : List ℕ) → (moment : ℕ) → List Row → Type 0
 IsStarted d aaguid moment rows =
-    (d.aaguid ≡ aaguid) × (d.waiting ≡ []) × FollowsFrom d.session (start_of aaguid moment rows) []
+    (d.aaguid ≡ aaguid) × (d.waiting ≡ []) × (d.causes ≡ no_causes) × FollowsFrom d.session (start_of aaguid moment rows) []
 
 -- The key holds a session at its start with the credentials of the snapshot.
 abbrev pub Begins : (aaguid : List ℕ) → (moment : ℕ) → (snapshot : List ℕ) → Option DeviceState → Type 0

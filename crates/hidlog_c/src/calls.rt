@@ -5,6 +5,7 @@ ghost use Rattle.token_session.specs.declared.input.Input.TheVariants as inputs;
 ghost use prog.Memory.{capped, size};
 ghost use denote.Param.{layout};
 ghost use Rattle.hidlog_c.specs.contracts.device.Device.{the_row as device_row};
+ghost use Rattle.hidlog_c.specs.Causes.{ReportsCause};
 ghost use Rattle.hidlog_c.specs.Held.{held};
 ghost use Rattle.hidlog_c.specs.Changed.{Adds, Clears, Removes, SavesKey};
 ghost use Rattle.hidlog_c.specs.Key.{Answers, Sends};
@@ -14,6 +15,7 @@ ghost use Rattle.hidlog_c.specs.Reports.{ReportsCredential, ReportsMeters, Repor
 ghost use Rattle.hidlog_c.specs.Switched.{Makes};
 
 use crate::capacity::CAPACITY;
+use crate::causes::CauseReport;
 use crate::device::Device;
 use crate::fault::{ALREADY_MADE, NO_MEMORY, NOT_MADE, NOT_SNAPSHOT, ROW_BROKEN, TOO_MANY_ROWS};
 use crate::key::KeyHandle;
@@ -186,6 +188,22 @@ pub extern "C" fn hidlog_key_need(key: &mut KeyHandle, need: &mut NeedReport) ->
     ensures need { ReportsNeed (held key.old) (need.old, need.new) result }
 {
     key.need(need)
+}
+
+/// Writes why the key refused its last input, in numbers and as a sentence of UTF-8 to the front of `out`: `which` is 0
+/// for what time dropped before the input was served, 1 for the input. Returns how many bytes of the sentence it wrote, 0
+/// where nothing was refused.
+#[unsafe(no_mangle)]
+pub extern "C" fn hidlog_key_cause(
+    key: &mut KeyHandle,
+    which: u32,
+    cause: &mut CauseReport,
+    out: &mut [u8],
+) -> i32
+    ensures same { held key.new ≡ held key.old }
+    ensures cause { ReportsCause (held key.old) which (cause.old, cause.new) (out.old, out.new) result }
+{
+    key.cause(which, cause, out)
 }
 
 /// Returns how many credentials the key holds.

@@ -6,12 +6,14 @@ ghost use Rattle.std.specs.List.{find};
 ghost use Rattle.cred_table.specs.Rows.{has_id, without};
 ghost use Rattle.cred_table.specs.Snapshots.{Loads, Refuses};
 ghost use Rattle.hidlog_c.specs.Changed.{Adds, Clears, HasRows, IsBusy, IsIdle, SavesLen, Removes, SavesRows};
+ghost use Rattle.hidlog_c.specs.Causes.{ReportsCause};
 ghost use Rattle.hidlog_c.specs.Key.{Answers, Sends};
 ghost use Rattle.hidlog_c.specs.Lines.{TakesLines};
 ghost use Rattle.hidlog_c.specs.Switched.{IsStarted};
 ghost use Rattle.hidlog_c.specs.Reports.{ReportsRow, credential_count, meters_of, need_of, pending_assertions, waiting_packets};
 
 use crate::capacity::{CAPACITY, SNAPSHOT_LONGEST};
+use crate::causes::{CauseReport, cause_at, put_sentence, report_of};
 use crate::fault::{
     BAD_ARGUMENT, CLASHES, NO_PACKET, PACKETS_WAIT, TOO_MANY_ROWS, TOO_SMALL, WORK_WAITS,
 };
@@ -24,23 +26,29 @@ use authn_core::{Config, Need};
 use cred_table::{SnapshotFault, Store, Table, copy_without, put_new, save_into};
 use hid_packet::Outbox;
 use std::marker::Model;
-use token_session::{Input, Session};
+use token_session::{Causes, Input, Session};
 
-/// A session, and the packets of its latest input that wait to be sent.
+/// A session, the packets of its latest input that wait to be sent, and why that input was refused.
 #[derive(Drop)]
 pub struct Device {
     aaguid: [u8; 16],
     session: Session<CAPACITY>,
     outbox: Outbox,
+    causes: Causes,
 }
 
-// Clauses see the session's state, and the packets.
+const NO_CAUSES: Causes = Causes {
+    time: None,
+    input: None,
+};
+
+// Clauses see the session's state, the packets and the causes.
 impl Model for Device {
     ghost use Rattle.hidlog_c.specs.Key.{DeviceState};
 
     ghost Value = { DeviceState };
 
-    ghost view = { λ d. record { aaguid = d.aaguid; session = d.session; waiting = d.outbox } };
+    ghost view = { λ d. record { aaguid = d.aaguid; session = d.session; waiting = d.outbox; causes = d.causes } };
 }
 
 impl Device {
@@ -52,6 +60,7 @@ impl Device {
             aaguid,
             session: session_with(aaguid, at, Store::new()),
             outbox: Outbox::new(),
+            causes: NO_CAUSES,
         }
     }
 
@@ -67,6 +76,7 @@ impl Device {
             aaguid: self.aaguid,
         };
         self.session.load(config, snapshot, at)?;
+        self.causes = NO_CAUSES;
         Ok(())
     }
 
@@ -77,7 +87,7 @@ impl Device {
         if !self.outbox.is_empty() {
             return PACKETS_WAIT;
         }
-        self.session.step(at, input, &mut self.outbox);
+        self.causes = self.session.step(at, input, &mut self.outbox);
         self.outbox.len() as i32
     }
 
@@ -101,7 +111,22 @@ impl Device {
             return PACKETS_WAIT;
         }
         *outcome = play_lines(&mut self.session, log, out);
+        self.causes = NO_CAUSES;
         outcome.status as i32
+    }
+
+    /// Writes why the last input was refused, or what time dropped before it: `which` is 1 or 0.
+    pub fn cause(&self, which: u32, report: &mut CauseReport, out: &mut [u8]) -> i32
+        ensures { ReportsCause (Some self.now) which (report.old, report.new) (out.old, out.new) result }
+    {
+        if which > 1 {
+            return BAD_ARGUMENT;
+        }
+        let Some(cause) = cause_at(&self.causes, which == 1) else {
+            return 0;
+        };
+        *report = report_of(cause);
+        put_sentence(cause, out) as i32
     }
 
     /// Returns how many packets wait.
@@ -173,6 +198,7 @@ impl Device {
         ensures { IsStarted self.new self.old.aaguid at (⟦<Store<CAPACITY> as Table<CAPACITY>>⟧.rows rows) }
     {
         self.session = session_with(self.aaguid, at, rows);
+        self.causes = NO_CAUSES;
     }
 
     /// Returns the credentials without the one with this id, and whether there is one.

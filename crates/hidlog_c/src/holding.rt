@@ -1,6 +1,7 @@
 //! What a call does on a key.
 ghost use Rattle.std.specs.Prelude.{◌≡◌, ◌≢◌, [], None, Some, IfErr, OnOk, is_some};
 ghost use Rattle.cred_table.specs.Snapshots.{Refuses};
+ghost use Rattle.hidlog_c.specs.Causes.{ReportsCause};
 ghost use Rattle.hidlog_c.specs.Held.{held};
 ghost use Rattle.hidlog_c.specs.Changed.{Adds, Clears, Removes, SavesKey};
 ghost use Rattle.hidlog_c.specs.Key.{Answers, Sends};
@@ -10,6 +11,7 @@ ghost use Rattle.hidlog_c.specs.Switched.{Begins};
 ghost use Rattle.hidlog_c.specs.Reports.{ReportsCredential, ReportsMeters, ReportsNeed, count_or, credential_count, pending_assertions, waiting_packets};
 
 use crate::capacity::CAPACITY;
+use crate::causes::CauseReport;
 use crate::device::Device;
 use crate::fault::{BAD_ARGUMENT, NOT_MADE};
 use crate::key::{EMPTY, FREED, KeyHandle, MADE};
@@ -97,6 +99,17 @@ impl KeyHandle {
             return NOT_MADE;
         }
         self.memory.device().play(log, out, outcome)
+    }
+
+    /// Writes why the last input was refused, or what time dropped before it.
+    pub fn cause(&mut self, which: u32, report: &mut CauseReport, out: &mut [u8]) -> i32
+        ensures same { held self.new ≡ held self.old }
+        ensures cause { ReportsCause (held self.old) which (report.old, report.new) (out.old, out.new) result }
+    {
+        if !self.is_made() {
+            return NOT_MADE;
+        }
+        self.memory.device().cause(which, report, out)
     }
 
     /// Returns how many packets wait.

@@ -5,6 +5,7 @@
 
 mod calls;
 mod capacity;
+mod causes;
 mod client;
 mod commands;
 mod device;

@@ -1,6 +1,8 @@
 //! Why the key refuses a packet or a command, in a sentence for each cause.
 use crate::pen::Pen;
 use authn_core::Refusal as Command;
+use ctap_cbor::Fault;
+use ctap_message::RequestFault;
 use hid_assemble::Refusal as Transport;
 use token_session::Cause;
 
@@ -68,8 +70,90 @@ fn of_transport(why: Transport) -> Sentence {
     }
 }
 
+/// Returns a parameter as the number that a form's name is asked for by.
+fn parameter_number(command: u8, parameter: u8) -> Option<u64> {
+    Some(u64::from(u16::from_be_bytes([command, parameter])))
+}
+
+fn of_missing(command: u8, parameter: u8) -> Sentence {
+    let words: &[u8] = match (command, parameter) {
+        (0x01, 0x02 | 0x03) => b"the required parameter %p, or the id in it, is missing",
+        _ => b"the required parameter %p is missing",
+    };
+    says(words, parameter_number(command, parameter), None)
+}
+
+fn of_entry(command: u8, parameter: u8) -> Sentence {
+    let words: &[u8] = match (command, parameter) {
+        (0x01, 0x04) => b"an entry of %p lacks its alg or type",
+        _ => b"an entry of %p lacks its id or type",
+    };
+    says(words, parameter_number(command, parameter), None)
+}
+
+fn of_length(words: &'static [u8], len: usize) -> Sentence {
+    says(words, Some(len as u64), None)
+}
+
+fn of_request(fault: RequestFault) -> Sentence {
+    match fault {
+        RequestFault::Empty => says(b"the request has no command byte", None, None),
+        RequestFault::NoSuchCommand { byte } => says(
+            b"the authenticator command 0x%x is not supported",
+            Some(u64::from(byte)),
+            None,
+        ),
+        RequestFault::Trailing { count } => {
+            of_length(b"the command has no parameters, but %d bytes follow it", count)
+        }
+        RequestFault::NotCanonical(Fault { at, kind }) => says(
+            b"the parameters are not canonical CBOR at byte %d: %f",
+            Some(at as u64),
+            Some(u64::from(kind.number())),
+        ),
+        RequestFault::WrongType => says(
+            b"a parameter, or a member in one, has the wrong CBOR type",
+            None,
+            None,
+        ),
+        RequestFault::Missing { command, parameter } => of_missing(command, parameter),
+        RequestFault::EntryNotWhole { command, parameter } => of_entry(command, parameter),
+        RequestFault::HashLength { len } => of_length(b"clientDataHash has %d bytes, not 32", len),
+        RequestFault::UserIdLength { len } => {
+            of_length(b"the user's id has %d bytes, more than 64", len)
+        }
+        RequestFault::PinUvAuthParam => says(
+            b"pinUvAuthParam is present, but the key has no PIN",
+            None,
+            None,
+        ),
+        RequestFault::NoAlgorithm => says(
+            b"pubKeyCredParams has no entry with alg -7 (ES256) and type \"public-key\"",
+            None,
+            None,
+        ),
+        RequestFault::UvOption => says(
+            b"the option uv is true, but the key does not verify users",
+            None,
+            None,
+        ),
+        RequestFault::UpOption => says(b"the option up is false", None, None),
+        RequestFault::RkOption => says(
+            b"the option rk is present, which is for authenticatorMakeCredential alone",
+            None,
+            None,
+        ),
+        RequestFault::EnterpriseAttestation => says(
+            b"enterpriseAttestation is present, but the key has none",
+            None,
+            None,
+        ),
+    }
+}
+
 fn of_command(why: Command) -> Sentence {
     match why {
+        // A session names the check instead (Cause::Request).
         Command::BadRequest { status } => says(
             b"the request fails a check of its command (status 0x%x)",
             Some(u64::from(status)),
@@ -117,18 +201,17 @@ fn of_command(why: Command) -> Sentence {
     }
 }
 
-/// Writes why the key refuses, as a line.
+/// Writes why the key refuses, as a sentence without a full stop.
 pub fn write_cause(pen: &mut Pen, cause: Cause) {
     let (words, numbers) = match cause {
         Cause::Transport(why) => of_transport(why),
+        Cause::Request(fault) => of_request(fault),
         Cause::Command(why) => of_command(why),
     };
     let [first, second] = numbers;
-    pen.text("  ");
     match (first, second) {
         (None, _) => pen.form(words, &[]),
         (Some(_), None) => pen.form(words, &[first]),
         _ => pen.form(words, &[first, second]),
     }
-    pen.text("\n");
 }

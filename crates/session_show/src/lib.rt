@@ -31,6 +31,7 @@ mod transcript;
 mod wording;
 mod words;
 
+pub use cause::write_cause;
 pub use difference::{Comparison, Difference};
 pub use escape::{is_hidden, write_escaped};
 pub use item::{show_item, write_text};

@@ -48,7 +48,9 @@ impl Written for Reason<'_> {
             if !self.write_named(pen, cid, cmd, *code)
                 && let Some(cause) = self.cause(cmd, *code)
             {
+                pen.text("  ");
                 write_cause(pen, cause);
+                pen.text("\n");
             }
         } else if cmd == KEEPALIVE {
             self.write_keepalive(pen);

@@ -1,7 +1,7 @@
 //! The names that CTAP 2.1 has for numbers. What has no name is shown by its number alone.
 
 use crate::pen::Pen;
-use crate::standard::{ERRORS, KEEPALIVES, STATUSES};
+use crate::standard::{ERRORS, KEEPALIVES, STATUSES, request_names};
 use session_walk::{COMMANDS, MESSAGES, Names, name_in};
 
 /// Returns the name of a number that a form asks for by a letter (`Pen::form`).
@@ -13,6 +13,10 @@ pub fn name_at(mark: u8, number: u64) -> Option<&'static str> {
         b'M' | b'm' => MESSAGES,
         b'K' => KEEPALIVES,
         b'f' => FAULTS,
+        b'p' => {
+            let [.., command, parameter] = number.to_be_bytes();
+            return name_in(request_names(command), i128::from(parameter));
+        }
         _ => return None,
     };
     match name_in(names, i128::from(number)) {

@@ -1,5 +1,4 @@
--- What a packet of the key ends on a channel (CTAP 2.1, sections 11.2.4, 11.2.5 and 11.2.9.1). Rule names are those of
--- rules.md.
+-- What a packet of the key ends on a channel (CTAP 2.1, sections 11.2.4, 11.2.5 and 11.2.9.1).
 use Rattle.std.specs.Prelude.{ℕ, Bool, true, false, not, ◌&&◌, ◌||◌, ◌==◌, nat_le, nat_lt, ◌+◌, ◌-◌, ◌^◌, min, List, []}
 use Rattle.std.specs.Prelude.{Option, Some, None, if◌then◌else◌, is_none}
 use Rattle.hid_packet.specs.Commands.{CBOR, INIT, BROADCAST}
@@ -34,7 +33,8 @@ lost_both c = let s = settled false c in record (lost_held s.held (freed s)) { i
 abbrev pub losing : Channel → List Ended → List Ended
 losing c ends = added_held (settling false c ends) (settled false c).held Unknown
 
--- D2: a time-out. The continuation packet that came too late isn't of the message.
+-- ERROR 05: the unfinished message timed out (CTAP 2.1, section 11.2.5.2). The continuation packet that came too late
+-- isn't of the message.
 abbrev pub is_late_for : Option Doubtful → Followed → Bool
 is_late_for None held = false
 is_late_for (Some d) held = held.transaction.line == d.of.line
@@ -71,7 +71,8 @@ abbrev pub is_late_by : Option Doubtful → Option Followed → Bool
 is_late_by doubtful None = false
 is_late_by doubtful (Some held) = is_late_for doubtful held
 
--- D4: the unfinished message before one that is refused
+-- ERROR 04 for a message that begins amid another one ends that one, too; ERROR 03 does for an INIT (CTAP 2.1, sections
+-- 11.2.5.3 and 11.2.5.4).
 abbrev pub also_ends : Transaction → ℕ → Option Followed → Bool
 also_ends refused code None = false
 also_ends refused code (Some held) =
@@ -81,7 +82,7 @@ also_ends refused code (Some held) =
 abbrev pub cause_of : Transaction → End
 cause_of refused = if refused.message == INIT then Dropped refused.line else Replaced refused.line
 
--- D8: the message that an answer with this command can be for
+-- An answer with this command can be for a whole message with the same one (CTAP 2.1, section 11.2.4).
 abbrev pub can_answer : AnswerStart → Option Followed → Bool
 can_answer answer None = false
 can_answer answer (Some m) = came_whole m && (m.transaction.message == answer.command)
@@ -110,14 +111,15 @@ abbrev pub answered_message : AnswerStart → Channel → Option Followed
 answered_message answer c =
     if is_of_one answer c then (if can_answer answer c.held then c.held else c.asked) else None
 
--- D9: a continuation packet of the key's last message
+-- A continuation packet of the key continues its last message, by the sequence number (CTAP 2.1, section 11.2.4).
 abbrev pub told_on : ℕ → DeviceMessage → DeviceMessage
 told_on number told =
     if not (is_whole told.extent.length told.extent.continuations) && (told.extent.continuations == number)
     then record told { extent = record told.extent { continuations = min 255 (number + 1) } }
     else told
 
--- D1: a KEEPALIVE
+-- A KEEPALIVE says that the key works on a request: 01 that it processes it, 02 that it waits for the user (CTAP 2.1,
+-- section 11.2.9.1.7).
 abbrev pub key_or_signature : Option Awaited → (is_made : Bool) → Awaited
 key_or_signature (Some Key) is_made = Key
 key_or_signature (Some Signature) is_made = Signature
@@ -168,7 +170,8 @@ of_keep_alive input now c =
     else if is_of_time input now c then transaction_of c.held
     else None
 
--- D3 to D6: an ERROR that is no time-out, where no INIT waits
+-- An ERROR that is no time-out, where no INIT waits, behind a stray packet: it is for that one, where a request that is
+-- kept alive can't be refused so (CTAP 2.1, section 11.2.9.1.6).
 abbrev pub is_of_stray : ℕ → Channel → Bool
 is_of_stray code c = c.is_stray && (nat_lt 0 (kept_of c.held)
     && ((code == 1) || (code == 4) || (code == 6) || (code == 0x0b)))

@@ -1,5 +1,5 @@
 -- Who owns each line of a log: what is open on a channel behind its lines, as a function of what was open before the
--- last of them (CTAP 2.1, sections 11.2.4 and 11.2.5; docs/use/EXPLAINED.md). Rule names are those of rules.md.
+-- last of them (CTAP 2.1, sections 11.2.4 and 11.2.5; docs/use/EXPLAINED.md).
 use Rattle.std.specs.Prelude.{ℕ, Bool, true, false, not, ◌&&◌, ◌||◌, ◌==◌, nat_le, nat_lt, ◌+◌, ◌-◌, min, max, List, []}
 use Rattle.std.specs.Prelude.{◌∷◌, ◌++◌, length, drop, Option, Some, None, if◌then◌else◌}
 use Rattle.byteorder.specs.Endian.{big_number}
@@ -38,7 +38,7 @@ is_known_not c = c.is_contested || nat_lt 0 c.lost
 abbrev pub lost_one : ℕ → Channel → Channel
 lost_one line c = record c { lost = min 255 (c.lost + 1); last_lost = max c.last_lost line }
 
--- H8: how what held a channel ends where what was asked has it
+-- How the message that held a channel ends where the one behind it, which a host asked meanwhile, has the channel now.
 abbrev pub cut_short : (asked held : Followed) → (cancelled : Option ℕ) → End
 cut_short asked held (Some line) = Dropped line
 cut_short asked held None = if came_whole held then Unknown else Replaced asked.transaction.line
@@ -80,7 +80,9 @@ freed_of (Some held) c = record c { held = c.asked; asked = None }
 abbrev pub freed : Channel → Channel
 freed c = freed_of c.held c
 
--- H1, H3, H4: the first packet of a host's message
+-- A host's message begins: the channel is its, or it waits behind the message that holds the channel, for the key may
+-- refuse it with ERROR 06 (CTAP 2.1, section 11.2.5.1). An INIT is kept apart, since a key answers it at once (section
+-- 11.2.9.1.3).
 abbrev pub nonce_of : List ℕ → ℕ
 nonce_of part = if nat_le 8 (length part) then big_number 8 part else 0
 
@@ -108,7 +110,8 @@ message_begun m before =
     let c = settled false (heard_of m.at before) in
     holds_or_asks m c.held (record c { is_greeted = false })
 
--- H5 to H7: a continuation packet
+-- A continuation packet of a host belongs to the unfinished message on its channel whose next sequence number it has
+-- (CTAP 2.1, section 11.2.4).
 abbrev pub is_next_of : ℕ → Option Followed → Bool
 is_next_of number None = false
 is_next_of number (Some m) = (m.extent.continuations == number) && not (came_whole m)
@@ -155,7 +158,8 @@ channel_continued number now c =
     then record c { asked = slot_after number now c.asked; is_stray = stray }
     else record c { held = slot_after number now c.held; is_stray = stray }
 
--- H2: a CANCEL
+-- A CANCEL cancels the request that is worked on. Where either of two may be, it isn't known which (CTAP 2.1, section
+-- 11.2.9.1.5).
 abbrev pub cancelled_by : ℕ → Option Followed → Option Followed
 cancelled_by line None = None
 cancelled_by line (Some m) = Some (record m { cancelled = Some line })

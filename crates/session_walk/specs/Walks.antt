@@ -45,7 +45,8 @@ pub record Follows (lines : List Line) (walk : LogWalk) : Type 0 where
   pub moment : walk.now ≡ moment_of lines
   pub input : walk.input ≡ input_of lines
 
--- D2: a continuation packet that comes 100 ms or more after the packet before it may have come too late.
+-- A continuation packet that comes 100 ms or more after the packet before it may have come too late: no key gives a
+-- message up earlier (CTAP 2.1, section 11.2.5.2 has no number; a KEEPALIVE is due each 100 ms, section 11.2.9.1.7).
 abbrev pub NO_TIME_OUT : ℕ
 NO_TIME_OUT = 100
 
@@ -76,7 +77,7 @@ abbrev pub decided_of : Bool → Doubtful → Option Transaction
 decided_of true d = None
 decided_of false d = Some d.of
 
--- D7, D8: how the transaction ends whose answer is whole
+-- how the transaction ends whose answer is whole: with its status, where it has one
 abbrev pub end_of : Option ℕ → End
 end_of (Some status) = Status status
 end_of None = Answered
@@ -94,7 +95,8 @@ answered told message_line ends =
 abbrev pub IsAt : ℕ → LogWalk → Channel → Type 0
 IsAt place walk channel = slice_get walk.channels.list place ≡ Some channel
 
--- R1: on how many channels a message may wait for a reply
+-- On how many channels a message may wait for a reply of the caller: those of which a KEEPALIVE says so, or else those
+-- with a request that waits for its answer.
 abbrev pub says_so : Option Followed → Bool
 says_so None = false
 says_so (Some m) = is_some m.awaited && is_none m.cancelled
@@ -113,7 +115,7 @@ status_of command len [] = None
 status_of command len (first ∷ rest) =
     if ((command == CBOR) || (command == KEEPALIVE)) && nat_lt 0 len || (command == ERROR) then Some first else None
 
--- H1: the moment of the last packet of what holds a channel
+-- the moment of the last packet of what holds a channel
 abbrev pub at_of : Option Followed → Option ℕ
 at_of None = None
 at_of (Some m) = Some m.at
@@ -136,7 +138,7 @@ place_on number channels = among_six (position (is_on number) channels)
 abbrev pub channel_on : ℕ → List Channel → Option Channel
 channel_on number channels = option_and_then (slice_get channels) (place_on number channels)
 
--- H1 to H7: the line that the message began at of which a host's packet is, 0 where it is of none
+-- the line at which the message began that a host's packet belongs to, 0 where it belongs to none
 abbrev pub host_message : (line : ℕ) → Fields → (now : ℕ) → Channel → ℕ
 host_message line (initialization channel command size part) now c = if command == CANCEL then 0 else line
 host_message line (continuation channel number part) now c =

@@ -1,5 +1,5 @@
 -- The whole of a channel: what a packet of a host or of the key makes of it, INITs too, and of all channels (CTAP 2.1,
--- sections 11.2.4, 11.2.5 and 11.2.9.1). keep/owns.py is the same, to be run. Rule names are those of rules.md.
+-- sections 11.2.4, 11.2.5 and 11.2.9.1).
 use Rattle.std.specs.Prelude.{ℕ, Bool, true, false, not, ◌&&◌, ◌||◌, ◌==◌, nat_le, nat_lt, ◌+◌, ◌-◌, min, max, List, []}
 use Rattle.std.specs.Prelude.{◌∷◌, ◌++◌, length, drop, take, remove, replicate, position, slice_get, slice_index, Option, Some}
 use Rattle.std.specs.Prelude.{None, is_none, is_some, unwrap_or, if◌then◌else◌}
@@ -36,7 +36,7 @@ unnamed = record {
   names_one = false;
 }
 
--- H3: an INIT, as what is followed of a channel
+-- an INIT, as a transaction of its channel
 abbrev pub followed_on : ℕ → Greeting → Followed
 followed_on channel g = record {
   transaction = record { channel = channel; line = g.line; message = INIT; command = None };
@@ -64,7 +64,7 @@ oldest_ends channel [] ends = ends
 oldest_ends channel (oldest ∷ others) ends =
     if nat_lt (length others + 1) MOST_GREETINGS then ends else added ends (followed_on channel oldest) Forgotten
 
--- H1, H3, H4
+-- A host's message begins: an INIT, or another one.
 abbrev pub begun_on : Followed → List ℕ → Channel → Channel
 begun_on m part c =
     if m.transaction.message == INIT then greeted_on m part (settled false (heard_of m.at c)) else message_begun m c
@@ -100,7 +100,8 @@ followed_at channel (Some g) = Some (followed_on channel g)
 abbrev pub init_at : ℕ → Channel → Option Followed
 init_at place c = followed_at c.number (slice_get c.greetings.items place)
 
--- D3, D6: an ERROR that can be for an INIT of 8 bytes
+-- Whether an ERROR can be for an INIT of 8 bytes: 04 and 05 never, 06 and 7F on the broadcast channel; others where
+-- nothing else waits (CTAP 2.1, section 11.2.9.1.6).
 abbrev pub may_be_of_init : ℕ → Channel → Bool
 may_be_of_init code c =
     if (code == 4) || (code == 5) then false
@@ -151,7 +152,7 @@ init_refused_last code (Some init) c ends = record {
 abbrev pub last_init : ℕ → Channel → List Ended → Taken
 last_init code c ends = init_refused_last code (init_at (last_of c) c) c ends
 
--- D3 to D6
+-- Where an ERROR is for no INIT: the message behind the one that holds the channel is refused, or else that one.
 abbrev pub refused_plain : ℕ → Option Followed → Channel → List Ended → Taken
 refused_plain code asked c ends = record {
   channel = refused_by code asked c.held c;
@@ -170,7 +171,8 @@ refused_one code input c ends =
     else if c.is_stray then record { channel = c; ends = ends; of = None; late = false }
     else last_init code c ends
 
--- D2 where nothing was asked, or what was asked is whole
+-- ERROR 05 (a message timed out; CTAP 2.1, section 11.2.5.2), where no message waits behind the one that holds the
+-- channel, or the one behind it is whole
 abbrev pub time_out_or : Option Transaction → Option Doubtful → ℕ → Channel → List Ended → Taken
 time_out_or (Some of) doubtful input c ends = record {
   channel = timed_out doubtful c;
@@ -204,7 +206,7 @@ lost_by_time_out c ends = record {
   late = false;
 }
 
--- D2 with what was asked and isn't whole, beside what is held
+-- ERROR 05, where a message waits behind the one that holds the channel and isn't whole
 abbrev pub time_out_two : Option Doubtful → ℕ → (asked held : Followed) → Channel → List Ended → Taken
 time_out_two doubtful input asked held c ends =
     if came_whole held then (if is_known_not c then lost_by_time_out c ends else time_out_asked doubtful c ends)
@@ -221,7 +223,8 @@ abbrev pub refused : ℕ → ℕ → Option Doubtful → Channel → List Ended 
 refused code input doubtful c ends =
     if code == 5 then time_out_by doubtful input c.asked c.held c ends else refused_one code input c ends
 
--- D7: the answer to an INIT
+-- The answer to an INIT has its nonce. On a channel of a host it also ends what waited there (CTAP 2.1, section
+-- 11.2.9.1.3).
 abbrev pub cleared_by : Followed → Channel → Channel
 cleared_by init c =
     if c.number == BROADCAST then c
@@ -247,7 +250,7 @@ abbrev pub answered_init : List ℕ → Channel → List Ended → Taken
 answered_init part c ends =
     let place = place_of (is_sought (Some (nonce_of part))) c.greetings.items in init_answered place (init_at place c) c ends
 
--- D8: another answer
+-- Another answer is for the whole message with the same command (CTAP 2.1, section 11.2.4).
 abbrev pub is_served_uncancelled : Option Followed → Bool
 is_served_uncancelled None = false
 is_served_uncancelled (Some held) = came_whole held && is_none held.cancelled

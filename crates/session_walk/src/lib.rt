@@ -10,6 +10,7 @@ mod channels;
 mod command;
 mod credentials;
 mod device;
+mod device_packets;
 mod doubtful;
 mod entry;
 pub mod error_code;

@@ -5,9 +5,11 @@ use Rattle.hid_assemble.specs.{Table.Open, Assembly.Assembly, Assembly.is_overdu
 use Rattle.hid_assemble.specs.Refusals.{last_of}
 use Rattle.hid_assemble.specs.declared.refusal.Refusal.{Refusal as TransportRefusal, TheVariants.Overdue}
 use Rattle.hid_assemble.specs.declared.verdict.Verdict.{Verdict, TheVariants.Refuse}
-use Rattle.authn_core.specs.declared.refusal.Refusal.{Refusal as CommandRefusal}
-use Rattle.authn_core.specs.{State.Event, Turn.CoreState, Turn.core_why, Turn.working, Turn.Start}
+use Rattle.ctap_message.specs.{declared.fault.RequestFault.RequestFault, RequestFaults.fault_in}
+use Rattle.authn_core.specs.declared.refusal.Refusal.{Refusal as CommandRefusal, TheVariants.BadRequest}
+use Rattle.authn_core.specs.{State.Event, State.Request as Asks, Turn.CoreState, Turn.core_why, Turn.working, Turn.Start}
 use Rattle.token_session.specs.declared.cause.{Cause.Cause, Cause.TheVariants.Transport, Cause.TheVariants.Command}
+use Rattle.token_session.specs.declared.cause.{Cause.TheVariants.Request}
 use Rattle.token_session.specs.declared.cause.Causes.{Causes as TwoCauses}
 use Rattle.token_session.specs.declared.input.{Input.Input, Timed.Timed}
 use Rattle.token_session.specs.Effects.{assembly_after, input_event, input_verdict}
@@ -21,13 +23,20 @@ abbrev pub verdict_cause : Verdict → Option Cause
 verdict_cause (Refuse cid why) = Some (Transport why)
 verdict_cause v = None
 
-abbrev pub command_cause : Option CommandRefusal → Option Cause
-command_cause None = None
-command_cause (Some why) = Some (Command why)
+-- the first check that a request fails
+abbrev pub request_cause : Option RequestFault → Option Cause
+request_cause None = None
+request_cause (Some fault) = Some (Request fault)
+
+-- Of a request that fails a check of its command the cause is that check, and of other commands what they are refused for.
+abbrev pub command_cause : Event → Option CommandRefusal → Option Cause
+command_cause e None = None
+command_cause (Asks cid bytes) (Some (BadRequest status)) = request_cause (fault_in bytes)
+command_cause e (Some why) = Some (Command why)
 
 abbrev pub event_cause : CoreState → ℕ → Option Event → Option Cause
 event_cause core at None = None
-event_cause core at (Some e) = command_cause (core_why core at e)
+event_cause core at (Some e) = command_cause e (core_why core at e)
 
 -- An input is refused by the transport, or its event by the authenticator.
 abbrev pub served_cause : MachineState → Input → Option Cause

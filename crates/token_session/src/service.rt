@@ -75,7 +75,7 @@ impl<const C: usize> Keeper<C> {
         let before = self.core.work();
         let mut answer = Answer::new();
         let turn = self.core.take(now, event, &mut answer);
-        let why = cause_of(turn);
+        let why = cause_of(turn, event);
         match event {
             Event::Request { cid, message } => {
                 self.meters.count(message, self.core.last_steps());

@@ -1,0 +1,269 @@
+//! Why a line isn't a log line: what is there, and what is expected instead.
+use crate::pieces::{DIGITS, Pieces, after, count_in_front, len_before};
+use session_log::read_line;
+use session_show::{Pen, Written};
+
+/// The bytes of the longest line of a log.
+const LONGEST: usize = 255;
+
+const BYTE_ORDER_MARK: &[u8] = &[0xEF, 0xBB, 0xBF];
+
+/// The first bytes of files that aren't logs, and what reads them.
+static OTHER_FILES: [(&[u8], &str); 11] = [
+    (&[0xD4, 0xC3, 0xB2, 0xA1], PCAP),
+    (&[0xA1, 0xB2, 0xC3, 0xD4], PCAP),
+    (&[0x4D, 0x3C, 0xB2, 0xA1], PCAP),
+    (&[0xA1, 0xB2, 0x3C, 0x4D], PCAP),
+    // A pcapng file has a line feed in front of these.
+    (b"\r\r", "  this is a pcapng capture: hidlog import FILE reads it\n"),
+    (&[0x1F, 0x8B], "  this is a gzip file: gunzip it first\n"),
+    (&[0x28, 0xB5, 0x2F, 0xFD], "  this is a zstd file: unzstd it first\n"),
+    (&[0xFF, 0xFE], UTF_16),
+    (&[0xFE, 0xFF], UTF_16),
+    (b"{", JSON),
+    (b"[", JSON),
+];
+
+const PCAP: &str = "  this is a pcap capture: hidlog import FILE reads it\n";
+
+const JSON: &str = "  this is JSON, not a log\n";
+
+const UTF_16: &str = "  this is UTF-16, as PowerShell writes it: a log is UTF-8 (iconv -f UTF-16 -t UTF-8)\n";
+
+/// What lines begin with.
+const LETTERS: &[u8] = b"<>tpks";
+
+/// The largest moment.
+const LARGEST: &[u8] = b"18446744073709551615";
+
+/// A hexadecimal digit, in a form.
+const DIGIT: u8 = b'.';
+
+const PACKET: &[u8] = &[DIGIT; 128];
+
+const SIGNATURE: &[u8] = &[DIGIT; 144];
+
+/// Three fields of sixty-four digits.
+const KEY: &[u8] = b"\
+    ................................................................ \
+    ................................................................ \
+    ................................................................";
+
+/// The forms of what comes after the moment of a line with each of these letters.
+static FORMS: [&[&[u8]]; 6] = [
+    &[PACKET],
+    &[PACKET],
+    &[],
+    &[b"granted", b"denied", b"timeout"],
+    &[b"no", KEY],
+    &[b"no", SIGNATURE],
+];
+
+/// Returns how many bytes in front fit a form.
+fn fitting(fields: &[u8], form: &[u8]) -> usize {
+    let len = fields.len().min(form.len());
+    for place in 0..len {
+        let (byte, wanted) = (fields[place], form[place]);
+        let fits = if wanted == DIGIT {
+            byte.is_ascii_hexdigit()
+        } else {
+            byte == wanted
+        };
+        if !fits {
+            return place;
+        }
+    }
+    len
+}
+
+/// Returns how many bytes in front fit a log line. The one after them fits none.
+fn fitting_len(line: &[u8]) -> usize {
+    let Some(letter) = line.first() else {
+        return 0;
+    };
+    let Some(forms) = FORMS.get(len_before(LETTERS, *letter)) else {
+        return 0;
+    };
+    if !after(line, 1).starts_with(b" ") {
+        return 1;
+    }
+    let mut fields = after(line, 2);
+    let mut front = 2;
+    if *letter != b'<' {
+        let mut most = LARGEST.len() - 1;
+        if let Some(number) = fields.get(..LARGEST.len())
+            && number <= LARGEST
+        {
+            most = LARGEST.len();
+        }
+        // A moment has no zero in front.
+        if fields.starts_with(b"0") {
+            most = 1;
+        }
+        let moment = count_in_front(fields, DIGITS).min(most);
+        front = moment.saturating_add(2);
+        fields = after(fields, moment);
+        if moment == 0 || forms.is_empty() || !fields.starts_with(b" ") {
+            return front;
+        }
+        front = front.saturating_add(1);
+        fields = after(fields, 1);
+    }
+    let mut most = 0;
+    for form in *forms {
+        most = most.max(fitting(fields, form));
+    }
+    front.saturating_add(most)
+}
+
+/// What is expected where a line stops being a log line: a form, and its number.
+type Expected = (&'static [u8], Option<u64>);
+
+/// Returns how many hexadecimal digits are in front.
+fn digits_in_front(text: &[u8]) -> u64 {
+    for place in 0..text.len() {
+        if !text[place].is_ascii_hexdigit() {
+            return place as u64;
+        }
+    }
+    text.len() as u64
+}
+
+/// Returns what is expected of the field behind the time, or of a packet of the key, from its first byte on.
+fn expected_in_field(letter: u8, field: &[u8]) -> Expected {
+    let digits = digits_in_front(field);
+    let is_whole = digits == field.len() as u64;
+    match letter {
+        b'<' | b'>' if is_whole => (b"a packet has 128 hexadecimal digits, not %d\n", Some(digits)),
+        b'<' | b'>' => (b"a packet is 128 hexadecimal digits\n", None),
+        b'p' => (b"expected granted, denied or timeout\n", None),
+        b'k' => (
+            b"expected no, or an id, x and y of 64 hexadecimal digits each\n",
+            None,
+        ),
+        b's' if is_whole => (
+            b"a signature has 2 to 144 hexadecimal digits, an even number, not %d\n",
+            Some(digits),
+        ),
+        b's' => (b"expected no, or 2 to 144 hexadecimal digits\n", None),
+        _ => (b"expected the end of the line\n", None),
+    }
+}
+
+/// Returns what is expected of a time and what is behind it, from the time's first byte on.
+fn expected_in_timed(letter: u8, fields: &[u8], place: usize) -> Expected {
+    let digits = count_in_front(fields, DIGITS);
+    if place < digits && fields.starts_with(b"0") {
+        return (b"a time has no leading zero\n", None);
+    }
+    if place < digits {
+        return (b"the largest time is 18446744073709551615\n", None);
+    }
+    if digits == 0 {
+        return (b"expected a time in milliseconds\n", None);
+    }
+    match after(fields, digits) {
+        [b' ', field @ ..] if letter != b't' => expected_in_field(letter, field),
+        _ if letter == b't' => (b"expected the end of the line\n", None),
+        _ => (b"expected a space and what comes behind the time\n", None),
+    }
+}
+
+/// The first byte of a line that fits no log line; or that the line ends too early.
+#[derive(Clone, Copy)]
+pub struct ParseHint<'a> {
+    line: &'a [u8],
+    place: usize,
+}
+
+impl ParseHint<'_> {
+    /// Returns what is said of the kind of file that begins so, if it is known.
+    fn other_file(&self) -> Option<&'static str> {
+        for (magic, text) in &OTHER_FILES {
+            if self.line.starts_with(magic) {
+                return Some(text);
+            }
+        }
+        None
+    }
+
+    /// Returns what is expected there.
+    fn expected(&self) -> Expected {
+        let [letter, rest @ ..] = self.line else {
+            return (b"expected a log line\n", None);
+        };
+        match self.place {
+            0 if LETTERS.contains(&letter.to_ascii_lowercase()) => {
+                (b"the letters of log lines are lower case\n", None)
+            }
+            0 => (b"a log line begins with >, <, t, p, k, s, # or =\n", None),
+            1 => (b"expected a space\n", None),
+            _ if *letter == b'<' => expected_in_field(*letter, after(rest, 1)),
+            place => expected_in_timed(*letter, after(rest, 1), place.saturating_sub(2)),
+        }
+    }
+
+    /// Writes what the byte is that fits no log line.
+    fn write_byte(&self, pen: &mut Pen, byte: u8) {
+        let number = Some(self.place.saturating_add(1) as u64);
+        match byte {
+            b'\r' => pen.form(b"  byte %d is a carriage return: ", &[number]),
+            b' '..=b'~' => {
+                pen.form(b"  byte %d is '", &[number]);
+                pen.bytes(&[byte]);
+                pen.text("': ");
+            }
+            _ => pen.form(b"  byte %d is 0x%x: ", &[number, Some(u64::from(byte))]),
+        }
+    }
+}
+
+impl Written for ParseHint<'_> {
+    fn write(&self, pen: &mut Pen) {
+        if let Some(text) = self.other_file() {
+            pen.text(text);
+            return;
+        }
+        let rest = after(self.line, self.place);
+        if self.place == 0 && rest.starts_with(BYTE_ORDER_MARK) {
+            pen.text("  byte 1 begins a byte order mark: a log has none\n");
+            return;
+        }
+        match rest {
+            [] => pen.form(b"  it ends after byte %d: ", &[Some(self.place as u64)]),
+            [byte, ..] => self.write_byte(pen, *byte),
+        }
+        if let [b'\r', ..] = rest {
+            pen.text("lines end with a line feed alone (tr -d '\\r' drops the others)\n");
+            return;
+        }
+        let (form, number) = self.expected();
+        match number {
+            Some(_) => pen.form(form, &[number]),
+            None => pen.bytes(form),
+        }
+    }
+}
+
+/// Returns why the first line that is none of a log isn't one, if there is such a line. Of one that is too long nothing
+/// is said but which other kind of file begins so.
+pub fn first_parse_hint(lines: &[u8]) -> Option<ParseHint<'_>> {
+    let lines = Pieces {
+        rest: lines,
+        end: b'\n',
+    };
+    for line in lines {
+        if line.len() > LONGEST {
+            let hint = ParseHint { line, place: 0 };
+            return match hint.other_file() {
+                Some(_) => Some(hint),
+                None => None,
+            };
+        }
+        if read_line(line).is_none() {
+            let place = fitting_len(line);
+            return Some(ParseHint { line, place });
+        }
+    }
+    None
+}

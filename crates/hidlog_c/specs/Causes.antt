@@ -1,0 +1,100 @@
+-- Why a key refused its last input, in numbers of C (hidlog.h, enum hidlog_cause_code).
+use Rattle.std.specs.Prelude.{◌≡◌, ◌≤◌, ℕ, ℤ, pos, List, length, Bool, true, false, Option, Some, None}
+use Rattle.std.specs.Prelude.{if◌then◌else◌, nat_eq}
+use Rattle.ctap_cbor.specs.Faults.{number_of}
+use Rattle.ctap_message.specs.declared.fault.RequestFault.{RequestFault, TheVariants as fault}
+use Rattle.ctap_message.specs.RequestFaults.{status_of as request_status}
+use Rattle.hid_assemble.specs.declared.refusal.Refusal.{Refusal as TransportRefusal, TheVariants as transport}
+use Rattle.hid_assemble.specs.Refusals.{code_number}
+use Rattle.authn_core.specs.declared.refusal.Refusal.{Refusal as CommandRefusal, TheVariants as command}
+use Rattle.authn_core.specs.Refusals.{status_of as command_status}
+use Rattle.token_session.specs.declared.cause.Cause.{Cause, TheVariants.Transport, TheVariants.Request, TheVariants.Command}
+use Rattle.token_session.specs.declared.cause.Causes.{Causes as TwoCauses}
+use Rattle.hidlog_c.specs.declared.causes.CauseReport.{CauseReport}
+use Rattle.hidlog_c.specs.declared.fault.TheConstants.{BAD_ARGUMENT, NOT_MADE}
+use Rattle.hidlog_c.specs.Key.{DeviceState}
+
+abbrev pub plain : ℕ → ℕ → CauseReport
+plain code status = record { code = code; status = status; first = 0; second = 0 }
+
+abbrev pub with_two : ℕ → ℕ → ℕ → ℕ → CauseReport
+with_two code status first second = record { code = code; status = status; first = first; second = second }
+
+abbrev pub transport_report : TransportRefusal → CauseReport
+transport_report (transport.NoSuchCommand cmd) = with_two 1 0x01 cmd 0
+transport_report (transport.InitLength len) = with_two 2 0x03 len 0
+transport_report (transport.MessageLength cmd len) = with_two 3 0x03 cmd len
+transport_report (transport.WrongNumber came due) = with_two 4 0x04 came due
+transport_report (transport.BrokenOff due) = with_two 5 0x04 due 0
+transport_report (transport.Overdue last at) = with_two 6 0x05 last at
+transport_report (transport.BusyElsewhere channel) = with_two 7 0x06 channel 0
+transport_report transport.BusyHere = plain 8 0x06
+transport_report (transport.NoSuchChannel given) = with_two 9 0x0b given 0
+transport_report transport.NoChannelLeft = plain 10 0x7f
+
+abbrev pub request_report : RequestFault → CauseReport
+request_report fault.Empty = plain 20 0x03
+request_report (fault.NoSuchCommand byte) = with_two 21 0x01 byte 0
+request_report (fault.Trailing count) = with_two 22 0x03 count 0
+request_report (fault.NotCanonical found) = with_two 23 0x12 found.at (number_of found.kind)
+request_report fault.WrongType = plain 24 0x11
+request_report (fault.Missing command parameter) = with_two 25 0x14 command parameter
+request_report (fault.EntryNotWhole command parameter) = with_two 26 0x14 command parameter
+request_report (fault.HashLength len) = with_two 27 0x03 len 0
+request_report (fault.UserIdLength len) = with_two 28 0x03 len 0
+request_report fault.PinUvAuthParam = plain 29 0x02
+request_report fault.NoAlgorithm = plain 30 0x26
+request_report fault.UvOption = plain 31 0x2c
+request_report fault.UpOption = plain 32 0x2c
+request_report fault.RkOption = plain 33 0x2b
+request_report fault.EnterpriseAttestation = plain 34 0x02
+
+abbrev pub bit_of : Bool → ℕ
+bit_of true = 1
+bit_of false = 0
+
+abbrev pub command_report : CommandRefusal → CauseReport
+command_report (command.BadRequest status) = plain 35 status
+command_report command.Cancelled = plain 50 0x2d
+command_report command.Denied = plain 51 0x27
+command_report command.NoConsentInTime = plain 52 0x27
+command_report command.TimedOut = plain 53 0x2f
+command_report command.Excluded = plain 54 0x19
+command_report command.Full = plain 55 0x28
+command_report command.KeyRefused = plain 56 0x7f
+command_report command.KeyIdTaken = plain 57 0x7f
+command_report command.SignatureRefused = plain 58 0x7f
+command_report (command.NoCredential listed) = with_two 59 0x2e (bit_of listed) 0
+command_report command.CounterSpent = plain 60 0x15
+command_report command.NothingPending = plain 61 0x30
+command_report (command.PendingElsewhere channel) = with_two 62 0x30 channel 0
+command_report (command.NextTooLate since at) = with_two 63 0x30 since at
+command_report (command.ResetTooLate since at) = with_two 64 0x30 since at
+
+abbrev pub report_of : Cause → CauseReport
+report_of (Transport why) = transport_report why
+report_of (Request why) = request_report why
+report_of (Command why) = command_report why
+
+-- what time dropped before the input was served, or the input itself
+abbrev pub time_cause_of : Option TransportRefusal → Option Cause
+time_cause_of None = None
+time_cause_of (Some overdue) = Some (Transport overdue)
+
+abbrev pub cause_at : TwoCauses → (is_input : Bool) → Option Cause
+cause_at causes true = causes.input
+cause_at causes false = time_cause_of causes.time
+
+-- The cause is written, with as much of its sentence as there is space for; without one all stays as it is.
+abbrev pub ReportsOne : Option Cause → CauseReport × CauseReport → List ℕ × List ℕ → ℤ → Type 0
+ReportsOne None report out result = (report.1 ≡ report.0) × (out.1 ≡ out.0) × (result ≡ pos 0)
+ReportsOne (Some cause) report out result = (report.1 ≡ report_of cause)
+    × ((n : ℕ) × (n ≤ length out.1) × (result ≡ pos n))
+
+-- A pair is what the caller's memory has before and after the call.
+abbrev pub ReportsCause : Option DeviceState → (which : ℕ) → CauseReport × CauseReport → List ℕ × List ℕ → ℤ → Type 0
+ReportsCause None which report out result = (report.1 ≡ report.0) × (out.1 ≡ out.0) × (result ≡ NOT_MADE)
+ReportsCause (Some d) which report out result =
+    if nat_eq which 0 then ReportsOne (cause_at d.causes false) report out result
+    else if nat_eq which 1 then ReportsOne (cause_at d.causes true) report out result
+    else (report.1 ≡ report.0) × (out.1 ≡ out.0) × (result ≡ BAD_ARGUMENT)
