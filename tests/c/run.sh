@@ -1,6 +1,6 @@
 #!/usr/bin/env bash
 # Runs the C library from C programs: the commands on logs (commands.c), a log that is shown (show.c), a key that is held
-# (key.c), which have to write of each worked log what the program writes, its credentials (credentials.c), saved as
+# (key.c), which have to write of each worked log what the program writes, why it refuses (causes.c), its credentials (credentials.c), saved as
 # the program saves them, and as many as there is capacity for (capacity.c). Linked with the static and with the shared library of release/; with the sanitizers of gcc; with
 # musl, and for aarch64, where their compilers and qemu are there. Looks too at what the libraries call: no allocator, and
 # nothing else but three functions that move bytes; and whether C++ takes the header. Ends with 3 where gcc is missing.
@@ -114,6 +114,7 @@ run() {
     echo "tests/c: $1"
     "${@:2}" "$room/commands" "$top/examples"
     "${@:2}" "$room/key" mistakes
+    "${@:2}" "$room/causes"
     "${@:2}" "$room/capacity" 64
     played=0
     for log in "${logs[@]}"; do
@@ -127,7 +128,7 @@ run() {
 # Builds the programs: build COMPILER WORD ..
 build() {
     local name
-    for name in commands show key credentials capacity; do
+    for name in commands show key causes credentials capacity; do
         "$1" "${options[@]}" -o "$room/$name" "$top/tests/c/$name.c" "${@:2}"
     done
 }

@@ -20,6 +20,7 @@ from typing import Any, Iterator, Optional
 sys.dont_write_bytecode = True
 
 from judging import judge_all
+from request_faults import fault_of
 from transactions import CBOR, ERROR, EXCLUDED, KEEPALIVE, RESET, Hosts, Machine, Transaction, ctap_cbor, needs_in
 
 BUSY = 0x06
@@ -127,7 +128,7 @@ def status_reason(status: int, owner: Transaction, machine: Machine, line: bytes
         0x2D: "the host sent CANCEL",
         0x2F: "the user did not respond in time",
         0x7F: "the caller supplied no signature",
-    }.get(status, f"the request fails a check of its command (status 0x{status:02x})")
+    }.get(status) or fault_of(owner.data)
 
 
 def altered(line: bytes, chance: random.Random) -> bytes:

@@ -43,6 +43,16 @@ pub struct hidlog_need {
     pub signed_bytes: [u8; 196],
 }
 
+/// `struct hidlog_cause`.
+#[repr(C)]
+#[derive(Clone, Copy, Debug, Default, PartialEq, Eq)]
+pub struct hidlog_cause {
+    pub code: u32,
+    pub status: u32,
+    pub first: u64,
+    pub second: u64,
+}
+
 /// `struct hidlog_credential`.
 #[repr(C)]
 #[derive(Clone, Copy)]
@@ -140,6 +150,13 @@ extern "C" {
     pub fn hidlog_key_clear(key: *mut hidlog_key, at: u64) -> i32;
     pub fn hidlog_key_save(key: *mut hidlog_key, out: *mut u8, room: usize) -> i32;
     pub fn hidlog_key_pending(key: *mut hidlog_key) -> i32;
+    pub fn hidlog_key_cause(
+        key: *mut hidlog_key,
+        which: u32,
+        cause: *mut hidlog_cause,
+        out: *mut u8,
+        out_cap: usize,
+    ) -> i32;
     pub fn hidlog_key_meters(key: *mut hidlog_key, meters: *mut hidlog_meters) -> i32;
     pub fn hidlog_key_lines(
         key: *mut hidlog_key,
