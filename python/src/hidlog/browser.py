@@ -1,7 +1,7 @@
-"""A browser at an origin: options of a service in, the page's answer out, both as the JSON of WebAuthn Level 3.
+"""A browser at an origin: options of a service in, the page's credential out, both as the JSON of WebAuthn Level 3.
 
-It judges options, origins and RP ids as Chromium does, and fails with the DOM's errors (webauthn_errors.py). It needs
-nothing but this package.
+The library's client judges options, origins and RP IDs as Chromium does (webauthn_client.py). What fails is an error of
+the DOM (webauthn_errors.py).
 """
 
 from __future__ import annotations
@@ -11,31 +11,37 @@ import queue
 import threading
 import time
 from collections.abc import Callable, Mapping
-from contextlib import contextmanager
-from hashlib import sha256
-from typing import TYPE_CHECKING, Any, Optional, Protocol, Union
+from typing import TYPE_CHECKING, Any, NamedTuple, Optional, Protocol, Union
 
-from . import cbor, extensions, webauthn_json
-from .ceremonies import Asked, descriptors, registration_of, sign_in_of
+from . import cbor
 from .client import Client
 from .credentials import Credential
-from .errors import ArgumentError, CtapError, KeyLost, NoAnswer, shown
-from .options import read_creation, read_mediation, read_request
-from .packets import GET_NEXT_ASSERTION, MAKE_CREDENTIAL
-from .relying_party import client_data_of, origin_of
-from .webauthn_errors import AbortError, NotAllowedError, WebAuthnRangeError, WebAuthnTypeError, rejection_of
+from .errors import CtapError, KeyLost, NoAnswer, shown
+from .packets import CBOR, GET_NEXT_ASSERTION
+from .relying_party import origin_of
+from .webauthn_client import Call, Request
+from .webauthn_errors import (
+    AbortError,
+    EncodingError,
+    NotAllowedError,
+    WebAuthnError,
+    WebAuthnRangeError,
+    WebAuthnTypeError,
+)
+from .webauthn_json import data_of, text_of
 
 if TYPE_CHECKING:
-    from collections.abc import Iterator
-
     from .key import SecurityKey
 
 Json = dict[str, Any]
-# Which account signs in: a place among those that are found, a user's name, a credential's id, or a function of all.
+# Which account signs in: an index among those that are found, a user's name, a credential's id, or a function of all.
 Account = Union[int, str, bytes, Callable[[list[Credential]], Any]]
-_INVALID_CHANNEL = 0x0B
-# Chromium's upper bound of what pages ask for, in milliseconds.
-_TIMEOUT = 600_000
+_NEXT = bytes([GET_NEXT_ASSERTION])
+_LISTS = ("allowCredentials", "excludeCredentials")
+# An id of so many letters or fewer has at most 64 bytes; the core has a longer one by its hash.
+_SENT_LETTERS = 86
+# A status and the head of a map of five members.
+_FIVE_MEMBERS = b"\x00\xa5"
 
 
 class Signal(Protocol):
@@ -43,6 +49,13 @@ class Signal(Protocol):
 
     def is_set(self) -> bool:
         """Returns whether the call is to end."""
+
+
+class _Begun(NamedTuple):
+    """A call whose options are checked, and its request."""
+
+    call: Call
+    request: Request
 
 
 class Browser:
@@ -59,20 +72,10 @@ class Browser:
 
     def create(self, options: Mapping[str, Any], *, mediation: str = "optional", signal: Signal | None = None) -> Json:
         """Registers, as navigator.credentials.create does. The signal ends it early, as an AbortSignal does."""
-        is_conditional = read_mediation("create", mediation) == "conditional"
-        asked_for = read_creation(options)
-        _check_signal(signal)
         with self._key.ceremony():
-            asked = registration_of(asked_for, self.origin, self._key.abilities, self._key.core_id)
-            if is_conditional:
-                raise NotAllowedError("the browser makes no credentials without a dialog")
-            client_data = client_data_of("create", asked_for["challenge"], self.origin)
-            answer = self._request(asked, client_data, _Ending(self._key, signal, asked_for.get("timeout")))
-            attestation = cbor.encode({"fmt": answer[1], "authData": answer[2], "attStmt": answer[3]})
-        abilities = self._key.abilities
-        results = extensions.creation_results(asked.extensions, asked.is_discoverable, abilities.has_resident_key)
-        parts = (client_data, attestation, results, (abilities.transport,), abilities.attachment)
-        return webauthn_json.registration_json(*parts)
+            begun = self._begin("create", options, mediation, signal)
+            ending = _Ending(self._key, signal, begun.request.timeout_ms)
+            return begun.call.response(self._exchange(begun, begun.request.message, ending))
 
     def get(
         self,
@@ -84,36 +87,26 @@ class Browser:
     ) -> Json:
         """Signs in, as navigator.credentials.get does.
 
-        account     which of several accounts: its place, the newest first; its user's name; its credential's id; or a
+        account     which of several accounts: its index, the newest first; its user's name; its credential's id; or a
                     function of the credentials that returns one of them.
         mediation   "conditional" waits until `choose` picks the account.
         """
         _check_account(account)
-        is_conditional = read_mediation("get", mediation) == "conditional"
-        asked_for = read_request(options)
-        _check_signal(signal)
-        asked = sign_in_of(asked_for, self.origin, self._key.abilities, self._key.core_id)
-        client_data = client_data_of("get", asked_for["challenge"], self.origin)
+        is_conditional = mediation == "conditional"
+        # The options' timeout doesn't count then (WebAuthn Level 3, section 5.1.4.2).
+        wanted = _without_timeout(options) if is_conditional else options
+        begun = self._begin("get", wanted, mediation, signal)
         if is_conditional:
-            asked = self._chosen(asked, signal)
+            begun = self._chosen(begun, wanted, signal)
         with self._key.ceremony():
-            ending = _Ending(self._key, signal, None if is_conditional else asked_for.get("timeout"))
-            answer = self._picked(self._answers(asked, client_data, ending), account)
-        return webauthn_json.authentication_json(
-            self._key.page_id(answer[1]["id"]),
-            client_data,
-            answer[2],
-            answer[3],
-            answer[4]["id"] if 4 in answer else None,
-            extensions.request_results(asked.extensions),
-            self._key.abilities.attachment,
-        )
+            ending = _Ending(self._key, signal, begun.request.timeout_ms)
+            return self._picked(self._assertions(begun, ending), account)
 
     async def acreate(
         self, options: Mapping[str, Any], *, mediation: str = "optional", signal: Signal | None = None
     ) -> Json:
         """Registers in a thread of its own, as `create`. Cancelling the task ends the registration."""
-        return await _in_thread(signal, lambda it: self.create(options, mediation=mediation, signal=it))
+        return await _in_thread(signal, lambda either: self.create(options, mediation=mediation, signal=either))
 
     async def aget(
         self,
@@ -124,7 +117,7 @@ class Browser:
         signal: Signal | None = None,
     ) -> Json:
         """Signs in in a thread of its own, as `get`. Cancelling the task ends the sign-in."""
-        return await _in_thread(signal, lambda it: self.get(options, account, mediation=mediation, signal=it))
+        return await _in_thread(signal, lambda either: self.get(options, account, mediation=mediation, signal=either))
 
     def choose(self, account: Account = 0) -> None:
         """Picks the account of the sign-in that waits for one (mediation "conditional"), or of the next such."""
@@ -133,69 +126,124 @@ class Browser:
 
     # What goes to the key.
 
-    def _request(self, asked: Asked, client_data: bytes, ending: _Ending) -> dict[int, Any]:
-        """Sends the request of a ceremony, with the hash of its client data, and returns what the answer says."""
-        parameters = {**asked.parameters, asked.hash_at: sha256(client_data).digest()}
-        with self._key.verified(asked.is_verified):
-            return self._exchange(asked.command, parameters, ending)
+    def _begin(self, ceremony: str, options: object, mediation: object, signal: Signal | None) -> _Begun:
+        """Checks a call's options, and writes its request. A signal that is set is found after the options' types."""
+        call = Call(ceremony, self._with_core_ids(options), mediation, self.origin, self._key.abilities)
+        try:
+            request = call.request()
+        except (WebAuthnTypeError, EncodingError):
+            raise
+        except WebAuthnError:
+            _check_signal(signal)
+            raise
+        _check_signal(signal)
+        return _Begun(call, request)
 
-    def _exchange(self, command: int, parameters: dict[int, Any] | None, ending: _Ending) -> dict[int, Any]:
-        """Sends a request on the browser's channel, which is a new one where the key knows it no more."""
-        with _rejections(ending):
-            if self._client is None:
-                self._client = Client(self._key)
-            try:
-                return _answer_of(command, self._client.request(command, parameters, ending.is_over))
-            except KeyLost:
-                self._client = Client(self._key)
-                return _answer_of(command, self._client.request(command, parameters, ending.is_over))
+    def _with_core_ids(self, options: Any) -> Any:
+        """Returns options whose lists of credentials have the ids that the core has."""
+        inner = _public_key(options)
+        if not isinstance(inner, Mapping):
+            return options
+        changed = {}
+        for name in _LISTS:
+            listed = inner.get(name)
+            if isinstance(listed, (list, tuple)):
+                named = [self._with_core_id(descriptor) for descriptor in listed]
+                if any(one is not other for one, other in zip(named, listed)):
+                    changed[name] = named
+        return {"publicKey": {**inner, **changed}} if changed else options
 
-    def _answers(self, asked: Asked, client_data: bytes, ending: _Ending) -> list[dict[int, Any]]:
-        """Returns the answer of each account that is found."""
-        answers = [self._request(asked, client_data, ending)]
-        with self._key.verified(asked.is_verified):
-            for _ in range(answers[0].get(5, 1) - 1):
-                answers.append(self._exchange(GET_NEXT_ASSERTION, None, ending))
-        return answers
+    def _with_core_id(self, descriptor: Any) -> Any:
+        """Returns the descriptor of a credential with the id that the core has."""
+        page_id = descriptor.get("id") if isinstance(descriptor, Mapping) else None
+        if not isinstance(page_id, str) or not (self._key.has_page_ids or len(page_id) > _SENT_LETTERS):
+            return descriptor
+        try:
+            data = data_of(page_id)
+        except ValueError:
+            return descriptor
+        core_id = self._key.core_id(data)
+        return descriptor if core_id == data else {**descriptor, "id": text_of(core_id)}
 
-    def _picked(self, answers: list[dict[int, Any]], account: Account) -> dict[int, Any]:
-        """Returns the answer of the account that signs in."""
-        if len(answers) == 1 and account == 0:
-            return answers[0]
-        held = {it.id: it for it in self._key.credentials}
-        return answers[_place_of(account, [held[self._key.page_id(it[1]["id"])] for it in answers])]
+    def _exchange(self, begun: _Begun, message: bytes, ending: _Ending) -> bytes:
+        """Sends a request, and returns the key's response. A status other than 0 is the DOM's error."""
+        try:
+            with self._key.verified(begun.request.is_verified):
+                response = self._transact(message, ending)
+        except KeyLost:
+            raise
+        except NoAnswer as error:
+            raise ending.reason(error, begun.call) from error
+        except CtapError as error:
+            raise ending.reason(error, begun.call) from error
+        if response[:1] != b"\0":
+            status = CtapError(response[0] if response else 0x7F)
+            raise ending.reason(status, begun.call) from status
+        return response
 
-    def _chosen(self, asked: Asked, signal: Signal | None) -> Asked:
-        """Waits until an account is chosen, and returns a request for it alone."""
+    def _transact(self, message: bytes, ending: _Ending) -> bytes:
+        """Sends a request on the browser's channel, which is a new one if the key no longer knows it."""
+        if self._client is None:
+            self._client = Client(self._key)
+        try:
+            return self._client.transact(CBOR, message, ending.is_over)
+        except KeyLost:
+            self._client = Client(self._key)
+            return self._client.transact(CBOR, message, ending.is_over)
+
+    def _assertions(self, begun: _Begun, ending: _Ending) -> list[Json]:
+        """Returns the assertion of each account that is found."""
+        first = self._exchange(begun, begun.request.message, ending)
+        others = range(_number_of_credentials(first) - 1)
+        responses = [first, *[self._exchange(begun, _NEXT, ending) for _ in others]]
+        return [self._with_page_id(begun.call.response(response)) for response in responses]
+
+    def _with_page_id(self, assertion: Json) -> Json:
+        """Returns an assertion with the id that a page sees."""
+        if self._key.has_page_ids:
+            assertion["id"] = assertion["rawId"] = text_of(self._key.page_id(data_of(assertion["id"])))
+        return assertion
+
+    def _picked(self, assertions: list[Json], account: Account) -> Json:
+        """Returns the assertion of the account that signs in."""
+        if len(assertions) == 1 and account == 0:
+            return assertions[0]
+        held = {credential.id: credential for credential in self._key.credentials}
+        return assertions[_index_of(account, [held[data_of(assertion["id"])] for assertion in assertions])]
+
+    def _chosen(self, begun: _Begun, options: Any, signal: Signal | None) -> _Begun:
+        """Waits until an account is chosen, and returns the call that asks for it alone."""
+        account = self._wait_for_choice(signal)
+        members = cbor.decode(begun.request.message[1:])
+        allowed = [self._key.page_id(descriptor["id"]) for descriptor in members.get(3, [])]
+        found = [
+            credential
+            for credential in reversed(self._key.credentials)
+            if credential.discoverable and credential.is_for(members[1]) and (not allowed or credential.id in allowed)
+        ]
+        descriptor = {"type": "public-key", "id": text_of(found[_index_of(account, found)].id)}
+        inner = {**_public_key(options), "allowCredentials": [descriptor]}
+        return self._begin("get", {"publicKey": inner}, "optional", signal)
+
+    def _wait_for_choice(self, signal: Signal | None) -> Account:
         limit = time.monotonic() + self._key.timeout
         while True:
             try:
-                account = self._choices.get(timeout=0.02)
-                break
+                return self._choices.get(timeout=0.02)
             except queue.Empty:
                 _check_signal(signal)
                 if time.monotonic() > limit:
                     raise NotAllowedError(f"no account was chosen for {self._key.timeout} s: Browser.choose") from None
-        found = [
-            it
-            for it in reversed(self._key.credentials)
-            if it.discoverable
-            and it.is_for(asked.rp_id)
-            and (not asked.allowed or self._key.core_id(it.id) in asked.allowed)
-        ]
-        credential = self._key.core_id(found[_place_of(account, found)].id)
-        return asked._replace(parameters={**asked.parameters, 3: descriptors([credential])})
 
 
 class _Ending:
     """What ends a ceremony early: the page's signal, and its time-out by the key's clock."""
 
-    def __init__(self, key: SecurityKey, signal: Signal | None, timeout: int | None):
-        self._key, self._signal = key, signal
-        self._timeout = _TIMEOUT if timeout is None else timeout
+    __slots__ = ("_key", "_signal", "_timeout", "_begun")
+
+    def __init__(self, key: SecurityKey, signal: Signal | None, timeout_ms: int):
+        self._key, self._signal, self._timeout = key, signal, timeout_ms
         self._begun = key.moment
-        if self._timeout == 0:
-            raise NotAllowedError("the timeout of the options is 0")
 
     def is_over(self) -> bool:
         """Returns whether the request is to be cancelled."""
@@ -207,37 +255,38 @@ class _Ending:
     def _is_late(self) -> bool:
         return self._key.moment - self._begun >= self._timeout
 
-    def reason(self, error: Exception) -> Exception:
+    def reason(self, error: CtapError | NoAnswer, call: Call) -> WebAuthnError:
         """Returns what a page sees of an error."""
         if self._is_aborted():
             return AbortError("the signal ended the request")
         if isinstance(error, NoAnswer):
             return NotAllowedError(str(error))
-        if isinstance(error, ArgumentError):
-            return NotAllowedError(f"the key's answer can't be read: {error}")
-        assert isinstance(error, CtapError)
         if error.status == 0x2D and self._is_late():
             return NotAllowedError(f"the user did nothing for {self._timeout} ms, the timeout of the options", 0x2D)
-        return rejection_of(error)
+        return call.refusal(error.status)
 
 
-@contextmanager
-def _rejections(ending: _Ending) -> Iterator[None]:
-    """Turns what the key answers into what a page sees."""
+def _public_key(options: Any) -> Any:
+    """Returns the options for a public key: what is given, or its member publicKey, as services send both."""
+    return options.get("publicKey", options) if isinstance(options, Mapping) else options
+
+
+def _without_timeout(options: Any) -> Any:
+    inner = _public_key(options)
+    if not isinstance(inner, Mapping) or "timeout" not in inner:
+        return options
+    return {"publicKey": {name: value for name, value in inner.items() if name != "timeout"}}
+
+
+def _number_of_credentials(response: bytes) -> int:
+    """Returns the member numberOfCredentials of an assertion, which has four others then; else 1."""
+    if response[:2] != _FIVE_MEMBERS:
+        return 1
     try:
-        yield
-    except KeyLost:
-        raise
-    except (CtapError, NoAnswer, cbor.CborError) as error:
-        raise ending.reason(error) from error
-
-
-def _answer_of(command: int, answer: Any) -> dict[int, Any]:
-    """Returns an answer where it has what the key answers, unless a fault cut that."""
-    first, kind = (1, str) if command == MAKE_CREDENTIAL else (3, bytes)
-    if not isinstance(answer, dict) or not isinstance(answer.get(2), bytes) or not isinstance(answer.get(first), kind):
-        raise cbor.CborError("it isn't the map of the command's answer")
-    return answer
+        number = cbor.decode(response[1:]).get(5, 1)
+    except cbor.CborError:
+        return 1  # the library's client refuses the response
+    return number if isinstance(number, int) else 1
 
 
 def _check_signal(signal: Signal | None) -> None:
@@ -256,14 +305,15 @@ def _check_account(account: object) -> None:
         raise WebAuthnTypeError(f"account is {shown(account)}; it has to be {text}")
 
 
-def _place_of(account: Account, found: list[Credential]) -> int:
-    """Returns the place of the account that is picked."""
-    given = account(found) if callable(account) else account
-    for place, it in enumerate(found):
-        if given is it or any(type(given) is type(name) and given == name for name in (place, it.user_name, it.id)):
-            return place
-    names = ", ".join(it.user_name or it.id.hex() for it in found) or "none"
-    raise WebAuthnRangeError(f"there is no account {shown(given)} to sign in with; there are: {names}")
+def _index_of(account: Account, found: list[Credential]) -> int:
+    """Returns the index of the account that is picked."""
+    wanted = account(found) if callable(account) else account
+    for index, credential in enumerate(found):
+        names = (index, credential.user_name, credential.id)
+        if wanted is credential or any(type(wanted) is type(name) and wanted == name for name in names):
+            return index
+    listed = ", ".join(credential.user_name or credential.id.hex() for credential in found) or "none"
+    raise WebAuthnRangeError(f"there is no account {shown(wanted)} to sign in with; there are: {listed}")
 
 
 class _Either:

@@ -42,6 +42,11 @@ class Outside:
         """Whether nothing is kept of any credential."""
         return not self._pages and not self._backups
 
+    @property
+    def has_page_ids(self) -> bool:
+        """Whether a page sees another id of a credential than the core has."""
+        return bool(self._pages)
+
     def name(self, core_id: bytes, page_id: bytes) -> None:
         """Names a credential of the core for the page."""
         if core_id != page_id:

@@ -10,7 +10,6 @@ from contextlib import AbstractContextManager, contextmanager, nullcontext
 from typing import Any, NamedTuple, Union
 
 from . import core, names, packets, private_keys
-from .ceremonies import Abilities
 from .errors import ArgumentError, ArgumentTypeError, KeyBusy, KeyEnded, KeyForked, NoAnswer
 from .errors import bytes_of, callable_of, number_of, one_of, path_of, seconds_of, shown
 from .faults import Faults
@@ -21,6 +20,7 @@ from .presence import Presence, User
 from .process import ProcessKey
 from .standard import KEEPALIVE_MS
 from .waiting import Waiting
+from .webauthn_client import Abilities
 
 # A little more of real time, since moments are whole milliseconds.
 _KEEPALIVE_SECONDS = 0.101
@@ -292,6 +292,11 @@ class Session:
     def abilities(self) -> Abilities:
         """What a browser takes the authenticator for."""
         return Abilities(self._verification, self._attachment, self._has_resident_key)
+
+    @property
+    def has_page_ids(self) -> bool:
+        """Whether a page sees another id of a credential than the core has."""
+        return self._outside.has_page_ids
 
     def core_id(self, page_id: bytes) -> bytes:
         """Returns the id that the core has for a credential of a page."""

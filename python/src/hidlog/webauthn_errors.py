@@ -6,7 +6,7 @@ member `name` is the DOM's.
 
 from __future__ import annotations
 
-from .errors import ArgumentError, ArgumentTypeError, CtapError, HidlogError
+from .errors import ArgumentError, ArgumentTypeError, HidlogError
 from .standard import STATUS_NAMES
 
 
@@ -80,6 +80,7 @@ class WebAuthnSyntaxError(WebAuthnError, ArgumentError):
 
 # CTAP 2.1, "Status codes", in words for readers of a failed test.
 _CAUSES = {
+    0x19: "it holds a credential of excludeCredentials",
     0x26: "none of pubKeyCredParams is ES256, the key's one algorithm",
     0x27: "the user denied it, or was too slow",
     0x28: "the key holds as many credentials as it has capacity for",
@@ -93,11 +94,3 @@ def status_text(status: int) -> str:
     """Returns a status with its name, and with its cause where that is known."""
     named = f"0x{status:02X} {STATUS_NAMES.get(status, '')}".rstrip()
     return f"the key answered {named}" + (f": {_CAUSES[status]}" if status in _CAUSES else "")
-
-
-def rejection_of(error: CtapError) -> WebAuthnError:
-    """Returns what a page sees of a status."""
-    if error.status == 0x19:
-        text = "the key answered 0x19 CREDENTIAL_EXCLUDED: it holds a credential of excludeCredentials"
-        return InvalidStateError(text, error.status)
-    return NotAllowedError(status_text(error.status), error.status)

@@ -1,0 +1,194 @@
+"""The WebAuthn client of the C library: a page's options in, requests and credentials out (hidlog.h, "The WebAuthn client").
+
+The library checks options, origins and RP IDs, and writes requests, client data and a credential's JSON. Nothing is kept
+between its calls.
+"""
+
+from __future__ import annotations
+
+import ctypes
+import json
+from collections.abc import Mapping
+from functools import lru_cache
+from typing import Any, NamedTuple
+
+from . import core
+from .errors import HidlogError, MissingPart, shown
+from .standard import LONGEST_MESSAGE
+from .webauthn_errors import (
+    EncodingError,
+    InvalidStateError,
+    NotAllowedError,
+    NotSupportedError,
+    SecurityError,
+    WebAuthnError,
+    WebAuthnRangeError,
+    WebAuthnSyntaxError,
+    WebAuthnTypeError,
+    status_text,
+)
+
+Json = dict[str, Any]
+# enum hidlog_client_ceremony.
+_CEREMONIES = {"create": 0, "get": 1}
+# enum hidlog_client_ability.
+_VERIFICATION = {"none": 0, "verified": 1, "failed": 2}
+_PLATFORM, _RESIDENT_KEY = 4, 8
+# enum hidlog_client_error.
+_ERRORS: dict[int, type[WebAuthnError]] = {
+    -1: WebAuthnTypeError,
+    -2: EncodingError,
+    -3: WebAuthnRangeError,
+    -4: NotSupportedError,
+    -5: SecurityError,
+    -6: NotAllowedError,
+    -7: InvalidStateError,
+    -8: WebAuthnSyntaxError,
+}
+# A credential's JSON has at most so many bytes.
+_CREDENTIAL_CAPACITY = 16384
+_RequestBytes, _CredentialBytes = ctypes.c_char * LONGEST_MESSAGE, ctypes.c_char * _CREDENTIAL_CAPACITY
+_TRANSPORTS = {"cross-platform": "usb", "platform": "internal"}
+_NO_SUFFIX = (b"", 0)
+
+
+class Abilities(NamedTuple):
+    """What the authenticator can do.
+
+    verification      result of asking for user verification: "verified", "failed" or "none".
+    attachment        "cross-platform" or "platform".
+    has_resident_key  whether it makes discoverable credentials.
+    """
+
+    verification: str = "none"
+    attachment: str = "cross-platform"
+    has_resident_key: bool = True
+
+    @property
+    def transport(self) -> str:
+        """How the browser reaches it."""
+        return _TRANSPORTS[self.attachment]
+
+    @property
+    def bits(self) -> int:
+        """A sum of enum hidlog_client_ability."""
+        kind = _PLATFORM if self.attachment == "platform" else 0
+        return _VERIFICATION[self.verification] | kind | _RESIDENT_KEY * self.has_resident_key
+
+
+class Request(NamedTuple):
+    """A CTAP2 request.
+
+    message      the command's byte, then CBOR.
+    timeout_ms   the timeout of the options.
+    is_verified  whether the response claims user verification.
+    """
+
+    message: bytes
+    timeout_ms: int
+    is_verified: bool
+
+
+class _Report(ctypes.Structure):
+    """struct hidlog_client_report."""
+
+    timeout_ms: int
+    is_verified: int
+    member_len: int
+    reason_len: int
+    _fields_ = [(name, ctypes.c_uint32) for name in ("timeout_ms", "is_verified", "member_len", "reason_len")]
+
+
+_NUMBER, _SIZE, _BYTES, _OUT = ctypes.c_uint32, ctypes.c_size_t, ctypes.c_char_p, ctypes.c_void_p
+# Ceremony; options, mediation, origin and public suffix, each with its length; abilities.
+_INPUTS = [_NUMBER, *[_BYTES, _SIZE] * 4, _NUMBER]
+_RESULTS = [_OUT, _OUT, _SIZE]
+
+
+@lru_cache(maxsize=None)
+def _functions() -> tuple[Any, Any]:
+    """Returns the library's functions that write a request and a credential."""
+    library = core.library()
+    if not hasattr(library, "hidlog_client_request"):
+        raise MissingPart("this C library has no WebAuthn client: a browser needs libhidlog of this version")
+    request, response = library.hidlog_client_request, library.hidlog_client_response
+    request.argtypes, request.restype = [*_INPUTS, *_RESULTS], ctypes.c_int64
+    response.argtypes, response.restype = [*_INPUTS, _BYTES, _SIZE, *_RESULTS], ctypes.c_int64
+    return request, response
+
+
+def _convert(value: object) -> Any:
+    """Returns a mapping as dict, for JSON. There is no JSON for another object."""
+    if isinstance(value, Mapping):
+        return dict(value)
+    raise WebAuthnTypeError(
+        f"{type(value).__name__} is no value of JSON; bytes are base64url there"
+        " (hidlog.webauthn_json.creation_options_json)"
+    )
+
+
+_ENCODER = json.JSONEncoder(default=_convert, separators=(",", ":"), allow_nan=False, skipkeys=True)
+
+
+def json_of(options: object) -> bytes:
+    """Returns options as JSON in ASCII."""
+    if not isinstance(options, Mapping):
+        raise WebAuthnTypeError(f"options have to be a dict of JSON, not {type(options).__name__}")
+    try:
+        return _ENCODER.encode(options).encode("ascii")
+    except (ValueError, RecursionError) as error:
+        if isinstance(error, HidlogError):
+            raise
+        raise WebAuthnTypeError(f"options contain a cycle, are nested too deeply, or have no JSON: {error}") from None
+
+
+class Call:
+    """A call of navigator.credentials, "create" or "get", at an origin."""
+
+    __slots__ = ("_inputs",)
+
+    def __init__(self, ceremony: str, options: object, mediation: object, origin: str, abilities: Abilities):
+        if not isinstance(mediation, str):
+            raise WebAuthnTypeError(f"mediation is {shown(mediation)}; it has to be a str, such as 'optional'")
+        written, word, place = json_of(options), mediation.encode(errors="replace"), origin.encode()
+        texts = (written, len(written), word, len(word), place, len(place), *_NO_SUFFIX)
+        self._inputs = (_CEREMONIES[ceremony], *texts, abilities.bits)
+
+    def request(self) -> Request:
+        """Checks the options, and returns the request for the key. A refusal is the DOM's error."""
+        report, out = _Report(), _RequestBytes()
+        length = _functions()[0](*self._inputs, ctypes.byref(report), out, LONGEST_MESSAGE)
+        if length < 0:
+            raise _error_of(length, report, out)
+        return Request(out[:length], report.timeout_ms, report.is_verified == 1)
+
+    def response(self, response: bytes) -> Json:
+        """Returns the credential that the key's response, a status and CBOR, makes."""
+        report, out = _Report(), _CredentialBytes()
+        more = (response, len(response), ctypes.byref(report), out, _CREDENTIAL_CAPACITY)
+        length = _functions()[1](*self._inputs, *more)
+        if length < 0:
+            raise _error_of(length, report, out)
+        made: Json = json.loads(out[:length])
+        return made
+
+    def refusal(self, status: int) -> WebAuthnError:
+        """Returns what a page sees of a status other than 0."""
+        try:
+            self.response(bytes([status]))
+        except WebAuthnError as error:
+            return type(error)(status_text(status), status)
+        raise HidlogError(f"status {status} makes a credential")
+
+
+def _error_of(number: int, report: _Report, out: Any) -> HidlogError:
+    """Returns the error of a call that failed, with the member of the options at fault."""
+    kind = _ERRORS.get(number)
+    if kind is None:
+        return HidlogError(f"hidlog_client failed with {number}")
+    member = out[: report.member_len].decode()
+    reason = out[report.member_len : report.member_len + report.reason_len].decode()
+    if member == "origin":
+        # The package takes an origin of any host; browsers have no WebAuthn at one that the client doesn't know.
+        kind = SecurityError
+    return kind(f"{member}: {reason}" if member else reason)
