@@ -15,6 +15,7 @@ import json
 import random
 import sys
 import tempfile
+from functools import partial
 from pathlib import Path
 from typing import Any, Callable, Iterable, NamedTuple
 
@@ -26,8 +27,8 @@ import hidlog  # noqa: E402
 from guided import Edges, Fuzzer, Target  # noqa: E402
 from hidlog import cbor, credentials, logs, webauthn_json  # noqa: E402
 from hidlog.errors import HidlogError  # noqa: E402
-from hidlog.options import read_creation, read_request  # noqa: E402
 from hidlog.replayed import ReplayedKey  # noqa: E402
+from hidlog.webauthn_client import Abilities, Call  # noqa: E402
 from hidlog_conformance import answers, ctap_cbor, hid_packets, session_file  # noqa: E402
 
 # Findings that are known: the reader, and the exception with its place; and what becomes of them.
@@ -73,6 +74,11 @@ def read_log(data: bytes) -> None:
         assert result.status in (0, 1)
 
 
+def write_request(ceremony: str, options: Any) -> None:
+    """Has the WebAuthn client check options and write their request."""
+    Call(ceremony, options, "optional", "https://a.example", Abilities()).request()
+
+
 def read_json(data: bytes) -> None:
     """Hands options and answers of WebAuthn, as JSON, to each function that reads them."""
     try:
@@ -84,8 +90,8 @@ def read_json(data: bytes) -> None:
         webauthn_json.request_options,
         webauthn_json.registration,
         webauthn_json.authentication,
-        read_creation,
-        read_request,
+        partial(write_request, "create"),
+        partial(write_request, "get"),
     ):
         try:
             read(value)

@@ -122,7 +122,7 @@ def test_errors_are_the_doms_and_this_packages(make: Make) -> None:
     with pytest.raises(hidlog.InvalidStateError, match="0x19 CREDENTIAL_EXCLUDED") as excluded:
         browser.create(creation(excludeCredentials=[{"type": "public-key", "id": made["id"]}]))
     assert excluded.value.status == 0x19
-    with pytest.raises(hidlog.WebAuthnTypeError, match="'challenge' property from .*Required member") as missing:
+    with pytest.raises(hidlog.WebAuthnTypeError, match="^challenge: Required member") as missing:
         browser.get({"rpId": "example.com"})
     assert missing.value.name == "TypeError" and isinstance(missing.value, TypeError)
     key.faults.cut_short = 3
@@ -258,7 +258,7 @@ def test_a_platform_authenticator(make: Make) -> None:
     assert (made["authenticatorAttachment"], made["response"]["transports"]) == ("platform", ["internal"])
     found = browser.get({**REQUEST, "userVerification": "required"})
     assert (found["authenticatorAttachment"], flags_of(found)) == ("platform", 0x05)
-    with pytest.raises(hidlog.NotAllowedError, match="authenticatorAttachment is cross-platform"):
+    with pytest.raises(hidlog.NotAllowedError, match="authenticatorAttachment names another kind of key"):
         browser.create(creation(authenticatorSelection={"authenticatorAttachment": "cross-platform"}))
 
 

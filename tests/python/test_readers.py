@@ -11,9 +11,19 @@ from test_browser import creation
 import hidlog
 from hidlog import cbor, webauthn_json
 from hidlog.credentials import read_snapshot
-from hidlog.options import read_creation, read_request
+from hidlog.webauthn_client import Abilities, Call
 
 Example = Callable[[str], bytes]
+
+
+def request_of_creation(options: Any) -> bytes:
+    return Call("create", options, "optional", "https://a.example", Abilities()).request().message
+
+
+def request_of_sign_in(options: Any) -> bytes:
+    return Call("get", options, "optional", "https://a.example", Abilities()).request().message
+
+
 PRF = {"eval": {"first": "AQ", "second": "Ag"}, "evalByCredential": {"_-8": {"first": "AQ"}}}
 EXTENSIONS = {"credProps": True, "credBlob": "AA", "largeBlob": {"support": "required", "write": "AQI"}, "prf": PRF}
 LISTED = [{"id": "_-8", "type": "public-key", "transports": ["usb"]}]
@@ -28,8 +38,8 @@ READS: list[Callable[[Any], Any]] = [
     webauthn_json.request_options_json,
     webauthn_json.registration,
     webauthn_json.authentication,
-    read_creation,
-    read_request,
+    request_of_creation,
+    request_of_sign_in,
 ]
 # Values of each type, shallow and deep, with texts that are base64url and that aren't.
 WRONG: list[Any] = [None, True, 0, -1, 1.5, 2**70, "", "A", "AAAA", "é", "\ud800", b"a", [], [1], ["AA"], [["AA", 1]]]

@@ -172,13 +172,13 @@ class Browser:
                 response = self._transact(message, ending)
         except KeyLost:
             raise
-        except NoAnswer as error:
-            raise ending.reason(error, begun.call) from error
-        except CtapError as error:
+        except (NoAnswer, CtapError) as error:
             raise ending.reason(error, begun.call) from error
         if response[:1] != b"\0":
-            status = CtapError(response[0] if response else 0x7F)
-            raise ending.reason(status, begun.call) from status
+            refused = CtapError(response[0] if response else 0x7F)
+            raise ending.reason(refused, begun.call) from refused
+        if self._key.faults.cut_short:
+            _check_whole(response)
         return response
 
     def _transact(self, message: bytes, ending: _Ending) -> bytes:
@@ -276,6 +276,14 @@ def _without_timeout(options: Any) -> Any:
     if not isinstance(inner, Mapping) or "timeout" not in inner:
         return options
     return {"publicKey": {name: value for name, value in inner.items() if name != "timeout"}}
+
+
+def _check_whole(response: bytes) -> None:
+    """Refuses a response of which the last member was cut, which the library's client may not miss."""
+    try:
+        cbor.decode(response[1:])
+    except cbor.CborError as error:
+        raise NotAllowedError(f"the key's answer can't be read: {error}") from error
 
 
 def _number_of_credentials(response: bytes) -> int:
