@@ -186,10 +186,15 @@ class Browser:
         if self._client is None:
             self._client = Client(self._key)
         try:
-            return self._client.transact(CBOR, message, ending.is_over)
+            return self._serve(self._client, message, ending)
         except KeyLost:
             self._client = Client(self._key)
-            return self._client.transact(CBOR, message, ending.is_over)
+            return self._serve(self._client, message, ending)
+
+    def _serve(self, client: Client, message: bytes, ending: _Ending) -> bytes:
+        """Has the key serve a request: at once if it can, else by packets that the client writes and reads."""
+        response = None if ending.is_over() else self._key.serve(client.channel, message, ending.limit)
+        return client.transact(CBOR, message, ending.is_over) if response is None else response
 
     def _assertions(self, begun: _Begun, ending: _Ending) -> list[Json]:
         """Returns the assertion of each account that is found."""
@@ -244,6 +249,11 @@ class _Ending:
     def __init__(self, key: SecurityKey, signal: Signal | None, timeout_ms: int):
         self._key, self._signal, self._timeout = key, signal, timeout_ms
         self._begun = key.moment
+
+    @property
+    def limit(self) -> int:
+        """The moment of the time-out."""
+        return self._begun + self._timeout
 
     def is_over(self) -> bool:
         """Returns whether the request is to be cancelled."""

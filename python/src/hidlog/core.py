@@ -37,8 +37,10 @@ _CAPACITY = 64
 # enum hidlog_need_kind.
 _NEEDS = ("nothing", "presence", "key", "signature")
 _SIGNATURE = 3
-# hidlog_key_lines writes at most so many bytes for a line.
-_TEXT_MOST = 18_000
+# hidlog_key_lines writes at most 18,000 bytes for a line, of which 17,000 are an answer; and so few lines more that have
+# none.
+_TEXT_MOST = 36_000
+_Text = ctypes.c_char * _TEXT_MOST
 
 
 class Outcome(ctypes.Structure):
@@ -311,8 +313,9 @@ class Handle:
         """Returns the line of what the session counted so far."""
         return ("= " + " ".join(f"{name} {count}" for name, count in self.meters().items()) + "\n").encode()
 
-    def lines(self, line: bytes) -> tuple[Outcome, bytes]:
-        """Plays a line of a log with its line feed, and returns the outcome and what `live` writes for it."""
-        out, outcome = ctypes.create_string_buffer(_TEXT_MOST), Outcome()
-        self.call("lines", line, len(line), out, _TEXT_MOST, ctypes.byref(outcome))
-        return outcome, out.raw[: outcome.written]
+    def lines(self, lines: bytes) -> tuple[Outcome, bytes]:
+        """Plays lines of a log with their line feeds, of which one has an answer at most, and returns the outcome and what
+        `live` writes for them."""
+        out, outcome = _Text(), Outcome()
+        self.call("lines", lines, len(lines), out, _TEXT_MOST, ctypes.byref(outcome))
+        return outcome, out[: outcome.written]

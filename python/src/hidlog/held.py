@@ -7,8 +7,8 @@ from typing import Any
 
 from .core import Handle, HeldCredential
 from .credentials import Credential, read_snapshot
-from .errors import LogError
-from .lines import Field, Need, Reply, line_of
+from .errors import HidlogError, LogError
+from .lines import Field, Need, Reply, line_of, read_reply
 
 # A comment "# signed" has at most so many bytes to sign.
 _SIGNED_MOST = 96
@@ -16,6 +16,8 @@ _INPUTS = (">", "t", "p", "k", "s")
 # The numbers at the end of struct hidlog_credential.
 _NUMBERS = Struct("=4I")
 _NOTHING = Need()
+# So many lines may be handed in at once.
+LINES_MOST = 24
 
 
 def _credential_of(held: HeldCredential) -> Credential:
@@ -61,6 +63,13 @@ class HeldKey:
         is_data = kind != "p" and words != ["no"]
         fields: tuple[Field, ...] = tuple(bytes.fromhex(it) for it in words) if is_data else tuple(words)
         return self.play(kind, int(at), fields)
+
+    def exchange_lines(self, lines: str) -> Reply:
+        """Hands in inputs as lines of a log, at most LINES_MOST, and returns what comes of them."""
+        outcome, text = self._handle.lines(lines.encode("ascii"))
+        if outcome.status:
+            raise HidlogError(f"the key refuses line {outcome.line} of its inputs with fault {outcome.fault}")
+        return read_reply(text)
 
     def play(self, kind: str, at: int, fields: tuple[Field, ...]) -> Reply:
         """Hands in an input at a moment, and returns what comes of it."""

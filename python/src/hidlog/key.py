@@ -19,6 +19,7 @@ from .held import HeldKey
 from .lines import Engine
 from .outside import Backup
 from .recording_files import snapshot_path
+from .served import serve
 from .session import Recording, Session
 from .snapshot_files import verify_sum, with_sum
 
@@ -246,6 +247,13 @@ class SecurityKey(Session):
             self._ended.clear()
 
     # Clients.
+
+    def serve(self, channel: int, data: bytes, limit: int) -> bytes | None:
+        """Serves a CBOR request on a client's channel, and returns the response; None if the client has to write its packets.
+
+        limit   the moment at which the client would cancel the request.
+        """
+        return serve(self, channel, data, limit)
 
     def device(self) -> Any:
         """Returns the device that python-fido2's clients take."""

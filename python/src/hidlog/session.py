@@ -431,13 +431,17 @@ class Session:
 
     def _make_key(self) -> None:
         """Hands in a new key pair under a new credential id."""
+        self._play(*self.new_key())
+
+    def new_key(self) -> tuple[str, bytes, bytes, bytes]:
+        """Makes a new key pair under a new credential id, and returns the input that hands it in."""
         private, credential = private_keys.make(self._random_bytes), self._random_bytes(32)
         x, y = private_keys.point_of(private)
         if len(self.private_keys) >= _PRIVATE_KEYS_MOST * self.capacity and not self._process:
             self._forget_keys()
         self.private_keys[credential] = private
         self._outside.back_up(credential, self._backup)
-        self._play("k", credential, x, y)
+        return "k", credential, x, y
 
     def _forget_keys(self) -> None:
         """Forgets the private keys of credentials that the key holds no more."""
@@ -448,20 +452,24 @@ class Session:
 
     def _sign(self) -> None:
         """Signs the bytes that the key named, with the credential's private key."""
-        private = self.private_keys.get(self._work.need.credential)
+        self._play(*self.signature())
+
+    def signature(self) -> tuple[Field, ...]:
+        """Signs the bytes that the key named, and returns the input that hands the signature in."""
+        need = self._work.need
+        private = self.private_keys.get(need.credential)
         if private is None:
-            self._play("s", "no")
-            return
-        flags = UV * self._is_verified | self._outside.backup(self._work.need.credential).flags
+            return "s", "no"
+        flags = UV * self._is_verified | self._outside.backup(need.credential).flags
         if flags:
             self.note(f"outside of the core: flags {names_of(flags)}, and the signature over them")
-        signed = self.faults.sign_instead(self._work.need.credential, self._work.need.signed, flags)
+        signed = self.faults.sign_instead(need.credential, need.signed, flags)
         if self.faults.wrong_signature:
             private = private_keys.make(self._random_bytes)
             self.note("fault: the signature is by another private key")
-        self._play("s", private_keys.sign(private, signed))
+        return "s", private_keys.sign(private, signed)
 
-    def _play(self, kind: str, *fields: Field) -> None:
+    def _play(self, kind: Any, *fields: Field) -> None:
         """Hands the key an input, and keeps what it sends and needs."""
         if not self._is_open:
             raise KeyEnded("the key is closed")
@@ -498,13 +506,18 @@ class Session:
     def _send_answer(self, message: packets.Message) -> None:
         """Keeps the packets of an answer for the client: as they are, unless a fault changes it."""
         sent, self._answer[:] = list(self._answer), []
-        data, done = self.faults.answer_instead(message.data)
-        for text in done:
-            self.note(f"fault: {text}")
+        data = self.altered(message.data)
         if data != message.data:
             sent = packets.packets_of(message._replace(data=data))
-        for it in sent:
-            self._packets.put(it)
+        for packet in sent:
+            self._packets.put(packet)
+
+    def altered(self, data: bytes) -> bytes:
+        """Returns an answer as the faults that are on change it, and notes them."""
+        data, done = self.faults.answer_instead(data)
+        for text in done:
+            self.note(f"fault: {text}")
+        return data
 
     def _exchange(self, line: bytes) -> None:
         """Writes a comment into the log."""

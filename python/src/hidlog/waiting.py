@@ -26,6 +26,11 @@ class Waiting:
         self._threads: set[int] = set()
         self._writers: dict[Address, set[int]] = {}
 
+    @property
+    def is_empty(self) -> bool:
+        """Whether no packet waits."""
+        return not self._packets
+
     def wrote(self, packet: bytes) -> None:
         """Notes that this thread writes on a channel."""
         self._threads.add(get_ident())
