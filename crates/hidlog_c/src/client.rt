@@ -1,6 +1,6 @@
 //! The WebAuthn client as functions of C. Each call is a function of its inputs: nothing is kept between two calls.
 
-use webauthn_client::{Abilities, Ceremony, Client, DomError, Rejection, Turn, Verification};
+use webauthn_client::{Abilities, Ceremony, Client, DomError, Message, Rejection, Response, Verification};
 
 /// What a call reports beside its result.
 #[repr(C)]
@@ -90,6 +90,18 @@ fn ceremony_of(ceremony: u32) -> Ceremony {
     }
 }
 
+/// Appends a call's request to a message, and reports its timeout and its verification.
+fn write_request(
+    client: &Client,
+    report: &mut ClientReport,
+    message: &mut Message,
+) -> Result<(), Rejection> {
+    client.request(message)?;
+    report.is_verified = u32::from(client.is_verified()?);
+    report.timeout_ms = client.timeout;
+    Ok(())
+}
+
 /// Begins a call of navigator.credentials: checks its options, and writes the request for the key. Returns its length,
 /// or the number of an error.
 #[unsafe(no_mangle)]
@@ -117,15 +129,9 @@ pub extern "C" fn hidlog_client_request(
         suffix,
         abilities_of(abilities),
     );
-    match begun {
-        Ok(client) => {
-            report.timeout_ms = client.timeout;
-            report.is_verified = u32::from(client.is_verified);
-            match client.request() {
-                Ok(message) => put(message.as_slice(), out),
-                Err(rejection) => reject(rejection, report, out),
-            }
-        }
+    let mut message = Message::new();
+    match begun.and_then(|client| write_request(&client, report, &mut message)) {
+        Ok(()) => put(message.as_slice(), out),
         Err(rejection) => reject(rejection, report, out),
     }
 }
@@ -157,11 +163,9 @@ pub extern "C" fn hidlog_client_response(
         suffix,
         abilities_of(abilities),
     );
-    match begun {
-        Ok(client) => match client.answer(response) {
-            Turn::Done(json) => put(json.as_slice(), out),
-            Turn::Failed(rejection) => reject(rejection, report, out),
-        },
+    let mut json = Response::new();
+    match begun.and_then(|client| client.answer(response, &mut json)) {
+        Ok(()) => put(json.as_slice(), out),
         Err(rejection) => reject(rejection, report, out),
     }
 }

@@ -4,6 +4,7 @@ ghost use Rattle.std.specs.Prelude.{◌≡◌, ◌<◌, ◌++◌, OnOk};
 ghost use Rattle.std.specs.Option.{ForSome};
 ghost use Rattle.base64.specs.GeneralPurpose.{encode_of};
 ghost use Rattle.base64.specs.Engines.{url_safe_no_pad};
+ghost use Rattle.webauthn_client.specs.declared.rejection.DomError.TheVariants.{Encoding};
 
 use crate::rejection::{DomError, Rejection};
 use crate::text::{Text, push};
@@ -28,7 +29,10 @@ fn six_of(letter: u8) -> Option<u8>
 }
 
 /// Returns the error of a text that isn't base64url.
-fn refused(member: &'static str) -> Rejection {
+fn refused(member: &'static str) -> Rejection
+    ensures error { result.error ≡ Encoding }
+    ensures member { result.member.now ≡ member.now }
+{
     Rejection {
         error: DomError::Encoding,
         member,

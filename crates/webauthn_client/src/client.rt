@@ -1,4 +1,11 @@
-//! The client's machine: it begins with options, yields requests, takes answers, and ends with a response or an error.
+//! A call of navigator.credentials: it begins with options, writes a request, takes the key's answer, and ends with a
+//! response or an error.
+
+ghost use Rattle.std.specs.Prelude.{◌≡◌, ◌≢◌, ◌∷◌, ℕ, List, OnOk, IfOk, IsTrue};
+ghost use Rattle.ctap_cbor.specs.Tree.{Tree};
+ghost use Rattle.ctap_cbor.specs.Grammar.{IsCanonical};
+ghost use Rattle.webauthn_client.specs.declared.options.Verification.TheVariants.{Verified};
+ghost use Rattle.webauthn_client.specs.declared.rejection.DomError.TheVariants.{InvalidState, NotAllowed};
 
 use crate::checking::is_json;
 use crate::client_data::{Ceremony, ClientData};
@@ -8,8 +15,9 @@ use crate::number::unsigned_long;
 use crate::options::{Abilities, is_conditional, public_key};
 use crate::rejection::{DomError, Rejection, not_allowed, type_error};
 use crate::relying_party::{Origin, parse_origin};
-use crate::response::{Response, authentication_json, registration_json};
+use crate::response::{Response, authentication_json, registration_json, unreadable};
 use crate::{registration, sign_in};
+use ctap_cbor::check;
 
 /// A call of navigator.credentials on its way. It lends the page's options and origin; it keeps nothing else.
 #[derive(Clone, Copy)]
@@ -19,23 +27,19 @@ pub struct Client<'a> {
     origin: Origin<'a>,
     suffix: &'a [u8],
     abilities: Abilities,
-    /// The time-out of the options in milliseconds.
+    is_conditional: bool,
+    /// The time-out of the options in milliseconds; of a conditional call, which has none, the browser's own.
     pub timeout: u32,
-    /// Whether the user is verified.
-    pub is_verified: bool,
 }
 
-/// What the client does with an answer.
-#[derive(Drop)]
-pub enum Turn {
-    /// The response, as JSON.
-    Done(Response),
-    /// The DOM's error.
-    Failed(Rejection),
-}
+/// The time-out of a call whose options have none, in milliseconds.
+const TIMEOUT: u32 = 600_000;
 
 /// Returns what a page sees of a status.
-fn rejection_of(status: u8) -> Rejection {
+fn rejection_of(status: u8) -> Rejection
+    ensures excluded { status ≡ 25 → result.error ≡ InvalidState }
+    ensures others { status ≢ 25 → result.error ≡ NotAllowed }
+{
     if status == 0x19 {
         return Rejection {
             error: DomError::InvalidState,
@@ -47,7 +51,7 @@ fn rejection_of(status: u8) -> Rejection {
 }
 
 impl<'a> Client<'a> {
-    /// Begins a call with options of JSON at an origin. Refuses what browsers refuse before they ask a key.
+    /// Begins a call with options of JSON at an origin. Refuses options of wrong types.
     pub fn begin(
         ceremony: Ceremony,
         options: &'a [u8],
@@ -70,48 +74,54 @@ impl<'a> Client<'a> {
             Ceremony::Get => sign_in::check_types(options)?,
         }
         let timeout = match member(options, "timeout") {
-            Some(timeout) => unsigned_long(timeout),
-            None => 600_000,
+            Some(timeout) if !is_conditional => unsigned_long(timeout),
+            _ => TIMEOUT,
         };
-        let mut client = Client {
+        Ok(Client {
             ceremony,
             options,
             origin,
             suffix,
             abilities,
+            is_conditional,
             timeout,
-            is_verified: false,
-        };
-        // What is refused by its values is refused here, too.
-        let _request = client.request()?;
-        client.is_verified = match ceremony {
-            Ceremony::Create => registration::verifies(options, abilities)?,
-            Ceremony::Get => sign_in::verifies(options, abilities)?,
-        };
-        if is_conditional && ceremony == Ceremony::Create {
-            return Err(not_allowed("the browser makes no credentials without a dialog"));
-        }
-        if timeout == 0 {
-            return Err(not_allowed("the timeout of the options is 0"));
-        }
-        Ok(client)
+        })
     }
 
-    /// Returns the first message for the key.
-    pub fn request(&self) -> Result<Message, Rejection> {
+    /// Appends the first message for the key. Refuses what browsers refuse of the options' values.
+    pub fn request(&self, message: &mut Message) -> Result<(), Rejection> {
         match self.ceremony {
             Ceremony::Create => registration::request_of(
                 self.options,
                 &self.origin,
                 self.suffix,
                 self.abilities,
-            ),
+                message,
+            )?,
             Ceremony::Get => sign_in::request_of(
                 self.options,
                 &self.origin,
                 self.suffix,
                 self.abilities,
-            ),
+                message,
+            )?,
+        }
+        if self.is_conditional && self.ceremony == Ceremony::Create {
+            return Err(not_allowed("the browser makes no credentials without a dialog"));
+        }
+        if self.timeout == 0 {
+            return Err(not_allowed("the timeout of the options is 0"));
+        }
+        Ok(())
+    }
+
+    /// Returns whether the response claims user verification.
+    pub fn is_verified(&self) -> Result<bool, Rejection>
+        ensures { IfOk result (λ v. IsTrue v → self.now.abilities.verification ≡ Verified) }
+    {
+        match self.ceremony {
+            Ceremony::Create => registration::verifies(self.options, self.abilities),
+            Ceremony::Get => sign_in::verifies(self.options, self.abilities),
         }
     }
 
@@ -123,28 +133,32 @@ impl<'a> Client<'a> {
         }
     }
 
-    /// Returns the response that an answer of the key makes.
-    fn response(&self, map: &[u8]) -> Result<Response, Rejection> {
+    /// Appends the response that the map of the key's answer makes, which is one canonical item.
+    fn response(&self, map: &[u8], out: &mut Response) -> Result<(), Rejection>
+        ensures { OnOk result ((t : Tree) × IsCanonical t map.now) }
+    {
+        if check(map).result.is_err() {
+            return Err(unreadable());
+        }
         let data = self.client_data()?;
         let extensions = member(self.options, "extensions");
         match self.ceremony {
             Ceremony::Create => {
                 let is_discoverable = registration::is_discoverable(self.options, self.abilities)?;
-                registration_json(map, &data, extensions, is_discoverable, self.abilities)
+                registration_json(map, &data, extensions, is_discoverable, self.abilities, out)
             }
-            Ceremony::Get => authentication_json(map, &data, extensions, self.abilities),
+            Ceremony::Get => authentication_json(map, &data, extensions, self.abilities, out),
         }
     }
 
-    /// Takes the key's answer, or that of the account which signs in, where there are several.
-    pub fn answer(&self, answer: &[u8]) -> Turn {
+    /// Takes the key's answer, or that of the account which signs in, if there are several. Appends the response as JSON.
+    pub fn answer(&self, answer: &[u8], out: &mut Response) -> Result<(), Rejection>
+        ensures { OnOk result ((map : List ℕ) × (answer.now ≡ 0 ∷ map) × ((t : Tree) × IsCanonical t map)) }
+    {
         match answer.split_first() {
-            Some((0, map)) => match self.response(map) {
-                Ok(response) => Turn::Done(response),
-                Err(rejection) => Turn::Failed(rejection),
-            },
-            Some((status, _)) => Turn::Failed(rejection_of(*status)),
-            None => Turn::Failed(not_allowed("the key's answer is empty")),
+            Some((0, map)) => self.response(map, out),
+            Some((status, _)) => Err(rejection_of(*status)),
+            None => Err(not_allowed("the key's answer is empty")),
         }
     }
 }

@@ -1,5 +1,8 @@
 //! Extensions of clients: the key has none, so they are refused, ignored or answered as not supported, as in Chromium.
 
+ghost use Rattle.std.specs.Prelude.{◌≡◌};
+ghost use Rattle.webauthn_client.specs.declared.rejection.DomError.TheVariants.{NotSupported};
+
 use crate::json::{Kind, inside, kind_of, member, next_value};
 use crate::number::boolean;
 use crate::options::{bytes_of, dictionary, optional_dictionary, required};
@@ -22,7 +25,11 @@ pub fn is_on(extensions: Option<&[u8]>, name: &str) -> bool {
     boolean(extension(extensions, name).unwrap_or(b"false"))
 }
 
-fn unsupported(member: &'static str, reason: &'static str) -> Rejection {
+/// Returns the error of an extension in the wrong call, or with an input that browsers refuse.
+fn unsupported(member: &'static str, reason: &'static str) -> Rejection
+    ensures error { result.error ≡ NotSupported }
+    ensures member { result.member.now ≡ member.now }
+{
     Rejection {
         error: DomError::NotSupported,
         member,

@@ -1,5 +1,5 @@
-//! A WebAuthn client as a state machine: options of JSON at an origin in, CTAP2 messages out, answers in, and in the end
-//! the response's JSON or the DOM's error. It has no input or output, no clock and no randomness, and allocates nothing.
+//! A WebAuthn client: options of JSON at an origin in, a CTAP2 message out, the key's answer in, and in the end the
+//! response's JSON or the DOM's error. It has no input or output, no clock and no randomness, and allocates nothing.
 #![tactic(auto)]
 
 mod base64url;
@@ -19,7 +19,7 @@ mod sign_in;
 mod text;
 
 pub use checking::is_json;
-pub use client::{Client, Turn};
+pub use client::Client;
 pub use client_data::{Ceremony, ClientData, write_client_data};
 pub use message::Message;
 pub use options::{Abilities, Verification};

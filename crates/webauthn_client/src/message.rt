@@ -1,6 +1,6 @@
 //! Messages to the authenticator, in canonical CBOR.
 
-ghost use Rattle.std.specs.Prelude.{◌≡◌, ◌<◌, ◌++◌, OnOk, length};
+ghost use Rattle.std.specs.Prelude.{◌≡◌, ◌<◌, ◌≤◌, ◌-◌, ◌++◌, OnOk, length};
 ghost use Rattle.ctap_cbor.specs.Head.{head};
 
 use crate::rejection::{Rejection, too_long};
@@ -31,19 +31,26 @@ pub fn put_head(message: &mut Message, major: u8, argument: u64) -> Result<(), R
 }
 
 /// Appends a byte string.
-pub fn put_bytes(message: &mut Message, bytes: &[u8]) -> Result<(), Rejection> {
+pub fn put_bytes(message: &mut Message, bytes: &[u8]) -> Result<(), Rejection>
+    ensures { OnOk result (message.new.items ≡ (message.old.items ++ head 2 (length bytes.now)) ++ bytes.now) }
+{
     put_head(message, 2, bytes.len() as u64)?;
     put(message, bytes)
 }
 
 /// Appends a text.
-pub fn put_text(message: &mut Message, text: &[u8]) -> Result<(), Rejection> {
+pub fn put_text(message: &mut Message, text: &[u8]) -> Result<(), Rejection>
+    ensures { OnOk result (message.new.items ≡ (message.old.items ++ head 3 (length text.now)) ++ text.now) }
+{
     put_head(message, 3, text.len() as u64)?;
     put(message, text)
 }
 
 /// Appends an integer of 32 bits with its sign, as it is in two's complement.
-pub fn put_long(message: &mut Message, long: u32) -> Result<(), Rejection> {
+pub fn put_long(message: &mut Message, long: u32) -> Result<(), Rejection>
+    ensures positive { OnOk result (long < 2147483648 → message.new.items ≡ message.old.items ++ head 0 long) }
+    ensures negative { OnOk result (2147483648 ≤ long → message.new.items ≡ message.old.items ++ head 1 (4294967295 - long)) }
+{
     if long < 0x8000_0000 {
         put_head(message, 0, u64::from(long))
     } else {

@@ -1,6 +1,8 @@
 //! WebIDL's numbers of 32 bits, of values of JSON. The texts of numbers are read as decimal numbers without an exponent;
 //! another text is no number, and so 0.
 
+ghost use Rattle.std.specs.Prelude.{◌≤◌, length};
+
 use crate::json::{Kind, inside, kind_of, next_value};
 use crate::text::text_of;
 
@@ -50,13 +52,15 @@ pub fn boolean(value: &[u8]) -> bool {
     match kind_of(value) {
         Kind::False | Kind::Null => false,
         Kind::Text => value.len() > 2,
-        Kind::Number => value.iter().any(|&it| matches!(it, b'1'..=b'9')),
+        Kind::Number => value.iter().any(|&digit| matches!(digit, b'1'..=b'9')),
         _ => true,
     }
 }
 
 /// Returns how many items an array has.
-pub fn count(array: &[u8]) -> usize {
+pub fn count(array: &[u8]) -> usize
+    ensures { result ≤ length array.now }
+{
     let mut rest = inside(array);
     for place in 0..array.len() {
         let Some((_, after)) = next_value(rest) else {

@@ -1,6 +1,9 @@
 //! The options of navigator.credentials.create and get as JSON, as Chromium reads them: what has to be there, of which
 //! type, in WebIDL's order.
 
+ghost use Rattle.std.specs.Prelude.{◌≡◌, IfOk, IsTrue};
+ghost use Rattle.webauthn_client.specs.declared.options.Verification.TheVariants.{Verified};
+
 use crate::base64url::decode;
 use crate::json::{Kind, inside, kind_of, member, next_value};
 use crate::message::{Message, put, put_bytes, put_head};
@@ -181,7 +184,9 @@ pub fn is_verified(
     wanted: Option<&[u8]>,
     verification: Verification,
     is_registration: bool,
-) -> Result<bool, Rejection> {
+) -> Result<bool, Rejection>
+    ensures { IfOk result (λ v. IsTrue v → verification ≡ Verified) }
+{
     let wanted = wanted.unwrap_or(b"\"preferred\"");
     match verification {
         Verification::None => {

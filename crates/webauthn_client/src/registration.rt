@@ -1,5 +1,8 @@
 //! Registration: what of a page's options goes to the key, as authenticatorMakeCredential (CTAP 2.1, section 6.1).
 
+ghost use Rattle.std.specs.Prelude.{◌≡◌, IfOk, IsTrue};
+ghost use Rattle.webauthn_client.specs.declared.options.Verification.TheVariants.{Verified};
+
 use crate::client_data::{Ceremony, ClientData, write_client_data};
 use crate::extensions::{check_creation, check_extension_bytes, check_extension_types};
 use crate::json::{inside, member, next_value};
@@ -174,7 +177,9 @@ fn check_values(options: &[u8], origin: &Origin) -> Result<(), Rejection> {
 }
 
 /// Returns whether the user is verified.
-pub fn verifies(options: &[u8], abilities: Abilities) -> Result<bool, Rejection> {
+pub fn verifies(options: &[u8], abilities: Abilities) -> Result<bool, Rejection>
+    ensures { IfOk result (λ v. IsTrue v → abilities.verification ≡ Verified) }
+{
     is_verified(
         selection(options, "userVerification"),
         abilities.verification,
@@ -188,13 +193,14 @@ pub fn client_data_of(options: &[u8], origin: &Origin) -> Result<ClientData, Rej
     write_client_data(Ceremony::Create, challenge.as_slice(), origin)
 }
 
-/// Returns the request of a registration.
+/// Appends the request of a registration.
 pub fn request_of(
     options: &[u8],
     origin: &Origin,
     suffix: &[u8],
     abilities: Abilities,
-) -> Result<Message, Rejection> {
+    message: &mut Message,
+) -> Result<(), Rejection> {
     check_values(options, origin)?;
     let given = match member(required(options, "rp")?, "id") {
         Some(id) => Some(text_of(id)?),
@@ -209,24 +215,23 @@ pub fn request_of(
     let is_discoverable = is_discoverable(options, abilities)?;
     let excluded = member(options, "excludeCredentials").unwrap_or(b"");
     let has_excluded = known_count(excluded) > 0;
-    let mut message = Message::new();
     let members = 4 + u64::from(has_excluded) + u64::from(is_discoverable);
-    put(&mut message, b"\x01")?;
-    put_head(&mut message, 5, members)?;
-    put(&mut message, b"\x01")?;
+    put(message, b"\x01")?;
+    put_head(message, 5, members)?;
+    put(message, b"\x01")?;
     put_bytes(
-        &mut message,
+        message,
         &Sha256::digest(client_data_of(options, origin)?.as_slice()),
     )?;
-    put_entities(&mut message, options, rp_id)?;
-    put(&mut message, b"\x04")?;
-    put_parameters(&mut message, required(options, "pubKeyCredParams")?)?;
+    put_entities(message, options, rp_id)?;
+    put(message, b"\x04")?;
+    put_parameters(message, required(options, "pubKeyCredParams")?)?;
     if has_excluded {
-        put(&mut message, b"\x05")?;
-        put_descriptors(&mut message, excluded)?;
+        put(message, b"\x05")?;
+        put_descriptors(message, excluded)?;
     }
     if is_discoverable {
-        put(&mut message, b"\x07\xa1\x62rk\xf5")?;
+        put(message, b"\x07\xa1\x62rk\xf5")?;
     }
-    Ok(message)
+    Ok(())
 }

@@ -1,5 +1,8 @@
 //! What a page sees of a failed call.
 
+ghost use Rattle.std.specs.Prelude.{◌≡◌};
+ghost use Rattle.webauthn_client.specs.declared.rejection.DomError.TheVariants.{«Type», NotAllowed, Range};
+
 /// The name of a DOM error.
 #[derive(Clone, Copy, Debug, PartialEq, Eq)]
 pub enum DomError {
@@ -38,7 +41,10 @@ pub struct Rejection {
 }
 
 /// Returns the error of a member of a wrong type.
-pub fn type_error(member: &'static str, reason: &'static str) -> Rejection {
+pub fn type_error(member: &'static str, reason: &'static str) -> Rejection
+    ensures error { result.error ≡ «Type» }
+    ensures member { result.member.now ≡ member.now }
+{
     Rejection {
         error: DomError::Type,
         member,
@@ -47,7 +53,9 @@ pub fn type_error(member: &'static str, reason: &'static str) -> Rejection {
 }
 
 /// Returns an error of the authenticator or the user.
-pub fn not_allowed(reason: &'static str) -> Rejection {
+pub fn not_allowed(reason: &'static str) -> Rejection
+    ensures { result.error ≡ NotAllowed }
+{
     Rejection {
         error: DomError::NotAllowed,
         member: "",
@@ -55,8 +63,10 @@ pub fn not_allowed(reason: &'static str) -> Rejection {
     }
 }
 
-/// Returns the error of a text that has no place in what is kept here.
-pub fn too_long() -> Rejection {
+/// Returns the error of a text or a list that is longer than this client's buffers.
+pub fn too_long() -> Rejection
+    ensures { result.error ≡ Range }
+{
     Rejection {
         error: DomError::Range,
         member: "",

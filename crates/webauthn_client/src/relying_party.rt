@@ -2,6 +2,7 @@
 
 ghost use Rattle.std.specs.Prelude.{◌≡◌, ◌∷◌, IsTrue, IfOk, List, ℕ};
 ghost use Rattle.webauthn_client.specs.RelyingParty.{MayUse};
+ghost use Rattle.webauthn_client.specs.declared.rejection.DomError.TheVariants.{Security};
 
 use crate::rejection::{DomError, Rejection};
 
@@ -14,7 +15,9 @@ pub struct Origin<'a> {
 }
 
 /// Returns the error of a page or of an RP id.
-fn security(reason: &'static str) -> Rejection {
+fn security(reason: &'static str) -> Rejection
+    ensures { result.error ≡ Security }
+{
     Rejection {
         error: DomError::Security,
         member: "",
@@ -31,13 +34,13 @@ fn is_of_host(byte: u8) -> bool {
 fn host_of(rest: &[u8]) -> Option<&[u8]> {
     let len = rest
         .iter()
-        .position(|&it| !is_of_host(it))
+        .position(|&byte| !is_of_host(byte))
         .unwrap_or(rest.len());
     let (host, port) = rest.split_at_checked(len)?;
     let is_port = match port.split_first() {
         None => true,
         Some((colon, digits)) => {
-            *colon == b':' && !digits.is_empty() && digits.iter().all(|&it| it.is_ascii_digit())
+            *colon == b':' && !digits.is_empty() && digits.iter().all(|&byte| byte.is_ascii_digit())
         }
     };
     if host.is_empty() || !is_port {
@@ -78,7 +81,7 @@ fn last_label(host: &[u8]) -> &[u8] {
 
 /// Returns whether a host is an IPv4 address: its last label is a number.
 fn is_address(host: &[u8]) -> bool {
-    last_label(host).iter().all(|&it| it.is_ascii_digit())
+    last_label(host).iter().all(|&byte| byte.is_ascii_digit())
 }
 
 /// Returns whether bytes are a full stop and these.
@@ -105,11 +108,15 @@ pub fn may_use(id: &[u8], host: &[u8], suffix: &[u8]) -> bool
 /// Returns whether browsers have WebAuthn on a page: over https, or at localhost.
 fn check_context(origin: &Origin) -> Result<(), Rejection> {
     if is_address(origin.host) {
-        return Err(security("This is an invalid domain: the host is an address"));
+        return Err(security(
+            "This is an invalid domain: the host is an address; serve the page at http://localhost",
+        ));
     }
     let is_local = origin.host == b"localhost".as_slice() || origin.host.ends_with(b".localhost");
     if !origin.is_secure_scheme && !is_local {
-        return Err(security("the page is in no secure context"));
+        return Err(security(
+            "the page is in no secure context: browsers have WebAuthn on https:// and http://localhost",
+        ));
     }
     Ok(())
 }
@@ -142,7 +149,7 @@ pub fn rp_id_of<'a>(
 
 /// Refuses a URL that is none, and one that isn't of this page's site over https, as the page is.
 pub fn check_site(url: &[u8], origin: &Origin) -> Result<(), Rejection> {
-    let path = match url.iter().position(|&it| it == b'/') {
+    let path = match url.iter().position(|&byte| byte == b'/') {
         Some(_) => url,
         None => {
             return Err(Rejection {
@@ -157,7 +164,7 @@ pub fn check_site(url: &[u8], origin: &Origin) -> Result<(), Rejection> {
     };
     let len = rest
         .iter()
-        .position(|&it| !is_of_host(it))
+        .position(|&byte| !is_of_host(byte))
         .unwrap_or(rest.len());
     let site = rest.get(..len).unwrap_or(b"");
     let is_near = may_use(site, origin.host, last_label(origin.host))

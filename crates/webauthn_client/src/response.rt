@@ -1,5 +1,10 @@
 //! What the page gets: RegistrationResponseJSON and AuthenticationResponseJSON (WebAuthn Level 3, section 5.1).
 
+ghost use Rattle.std.specs.Prelude.{◌≡◌, ◌++◌, OnOk};
+ghost use Rattle.base64.specs.GeneralPurpose.{encode_of};
+ghost use Rattle.base64.specs.Engines.{url_safe_no_pad};
+ghost use Rattle.webauthn_client.specs.declared.rejection.DomError.TheVariants.{NotAllowed};
+
 use crate::base64url::encode;
 use crate::client_data::ClientData;
 use crate::extensions::{extension, inner, is_on};
@@ -27,7 +32,9 @@ struct Part<'a> {
 }
 
 /// Returns the error of an answer that can't be read.
-fn unreadable() -> Rejection {
+pub fn unreadable() -> Rejection
+    ensures { result.error ≡ NotAllowed }
+{
     not_allowed("the key's answer can't be read")
 }
 
@@ -61,7 +68,9 @@ fn part_of<'a>(map: &'a [u8], number: i128) -> Option<Part<'a>> {
 }
 
 /// Appends bytes.
-fn push<const N: usize>(out: &mut ArrayVec<u8, N>, bytes: &[u8]) -> Result<(), Rejection> {
+fn push<const N: usize>(out: &mut ArrayVec<u8, N>, bytes: &[u8]) -> Result<(), Rejection>
+    ensures { OnOk result (out.new.items ≡ out.old.items ++ bytes.now) }
+{
     if out.try_extend_from_slice(bytes).is_err() {
         return Err(too_long());
     }
@@ -69,7 +78,9 @@ fn push<const N: usize>(out: &mut ArrayVec<u8, N>, bytes: &[u8]) -> Result<(), R
 }
 
 /// Appends bytes in base64url.
-fn push_encoded(out: &mut Response, bytes: &[u8]) -> Result<(), Rejection> {
+fn push_encoded(out: &mut Response, bytes: &[u8]) -> Result<(), Rejection>
+    ensures { OnOk result (out.new.items ≡ out.old.items ++ encode_of url_safe_no_pad bytes.now) }
+{
     if encode(bytes, out).is_err() {
         return Err(too_long());
     }
@@ -101,8 +112,10 @@ fn push_end(out: &mut Response, abilities: Abilities) -> Result<(), Rejection> {
     }
 }
 
-/// Appends a public key of P-256 in authenticator data, behind the credential's id.
+/// Appends the public key that authenticator data has behind the credential's id, if it is on P-256, behind a text that
+/// is still open.
 fn push_public_key(out: &mut Response, cose: &[u8]) -> Result<(), Rejection> {
+    push(out, b"\"")?;
     if cose.len() < 77 || &cose[..10] != b"\xa5\x01\x02\x03\x26\x20\x01\x21\x58\x20".as_slice() {
         return Ok(());
     }
@@ -113,7 +126,7 @@ fn push_public_key(out: &mut Response, cose: &[u8]) -> Result<(), Rejection> {
     push(&mut key, SPKI)?;
     push(&mut key, x)?;
     push(&mut key, y)?;
-    push(out, b"\",\"publicKey\":\"")?;
+    push(out, b",\"publicKey\":\"")?;
     push_encoded(out, key.as_slice())?;
     push(out, b"\",\"publicKeyAlgorithm\":-7")
 }
@@ -214,14 +227,15 @@ fn push_request_results(out: &mut Response, extensions: Option<&[u8]>) -> Result
     )
 }
 
-/// Returns the response of a registration, from the map of the key's answer.
+/// Appends the response of a registration, from the map of the key's answer.
 pub fn registration_json(
     map: &[u8],
     client_data: &ClientData,
     extensions: Option<&[u8]>,
     is_discoverable: bool,
     abilities: Abilities,
-) -> Result<Response, Rejection> {
+    out: &mut Response,
+) -> Result<(), Rejection> {
     let (Some(format), Some(auth), Some(statement)) = (
         part_of(map, 1),
         part_of(map, 2),
@@ -244,33 +258,27 @@ pub fn registration_json(
     push(&mut attestation, statement.whole)?;
     push(&mut attestation, b"\x68authData")?;
     push(&mut attestation, auth.whole)?;
-    let mut out = Response::new();
-    push_front(&mut out, id, client_data)?;
-    push(&mut out, b"\",\"authenticatorData\":\"")?;
-    push_encoded(&mut out, auth_data)?;
-    push(&mut out, b"\",\"attestationObject\":\"")?;
-    push_encoded(&mut out, attestation.as_slice())?;
-    push_public_key(&mut out, cose)?;
-    push(&mut out, b",\"transports\":[\"")?;
-    push(&mut out, abilities.transport().as_bytes())?;
-    push(&mut out, b"\"]},\"clientExtensionResults\":{")?;
-    push_creation_results(
-        &mut out,
-        extensions,
-        is_discoverable,
-        abilities.has_resident_key,
-    )?;
-    push_end(&mut out, abilities)?;
-    Ok(out)
+    push_front(out, id, client_data)?;
+    push(out, b"\",\"authenticatorData\":\"")?;
+    push_encoded(out, auth_data)?;
+    push(out, b"\",\"attestationObject\":\"")?;
+    push_encoded(out, attestation.as_slice())?;
+    push_public_key(out, cose)?;
+    push(out, b",\"transports\":[\"")?;
+    push(out, abilities.transport().as_bytes())?;
+    push(out, b"\"]},\"clientExtensionResults\":{")?;
+    push_creation_results(out, extensions, is_discoverable, abilities.has_resident_key)?;
+    push_end(out, abilities)
 }
 
-/// Returns the response of a sign-in, from the map of the key's answer.
+/// Appends the response of a sign-in, from the map of the key's answer.
 pub fn authentication_json(
     map: &[u8],
     client_data: &ClientData,
     extensions: Option<&[u8]>,
     abilities: Abilities,
-) -> Result<Response, Rejection> {
+    out: &mut Response,
+) -> Result<(), Rejection> {
     let (Some(credential), Some(auth), Some(signature)) = (
         part_of(map, 1),
         part_of(map, 2),
@@ -286,22 +294,20 @@ pub fn authentication_json(
     let Ok(Item::Bytes(id)) = cursor.item(2) else {
         return Err(unreadable());
     };
-    let mut out = Response::new();
-    push_front(&mut out, id, client_data)?;
-    push(&mut out, b"\",\"authenticatorData\":\"")?;
-    push_encoded(&mut out, auth.content)?;
-    push(&mut out, b"\",\"signature\":\"")?;
-    push_encoded(&mut out, signature.content)?;
+    push_front(out, id, client_data)?;
+    push(out, b"\",\"authenticatorData\":\"")?;
+    push_encoded(out, auth.content)?;
+    push(out, b"\",\"signature\":\"")?;
+    push_encoded(out, signature.content)?;
     if let Some(user) = part_of(map, 4) {
-        push_user(&mut out, user.whole)?;
+        push_user(out, user.whole)?;
     }
-    push(&mut out, b"\"},\"clientExtensionResults\":{")?;
-    push_request_results(&mut out, extensions)?;
-    push_end(&mut out, abilities)?;
-    Ok(out)
+    push(out, b"\"},\"clientExtensionResults\":{")?;
+    push_request_results(out, extensions)?;
+    push_end(out, abilities)
 }
 
-/// Appends the user's handle, of the map of a user whose first member is the id.
+/// Appends the user's handle, of the map of a user whose first member is the id. An empty one is left out.
 fn push_user(out: &mut Response, user: &[u8]) -> Result<(), Rejection> {
     let Some(id) = user.get(1..) else {
         return Ok(());
@@ -310,7 +316,9 @@ fn push_user(out: &mut Response, user: &[u8]) -> Result<(), Rejection> {
         return Ok(());
     };
     let mut cursor = Cursor::new(id);
-    if let Ok(Item::Bytes(id)) = cursor.item(2) {
+    if let Ok(Item::Bytes(id)) = cursor.item(2)
+        && !id.is_empty()
+    {
         push(out, b"\",\"userHandle\":\"")?;
         push_encoded(out, id)?;
     }

@@ -1,5 +1,8 @@
 //! Sign-in: what of a page's options goes to the key, as authenticatorGetAssertion (CTAP 2.1, section 6.2).
 
+ghost use Rattle.std.specs.Prelude.{◌≡◌, IfOk, IsTrue};
+ghost use Rattle.webauthn_client.specs.declared.options.Verification.TheVariants.{Verified};
+
 use crate::client_data::{Ceremony, ClientData, write_client_data};
 use crate::extensions::{check_extension_bytes, check_extension_types, check_request};
 use crate::json::{inside, member, next_value};
@@ -50,13 +53,13 @@ fn is_reached(item: &[u8], transport: &str) -> bool {
     let mut rest = inside(list);
     let mut has_named = false;
     for _ in 0..list.len() {
-        let Some((it, after)) = next_value(rest) else {
+        let Some((name, after)) = next_value(rest) else {
             break;
         };
-        if is_word(it, transport) {
+        if is_word(name, transport) {
             return true;
         }
-        if is_transport(it) {
+        if is_transport(name) {
             has_named = true;
         }
         rest = after;
@@ -83,7 +86,9 @@ fn is_any_reached(list: &[u8], transport: &str) -> bool {
 }
 
 /// Returns whether the user is verified.
-pub fn verifies(options: &[u8], abilities: Abilities) -> Result<bool, Rejection> {
+pub fn verifies(options: &[u8], abilities: Abilities) -> Result<bool, Rejection>
+    ensures { IfOk result (λ v. IsTrue v → abilities.verification ≡ Verified) }
+{
     is_verified(
         member(options, "userVerification"),
         abilities.verification,
@@ -97,13 +102,14 @@ pub fn client_data_of(options: &[u8], origin: &Origin) -> Result<ClientData, Rej
     write_client_data(Ceremony::Get, challenge.as_slice(), origin)
 }
 
-/// Returns the request of a sign-in.
+/// Appends the request of a sign-in.
 pub fn request_of(
     options: &[u8],
     origin: &Origin,
     suffix: &[u8],
     abilities: Abilities,
-) -> Result<Message, Rejection> {
+    message: &mut Message,
+) -> Result<(), Rejection> {
     let allowed = member(options, "allowCredentials").unwrap_or(b"");
     check_length(Some(allowed), "allowCredentials")?;
     let has_list = known_count(allowed) > 0;
@@ -120,19 +126,18 @@ pub fn request_of(
     if !is_any_reached(allowed, abilities.transport()) {
         return Err(not_allowed("allowCredentials names other transports than the key's"));
     }
-    let mut message = Message::new();
-    put(&mut message, b"\x02")?;
-    put_head(&mut message, 5, 2 + u64::from(has_list))?;
-    put(&mut message, b"\x01")?;
-    put_text(&mut message, rp_id)?;
-    put(&mut message, b"\x02")?;
+    put(message, b"\x02")?;
+    put_head(message, 5, 2 + u64::from(has_list))?;
+    put(message, b"\x01")?;
+    put_text(message, rp_id)?;
+    put(message, b"\x02")?;
     put_bytes(
-        &mut message,
+        message,
         &Sha256::digest(client_data_of(options, origin)?.as_slice()),
     )?;
     if has_list {
-        put(&mut message, b"\x03")?;
-        put_descriptors(&mut message, allowed)?;
+        put(message, b"\x03")?;
+        put_descriptors(message, allowed)?;
     }
-    Ok(message)
+    Ok(())
 }

@@ -1,6 +1,6 @@
 //! What ECMAScript makes of a value as text.
 
-ghost use Rattle.std.specs.Prelude.{◌≡◌, ◌<◌};
+ghost use Rattle.std.specs.Prelude.{◌≡◌, ◌<◌, ◌++◌, OnOk};
 
 use crate::json::{Kind, inside, kind_of, next_value};
 use crate::rejection::{Rejection, too_long};
@@ -26,7 +26,9 @@ struct Reader {
 }
 
 /// Appends bytes.
-pub fn push(out: &mut Text, bytes: &[u8]) -> Result<(), Rejection> {
+pub fn push(out: &mut Text, bytes: &[u8]) -> Result<(), Rejection>
+    ensures { OnOk result (out.new.items ≡ out.old.items ++ bytes.now) }
+{
     if out.try_extend_from_slice(bytes).is_err() {
         return Err(too_long());
     }
@@ -211,6 +213,9 @@ pub fn text_of(value: &[u8]) -> Result<Text, Rejection> {
 
 /// Returns whether a value is this word as text.
 pub fn is_word(value: &[u8], word: &str) -> bool {
+    if kind_of(value) == Kind::Text && !value.contains(&b'\\') {
+        return value.get(1..value.len().saturating_sub(1)) == Some(word.as_bytes());
+    }
     match text_of(value) {
         Ok(text) => text.as_slice() == word.as_bytes(),
         Err(_) => false,
