@@ -1,5 +1,5 @@
-"""The WebAuthn client of the C library as the package calls it: requests against python-fido2's CBOR, errors by the names
-of the DOM, and values of Python that aren't JSON. browser_cases.json has its answers beside Chromium's."""
+"""The WebAuthn client of the C library as the package calls it: requests against python-fido2's CBOR, errors by the DOM's
+names, and values of Python that aren't JSON. browser_cases.json has its answers beside Chromium's."""
 
 from __future__ import annotations
 
@@ -27,7 +27,9 @@ CREATION: dict[str, Any] = {
 }
 REQUEST: dict[str, Any] = {"challenge": "AAECAw"}
 # WebAuthn Level 3, section 5.8.1.1, written by hand.
-CLIENT_DATA = '{"type":"webauthn.%s","challenge":"AAECAw","origin":"https://login.example.com:8443","crossOrigin":false}'
+CLIENT_DATA = (
+    '{"type":"webauthn.%s","challenge":"AAECAw","origin":"https://login.example.com:8443","crossOrigin":false}'
+)
 
 
 def message(ceremony: str, options: Any, abilities: Abilities = Abilities(), origin: str = ORIGIN) -> bytes:
@@ -89,7 +91,12 @@ SIXTY_FIVE = [{"type": "public-key", "id": "AA"}] * 65
     [
         ("get", {"rpId": "example.com"}, hidlog.WebAuthnTypeError, "challenge: Required member is undefined."),
         ("get", {"challenge": "A"}, hidlog.EncodingError, "challenge: it isn't base64url without padding"),
-        ("get", {**REQUEST, "allowCredentials": SIXTY_FIVE}, hidlog.WebAuthnRangeError, "allowCredentials: .* at most 64"),
+        (
+            "get",
+            {**REQUEST, "allowCredentials": SIXTY_FIVE},
+            hidlog.WebAuthnRangeError,
+            "allowCredentials: .* at most 64",
+        ),
         ("get", {}, hidlog.NotSupportedError, "the options are empty"),
         ("get", {**REQUEST, "rpId": "com"}, hidlog.SecurityError, "not a registrable domain suffix"),
         ("get", {**REQUEST, "userVerification": "required"}, hidlog.NotAllowedError, "the key verifies no users"),

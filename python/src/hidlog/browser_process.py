@@ -89,7 +89,7 @@ class Process:
             "account": lambda given, _: setattr(self, "_account", given),
             "faults": lambda given, _: self._set_faults(_object("faults", given)),
             "clearFaults": lambda *_: self.key.faults.clear(),
-            "credentials": lambda *_: [self._shown(it) for it in self.key.credentials],
+            "credentials": lambda *_: [self._shown(credential) for credential in self.key.credentials],
             "addCredential": lambda given, _: self._add(_object("addCredential", given)),
             "removeCredential": lambda given, _: self.key.credentials.remove(self._data(given, "credentialId")),
             "clearCredentials": lambda *_: self.key.credentials.clear(),
@@ -140,19 +140,19 @@ class Process:
             raise ArgumentError(f"{name} has to be base64url in a text")
         return data_of(value.rstrip("="), name)
 
-    def _shown(self, it: Credential) -> Json:
-        private = self.key.private_keys[self.key.core_id(it.id)]
+    def _shown(self, credential: Credential) -> Json:
+        private = self.key.private_keys[self.key.core_id(credential.id)]
         pkcs8 = private.private_bytes(Encoding.DER, PrivateFormat.PKCS8, NoEncryption())
         return {
-            "credentialId": text_of(it.id),
-            "isResidentCredential": it.discoverable,
-            "rpId": self._rp_ids.get(it.rp_id_hash),
+            "credentialId": text_of(credential.id),
+            "isResidentCredential": credential.discoverable,
+            "rpId": self._rp_ids.get(credential.rp_id_hash),
             "privateKey": text_of(pkcs8),
-            "userHandle": text_of(it.user_id),
-            "userName": it.user_name,
-            "signCount": it.counter,
-            "backupEligibility": it.backup_eligibility,
-            "backupState": it.backup_state,
+            "userHandle": text_of(credential.user_id),
+            "userName": credential.user_name,
+            "signCount": credential.counter,
+            "backupEligibility": credential.backup_eligibility,
+            "backupState": credential.backup_state,
         }
 
     def _add(self, given: Json) -> Json:
@@ -205,7 +205,7 @@ class Process:
 
     def _serve(self, asked: Any) -> Any:
         commands = self.commands()
-        found = [it for it in asked if it not in ("id", "mediation")] if isinstance(asked, dict) else []
+        found = [name for name in asked if name not in ("id", "mediation")] if isinstance(asked, dict) else []
         if len(found) != 1 or found[0] not in commands:
             text = 'a line is an object with one command, such as {"get": {..}}; there are '
             raise ArgumentError(text + ", ".join(commands))

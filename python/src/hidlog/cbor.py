@@ -50,11 +50,11 @@ def _encode_bytes(value: Any, _: int) -> bytes:
 
 
 def _encode_items(value: Any, level: int) -> bytes:
-    return head(4, len(value)) + b"".join([_encode(it, level + 1) for it in value])
+    return head(4, len(value)) + b"".join([_encode(item, level + 1) for item in value])
 
 
 def _encode_map(value: dict[Any, Any], level: int) -> bytes:
-    pairs = [(_encode(key, level + 1), _encode(it, level + 1)) for key, it in value.items()]
+    pairs = [(_encode(key, level + 1), _encode(member, level + 1)) for key, member in value.items()]
     if len(pairs) > 1:
         pairs.sort(key=_order)
     return head(5, len(pairs)) + b"".join([part for pair in pairs for part in pair])

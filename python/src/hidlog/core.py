@@ -93,17 +93,17 @@ class HeldCredential(ctypes.Structure):
     discoverable: int
     counter: int
     _fields_ = [
-        *((it, ctypes.c_uint8 * 32) for it in ("rp", "id", "x", "y")),
-        *((it, ctypes.c_uint8 * 64) for it in ("user", "name")),
-        *((it, ctypes.c_uint32) for it in ("user_len", "name_len", "discoverable", "counter")),
+        *((name, ctypes.c_uint8 * 32) for name in ("rp", "id", "x", "y")),
+        *((name, ctypes.c_uint8 * 64) for name in ("user", "name")),
+        *((name, ctypes.c_uint32) for name in ("user_len", "name_len", "discoverable", "counter")),
     ]
 
 
 class _Meters(ctypes.Structure):
     """struct hidlog_meters."""
 
-    _fields_ = [(it, ctypes.c_uint64) for it in ("requests", "bytes", "steps")] + [
-        (it, ctypes.c_uint32) for it in ("held", "rows", "pending", "zero")
+    _fields_ = [(name, ctypes.c_uint64) for name in ("requests", "bytes", "steps")] + [
+        (name, ctypes.c_uint32) for name in ("held", "rows", "pending", "zero")
     ]
 
 
@@ -112,7 +112,7 @@ def library_paths() -> list[Path]:
     if named := os.environ.get("HIDLOG_LIBRARY"):
         return [Path(named)]
     here = Path(__file__).resolve().parent
-    return [here / _NAME, *(it / "release" / _NAME for it in list(here.parents)[2:3])]
+    return [here / _NAME, *(folder / "release" / _NAME for folder in list(here.parents)[2:3])]
 
 
 @lru_cache(maxsize=None)
@@ -307,15 +307,15 @@ class Handle:
         """Returns what the session has held and served, in the order of a log's last line."""
         meters = _Meters()
         self.call("meters", ctypes.byref(meters))
-        return {it: getattr(meters, it) for it in ("held", "rows", "pending", "requests", "bytes", "steps")}
+        return {name: getattr(meters, name) for name in ("held", "rows", "pending", "requests", "bytes", "steps")}
 
     def counts(self) -> bytes:
         """Returns the line of what the session counted so far."""
         return ("= " + " ".join(f"{name} {count}" for name, count in self.meters().items()) + "\n").encode()
 
     def lines(self, lines: bytes) -> tuple[Outcome, bytes]:
-        """Plays lines of a log with their line feeds, of which one has an answer at most, and returns the outcome and what
+        """Plays lines of a log with their line feeds, one of which may have an answer, and returns the outcome and what
         `live` writes for them."""
         out, outcome = _Text(), Outcome()
         self.call("lines", lines, len(lines), out, _TEXT_MOST, ctypes.byref(outcome))
-        return outcome, out[: outcome.written]
+        return outcome, ctypes.string_at(out, outcome.written)

@@ -81,19 +81,19 @@ class Credential:
         return self.rp_id_hash == rp_hash(rp_id)
 
 
-_DEFAULTS = {it.name: it.default for it in fields(Credential)}
+_DEFAULTS = {field.name: field.default for field in fields(Credential)}
 
 
-def _row(it: Credential) -> bytes:
+def _row(credential: Credential) -> bytes:
     """Returns a row of a snapshot of version 2: a map of the members 1 to 8, in canonical CBOR."""
-    head, user, name = cbor.head, it.user_id, it.user_name.encode()
+    head, user, name = cbor.head, credential.user_id, credential.user_name.encode()
     return b"".join(
         (
-            b"\xa8\x01\x58\x20" + it.rp_id_hash + b"\x02\x58\x20" + it.id,
-            b"\x03\x58\x20" + it.x + b"\x04\x58\x20" + it.y,
+            b"\xa8\x01\x58\x20" + credential.rp_id_hash + b"\x02\x58\x20" + credential.id,
+            b"\x03\x58\x20" + credential.x + b"\x04\x58\x20" + credential.y,
             b"\x05" + head(2, len(user)) + user,
-            b"\x06\xf5\x07" if it.discoverable else b"\x06\xf4\x07",
-            head(0, it.counter) + b"\x08" + head(3, len(name)) + name,
+            b"\x06\xf5\x07" if credential.discoverable else b"\x06\xf4\x07",
+            head(0, credential.counter) + b"\x08" + head(3, len(name)) + name,
         )
     )
 
@@ -102,7 +102,7 @@ def write_snapshot(listed: Sequence[Credential]) -> bytes:
     """Returns a snapshot (version 2, docs/use/PROFILE.md) with these credentials, the newest last."""
     if not listed:
         return b""
-    if any(len(it.id) != CORE_ID for it in listed):
+    if any(len(credential.id) != CORE_ID for credential in listed):
         raise ArgumentError(f"a snapshot holds ids of {CORE_ID} bytes")
     return b"\xa2\x01\x02\x02" + cbor.head(4, len(listed)) + b"".join(map(_row, listed))
 
@@ -134,7 +134,7 @@ def _map_of(name: str, value: Any, members: Iterable[int]) -> dict[int, Any]:
 def _credential_of(name: str, row: Any) -> Credential:
     """Returns the credential of a row. Rows of version 1 have no user name."""
     members = _map_of(name, row, range(1, 8))
-    rp, credential_id, x, y, user, discoverable, counter = (members[it] for it in range(1, 8))
+    rp, credential_id, x, y, user, discoverable, counter = (members[number] for number in range(1, 8))
     try:
         return Credential(rp, credential_id, x, y, user, members.get(8, ""), discoverable, counter)
     except ArgumentError as error:
@@ -205,7 +205,7 @@ class Credentials(Sequence[Credential]):
         outside = self._key._outside
         if outside.is_empty:
             return self._key._held()
-        return [self._shown(it) for it in self._key._held()]
+        return [self._shown(held) for held in self._key._held()]
 
     def _shown(self, held: Credential) -> Credential:
         """Returns a credential of the core with what is kept outside of it."""
@@ -222,12 +222,12 @@ class Credentials(Sequence[Credential]):
 
     def _take(self, listed: Sequence[Credential]) -> None:
         """Goes on with these credentials, and forgets what is kept of others."""
-        before = [it.id for it in self._key._held()]
-        rows = [self._in_core(it) for it in listed]
+        before = [credential.id for credential in self._key._held()]
+        rows = [self._in_core(credential) for credential in listed]
         self._key._take_snapshot(write_snapshot(rows))
-        for it in rows:
-            self._key._outside.back_up(it.id, it.backup)
-        kept = {it.id for it in rows}
+        for row in rows:
+            self._key._outside.back_up(row.id, row.backup)
+        kept = {row.id for row in rows}
         for gone in before:
             if gone not in kept:
                 self._forget(gone)
@@ -278,7 +278,7 @@ class Credentials(Sequence[Credential]):
 
     def of(self, rp_id: str) -> list[Credential]:
         """Returns the credentials of a relying party."""
-        return [it for it in self._listed() if it.is_for(rp_id)]
+        return [credential for credential in self._listed() if credential.is_for(rp_id)]
 
     @_alone
     def add(
@@ -335,11 +335,14 @@ class Credentials(Sequence[Credential]):
     def _with(self, made: Credential) -> list[Credential]:
         """Returns the credentials that stay where this one is added."""
         listed = self._listed()
-        if any(it.id == made.id for it in listed):
+        if any(credential.id == made.id for credential in listed):
             raise ArgumentError(f"the key holds a credential with the id {made.id.hex()} already")
         same = (made.rp_id_hash, made.user_id, True)
-        is_kept = [not made.discoverable or (it.rp_id_hash, it.user_id, it.discoverable) != same for it in listed]
-        kept = [it for it, stays in zip(listed, is_kept) if stays]
+        is_kept = [
+            not made.discoverable or (credential.rp_id_hash, credential.user_id, credential.discoverable) != same
+            for credential in listed
+        ]
+        kept = [credential for credential, stays in zip(listed, is_kept) if stays]
         if len(kept) >= self._key.capacity:
             raise ArgumentError(f"the key holds {self._key.capacity} credentials, and that is the most")
         return kept
@@ -354,7 +357,7 @@ class Credentials(Sequence[Credential]):
             return True
 
         if not self._key._change_held(remove):
-            self._take([it for it in self._listed() if self._in_core(it).id != gone])
+            self._take([credential for credential in self._listed() if self._in_core(credential).id != gone])
         self._forget(gone)
 
     @_alone
@@ -373,8 +376,8 @@ class Credentials(Sequence[Credential]):
         if (changed.user_id, changed.discoverable) == (held.user_id, held.discoverable):
             self._replace(self._in_core(held), self._in_core(changed))
             return changed
-        listed = [changed if it.id == changed.id else it for it in self._listed()]
-        found = [(it.rp_id_hash, it.user_id) for it in listed if it.discoverable]
+        listed = [changed if credential.id == changed.id else credential for credential in self._listed()]
+        found = [(credential.rp_id_hash, credential.user_id) for credential in listed if credential.discoverable]
         if len(set(found)) < len(found):
             raise ArgumentError("two discoverable credentials would have the same relying party and user")
         self._take(listed)

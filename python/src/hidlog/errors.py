@@ -122,7 +122,7 @@ def status_number(status: int | str) -> int:
 def one_of(name: str, value: object, allowed: Iterable[object]) -> None:
     """Raises ArgumentError unless the value is one of those that are allowed."""
     values = list(allowed)
-    if not any(value is it or (type(value) is type(it) and value == it) for it in values):
+    if not any(value is choice or (type(value) is type(choice) and value == choice) for choice in values):
         raise ArgumentError(
             f"{name} is {shown(value)}; it has to be {', '.join(map(repr, values[:-1]))} or {values[-1]!r}"
         )

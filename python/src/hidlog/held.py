@@ -35,11 +35,13 @@ def _credential_of(held: HeldCredential) -> Credential:
     )
 
 
-def _held_of(it: Credential) -> HeldCredential:
-    user, name = it.user_id, it.user_name.encode()
-    numbers = _NUMBERS.pack(len(user), len(name), it.discoverable, it.counter)
+def _held_of(credential: Credential) -> HeldCredential:
+    user, name = credential.user_id, credential.user_name.encode()
+    numbers = _NUMBERS.pack(len(user), len(name), credential.discoverable, credential.counter)
     filled = user.ljust(64, b"\0"), name.ljust(64, b"\0")
-    return HeldCredential.from_buffer_copy(b"".join((it.rp_id_hash, it.id, it.x, it.y, *filled, numbers)))
+    return HeldCredential.from_buffer_copy(
+        b"".join((credential.rp_id_hash, credential.id, credential.x, credential.y, *filled, numbers))
+    )
 
 
 class HeldKey:
@@ -61,7 +63,7 @@ class HeldKey:
         if kind not in _INPUTS:
             raise LogError(f"not a log line: {line[:80].decode()}")
         is_data = kind != "p" and words != ["no"]
-        fields: tuple[Field, ...] = tuple(bytes.fromhex(it) for it in words) if is_data else tuple(words)
+        fields: tuple[Field, ...] = tuple(bytes.fromhex(word) for word in words) if is_data else tuple(words)
         return self.play(kind, int(at), fields)
 
     def exchange_lines(self, lines: str) -> Reply:
@@ -75,15 +77,15 @@ class HeldKey:
         """Hands in an input at a moment, and returns what comes of it."""
         handle = self._handle
         packets = [handle.next() for _ in range(self._input(kind, at, fields))]
-        parts = [line_of(kind, at, fields), *["< " + it.hex() for it in packets]]
+        parts = [line_of(kind, at, fields), *["< " + packet.hex() for packet in packets]]
         need = handle.need()
         if need is None:
             parts.append("# need nothing\n")
             return Reply("\n".join(parts).encode(), packets, _NOTHING)
         said, credential, signed = need
         if said == "signature":
-            pieces = [signed[it : it + _SIGNED_MOST] for it in range(0, len(signed), _SIGNED_MOST)]
-            parts += [f"# signed {it.hex()}" for it in pieces]
+            pieces = [signed[start : start + _SIGNED_MOST] for start in range(0, len(signed), _SIGNED_MOST)]
+            parts += [f"# signed {piece.hex()}" for piece in pieces]
             parts.append(f"# need signature {credential.hex()}\n")
         else:
             parts.append(f"# need {said}\n")
@@ -108,16 +110,16 @@ class HeldKey:
         """Returns the credentials, also once the key has ended."""
         if self._last is not None:
             return read_snapshot(self._last)
-        return [_credential_of(it) for it in self._handle.credentials()]
+        return [_credential_of(held) for held in self._handle.credentials()]
 
     def find(self, _: bytes, credential_id: bytes) -> Credential | None:
         """Returns the credential with this id, also once the key has ended."""
         if self._last is not None:
-            return next((it for it in self.credentials(b"") if it.id == credential_id), None)
+            return next((credential for credential in self.credentials(b"") if credential.id == credential_id), None)
         held = self._at(self._places.get(credential_id, -1))
         if held is None or bytes(held.id) != credential_id:
             self._places.clear()
-            self._places.update((bytes(it.id), place) for place, it in enumerate(self._handle.credentials()))
+            self._places.update((bytes(held.id), place) for place, held in enumerate(self._handle.credentials()))
             held = self._at(self._places.get(credential_id, -1))
         return None if held is None else _credential_of(held)
 

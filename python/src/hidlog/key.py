@@ -71,7 +71,9 @@ class SecurityKey(Session):
         Each file is written whole in the place of an older one, which stays where that fails.
         """
         target, every = path_of("path", path), self.recordings
-        names = [target.with_name(f"{target.stem}.{it}{target.suffix}") for it in range(1, len(every))] + [target]
+        names = [target.with_name(f"{target.stem}.{number}{target.suffix}") for number in range(1, len(every))] + [
+            target
+        ]
         for name, (snapshot, log) in zip(names, every):
             if snapshot:
                 write_whole(snapshot_path(name), snapshot)
@@ -183,14 +185,16 @@ class SecurityKey(Session):
 
     def _dumped(self) -> str:
         held = list(self.credentials)
-        cores = [self.core_id(it.id) for it in held]
-        keys = {it: self.private_keys[it] for it in cores if it in self.private_keys}
+        cores = [self.core_id(credential.id) for credential in held]
+        keys = {core: self.private_keys[core] for core in cores if core in self.private_keys}
         written = {
             "form": _FORM,
             "snapshot": b64encode(self.snapshot()).decode(),
-            "private_keys": {it.hex(): b64encode(private_keys.to_pkcs8(key)).decode() for it, key in keys.items()},
-            "ids": {core.hex(): it.id.hex() for core, it in zip(cores, held) if core != it.id},
-            "backups": {core.hex(): [*it.backup] for core, it in zip(cores, held) if any(it.backup)},
+            "private_keys": {core.hex(): b64encode(private_keys.to_pkcs8(key)).decode() for core, key in keys.items()},
+            "ids": {core.hex(): credential.id.hex() for core, credential in zip(cores, held) if core != credential.id},
+            "backups": {
+                core.hex(): [*credential.backup] for core, credential in zip(cores, held) if any(credential.backup)
+            },
         }
         return json.dumps(with_sum(written), indent=1)
 
@@ -222,17 +226,19 @@ class SecurityKey(Session):
         try:
             kept = json.loads(text)
             form, snapshot, given = kept["form"], _bytes_in(kept["snapshot"]), kept["private_keys"]
-            held = {bytes.fromhex(it): private_keys.from_any(_bytes_in(key)) for it, key in given.items()}
-            ids = {bytes.fromhex(core): bytes.fromhex(it) for core, it in kept.get("ids", {}).items()}
-            backups = {bytes.fromhex(it): Backup(*flags) for it, flags in kept.get("backups", {}).items()}
+            held = {bytes.fromhex(core): private_keys.from_any(_bytes_in(key)) for core, key in given.items()}
+            ids = {bytes.fromhex(core): bytes.fromhex(page) for core, page in kept.get("ids", {}).items()}
+            backups = {bytes.fromhex(core): Backup(*flags) for core, flags in kept.get("backups", {}).items()}
         except (ValueError, LookupError, TypeError, AttributeError, RecursionError) as error:
             raise ArgumentError(f"{path} isn't what SecurityKey.save writes: {error}") from None
         if form != _FORM:
             raise ArgumentError(f"{path} has the form {form!r}, and {_FORM!r} is read")
         verify_sum(path, kept)
         if margin:
-            raised = [(it, min(it.counter + margin, 2**32 - 1)) for it in read_snapshot(snapshot)]
-            snapshot = write_snapshot([replace(it, counter=counter) for it, counter in raised])
+            raised = [
+                (credential, min(credential.counter + margin, 2**32 - 1)) for credential in read_snapshot(snapshot)
+            ]
+            snapshot = write_snapshot([replace(credential, counter=counter) for credential, counter in raised])
         key = cls(snapshot=snapshot, private_keys=held, **options)
         for core, name in ids.items():
             key._outside.name(core, name)
@@ -249,9 +255,9 @@ class SecurityKey(Session):
     # Clients.
 
     def serve(self, channel: int, data: bytes, limit: int) -> bytes | None:
-        """Serves a CBOR request on a client's channel, and returns the response; None if the client has to write its packets.
+        """Serves a CBOR request on a client's channel, and returns the response.
 
-        limit   the moment at which the client would cancel the request.
+        None: the client has to write and read its packets. `limit` is the moment at which it would cancel the request.
         """
         return serve(self, channel, data, limit)
 

@@ -2,6 +2,8 @@
 
 from __future__ import annotations
 
+import re
+from binascii import unhexlify
 from typing import TYPE_CHECKING, NamedTuple, Protocol, Union
 
 from .errors import ArgumentTypeError
@@ -27,6 +29,13 @@ class Need(NamedTuple):
     kind: str = "nothing"
     credential: bytes = b""
     signed: bytes = b""
+
+
+_NOTHING = Need()
+# What `live` writes: a packet, bytes to sign, and what is needed.
+_SENT = re.compile(rb"^< ([0-9a-f]+)$", re.MULTILINE)
+_SIGNED = re.compile(rb"^# signed ([0-9a-f]+)$", re.MULTILINE)
+_NEED = b"# need "
 
 
 class Reply(NamedTuple):
@@ -64,21 +73,17 @@ class Engine(Protocol):
 
 def line_of(kind: str, at: int, fields: tuple[Field, ...]) -> str:
     """Returns an input as a line of a log."""
-    return " ".join([kind, str(at), *[it if isinstance(it, str) else it.hex() for it in fields]])
+    return " ".join([kind, str(at), *[field if isinstance(field, str) else field.hex() for field in fields]])
 
 
 def read_reply(text: bytes) -> Reply:
-    """Returns what was written for an input line, with the packets in it and what is needed after it."""
-    packets, signed, need = [], b"", Need()
-    for line in text.decode("ascii").splitlines():
-        if line.startswith("< "):
-            packets.append(bytes.fromhex(line[2:]))
-        elif line.startswith("# signed "):
-            signed += bytes.fromhex(line[9:])
-        elif line.startswith("# need "):
-            kind, _, credential = line[7:].partition(" ")
-            need = Need(kind, bytes.fromhex(credential), signed)
-    return Reply(text, packets, need)
+    """Returns what was written for input lines, with the packets in it and what is needed after them."""
+    sent = [unhexlify(packet) for packet in _SENT.findall(text)]
+    kind, _, credential = text[text.rindex(_NEED) + len(_NEED) :].rstrip(b"\n").decode("ascii").partition(" ")
+    if kind == "nothing":
+        return Reply(text, sent, _NOTHING)
+    signed = unhexlify(b"".join(_SIGNED.findall(text)))
+    return Reply(text, sent, Need(kind, bytes.fromhex(credential), signed))
 
 
 def comments_of(text: str) -> list[bytes]:

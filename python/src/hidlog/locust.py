@@ -128,7 +128,7 @@ def _on_test_start(environment: Any, **_: Any) -> None:
     if not isinstance(runner, MasterRunner):
         users.waiting.update(known)
         return
-    workers = sorted(it.id for it in runner.clients.all)  # the order in which Locust deals users out
+    workers = sorted(worker.id for worker in runner.clients.all)  # the order in which Locust deals users out
     for place, worker in enumerate(workers):
         runner.send_message(_MESSAGE, dict(known[place :: len(workers)]), worker)
 

@@ -1,8 +1,8 @@
 """Checks many recordings over any executor of concurrent.futures: processes, or Dask's on many machines.
 
     from concurrent.futures import ProcessPoolExecutor
-    for it in hidlog.check_many(paths, ProcessPoolExecutor): ..            # a function that makes executors
-    for it in hidlog.check_many(paths, dask_client.get_executor(pure=False), send=True): ..
+    for checked in hidlog.check_many(paths, ProcessPoolExecutor): ..            # a function that makes executors
+    for checked in hidlog.check_many(paths, dask_client.get_executor(pure=False), send=True): ..
 
 A worker that dies costs the recordings that it had another try, and no other. An executor that breaks with its worker,
 as ProcessPoolExecutor does, can't be mended from outside: hand in the function that makes it.
@@ -65,7 +65,7 @@ def read(path: str) -> Recorded:
 
 def check_block(block: list[Recorded]) -> list[Checked]:
     """Checks some recordings: what a worker does."""
-    return [_check(it) for it in block]
+    return [_check(recorded) for recorded in block]
 
 
 def _check(given: Recorded) -> Checked:
@@ -114,7 +114,7 @@ class _Run:
         """Returns what is handed out next; nothing at the end, or where the last try of something has to wait: it is
         handed out alone, so that a recording that kills its worker costs no other."""
         if not self.waiting:
-            block = [Recorded(it) for it in islice(self.paths, self.block)]
+            block = [Recorded(path) for path in islice(self.paths, self.block)]
             return _Work(block, 0) if block else None
         if self.waiting[-1].tries == self.tries - 1 and self.under_way:
             return None
@@ -123,7 +123,7 @@ class _Run:
     def hand_out(self) -> None:
         """Hands out work, as much as is to be under way."""
         while not self.is_broken and len(self.under_way) < self.at_once and (work := self.next_work()):
-            given = [_with_bytes(it) for it in work.block] if self.send else work.block
+            given = [_with_bytes(recorded) for recorded in work.block] if self.send else work.block
             try:
                 self.under_way[self.executor.submit(check_block, given)] = work
             except BrokenExecutor:
@@ -142,8 +142,8 @@ class _Run:
                 raise
             self.is_broken = self.is_broken or isinstance(error, BrokenExecutor)
             if work.tries + 1 == self.tries:
-                return [Checked(it.path, "lost", f"{type(error).__name__}: {error}") for it in work.block]
-        self.waiting += [_Work([it], work.tries + 1) for it in work.block]
+                return [Checked(recorded.path, "lost", f"{type(error).__name__}: {error}") for recorded in work.block]
+        self.waiting += [_Work([recorded], work.tries + 1) for recorded in work.block]
         return []
 
     def another(self) -> Executor:
@@ -200,7 +200,7 @@ def check_many(
         raise ArgumentTypeError("paths has to be a list of paths; of a folder: Path(folder).rglob('*.log')")
     for name, value in (("block", block), ("at_once", at_once), ("tries", tries)):
         number_of(name, value, 1, 1_000_000)
-    return _results(_Run((os.fspath(it) for it in paths), executor, send, (block, at_once, tries)))
+    return _results(_Run((os.fspath(path) for path in paths), executor, send, (block, at_once, tries)))
 
 
 def _results(run: _Run) -> Iterator[Checked]:

@@ -23,30 +23,30 @@ _NAMED = ("INIT", "PING", "ERROR")
 
 def _text(*parts: object) -> str:
     """Returns parts as a text, in which special characters are codes."""
-    text = " ".join(str(it) for it in parts if it not in (None, ""))
+    text = " ".join(str(part) for part in parts if part not in (None, ""))
     return _SPECIAL.sub(lambda found: f"#{ord(found[0])};", text) or "-"
 
 
 def _lines(entries: Iterable[Json]) -> Iterator[str]:
     """Returns the lines of a diagram for what `show --json` says."""
     statuses: dict[str, Any] = {}
-    for it in entries:
-        kind, name, channel = it.get("kind"), it.get("name"), it.get("channel")
-        is_host = it.get("from") == "host"
+    for entry in entries:
+        kind, name, channel = entry.get("kind"), entry.get("name"), entry.get("channel")
+        is_host = entry.get("from") == "host"
         if kind == "packet" and is_host and name not in (None, "CBOR"):
             yield f"host->>key: {_text(channel, name)}"
         elif kind == "request":
-            yield f"host->>key: {_text(channel, name, it.get('rpId'))}"
-        elif kind == "packet" and name == "KEEPALIVE" and statuses.get(str(channel)) != it.get("code"):
-            statuses[str(channel)] = it.get("code")
-            yield f"key-->>host: {_text('KEEPALIVE', it.get('codeName'))}"
+            yield f"host->>key: {_text(channel, name, entry.get('rpId'))}"
+        elif kind == "packet" and name == "KEEPALIVE" and statuses.get(str(channel)) != entry.get("code"):
+            statuses[str(channel)] = entry.get("code")
+            yield f"key-->>host: {_text('KEEPALIVE', entry.get('codeName'))}"
         elif kind == "presence":
-            yield f"user->>key: {_text(it.get('reply'), 'at', it.get('moment'), 'ms')}"
+            yield f"user->>key: {_text(entry.get('reply'), 'at', entry.get('moment'), 'ms')}"
         elif kind == "packet" and not is_host and name in _NAMED:
-            yield f"key->>host: {_text(name, it.get('codeName'))}"
+            yield f"key->>host: {_text(name, entry.get('codeName'))}"
         elif kind == "answer":
             statuses.pop(str(channel), None)
-            yield f"key->>host: {_text(it.get('statusName'))}"
+            yield f"key->>host: {_text(entry.get('statusName'))}"
 
 
 def diagram(entries: Iterable[Json]) -> str:
@@ -68,7 +68,7 @@ def main(words: list[str] | None = None) -> int:
     # What the program wrote of a line before it failed isn't whole.
     lines = text[: text.rfind(b"\n") + 1].splitlines()
     entries = [json.loads(line) for line in lines]
-    if not ran.returncode or any(it.get("kind") != "fault" for it in entries):
+    if not ran.returncode or any(entry.get("kind") != "fault" for entry in entries):
         sys.stdout.write(diagram(entries))
     if ran.returncode < 0:
         raise HidlogError(f"hidlog show was ended by signal {-ran.returncode}")

@@ -25,5 +25,5 @@ def check_attribute(key: object, name: str, others: Iterable[str]) -> None:
     if isinstance(found, property) and found.fset is None:
         raise UnknownName(f"{name} can't be set")
     if not isinstance(found, property) and kind.__module__.startswith("hidlog."):
-        settable = [it for it in dir(kind) if getattr(getattr(kind, it), "fset", None)]
+        settable = [attribute for attribute in dir(kind) if getattr(getattr(kind, attribute), "fset", None)]
         raise unknown("attribute", name, settable)

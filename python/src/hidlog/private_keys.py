@@ -2,7 +2,7 @@
 
 from __future__ import annotations
 
-from collections.abc import Callable
+from collections.abc import Callable, Mapping
 from hashlib import sha256
 
 from cryptography.exceptions import UnsupportedAlgorithm
@@ -10,7 +10,7 @@ from cryptography.hazmat.primitives import hashes, serialization
 from cryptography.hazmat.primitives.asymmetric import ec
 from cryptography.hazmat.primitives.asymmetric.utils import Prehashed
 
-from .errors import ArgumentError, bytes_of, utf8
+from .errors import ArgumentError, ArgumentTypeError, bytes_of, utf8
 
 PrivateKey = ec.EllipticCurvePrivateKey
 _CURVE = ec.SECP256R1()
@@ -61,3 +61,10 @@ def spki_of(x: bytes, y: bytes) -> bytes:
     """Returns a public key as SubjectPublicKeyInfo in DER."""
     public = ec.EllipticCurvePublicNumbers(int.from_bytes(x, "big"), int.from_bytes(y, "big"), _CURVE).public_key()
     return public.public_bytes(serialization.Encoding.DER, serialization.PublicFormat.SubjectPublicKeyInfo)
+
+
+def keys_by_id(given: object) -> dict[bytes, PrivateKey]:
+    """Returns private keys by credential IDs, from a mapping of these to what `from_any` takes, or None."""
+    if not isinstance(given, (Mapping, type(None))):
+        raise ArgumentTypeError(f"private_keys has to map credential ids to keys, not be {type(given).__name__}")
+    return {bytes_of("a credential id", name): from_any(key) for name, key in (given or {}).items()}

@@ -26,7 +26,7 @@ def program_paths() -> list[Path]:
     on_path = shutil.which("hidlog")
     if on_path and _is_of_python(on_path):
         on_path = None
-    clone = [it / "hidlog" for it in list(here.parents)[2:3] if (it / "release" / "hidlog").is_file()]
+    clone = [folder / "hidlog" for folder in list(here.parents)[2:3] if (folder / "release" / "hidlog").is_file()]
     return [here / "hidlog", *([Path(on_path)] if on_path else []), *clone]
 
 
@@ -139,7 +139,7 @@ class ProcessKey:
 
     def find(self, log: bytes, credential_id: bytes) -> Credential | None:
         """Returns the credential with this id after this log."""
-        return next((it for it in self.credentials(log) if it.id == credential_id), None)
+        return next((credential for credential in self.credentials(log) if credential.id == credential_id), None)
 
     def count(self, log: bytes) -> int:
         """Returns how many credentials are held after this log."""

@@ -123,7 +123,7 @@ def _section(item: pytest.Item, key: SecurityKey, number: int, when: str) -> str
     folder, lines = item.config.getoption("--security-key-log"), key.log.count(b"\n")
     parts = [_summary(key.log)]
     paths = _kept(item, key, number, folder) if folder else []
-    parts += [f"recorded in {it}" for it in paths]
+    parts += [f"recorded in {path}" for path in paths]
     parts.append(f"the {when} that failed came to line {lines} of {paths[-1] if paths else 'the log'}")
     return "\n".join(filter(None, parts))
 

@@ -78,9 +78,9 @@ class ReplayedKey:
     def _greet(self, given: bytes) -> None:
         """Answers an INIT that wasn't recorded, as the last one was answered; its channel is another one."""
         channel = (_FIRST_CHANNEL + self._sent).to_bytes(4, "big")
-        last = next((it.packet for it in reversed(self._lines[: self._place]) if _is_greeted(it)), None)
+        last = next((line.packet for line in reversed(self._lines[: self._place]) if _is_greeted(line)), None)
         rest = last[19:24] if last else _GREETING
-        known = [it for it in self._recorded.values() if it not in (_BROADCAST, channel)]
+        known = [recorded for recorded in self._recorded.values() if recorded not in (_BROADCAST, channel)]
         if known:
             self._give(channel, known[-1])
         answer = _BROADCAST + bytes([_INIT, 0, 17]) + given[7:15] + channel + rest
@@ -91,7 +91,7 @@ class ReplayedKey:
         channel = given[:4]
         while self._is_at(_INIT) and self._lines[self._place].packet[:4] == _BROADCAST and given[4] != _INIT:
             self._place += 1
-            greeted = [it for it in self._answers() if _is_greeted(it)]
+            greeted = [line for line in self._answers() if _is_greeted(line)]
             self._pass_answers()
             if greeted:
                 self._give(channel, greeted[0].packet[15:19])
@@ -103,10 +103,10 @@ class ReplayedKey:
     def _answers(self) -> list[_Line]:
         """Returns the packets of the key that come next."""
         found = []
-        for it in self._lines[self._place :]:
-            if it.sent:
+        for line in self._lines[self._place :]:
+            if line.sent:
                 break
-            found.append(it)
+            found.append(line)
         return found
 
     def _pass_answers(self) -> None:
@@ -142,9 +142,9 @@ class ReplayedKey:
 
     def _take_sent(self, given: bytes, line: _Line) -> None:
         """Keeps the packets that were sent for the input."""
-        for it in self._answers():
-            packet = it.packet
-            if _is_greeted(it) and line.packet[4] == _INIT:
+        for line in self._answers():
+            packet = line.packet
+            if _is_greeted(line) and line.packet[4] == _INIT:
                 packet = packet.replace(line.packet[7:15], given[7:15], 1)
                 self._give(packet[15:19], packet[15:19])
             channel = self._given.get(packet[:4], packet[:4])
@@ -192,7 +192,7 @@ def _log_in(capture: bytes) -> bytes:
     """Returns the log of the one key in a capture."""
     found = read(capture)
     if len(found) > 1:
-        names = ", ".join(it.name for it in found)
+        names = ", ".join(command.name for command in found)
         raise LogError(f"the capture has several keys ({names}): hidlog.captures.read returns the log of each")
     return found[0].log
 
@@ -200,18 +200,18 @@ def _log_in(capture: bytes) -> bytes:
 def _lines_of(log: bytes) -> list[_Line]:
     """Returns the packets of a log."""
     lines = []
-    for number, it in enumerate(log.decode("ascii", errors="replace").split("\n"), 1):
-        if not it.startswith((">", "<")):
+    for number, line in enumerate(log.decode("ascii", errors="replace").split("\n"), 1):
+        if not line.startswith((">", "<")):
             continue
-        if not _PACKET.fullmatch(it):
+        if not _PACKET.fullmatch(line):
             raise LogError(f"line {number}: not a log line")
-        lines.append(_Line(number, it.startswith(">"), bytes.fromhex(it.split(" ")[-1])))
+        lines.append(_Line(number, line.startswith(">"), bytes.fromhex(line.split(" ")[-1])))
     return lines
 
 
-def _is_greeted(it: _Line) -> bool:
+def _is_greeted(line: _Line) -> bool:
     """Returns whether a packet answers INIT on the broadcast channel."""
-    return not it.sent and it.packet[:4] == _BROADCAST and it.packet[4] == _INIT
+    return not line.sent and line.packet[:4] == _BROADCAST and line.packet[4] == _INIT
 
 
 def _difference(given: bytes, recorded: bytes, channel: bytes) -> str:

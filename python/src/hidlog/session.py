@@ -10,14 +10,16 @@ from contextlib import AbstractContextManager, contextmanager, nullcontext
 from typing import Any, NamedTuple, Union
 
 from . import core, names, packets, private_keys
-from .errors import ArgumentError, ArgumentTypeError, KeyBusy, KeyEnded, KeyForked, NoAnswer
+from .errors import ArgumentError, KeyEnded, KeyForked, NoAnswer
 from .errors import bytes_of, callable_of, number_of, one_of, path_of, seconds_of, shown
 from .faults import Faults
 from .held import HeldKey
 from .lines import Engine, Field, Need, comments_of
 from .outside import UV, Backup, Outside, names_of
 from .presence import Presence, User
+from .private_keys import keys_by_id
 from .process import ProcessKey
+from .session_state import Exchange, Time, Work
 from .standard import KEEPALIVE_MS
 from .waiting import Waiting
 from .webauthn_client import Abilities
@@ -39,54 +41,6 @@ class Recording(NamedTuple):
 
     snapshot: bytes
     log: bytes
-
-
-def _checked_keys(given: Any) -> dict[bytes, private_keys.PrivateKey]:
-    """Returns the private keys by credential id."""
-    if not isinstance(given, (Mapping, type(None))):
-        raise ArgumentTypeError(f"private_keys has to map credential ids to keys, not be {type(given).__name__}")
-    return {bytes_of("a credential id", it): private_keys.from_any(key) for it, key in (given or {}).items()}
-
-
-class _Time:
-    """The clock of a session: milliseconds that passed without real time, the latest moment, and when it began."""
-
-    __slots__ = ("passed", "latest", "started")
-
-    def __init__(self) -> None:
-        self.passed, self.latest, self.started = 0, 0, time.monotonic()
-
-
-class _Work:
-    """What a key needs, since which moment and time, and what has come of the request so far."""
-
-    __slots__ = ("need", "moment", "began", "waited_until", "delayed", "asked", "answer")
-
-    def __init__(self) -> None:
-        self.need, self.moment, self.began = Need(), 0, 0.0
-        self.waited_until, self.delayed = 0.0, 0
-        self.asked: packets.Message | None = None
-        self.answer: list[str | None] = []
-
-
-class _Exchange:
-    """An exchange of a message and its answer: one at a time, over the lock of a ceremony."""
-
-    __slots__ = ("_lock", "_is_open")
-
-    def __init__(self, lock: threading.RLock) -> None:
-        self._lock, self._is_open = lock, False
-
-    def __enter__(self) -> None:
-        self._lock.acquire()
-        if self._is_open:
-            self._lock.release()
-            raise KeyBusy("the key serves a request of this thread: a function of presence can't send another")
-        self._is_open = True
-
-    def __exit__(self, *_: object) -> None:
-        self._is_open = False
-        self._lock.release()
 
 
 class Session:
@@ -115,18 +69,19 @@ class Session:
             raise ArgumentError(
                 f"clock is {shown(clock)}; it has to be 'counted', 'real', or a function of milliseconds"
             )
-        self._owner, self._work = os.getpid(), _Work()
+        self._owner, self._work = os.getpid(), Work()
         self._changed = threading.Condition()
         self._ceremony = threading.RLock()
-        self._one_exchange = _Exchange(self._ceremony)
+        self._one_exchange = Exchange(self._ceremony)
         self._outside, self._is_verified = Outside(), False
         self.faults = Faults()
-        self.private_keys = _checked_keys(private_keys)
+        self.private_keys = keys_by_id(private_keys)
         self.presence, self.delay, self.timeout = presence, delay, timeout
         self.verification, self.attachment, self.has_resident_key = verification, attachment, has_resident_key
         self.default_backup_eligibility = default_backup_eligibility
         self.default_backup_state = default_backup_state
-        self._clock, self._random = clock, callable_of("random", random, "n random bytes for a number n")
+        self._clock: Clock = clock
+        self._random = callable_of("random", random, "n random bytes for a number n")
         one_of("record", record, (True, False))
         one_of("process", process, (True, False, None))
         self._program, self._record = None if program is None else str(path_of("program", program)), record
@@ -183,7 +138,7 @@ class Session:
         self._engine = engine
         self._is_open = True
         self._start, self._log = snapshot, bytearray()
-        self._time, self._work = _Time(), _Work()
+        self._time, self._work = Time(), Work()
         self._packets = Waiting()
         self._from_host, self._from_key = packets.Collector(), packets.Collector()
         # The packets of an answer that isn't whole yet.
@@ -445,8 +400,8 @@ class Session:
 
     def _forget_keys(self) -> None:
         """Forgets the private keys of credentials that the key holds no more."""
-        held = {it.id for it in self._engine.credentials(self._log)}
-        for gone in [it for it in self.private_keys if it not in held]:
+        held = {credential.id for credential in self._engine.credentials(self._log)}
+        for gone in [credential_id for credential_id in self.private_keys if credential_id not in held]:
             del self.private_keys[gone]
             self._outside.forget(gone)
 

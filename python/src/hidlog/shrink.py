@@ -159,7 +159,7 @@ class Command:
         words = ["replay" if word == "check" else word for word in self.words if word not in ASKED_OF_CHECK]
         upto = blocks[: blocks.index(block) + 1]
         sent = blocks_of(subprocess.run(words, input=joined(upto), capture_output=True).stdout)
-        inputs = [it for it in sent if not it.text.startswith(b"=")]
+        inputs = [piece for piece in sent if not piece.text.startswith(b"=")]
         packets = inputs[-1].text.splitlines()[1:] if inputs else []
         at = int(named[1]) - 1
         return packets[at] if at < len(packets) else b""

@@ -1,7 +1,7 @@
 """The signatures of a recorded session, each verified with the public key that the recording has.
 
-    for it in hidlog.signatures(log, snapshot):
-        print(it.line, it.rp_id, it.outcome)
+    for signature in hidlog.signatures(log, snapshot):
+        print(signature.line, signature.rp_id, signature.outcome)
 
 `check` can't see a request that was changed after it was recorded: the signature is an input of the log, and it was made
 over other bytes. This can. The command is `hidlog check --signatures [--load SNAPSHOT] LOG ..`.
@@ -58,8 +58,8 @@ def signatures(log: bytes, snapshot: bytes | None = None) -> list[Signature]:
     reading = _Reading(_verifier())
     from .credentials import read_snapshot  # it needs cryptography, too
 
-    for it in read_snapshot(begin):
-        reading.keys[it.id] = (it.x, it.y)
+    for credential in read_snapshot(begin):
+        reading.keys[credential.id] = (credential.x, credential.y)
     ran = subprocess.run([program(), "show", "--json"], input=data, stdout=subprocess.PIPE, check=False)
     if ran.returncode and (ran.returncode < 0 or not logs.show(data).status):
         raise HidlogError(f"hidlog show ended with status {ran.returncode}")
@@ -78,7 +78,7 @@ def _verifier() -> Any:
         ) from missing
 
     def is_good(key: tuple[bytes, bytes], signature: bytes, signed: bytes) -> bool:
-        x, y = (int.from_bytes(it, "big") for it in key)
+        x, y = (int.from_bytes(coordinate, "big") for coordinate in key)
         numbers = ec.EllipticCurvePublicNumbers(x, y, ec.SECP256R1())
         try:
             numbers.public_key().verify(signature, signed, ec.ECDSA(hashes.SHA256()))
@@ -102,11 +102,11 @@ class _Reading:
     def read(self, entries: Iterable[Json]) -> list[Signature]:
         """Returns what came of each signature."""
         found = []
-        for it in entries:
-            if it["kind"] == "request" and "transaction" in it:
-                self.requests[it["transaction"]] = it
-            elif it["kind"] == "answer" and it.get("status") == 0 and "transaction" in it:
-                found += self.answer(it)
+        for entry in entries:
+            if entry["kind"] == "request" and "transaction" in entry:
+                self.requests[entry["transaction"]] = entry
+            elif entry["kind"] == "answer" and entry.get("status") == 0 and "transaction" in entry:
+                found += self.answer(entry)
         return found
 
     def answer(self, answer: Json) -> list[Signature]:
@@ -181,7 +181,7 @@ def main(words: list[str]) -> int:
     parser.add_argument("logs", nargs="*", metavar="LOG", help="a log; standard input where none is named")
     given = parser.parse_args(words)
     snapshot = read_input(Path(given.load)) if given.load else None
-    wrong = [_is_wrong(it, snapshot) for it in given.logs or ["-"]]
+    wrong = [_is_wrong(path, snapshot) for path in given.logs or ["-"]]
     return int(any(wrong))
 
 
@@ -196,8 +196,10 @@ def _is_wrong(name: str, snapshot: bytes | None) -> bool:
     except HidlogError as error:
         print(f"hidlog: {error}", file=sys.stderr)
     found = signatures(data, snapshot)
-    for it in found:
-        if it.outcome != "good":
-            print(f"line {it.line}: the signature of the {it.kind} is {it.outcome}: {it.text}")
-    print(f"{sum(it.outcome == 'good' for it in found)} of {len(found)} signatures are good")
-    return bool(checked.status) or any(it.outcome == "wrong" for it in found)
+    for signature in found:
+        if signature.outcome != "good":
+            print(
+                f"line {signature.line}: the signature of the {signature.kind} is {signature.outcome}: {signature.text}"
+            )
+    print(f"{sum(signature.outcome == 'good' for signature in found)} of {len(found)} signatures are good")
+    return bool(checked.status) or any(signature.outcome == "wrong" for signature in found)

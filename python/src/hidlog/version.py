@@ -8,7 +8,7 @@ from pathlib import Path
 def version() -> str:
     """Returns the version, which the file BUILD names: in the package, or release/BUILD of a clone."""
     here = Path(__file__).resolve().parent
-    for path in (here / "BUILD", *(it / "release" / "BUILD" for it in list(here.parents)[2:3])):
+    for path in (here / "BUILD", *(folder / "release" / "BUILD" for folder in list(here.parents)[2:3])):
         if path.is_file():
             lines = path.read_text(encoding="utf-8").splitlines()
             return next(line[len("version: ") :] for line in lines if line.startswith("version: "))

@@ -1,7 +1,7 @@
-"""The WebAuthn client of the C library: a page's options in, requests and credentials out (hidlog.h, "The WebAuthn client").
+"""The WebAuthn client of the C library (hidlog.h): a page's options in, requests and credentials out.
 
-The library checks options, origins and RP IDs, and writes requests, client data and a credential's JSON. Nothing is kept
-between its calls.
+The library checks options, origins and RP IDs, and writes requests, client data and a credential's JSON. It keeps
+nothing between its calls.
 """
 
 from __future__ import annotations
@@ -160,7 +160,7 @@ class Call:
         length = _functions()[0](*self._inputs, ctypes.byref(report), out, LONGEST_MESSAGE)
         if length < 0:
             raise _error_of(length, report, out)
-        return Request(out[:length], report.timeout_ms, report.is_verified == 1)
+        return Request(ctypes.string_at(out, length), report.timeout_ms, report.is_verified == 1)
 
     def response(self, response: bytes) -> Json:
         """Returns the credential that the key's response, a status and CBOR, makes."""
@@ -169,7 +169,7 @@ class Call:
         length = _functions()[1](*self._inputs, *more)
         if length < 0:
             raise _error_of(length, report, out)
-        made: Json = json.loads(out[:length])
+        made: Json = json.loads(ctypes.string_at(out, length))
         return made
 
     def refusal(self, status: int) -> WebAuthnError:
@@ -186,8 +186,8 @@ def _error_of(number: int, report: _Report, out: Any) -> HidlogError:
     kind = _ERRORS.get(number)
     if kind is None:
         return HidlogError(f"hidlog_client failed with {number}")
-    member = out[: report.member_len].decode()
-    reason = out[report.member_len : report.member_len + report.reason_len].decode()
+    text = ctypes.string_at(out, report.member_len + report.reason_len)
+    member, reason = text[: report.member_len].decode(), text[report.member_len :].decode()
     if member == "origin":
         # The package takes an origin of any host; browsers have no WebAuthn at one that the client doesn't know.
         kind = SecurityError

@@ -98,9 +98,9 @@ def _all_plain(value: Any, name: str) -> Json:
 def _plain(value: Any) -> Any:
     """Returns mappings and lists as dict and list, without members that are None; enumerations as their text."""
     if isinstance(value, Mapping):
-        return {key: _plain(it) for key, it in value.items() if it is not None}
+        return {key: _plain(member) for key, member in value.items() if member is not None}
     if isinstance(value, (list, tuple)):
-        return [_plain(it) for it in value]
+        return [_plain(item) for item in value]
     return getattr(value, "value", value)
 
 
@@ -108,12 +108,14 @@ def _descriptors(options: Json, name: str, convert: Conversion) -> None:
     if name in options:
         if not isinstance(options[name], list):
             raise ArgumentTypeError(f"{name} has to be a list, not {type(options[name]).__name__}")
-        listed = [_object(it, f"a credential of {name}") for it in options[name]]
-        options[name] = [{**it, "id": convert(f"{name}.id", _member(it, "id"))} for it in listed]
+        listed = [_object(descriptor, f"a credential of {name}") for descriptor in options[name]]
+        options[name] = [
+            {**descriptor, "id": convert(f"{name}.id", _member(descriptor, "id"))} for descriptor in listed
+        ]
 
 
 def _prf(values: Json, convert: Conversion) -> Json:
-    return {key: convert(f"extensions.prf.{key}", it) for key, it in _object(values, "extensions.prf").items()}
+    return {key: convert(f"extensions.prf.{key}", member) for key, member in _object(values, "extensions.prf").items()}
 
 
 def _extensions(given: Json, convert: Conversion) -> Json:
@@ -122,7 +124,8 @@ def _extensions(given: Json, convert: Conversion) -> Json:
     if isinstance(given.get("largeBlob"), dict):
         parts = given["largeBlob"].items()
         made["largeBlob"] = {
-            key: convert(f"extensions.largeBlob.{key}", it) if key in ("write", "blob") else it for key, it in parts
+            key: convert(f"extensions.largeBlob.{key}", part) if key in ("write", "blob") else part
+            for key, part in parts
         }
     if isinstance(given.get("prf"), dict):
         prf = dict(given["prf"])
@@ -131,7 +134,8 @@ def _extensions(given: Json, convert: Conversion) -> Json:
                 prf[name] = _prf(prf[name], convert)
         if "evalByCredential" in prf:
             prf["evalByCredential"] = {
-                key: _prf(it, convert) for key, it in _object(prf["evalByCredential"], "evalByCredential").items()
+                key: _prf(inputs, convert)
+                for key, inputs in _object(prf["evalByCredential"], "evalByCredential").items()
             }
         made["prf"] = prf
     return made
@@ -195,7 +199,7 @@ def attestation_of(data: bytes) -> bytes:
     names, given = {1: "fmt", 2: "authData", 3: "attStmt"}, cbor.decode(data)
     if not isinstance(given, dict):
         raise ArgumentError("the attestation object is no map of CBOR")
-    return cbor.encode({names.get(key, key): it for key, it in given.items()})
+    return cbor.encode({names.get(key, key): member for key, member in given.items()})
 
 
 def _attested(attestation: bytes) -> tuple[bytes, bytes, Optional[bytes], int]:
@@ -226,7 +230,7 @@ def _credential_json(credential_id: bytes, response: Json, extensions: Any, atta
         "clientExtensionResults": _extensions(_all_plain(extensions or {}, "extensions"), _to_text),
         "type": "public-key",
     }
-    return {name: it for name, it in made.items() if it is not None}
+    return {name: member for name, member in made.items() if member is not None}
 
 
 def registration_json(
@@ -247,7 +251,7 @@ def registration_json(
         "publicKeyAlgorithm": algorithm,
         "attestationObject": text_of(attestation),
     }
-    kept = {name: it for name, it in response.items() if it is not None}
+    kept = {name: member for name, member in response.items() if member is not None}
     return _credential_json(name, kept, extensions, attachment)
 
 
