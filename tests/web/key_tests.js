@@ -59,9 +59,9 @@ const withKey = (log, test, options = {}) => async () => {
     expect(navigator.credentials === before, "uninstall puts back what was there");
 };
 
-const isRefused = async (promise, name) => {
+const isRefused = async (promise, name, text = "") => {
     const error = await rejection(promise);
-    const isIt = error.name === name && error instanceof DOMException;
+    const isIt = error.name === name && error instanceof DOMException && error.message.endsWith(text);
     expect(isIt, `${error.name} in place of ${name}: ${error.message}`);
 };
 
@@ -99,11 +99,12 @@ const excludesTheKnown = async () => {
 
 const mayBeDenied = async (key) => {
     key.presence = "denied";
-    await isRefused(register({ user: "ann" }), "NotAllowedError");
+    await isRefused(register({ user: "ann" }), "NotAllowedError", "0x27 CTAP2_ERR_OPERATION_DENIED: the user refused");
     key.presence = () => "granted";
     await register({ user: "ann" });
     key.presence = "timeout";
-    await isRefused(signIn({ user: "ann" }), "NotAllowedError");
+    await isRefused(signIn({ user: "ann" }), "NotAllowedError",
+        "0x27 CTAP2_ERR_OPERATION_DENIED: the user did not respond in time");
 };
 
 const comesLate = async (key) => {

@@ -24,9 +24,9 @@ const NONCE = Uint8Array.of(0, 1, 2, 3, 4, 5, 6, 7);
 
 /** An answer of the authenticator other than success. */
 export class CtapError extends Error {
-    /** @param {number} status */
-    constructor(status) {
-        super(`the authenticator answered ${statusName(status)}`);
+    /** @param {number} status @param {string} cause why, where the core says so */
+    constructor(status, cause) {
+        super(`the authenticator answered ${statusName(status)}${cause && `: ${cause}`}`);
         this.name = "CtapError";
         this.status = status;
     }
@@ -105,9 +105,11 @@ export class Authenticator {
         checkEnded(turn.signal);
         turn.signal.addEventListener("abort", end);
         try {
-            const answer = this.faults.answerInstead(await this.#answer(bytes, turn), this.session.recording);
+            const own = await this.#answer(bytes, turn);
+            const cause = own[0] === 0 ? "" : this.session.cause();
+            const answer = this.faults.answerInstead(own, this.session.recording);
             if (answer[0] !== 0) {
-                throw new CtapError(answer[0]);
+                throw new CtapError(answer[0], answer[0] === own[0] ? cause : "");
             }
             return answer.subarray(1);
         } catch (error) {

@@ -9,6 +9,8 @@ const PAGE = 65536;
 const FAULTS = new Map([
     [-17, "it is no snapshot"], [-18, "it has more than 64 credentials"], [-19, "a credential in it is broken"],
 ]);
+// No sentence of hidlog_key_cause is longer.
+const SENTENCE_MOST = 160;
 const NEEDS = ["nothing", "presence", "key", "signature"];
 export const PRESENCE = ["granted", "denied", "timeout"];
 
@@ -31,7 +33,7 @@ let coreModule = null;
 /** Where things stand in the memory: first the struct of the key, last the key itself. */
 const placesFrom = (base) => {
     const place = { key: base, packet: base + 16, need: base + 96, credential: base + 336, meters: base + 624 };
-    return { ...place, input: base + 672, memory: base + 896 };
+    return { ...place, input: base + 672, cause: base + 896, text: base + 928, memory: base + 928 + SENTENCE_MOST };
 };
 
 const aligned = (place) => Math.ceil(place / 16) * 16;
@@ -134,6 +136,13 @@ export class HeldKey {
         }
         const signed = copyOf(this.bytes.subarray(need + 40, need + 40 + this.view.getUint32(need + 4, true)));
         return { kind: "signature", id: this.bytes.slice(need + 8, need + 40), signed };
+    }
+
+    /** Why the last input was refused, as a sentence; nothing where it wasn't. */
+    cause() {
+        const { cause, text } = this.at;
+        const length = this.call("cause", { number: 1 }, cause, text, SENTENCE_MOST);
+        return new TextDecoder().decode(this.bytes.slice(text, text + length));
     }
 
     /** The credentials, the newest last. @returns {Row[]} */

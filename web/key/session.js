@@ -132,6 +132,11 @@ export class Session {
         return snapshotOf(this.held.rows());
     }
 
+    /** Why the key refused its last input, as a sentence. */
+    cause() {
+        return this.held.cause();
+    }
+
     /** The log so far. */
     log() {
         return this.recording.text(this.held.meters());
