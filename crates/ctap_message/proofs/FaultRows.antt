@@ -1,12 +1,12 @@
 -- Why a request is refused, by computation: each check alone, with what it compared, and the order of the checks.
-use Rattle.std.proofs.Common.{◌≡◌, true, false, List, [], ◌∷◌, Option, Some, None, refl}
+use Rattle.std.proofs.Common.{◌≡◌, true, false, [], ◌∷◌, Option, Some, None, refl}
 use Rattle.std.specs.Prelude.{codes}
-use Rattle.ctap_cbor.specs.Tree.{Map, Tree, no_pairs}
+use Rattle.ctap_cbor.specs.Tree.{Map, no_pairs}
 use Rattle.ctap_message.specs.declared.fault.RequestFault.{RequestFault}
 use Rattle.ctap_message.specs.declared.fault.RequestFault.TheVariants as because
 use Rattle.ctap_message.specs.Members.{value_at, all_entries, some_entry, all_pairs}
 use Rattle.ctap_message.specs.RequestFaults.{checked_assertion, checked_make, fault_in}
-use Rattle.ctap_message.proofs.CheckedRows.{int, minus, bytes, text, flag, one, two, only, empty, public_key, es256}
+use Rattle.ctap_message.proofs.CheckedRows.{int, bytes, text, flag, one, two, only, empty, public_key}
 use Rattle.ctap_message.proofs.CheckedRows.{Make, make_tree, base, Assertion, assertion_tree, asking}
 
 -- the command byte alone, and what is behind it

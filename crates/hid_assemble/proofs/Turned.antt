@@ -1,7 +1,7 @@
 -- Noise is what is turned away, and nothing else is.
-use Rattle.std.proofs.Common.{◌≡◌, ℕ, Bool, true, false, List, [], Option, Some, None, refl, sym, ◌∙◌, arith, rules}
+use Rattle.std.proofs.Common.{◌≡◌, ℕ, true, List, [], Option, refl, ◌∙◌, arith}
 use Rattle.hid_packet.specs.Packet.{Fields, initialization, continuation}
-use Rattle.hid_assemble.specs.Table.{Open, Ruling, Begins, Continues, is_noise, ruling_of, continuation_row}
+use Rattle.hid_assemble.specs.Table.{Open, Ruling, is_noise, ruling_of, continuation_row}
 use Rattle.hid_assemble.specs.Assembly.{Assembly, accepted, kept_by, message_after, open_after}
 use Rattle.hid_assemble.specs.Verdicts.{is_turned_away, ruling_verdict, verdict}
 

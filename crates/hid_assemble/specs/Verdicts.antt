@@ -5,7 +5,6 @@ use Rattle.hid_packet.specs.Packet.{Fields, channel_of, command_of, length_of, d
 use Rattle.hid_assemble.specs.Table.{Open, Ruling, Begins, Continues, is_on, ruling_of}
 use Rattle.hid_assemble.specs.Assembly.{Assembly, Message, message_after}
 use Rattle.hid_assemble.specs.Refusals.{due_number, number_in, busy_channel}
-use Rattle.hid_assemble.specs.declared.refusal.Refusal.{Refusal}
 use Rattle.hid_assemble.specs.declared.refusal.Refusal.TheVariants as because
 use Rattle.hid_assemble.specs.declared.table.ReplyRow.TheVariants.{CancelsWork, CancelsNothing, NoSuchChannel}
 use Rattle.hid_assemble.specs.declared.table.ReplyRow.TheVariants.{InitLength, InitFull, InitNew, InitAgain}

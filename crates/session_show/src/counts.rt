@@ -130,7 +130,10 @@ impl Counts {
                 End::Refused(code) => self.errors.add(code),
                 End::Status(0) => match command {
                     Some(0x01) => self.made = self.made.saturating_add(1),
-                    Some(0x02 | 0x08) => self.used = self.used.saturating_add(1),
+                    // A client asks whether a credential is there with `up: false`: nobody signs in by that.
+                    Some(0x02 | 0x08) if !ended.exchange.named.is_silent => {
+                        self.used = self.used.saturating_add(1);
+                    }
                     _ => {}
                 },
                 End::Status(status) => {

@@ -1,16 +1,16 @@
 -- What a packet of the key ends on a channel (CTAP 2.1, sections 11.2.4, 11.2.5 and 11.2.9.1).
-use Rattle.std.specs.Prelude.{ℕ, Bool, true, false, not, ◌&&◌, ◌||◌, ◌==◌, nat_le, nat_lt, ◌+◌, ◌-◌, ◌^◌, min, List, []}
+use Rattle.std.specs.Prelude.{ℕ, Bool, true, false, not, ◌&&◌, ◌||◌, ◌==◌, nat_le, nat_lt, ◌+◌, ◌-◌, ◌^◌, min, List}
 use Rattle.std.specs.Prelude.{Option, Some, None, if◌then◌else◌, is_none}
-use Rattle.hid_packet.specs.Commands.{CBOR, INIT, BROADCAST}
-use Rattle.session_walk.specs.Extents.{is_whole, came}
-use Rattle.session_walk.specs.Owners.{added, added_held, came_whole, cut_short, freed, is_known_not, lost_one, settled, settling}
+use Rattle.hid_packet.specs.Commands.{INIT}
+use Rattle.session_walk.specs.Extents.{is_whole}
+use Rattle.session_walk.specs.Owners.{added, added_held, came_whole, freed, is_known_not, lost_one, settled, settling}
 use Rattle.session_walk.specs.Owners.{is_worked_on, transaction_of}
 use Rattle.session_walk.specs.declared.awaited.Awaited.{Awaited}
 use Rattle.session_walk.specs.declared.awaited.Awaited.TheVariants.{Key, Presence, Signature}
-use Rattle.session_walk.specs.declared.answer.{AnswerStart.AnswerStart, Answered.Answered}
+use Rattle.session_walk.specs.declared.answer.{AnswerStart.AnswerStart}
 use Rattle.session_walk.specs.declared.channel.{Channel.Channel, DeviceMessage.DeviceMessage}
 use Rattle.session_walk.specs.declared.doubtful.Doubtful.{Doubtful}
-use Rattle.session_walk.specs.declared.exchange.{Ended.Ended, Extent.Extent, Followed.Followed, Transaction.Transaction}
+use Rattle.session_walk.specs.declared.exchange.{Ended.Ended, Followed.Followed, Transaction.Transaction}
 use Rattle.session_walk.specs.declared.exchange.End.{End}
 use Rattle.session_walk.specs.declared.exchange.End.TheVariants.{Dropped, Refused, Replaced, Unknown}
 

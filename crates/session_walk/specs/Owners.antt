@@ -1,15 +1,13 @@
 -- Who owns each line of a log: what is open on a channel behind its lines, as a function of what was open before the
 -- last of them (CTAP 2.1, sections 11.2.4 and 11.2.5; docs/use/EXPLAINED.md).
 use Rattle.std.specs.Prelude.{ℕ, Bool, true, false, not, ◌&&◌, ◌||◌, ◌==◌, nat_le, nat_lt, ◌+◌, ◌-◌, min, max, List, []}
-use Rattle.std.specs.Prelude.{◌∷◌, ◌++◌, length, drop, Option, Some, None, if◌then◌else◌}
+use Rattle.std.specs.Prelude.{◌∷◌, ◌++◌, length, Option, Some, None, if◌then◌else◌}
 use Rattle.byteorder.specs.Endian.{big_number}
 use Rattle.hid_packet.specs.Commands.{PING, INIT}
 use Rattle.hid_packet.specs.Limits.{CONTINUATION_DATA}
 use Rattle.session_walk.specs.Extents.{came, is_whole}
 use Rattle.session_walk.specs.declared.channel.{Channel.Channel, Continued.Continued, Greeting.Greeting}
-use Rattle.session_walk.specs.declared.entry.Role.{Role}
-use Rattle.session_walk.specs.declared.entry.Role.TheVariants.{Own, Stray, Cancel}
-use Rattle.session_walk.specs.declared.exchange.{Ended.Ended, Extent.Extent, Followed.Followed, Transaction.Transaction}
+use Rattle.session_walk.specs.declared.exchange.{Ended.Ended, Followed.Followed, Transaction.Transaction}
 use Rattle.session_walk.specs.declared.exchange.End.{End}
 use Rattle.session_walk.specs.declared.exchange.End.TheVariants.{Dropped, Unknown, Replaced}
 

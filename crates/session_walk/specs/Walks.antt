@@ -1,12 +1,12 @@
 -- What a walk keeps behind the lines of a log, as a function of the lines, the newest first.
-use Rattle.std.specs.Prelude.{◌≡◌, ◌≢◌, ℕ, Bool, true, false, ◌&&◌, ◌==◌, nat_le, max, List, [], ◌∷◌, length, Option, Some, None}
+use Rattle.std.specs.Prelude.{◌≡◌, ℕ, Bool, true, false, ◌&&◌, ◌==◌, nat_le, max, List, [], ◌∷◌, length, Option, Some, None}
 use Rattle.std.specs.Prelude.{if◌then◌else◌, is_some, is_none, ◌+◌, ◌||◌, nat_lt, count_by, option_map, slice_get}
 use Rattle.hid_packet.specs.Commands.{CBOR, ERROR, KEEPALIVE}
 use Rattle.session_log.specs.declared.line.Line.{Line}
 use Rattle.session_log.specs.declared.line.Line.TheVariants.{Input, Sent, Comment, Count}
 use Rattle.session_walk.specs.declared.channel.{Channel.Channel, Continued.Continued, DeviceMessage.DeviceMessage}
-use Rattle.session_walk.specs.declared.doubtful.{Decided.Decided, Doubtful.Doubtful}
-use Rattle.session_walk.specs.declared.exchange.{Ended.Ended, Extent.Extent, Followed.Followed, Transaction.Transaction}
+use Rattle.session_walk.specs.declared.doubtful.{Doubtful.Doubtful}
+use Rattle.session_walk.specs.declared.exchange.{Ended.Ended, Followed.Followed, Transaction.Transaction}
 use Rattle.session_walk.specs.declared.exchange.End.{End}
 use Rattle.session_walk.specs.declared.exchange.End.TheVariants.{Status, Answered}
 use Rattle.session_walk.specs.declared.walk.LogWalk.{LogWalk}

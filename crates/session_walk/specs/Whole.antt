@@ -1,24 +1,21 @@
 -- The whole of a channel: what a packet of a host or of the key makes of it, INITs too, and of all channels (CTAP 2.1,
 -- sections 11.2.4, 11.2.5 and 11.2.9.1).
-use Rattle.std.specs.Prelude.{ℕ, Bool, true, false, not, ◌&&◌, ◌||◌, ◌==◌, nat_le, nat_lt, ◌+◌, ◌-◌, min, max, List, []}
-use Rattle.std.specs.Prelude.{◌∷◌, ◌++◌, length, drop, take, remove, replicate, position, slice_get, slice_index, Option, Some}
+use Rattle.std.specs.Prelude.{ℕ, Bool, true, false, not, ◌&&◌, ◌||◌, ◌==◌, nat_lt, ◌+◌, ◌-◌, List, []}
+use Rattle.std.specs.Prelude.{◌∷◌, ◌++◌, length, drop, remove, replicate, position, slice_get, Option, Some}
 use Rattle.std.specs.Prelude.{None, is_none, is_some, unwrap_or, if◌then◌else◌}
-use Rattle.byteorder.specs.Endian.{big_number}
-use Rattle.hid_packet.specs.Commands.{BROADCAST, CANCEL, CBOR, ERROR, INIT, KEEPALIVE}
-use Rattle.session_walk.specs.Ends.{also_ends, answered_message, asked_refused, can_answer, cause_of, has_status, is_late_by}
-use Rattle.session_walk.specs.Ends.{is_of_stray, is_open_question, kept_alive, losing, lost_both, of_asked, of_keep_alive}
+use Rattle.hid_packet.specs.Commands.{BROADCAST, INIT}
+use Rattle.session_walk.specs.Ends.{also_ends, asked_refused, can_answer, cause_of, is_late_by}
+use Rattle.session_walk.specs.Ends.{is_open_question, losing, lost_both, of_asked}
 use Rattle.session_walk.specs.Ends.{of_refused, of_time_out, refused_by, refusing_by, timed_out, timing_out_by}
 use Rattle.session_walk.specs.Extents.{is_whole}
-use Rattle.session_walk.specs.Owners.{added, added_held, as_greeting, came_whole, freed, heard_of, is_known_not, lost_one}
-use Rattle.session_walk.specs.Owners.{message_begun, nonce_of, settled, settling, transaction_of}
+use Rattle.session_walk.specs.Owners.{added, added_held, as_greeting, came_whole, freed, heard_of, is_known_not}
+use Rattle.session_walk.specs.Owners.{message_begun, nonce_of, settled, settling}
 use Rattle.session_walk.specs.declared.answer.AnswerStart.{AnswerStart}
 use Rattle.session_walk.specs.declared.channel.{Channel.Channel, DeviceMessage.DeviceMessage, Greeting.Greeting}
 use Rattle.session_walk.specs.declared.doubtful.Doubtful.{Doubtful}
-use Rattle.session_walk.specs.declared.exchange.{Ended.Ended, Extent.Extent, Followed.Followed, Named.Named}
+use Rattle.session_walk.specs.declared.exchange.{Ended.Ended, Followed.Followed, Named.Named}
 use Rattle.session_walk.specs.declared.exchange.Transaction.{Transaction}
-use Rattle.session_walk.specs.declared.exchange.End.{End}
-use Rattle.session_walk.specs.declared.exchange.End.TheVariants.{Cut, Dropped, Forgotten, Refused, Unknown}
-use Rattle.session_walk.specs.declared.rp_id.RpId.{RpId}
+use Rattle.session_walk.specs.declared.exchange.End.TheVariants.{Cut, Dropped, Forgotten, Refused}
 
 -- A channel behind a packet, what ended with it, and whose the packet is; whether the one before it came too late.
 pub record Taken : Type 0 where

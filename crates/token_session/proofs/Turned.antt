@@ -1,5 +1,5 @@
 -- An input is noise just where it is turned away.
-use Rattle.std.proofs.Common.{◌≡◌, ℕ, Bool, List, Option, refl, arith}
+use Rattle.std.proofs.Common.{◌≡◌, ℕ, List, Option, refl, arith}
 use Rattle.hid_packet.specs.Packet.{fields}
 use Rattle.hid_assemble.{specs.Assembly.Assembly, proofs.Turned.noise_turned}
 use Rattle.authn_core.specs.declared.replies.{Presence.Presence as Reply, NewKey.NewKey}

@@ -1,5 +1,5 @@
-use Rattle.std.proofs.Common.{◌≡◌, ℕ, Some, arith}
-use Rattle.session_walk.specs.Walks.{channel_on, host_message}
+use Rattle.std.proofs.Common.{◌≡◌, Some, arith}
+use Rattle.session_walk.specs.Walks.{channel_on}
 use Rattle.session_walk.proofs.walk.LogWalk.take_packet.Goals as goal
 
 pub returns-in-More-clause-message : goal.returns-in-More-clause-message

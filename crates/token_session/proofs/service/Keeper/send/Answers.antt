@@ -1,4 +1,4 @@
-use Rattle.std.proofs.Common.{arith, refl}
+use Rattle.std.proofs.Common.{arith}
 use Rattle.token_session.specs.{Machine.answer_keeps_alive, Replies.answer_packets}
 use Rattle.token_session.proofs.service.Keeper.send.Goals as goal
 
