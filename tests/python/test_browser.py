@@ -175,6 +175,8 @@ def test_conditional_mediation_waits_for_a_choice(make: Make) -> None:
     assert browser.get(REQUEST, mediation="conditional")["id"] == made[0]["id"]
     browser.choose()
     assert browser.get(REQUEST, mediation="conditional")["id"] == made[1]["id"]
+    browser.choose()  # WebAuthn Level 3, section 5.1.4.2: the timeout doesn't count
+    assert browser.get({**REQUEST, "timeout": 0}, mediation="conditional")["id"] == made[1]["id"]
     allowed = [{"type": "public-key", "id": made[0]["id"]}]
     browser.choose("bob")
     with pytest.raises(hidlog.WebAuthnRangeError, match="there are: ann"):
