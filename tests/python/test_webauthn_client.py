@@ -13,7 +13,7 @@ import pytest
 from fido2 import cbor
 
 import hidlog
-from hidlog import core
+from hidlog import webauthn_client
 from hidlog.webauthn_client import Abilities, Call
 
 ORIGIN = "https://login.example.com:8443"
@@ -149,7 +149,7 @@ def test_values_that_stand_for_json() -> None:
 CYCLE: dict[str, Any] = {**CREATION}
 CYCLE["extensions"] = CYCLE
 DEEP: Any = {}
-for _ in range(100_000):
+for _ in range(5_000):
     DEEP = {"a": DEEP}
 
 
@@ -174,4 +174,5 @@ def test_a_small_buffer_is_an_error() -> None:
     """hidlog.h: HIDLOG_CLIENT_TOO_SMALL is -100."""
     inputs = Call("create", CREATION, "optional", ORIGIN, Abilities())._inputs
     report, out = (ctypes.c_uint32 * 4)(), ctypes.create_string_buffer(10)
-    assert core.library().hidlog_client_request(*inputs, ctypes.byref(report), out, 10) == -100
+    write_request, _ = webauthn_client._functions()
+    assert write_request(*inputs, ctypes.byref(report), out, 10) == -100
