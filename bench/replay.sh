@@ -1,7 +1,7 @@
 #!/usr/bin/env bash
 # Counts what a line costs that `hidlog replay` plays: instructions (callgrind), system calls (strace) and processor
 # time, for logs of PINGs of 5 and of 57 bytes, authenticatorGetInfo, ticks and comments, of 1,000 and 100,000 lines,
-# from a file to a file; beside bench/peer, a program in C that keeps the same promises for these lines. Needs rt, gcc,
+# from a file to a file; beside bench/peer, a program in C that keeps the same promises for these lines. Needs gcc,
 # libssl-dev, valgrind, strace and Python 3.
 #
 # What a log of no line costs is taken off, so start-up doesn't count.
@@ -11,8 +11,7 @@ set -euo pipefail
 here=$(cd "$(dirname "$0")" && pwd)
 work=${1:-$(mktemp -d)}
 mkdir -p "$work"
-"$here/../hidlog" --help >"$work/help"
-program=$here/../$(sed 's/^program=\([^ ]*\).*/\1/' "$here/../release/out/ran")
+program=$here/../release/hidlog
 gcc -std=c11 -D_GNU_SOURCE -O3 -march=x86-64-v2 -flto -Wno-deprecated-declarations -o "$work/peer" "$here"/peer/*.c -lcrypto
 
 # A log of so many lines of a kind, after the INIT that gives channel 1.

@@ -149,6 +149,7 @@ make_npm() {
     done
     put 755 packages/npm/cli.mjs "$folder/cli.mjs"
     put 644 packages/npm/wasm.mjs "$folder/wasm.mjs"
+    put 644 python/src/hidlog/help.txt "$folder/help.txt"
     put 755 release/hidlog "$folder/linux-x64/hidlog"
     put 644 packages/npm/NOTICE "$folder/NOTICE"
     put 644 release/hidlog.wasm "$folder/hidlog.wasm"

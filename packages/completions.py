@@ -1,5 +1,5 @@
 #!/usr/bin/env python3
-"""Writes the completions of the program's words for bash, zsh and fish, from what the program says in its help.
+"""Writes the completions of `hidlog` for bash, zsh and fish, from the program's help and the Python package's commands.
 
     packages/completions.py PROGRAM FOLDER      writes hidlog.bash, _hidlog and hidlog.fish into FOLDER
 """
@@ -11,6 +11,12 @@ import subprocess
 import sys
 from dataclasses import dataclass
 from pathlib import Path
+
+TOP = Path(__file__).resolve().parent.parent
+sys.path.insert(0, str(TOP / "python/src"))
+sys.dont_write_bytecode = True
+
+from hidlog.__main__ import CHECK_SIGNATURES, COMMANDS as OF_PYTHON
 
 COMMAND = re.compile(r"^  (\w+) +(\S.*)$", re.MULTILINE)
 OPTION = re.compile(r"^ +(?:(-\w), )?(--[\w-]+)( <\w+>)? +(\S.*)$", re.MULTILINE)
@@ -44,23 +50,27 @@ def help_of(program: str, *words: str) -> str:
 def options_in(text: str) -> list[Option]:
     """Returns the options that a help lists."""
     listed = text.partition("Options:\n")[2]
-    return [Option(it[1] or "", it[2], bool(it[3]), it[4]) for it in OPTION.finditer(listed)]
+    return [Option(row[1] or "", row[2], bool(row[3]), row[4]) for row in OPTION.finditer(listed)]
 
 
 def commands_of(program: str) -> list[Command]:
-    """Returns the program's commands."""
+    """Returns the commands of the program and of the Python package."""
     listed = help_of(program).partition("Commands:\n")[2].partition("\n\n")[0]
-    found = [(it[1], it[2]) for it in COMMAND.finditer(listed + "\n")]
+    found = [(row[1], row[2]) for row in COMMAND.finditer(listed + "\n")]
     helps = [(name, says, help_of(program, name)) for name, says in found if name != "help"]
-    return [Command(name, says, options_in(text), "Arguments:\n" in text) for name, says, text in helps]
+    own = [Command(name, says, options_in(text), "Arguments:\n" in text) for name, says, text in helps]
+    (check,) = (command for command in own if command.name == "check")
+    check.options.append(Option("", "--signatures", False, CHECK_SIGNATURES.summary))
+    return own + [Command(name, command.summary, [], True) for name, command in OF_PYTHON.items()]
 
 
 def for_bash(commands: list[Command]) -> str:
     """Returns the completion of bash. A path is completed after an option that takes one, and as a log."""
-    words = {it.name: [option.long for option in it.options] for it in commands}
-    files = "|".join(sorted({option.long for it in commands for option in it.options if option.takes_file}))
-    cases = "".join(f"        {name}) words='{' '.join(options)}' ;;\n" for name, options in words.items())
-    logs = "|".join(it.name for it in commands if it.takes_logs)
+    words = {command.name: [option.long for option in command.options] for command in commands}
+    options = (option for command in commands for option in command.options)
+    files = "|".join(sorted({option.long for option in options if option.takes_file}))
+    cases = "".join(f"        {name}) words='{' '.join(named)}' ;;\n" for name, named in words.items())
+    logs = "|".join(command.name for command in commands if command.takes_logs)
     return (
         "# Completion of hidlog for bash. Made by packages/completions.py from the program's help.\n"
         "_hidlog() {\n"
@@ -94,14 +104,13 @@ def for_zsh(commands: list[Command]) -> str:
     def spec(option: Option) -> str:
         return quoted(f"{option.long}[{option.says}]" + (":file:_files" if option.takes_file else ""))
 
-    listed = "".join(f"        {quoted(f'{it.name}:{it.says}')}\n" for it in commands)
+    listed = "".join(f"        {quoted(f'{command.name}:{command.says}')}\n" for command in commands)
 
-    def rest(it: Command) -> str:
-        return " '*:log:_files'" if it.takes_logs else ""
+    def case(command: Command) -> str:
+        specs = [spec(option) for option in command.options] + ["'*:log:_files'"] * command.takes_logs
+        return f"        {command.name}) _arguments {' '.join(specs)} ;;\n"
 
-    cases = "".join(
-        f"        {it.name}) _arguments {' '.join(map(spec, it.options))}{rest(it)} ;;\n" for it in commands
-    )
+    cases = "".join(case(command) for command in commands)
     return (
         "#compdef hidlog\n"
         "# Completion of hidlog for zsh. Made by packages/completions.py from the program's help.\n"
@@ -117,11 +126,14 @@ def for_fish(commands: list[Command]) -> str:
     """Returns the completion of fish."""
     lines = ["# Completion of hidlog for fish. Made by packages/completions.py from the program's help."]
     lines.append("complete -c hidlog -n __fish_use_subcommand -f")
-    lines += [f"complete -c hidlog -n __fish_use_subcommand -a {it.name} -d {quoted(it.says)}" for it in commands]
-    for it in commands:
-        for option in it.options:
+    lines += [
+        f"complete -c hidlog -n __fish_use_subcommand -a {command.name} -d {quoted(command.says)}"
+        for command in commands
+    ]
+    for command in commands:
+        for option in command.options:
             file = " -r -F" if option.takes_file else ""
-            seen = f"-n '__fish_seen_subcommand_from {it.name}'"
+            seen = f"-n '__fish_seen_subcommand_from {command.name}'"
             lines.append(f"complete -c hidlog {seen} -l {option.long[2:]}{file} -d {quoted(option.says)}")
     return "\n".join(lines) + "\n"
 

@@ -17,7 +17,7 @@ write_copyright() {
     echo "License: Apache-2.0 or Expat"
     echo
     if holds_program "$1"; then
-        echo "Files: usr/bin/hidlog"
+        echo "Files: usr/lib/hidlog/hidlog"
         echo "Copyright: 2026 Cogtzil maintainers"
         echo " 1991-2022 Free Software Foundation, Inc."
         echo "License: Apache-2.0 or Expat, and LGPL-2.1+"
@@ -83,10 +83,33 @@ pack() {
     dpkg-deb --root-owner-group -Zxz --build "$root" "$to/$1_${version}_$2.deb" >/dev/null
 }
 
+# Writes the command /usr/bin/hidlog, which runs the program of its package, or the command of python3-hidlog.
+write_command() {
+    cat <<'END'
+#!/bin/sh
+# The command hidlog: the program of this package, or a command of the package python3-hidlog.
+program=/usr/lib/hidlog/hidlog
+
+run_python() {
+    if [ ! -x /usr/lib/python3-hidlog/hidlog ]; then
+        [ "$1" != check ] || set -- "check --signatures"
+        echo "hidlog: $1 is a command of the Python package: install python3-hidlog, or hidlog with pip" >&2
+        exit 2
+    fi
+    exec /usr/lib/python3-hidlog/hidlog "$@"
+}
+
+END
+    sed 1d "$top/packages/command.sh"
+}
+
 # Makes the package of the program: make_program PROCESSOR PROGRAM
 make_program() {
     local root=$room/$1/hidlog
-    put 755 "$2" "$root/usr/bin/hidlog"
+    put 755 "$2" "$root/usr/lib/hidlog/hidlog"
+    mkdir -p "$root/usr/bin"
+    write_command >"$root/usr/bin/hidlog"
+    chmod 755 "$root/usr/bin/hidlog"
     put 644 docs/use/hidlog.1 "$root/usr/share/man/man1/hidlog.1"
     gzip -9n "$root/usr/share/man/man1/hidlog.1"
     put_completions "$root/usr/share"
@@ -95,7 +118,7 @@ make_program() {
     # Of a static program that is position-independent (its ELF type is 3) lintian says that a library lacks others.
     local tag=statically-linked-binary
     [ "$(od -An -t u1 -j 16 -N 1 "$top/$2" | tr -d ' ')" != 3 ] || tag=shared-library-lacks-prerequisites
-    override hidlog "$root" "It runs on any Linux, also where the C library is another." "$tag [usr/bin/hidlog]"
+    override hidlog "$root" "It runs on any Linux, also where the C library is another." "$tag [usr/lib/hidlog/hidlog]"
     pack hidlog "$1" utils "" "FIDO2 security key as a program, for tests" \
         "It plays, checks and shows logs of sessions of a security key (CTAP 2.1)."
 }
@@ -167,33 +190,25 @@ END
         "It makes a software security key by /dev/uhid, which browsers, OpenSSH and PAM use as one on USB."
 }
 
-# The Python package of the wheel for x86-64, with the command `hidlog` in the place of the plain program, which is
-# hidlog.plain then: by a diversion, so that either package may be installed and removed first.
+# The Python package of the wheel for x86-64, and its command, which /usr/bin/hidlog of the package hidlog runs.
 make_python() {
     local root=$room/amd64/python3-hidlog place name
     place=$root/usr/lib/python3/dist-packages
-    mkdir -p "$place" "$root/usr/bin"
+    mkdir -p "$place" "$root/usr/lib/python3-hidlog"
     python3 -m zipfile -e "$to"/hidlog-"$version"-*x86_64.whl "$place"
     rm "$place/hidlog/hidlog" "$place/hidlog/libhidlog.so.0" "$place"/hidlog-*.dist-info/RECORD
     rm -rf "$place"/hidlog-*.dist-info/licen?es
     find "$place" -type d -exec chmod 755 {} +
     find "$place" -type f -exec chmod 644 {} +
-    ln -s ../../../../bin/hidlog.plain "$place/hidlog/hidlog"
+    ln -s ../../../hidlog/hidlog "$place/hidlog/hidlog"
     ln -s ../../../x86_64-linux-gnu/libhidlog.so.0 "$place/hidlog/libhidlog.so.0"
     printf '%s\n' '#!/usr/bin/python3' 'import sys' '' 'from hidlog.__main__ import main' '' 'sys.exit(main())' \
-        >"$root/usr/bin/hidlog"
-    chmod 755 "$root/usr/bin/hidlog"
+        >"$root/usr/lib/python3-hidlog/hidlog"
+    chmod 755 "$root/usr/lib/python3-hidlog/hidlog"
     for name in "$top"/examples/browser_process/* "$top"/examples/python/*.py; do
         put 644 "${name#"$top"/}" "$root/usr/share/doc/python3-hidlog/${name#"$top"/}"
     done
     put 644 packages/readme/python3-hidlog.md "$root/usr/share/doc/python3-hidlog/README.md"
-    put_script "$root" preinst <<'END'
-#!/bin/sh
-set -e
-if [ "$1" = install ] || [ "$1" = upgrade ]; then
-    dpkg-divert --package python3-hidlog --rename --divert /usr/bin/hidlog.plain --add /usr/bin/hidlog
-fi
-END
     put_script "$root" postinst <<'END'
 #!/bin/sh
 set -e
@@ -208,15 +223,6 @@ if command -v py3clean >/dev/null; then
     py3clean -p python3-hidlog
 fi
 END
-    put_script "$root" postrm <<'END'
-#!/bin/sh
-set -e
-if [ "$1" = remove ] || [ "$1" = abort-install ]; then
-    dpkg-divert --package python3-hidlog --rename --divert /usr/bin/hidlog.plain --remove /usr/bin/hidlog
-fi
-END
-    override python3-hidlog "$root" "The package hidlog, which this one needs, has the page." \
-        "no-manual-page [usr/bin/hidlog]"
     pack python3-hidlog amd64 python "python3 (>= 3.9), python3-cryptography, hidlog (= $version), libhidlog0 (= $version)" \
         "FIDO2 security key for the tests of sign-in services (Python 3)" \
         "A browser and a security key as software: fixtures, WebDriver, captures, recordings."

@@ -32,6 +32,9 @@ LINES = (
     ("hidlog show --summ", "hidlog show --summary"),
     ("hidlog check --load key.sn", "hidlog check --load key.snapshot"),
     ("hidlog show sess", "hidlog show session.log"),
+    ("hidlog check --sig", "hidlog check --signatures"),
+    ("hidlog web", "hidlog webdriver"),
+    ("hidlog judge sess", "hidlog judge session.log"),
 )
 
 

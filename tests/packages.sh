@@ -49,27 +49,29 @@ tar -C "$room" -xzf "$room"/first/hidlog-*-linux-x86_64.tar.gz
 tarball=$(echo "$room"/hidlog-*)
 is_program "$tarball/bin/hidlog"
 has_cases tarball "$tarball/bin/hidlog"
-# As dpkg does: python3-hidlog has the command, and the program that it diverts has another name.
-for package in "$room"/first/*.deb; do
-    [[ $package == */python3-hidlog_* || $package == *_arm64.deb ]] || dpkg-deb -x "$package" "$room/root"
-done
-mv "$room/root/usr/bin/hidlog" "$room/root/usr/bin/hidlog.plain"
-is_program "$room/root/usr/bin/hidlog.plain"
-dpkg-deb -x "$room"/first/python3-hidlog_*.deb "$room/root"
+# As dpkg does, except that the command names the folder: installed_in ROOT PACKAGE ..
+installed_in() {
+    local package
+    for package in "${@:2}"; do
+        dpkg-deb -x "$package" "$1"
+    done
+    sed -i "s|/usr/lib/|$1/usr/lib/|" "$1/usr/bin/hidlog"
+}
+installed_in "$room/plain" "$room"/first/hidlog_*_amd64.deb
+is_program "$room/plain/usr/lib/hidlog/hidlog"
+has_cases hidlog "$room/plain/usr/bin/hidlog"
+mapfile -t debs < <(find "$room/first" -name '*.deb' ! -name '*_arm64.deb')
+installed_in "$room/root" "${debs[@]}"
 {
     echo '#!/bin/sh'
     echo "PYTHONDONTWRITEBYTECODE=1 PYTHONPATH=$room/root/usr/lib/python3/dist-packages exec $room/root/usr/bin/hidlog \"\$@\""
 } >"$room/python3-hidlog"
 chmod +x "$room/python3-hidlog"
-has_cases python3-hidlog "$room/python3-hidlog" cases_of_the_file arguments_are_utf_8
-[ "$("$room/python3-hidlog" mermaid "$log" | sed -n 1p)" = sequenceDiagram ] ||
-    stop "python3-hidlog has no commands of its own"
+has_cases python3-hidlog "$room/python3-hidlog"
 if python3 -c 'import venv, ensurepip' 2>/dev/null; then
     python3 -m venv "$room/venv"
     "$room/venv/bin/pip" install --quiet --no-index --no-deps --disable-pip-version-check "$room"/first/*x86_64.whl
     has_cases wheel "$room/venv/bin/hidlog" cases_of_the_file cases_of_logs arguments_are_utf_8
-    [ "$("$room/venv/bin/hidlog" mermaid "$log" | sed -n 1p)" = sequenceDiagram ] ||
-        stop "the wheel has no commands of its own"
 fi
 # The completion of bash knows the commands, their options, and where a path follows.
 completes() {
@@ -109,7 +111,7 @@ if command -v aarch64-linux-gnu-gcc >/dev/null && command -v qemu-aarch64-static
     if [ -e "$top/release/aarch64/hidlog" ]; then
         mkdir "$room/tarball_arm64"
         tar -C "$room/tarball_arm64" -xzf "$room"/first/hidlog-*-linux-aarch64.tar.gz
-        for program in "$room/arm64/usr/bin/hidlog" "$room"/tarball_arm64/hidlog-*/bin/hidlog; do
+        for program in "$room/arm64/usr/lib/hidlog/hidlog" "$room"/tarball_arm64/hidlog-*/bin/hidlog; do
             cmp "$program" "$top/release/aarch64/hidlog" || stop "$program is another program"
         done
         printf '#!/bin/sh\nexec qemu-aarch64-static -0 hidlog %s "$@"\n' "$top/release/aarch64/hidlog" >"$room/hidlog_arm64"
@@ -141,6 +143,11 @@ if command -v node >/dev/null; then
     HIDLOG=$top/release/hidlog node "$top/tests/web/npm_package.mjs" "$room/npm" || stop "the npm package's command or README"
     echo "tests/packages.sh: the npm package is loaded"
 fi
+# Each package's command by its name: the same commands, and the same help.
+commands=("$room/plain/usr/bin/hidlog" "$room/python3-hidlog")
+[ ! -x "$room/venv/bin/hidlog" ] || commands+=("$room/venv/bin/hidlog")
+[ ! -d "$room/npm" ] || commands+=("$room/npm/node_modules/hidlog/cli.mjs")
+python3 "$top/tests/one_command.py" "${commands[@]}" || stop "the packages' commands aren't the same"
 python3 "$top/tests/packages_hold.py" "$room/first"
 "$top/tests/packages_signed.sh" "$room/first" || [ $? = 3 ] || stop "releases aren't signed as they should be"
 # What systemd says of the unit's rights, from 0 to 100: as root, without a filter, it had 44.

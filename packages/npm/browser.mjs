@@ -81,6 +81,15 @@ const answerTo = async (line, commands) => {
     }
 };
 
+const HELP = `usage: hidlog browser [-h] --origin ORIGIN
+
+A browser and its key, as JSON lines.
+
+options:
+  -h, --help       show this help message and exit
+  --origin ORIGIN  the page's, such as https://example.com
+`;
+
 const fail = (text) => {
     process.stderr.write(`hidlog: ${text}\n`);
     process.exit(2);
@@ -88,6 +97,10 @@ const fail = (text) => {
 
 /** Serves lines until standard input ends. @param {string[]} words */
 export const serve = async (words) => {
+    if (words.includes("--help") || words.includes("-h")) {
+        process.stdout.write(HELP);
+        return;
+    }
     if (words.length !== 2 || words[0] !== "--origin") {
         fail("browser wants an origin: hidlog browser --origin https://example.com");
     }

@@ -2,24 +2,6 @@
 import { readFileSync } from "node:fs";
 
 const COMMANDS = ["check", "replay", "quiet", "show"];
-const HELP = `Checks and shows recordings of a FIDO2 security key
-
-Usage: npx hidlog check|replay|quiet|show [--load SNAPSHOT] [FILE]...
-       npx hidlog browser --origin URL
-
-  check    Compares the packets that the log names as sent with those that the key sends
-  replay   Writes the log with the packets that the key sends, and what it counted
-  quiet    Writes the log's inputs, with a tick in place of each that is noise
-  show     Writes what the log's lines say
-  browser  Serves registrations and sign-ins as JSON lines, at an origin
-
-  --load SNAPSHOT   Starts with these credentials: key.recordings() has them (not for show)
-  --explain         With show: in words for people
-  -h, --help, -V, --version
-
-FILE is standard input where none is named, and for -; check takes several. Exit status: 0, or 1 where a log differs or
-can't be read, or 2 for wrong words. The program for Linux has more words: live, check --all, show --json.
-`;
 const fileOf = (name) => new URL(name, import.meta.url);
 
 /** Ends with a text on standard error. @param {string} text @param {number} status */
@@ -36,8 +18,10 @@ const optionsOf = (words) => {
         const word = rest.shift();
         if (word === "--load") {
             options.snapshot = bytesOf(rest.shift() ?? fail("--load wants a snapshot", 2), "snapshot");
-        } else if (word === "--explain") {
-            options.explain = true;
+        } else if (word.startsWith("--load=")) {
+            options.snapshot = bytesOf(word.slice("--load=".length), "snapshot");
+        } else if (word === "--explain" || word === "--plain") {
+            options.explain = word === "--explain";
         } else if (/^--?\w/.test(word)) {
             fail(`there is no option ${word}: npx hidlog --help lists them`, 2);
         } else {
@@ -95,7 +79,7 @@ const run = async (command, words) => {
 /** Runs a command line. @param {string[]} given */
 export const main = async ([command, ...words]) => {
     if (command === undefined || command === "--help" || command === "-h" || command === "help") {
-        process[command ? "stdout" : "stderr"].write(HELP);
+        process[command ? "stdout" : "stderr"].write(readFileSync(fileOf("help.txt")));
         process.exitCode = command ? 0 : 2;
     } else if (command === "--version" || command === "-V") {
         process.stdout.write(`hidlog ${JSON.parse(readFileSync(fileOf("package.json"), "utf8")).version}\n`);

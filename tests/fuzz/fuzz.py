@@ -33,20 +33,11 @@ def arguments():
     parser.add_argument("--seed", default="1", help="where the logs come from; by default 1")
     parser.add_argument("--count", type=int, default=1000, help="how many logs; by default 1000")
     parser.add_argument("--only", type=int, help="the log of this number alone")
-    parser.add_argument("--program", default=os.path.join(TOP, "hidlog"), help="by default ./hidlog")
+    parser.add_argument("--program", default=os.path.join(TOP, "release/hidlog"), help="by default release/hidlog")
     parser.add_argument("--jobs", type=int, default=2, help="how many processes; by default 2")
     parser.add_argument("--executor", default="", metavar="dask://HOST:PORT", help="a Dask scheduler's workers play")
     parser.add_argument("--keep", default=".", help="where failing logs are kept; by default here")
     return parser.parse_args()
-
-
-def built(program):
-    """The program itself, where the launcher is named: that takes its time to find whether a source has changed."""
-    if os.path.realpath(program) != os.path.join(TOP, "hidlog"):
-        return program
-    subprocess.run([program, "--help"], check=True, stdout=subprocess.DEVNULL)
-    with open(os.path.join(TOP, "release", "out", "current"), encoding="utf-8") as file:
-        return os.path.join(TOP, file.read().split()[0])
 
 
 def runner_of(program):
@@ -98,7 +89,7 @@ def summary(count, totals, seconds):
 
 def main():
     options = arguments()
-    program = built(options.program)
+    program = options.program
     numbers = range(options.count) if options.only is None else [options.only]
     if options.only is not None:
         print(f"the log is {keep(options, options.only)}")

@@ -1,7 +1,7 @@
 #!/usr/bin/env python3
 """Shows that each rule of judge.py can be broken: it doctors what the program wrote, and the judge has to find that.
 
-    tests/fuzz/self_test.py [PROGRAM]         by default ./hidlog
+    tests/fuzz/self_test.py [PROGRAM]         by default release/hidlog
 
 It ends with 0 where the judge finds nothing in what the program wrote, and finds each doctored answer by the rule
 that it breaks.
@@ -13,7 +13,7 @@ import tempfile
 
 sys.dont_write_bytecode = True
 
-from fuzz import TOP, built, runner_of
+from fuzz import TOP, runner_of
 from hostile import BROADCAST, CBOR, GET, INIT, MAKE, PING, encode, packets_of
 from judge import RULES, Finding, judge, judge_saved
 
@@ -196,7 +196,7 @@ def found(log, run):
 
 
 def main():
-    run = runner_of(built(sys.argv[1] if len(sys.argv) > 1 else os.path.join(TOP, "hidlog")))
+    run = runner_of(sys.argv[1] if len(sys.argv) > 1 else os.path.join(TOP, "release/hidlog"))
     wrong = [f"a log as it is breaks {found(log, run)}" for log in (GOOD, BAD) if found(log, run)]
     for number, (rule, log, command, which, change) in enumerate(CASES):
         broken = found(log, doctored(run, command, which, change))

@@ -78,15 +78,17 @@ clean "Ruby and Java, of python3-hidlog" "mkdir -p /usr/share/man/man1
 apt-get install $debs /packages/python3-hidlog_${version}_amd64.deb ruby openjdk-17-jdk-headless
 readme /usr/share/doc/python3-hidlog/README.md 'Ruby, Java, Go, Perl, PHP' | tee out
 [ \"\$(grep -c '^ok\$' out)\" = 2 ] && tail -1 out"
-clean "the command, as dpkg diverts it" "apt-get install $debs
-cmp /usr/bin/hidlog <(dpkg-deb --fsys-tarfile /packages/hidlog_${version}_amd64.deb | tar -xO ./usr/bin/hidlog)
+clean "the command, with python3-hidlog and without" "apt-get install $debs
+! hidlog mermaid /usr/share/doc/hidlog/examples/sign_in.log 2>said && cat said
+hidlog --help >help
 apt-get install /packages/python3-hidlog_${version}_amd64.deb
-cd /usr/share/doc/hidlog && hidlog check examples/sign_in.log && hidlog.plain check examples/sign_in.log
+cd /usr/share/doc/hidlog && hidlog check examples/sign_in.log
+hidlog --help | cmp - /work/help
 hidlog mermaid examples/sign_in.log | sed -n 1p
 apt-get install --reinstall $debs
 hidlog mermaid examples/sign_in.log | sed -n 1p
 apt-get purge python3-hidlog
-! hidlog mermaid examples/sign_in.log && ! [ -e /usr/bin/hidlog.plain ] && ! [ -d /usr/lib/python3/dist-packages/hidlog ]
+! hidlog mermaid examples/sign_in.log && ! [ -d /usr/lib/python3-hidlog ] && ! [ -d /usr/lib/python3/dist-packages/hidlog ]
 hidlog check examples/sign_in.log
 dpkg -i /packages/hidlog-uhid_${version}_amd64.deb || apt-get install -f
 hidlog-uhid --version"

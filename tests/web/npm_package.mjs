@@ -45,12 +45,16 @@ for (const [words, status, said] of [
     [["chek", "a.log"], 2, "there are check"], [["check", "nothing.log"], 1, "nothing.log"],
     [["check", "--lod", "x"], 2, "--help"], [["check", "--load"], 2, "snapshot"], [["browser"], 2, "--origin"],
     [["browser", "--origin", "example.com"], 2, "https://example.com"], [["replay", "a", "b"], 2, "one log"],
+    [["judge", "a.log"], 2, "Python package"], [["check", "--signatures"], 2, "check --signatures is a command of"],
 ]) {
     const end = ran("node", [command, ...words]);
     assert.equal(end.status, status, words.join(" "));
     assert.ok(end.stderr.includes(said) && end.stderr.trim().split("\n").length === 1, end.stderr);
 }
-assert.match(ran("node", [command, "--help"]).stdout, /Usage: npx hidlog/);
+for (const words of [["--help"], ["-h"], ["help"]]) {
+    assert.deepEqual(ran("node", [command, ...words]), ran(program, words));
+}
+assert.match(ran("node", [command, "help", "browser"]).stdout, /^usage: hidlog browser .*--origin/);
 assert.equal(ran("node", [command]).status, 2);
 console.log("ok  mistakes at npx hidlog");
 

@@ -19,14 +19,17 @@ if TYPE_CHECKING:
 
 
 def program_paths() -> list[Path]:
-    """Returns where the program is looked for, in order: HIDLOG, the package, the path, and a clone's ./hidlog."""
+    """Returns where the program is looked for, in order: HIDLOG, the package, the path, and a clone's ./hidlog.
+
+    Relative folders of the path, such as the current one, are left out."""
     if named := os.environ.get("HIDLOG"):
         return [Path(named)]
     here = Path(__file__).resolve().parent
-    on_path = shutil.which("hidlog")
+    folders = [folder for folder in os.environ.get("PATH", os.defpath).split(os.pathsep) if os.path.isabs(folder)]
+    on_path = shutil.which("hidlog", path=os.pathsep.join(folders))
     if on_path and _is_of_python(on_path):
         on_path = None
-    clone = [folder / "hidlog" for folder in list(here.parents)[2:3] if (folder / "release" / "hidlog").is_file()]
+    clone = [top / "hidlog" for top in list(here.parents)[2:3] if (top / "release" / "hidlog").is_file()]
     return [here / "hidlog", *([Path(on_path)] if on_path else []), *clone]
 
 
