@@ -4,6 +4,7 @@
 //     node bench/key.mjs MODULE COUNT     writes seconds for the first and for the last thousand sign-ins, the least and
 //                                         the median of all thousands (beside other work: chrt -f 1 node ..)
 import { readFileSync } from "node:fs";
+import { INITIALIZATION_DATA, PACKET_SIZE } from "../web/key/standard.js";
 
 const [path, count] = process.argv.slice(2);
 const { instance } = await WebAssembly.instantiate(readFileSync(path), {});
@@ -35,15 +36,15 @@ const take = (waiting, expected, what) => {
 
 /** Sends a message of at most 116 bytes on a channel. */
 const send = (moment, channel, command, message) => {
-    bytes.fill(0, places.packet, places.packet + 64);
+    bytes.fill(0, places.packet, places.packet + PACKET_SIZE);
     view.setUint32(places.packet, channel);
     view.setUint8(places.packet + 4, 0x80 | command);
     view.setUint16(places.packet + 5, message.length);
-    bytes.set(message.subarray(0, 57), places.packet + 7);
+    bytes.set(message.subarray(0, INITIALIZATION_DATA), places.packet + 7);
     let waiting = core.hidlog_key_packet(at.key, moment, at.packet);
-    if (message.length > 57) {
+    if (message.length > INITIALIZATION_DATA) {
         bytes.fill(0, places.packet + 4, places.packet + 64);
-        bytes.set(message.subarray(57), places.packet + 5);
+        bytes.set(message.subarray(INITIALIZATION_DATA), places.packet + 5);
         waiting = core.hidlog_key_packet(at.key, moment, at.packet);
     }
     return waiting;

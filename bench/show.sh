@@ -13,6 +13,9 @@ import sys
 from pathlib import Path
 
 top, work = map(Path, sys.argv[1:])
+sys.path.insert(0, str(top / "tests/fuzz"))
+from framing import LONGEST, packets
+
 SIZE = 24_000_000
 
 
@@ -22,16 +25,12 @@ def repeated(log):
 
 def request(head, byte):
     """The lines of a request of 7609 bytes: the command 1, and a map with one string."""
-    length = 7609 - 6
+    length = LONGEST - 6
     message = b"\x01\xa1\x01" + bytes([head]) + length.to_bytes(2, "big") + byte * length
-    packets = ["0000000190" + f"{len(message):04x}" + message[:57].hex()]
-    rest = message[57:]
-    for number in range((len(rest) + 58) // 59):
-        packets.append("00000001" + f"{number:02x}" + rest[59 * number : 59 * number + 59].hex())
-    return "".join(f"> 0 {it.ljust(128, '0')}\n" for it in packets).encode()
+    return "".join(f"> 0 {packet.hex()}\n" for packet in packets(1, 0x10, message)).encode()
 
 
-worked = b"".join(it.read_bytes() for it in sorted((top / "crates/hidlog/data").glob("*/*.log")))
+worked = b"".join(log.read_bytes() for log in sorted((top / "crates/hidlog/data").glob("*/*.log")))
 (work / "worked").write_bytes(repeated(worked))
 (work / "bytes").write_bytes(repeated(request(0x59, b"\xaa")))
 (work / "controls").write_bytes(repeated(request(0x79, b"\x1b")))

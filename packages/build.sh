@@ -190,8 +190,7 @@ make_crate() {
         put 644 release/libhidlog.a "$folder/lib/x86_64/libhidlog.a"
         put 644 release/aarch64/libhidlog.a "$folder/lib/aarch64/libhidlog.a"
     fi
-    sed -i "s/^version = .*/version = \"$version\"/" "$folder/Cargo.toml"
-    sed -i "s|^hidlog-sys = .*|hidlog-sys = { version = \"$version\", path = \"../hidlog-sys-$version\" }|" "$folder/Cargo.toml"
+    sed -i "s|path = \"../hidlog-sys\"|path = \"../hidlog-sys-$version\"|" "$folder/Cargo.toml"
     tar -C "$room/crates" --sort=name --owner=0 --group=0 --numeric-owner --mtime="@$SOURCE_DATE_EPOCH" -cf - \
         "$1-$version" | gzip -9n >"$to/$1-$version.crate"
 }

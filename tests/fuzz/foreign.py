@@ -26,10 +26,10 @@ from typing import Any, Iterator, Optional
 
 sys.dont_write_bytecode = True
 
+from framing import BROADCAST, LONGEST, first_data, next_data, packets
 from judging import judge_all
 
 PING, MSG, INIT, WINK, CBOR, CANCEL, KEEPALIVE, ERROR = 0x01, 0x03, 0x06, 0x08, 0x10, 0x11, 0x3B, 0x3F
-BROADCAST, LONGEST = 0xFFFFFFFF, 7609
 INVALID_COMMAND, INVALID_LENGTH, INVALID_SEQUENCE, TIMED_OUT, CHANNEL_BUSY = 0x01, 0x03, 0x04, 0x05, 0x06
 MAKE, ASSERT, INFO = b"\x01", b"\x02", b"\x04"
 # What a key drops in silence.
@@ -97,15 +97,6 @@ class Message:
     @property
     def is_whole(self) -> bool:
         return self.length <= LONGEST and len(self.data) >= self.length
-
-
-def packets(channel: int, command: int, data: bytes) -> list[bytes]:
-    """The packets of a message."""
-    front = channel.to_bytes(4, "big")
-    made = [front + bytes([0x80 | command]) + len(data).to_bytes(2, "big") + data[:57]]
-    for number, at in enumerate(range(57, len(data), 59)):
-        made.append(front + bytes([number]) + data[at : at + 59])
-    return [it.ljust(64, b"\0") for it in made]
 
 
 class Log:
@@ -247,7 +238,7 @@ class Key:
             self.log.allowed[line] = list(self.log.of_channel[channel])
         else:
             length = int.from_bytes(packet[5:7], "big")
-            data = packet[7 : 7 + min(57, length)]
+            data = first_data(packet, length)
             self.log.messages[line] = Message(line, channel, packet[4] & 0x7F, length, data, self.now)
             self.log.owners[line] = line
             if packet[4] != 0x80 | INIT:
@@ -294,7 +285,7 @@ class Key:
             return
         message.next += 1
         message.last = at
-        message.data += packet[5 : 5 + min(59, message.length - len(message.data))]
+        message.data += next_data(packet, message.length - len(message.data))
         if message.is_whole:
             self.begin(message)
 

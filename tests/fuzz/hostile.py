@@ -7,11 +7,11 @@ damaged, given moments and written as lines, and the lines may be damaged again.
 import random
 import re
 
-BROADCAST = 0xFFFFFFFF
+from framing import BROADCAST, LONGEST, packets
+
 PING, MSG, LOCK, INIT, WINK, CBOR, CANCEL = 0x81, 0x83, 0x84, 0x86, 0x88, 0x90, 0x91
 MAKE, GET, INFO, PIN, RESET, NEXT, SELECTION = 0x01, 0x02, 0x04, 0x06, 0x07, 0x08, 0x0B
 LATEST = 2**64 - 1
-LONGEST = 7609
 SITES = ("a.example", "b.example", "c.example")
 
 
@@ -43,13 +43,7 @@ def encode(item):
 
 def packets_of(channel, command, data, length=None):
     """The packets of a message; its length is told as it is, unless another one is given."""
-    front = channel.to_bytes(4, "big")
-    told = len(data) if length is None else length
-    pieces = [front + bytes([command]) + (told & 0xFFFF).to_bytes(2, "big") + data[:57]]
-    rest = data[57:]
-    for number in range((len(rest) + 58) // 59):
-        pieces.append(front + bytes([number & 0x7F]) + rest[59 * number : 59 * number + 59])
-    return [(">", piece.ljust(64, b"\0")) for piece in pieces]
+    return [(">", packet) for packet in packets(channel, command, data, length)]
 
 
 class Maker:

@@ -19,6 +19,7 @@ from typing import Any, Iterator, Optional
 
 sys.dont_write_bytecode = True
 
+from framing import KEEPALIVE_MS
 from judging import judge_all
 from request_faults import fault_of
 from transactions import CBOR, ERROR, EXCLUDED, KEEPALIVE, RESET, Hosts, Machine, Transaction, ctap_cbor, needs_in
@@ -64,7 +65,7 @@ def reason_of(
         again = bytes([0x80 | KEEPALIVE, 0, 1, 2 if need == b"presence" else 1])
         if not other and logged[4:8] == again and machine.alive + 100 < 1 << 64:
             moment = line.split(b" ")[1].decode()
-            return f"its next KEEPALIVE is due at {machine.alive + 100}; line {found['input']} is at {moment}"
+            return f"its next KEEPALIVE is due at {machine.alive + KEEPALIVE_MS}; line {found['input']} is at {moment}"
         return f"it needs {NEEDS[need]}{other}"
     if not sent and machine.is_stray:
         return f"line {found['input']} is a continuation packet of no open message"

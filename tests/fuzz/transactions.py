@@ -24,12 +24,12 @@ sys.dont_write_bytecode = True
 TOP = os.path.realpath(os.path.join(os.path.dirname(os.path.abspath(__file__)), "..", ".."))
 sys.path.insert(0, os.path.join(TOP, "conformance"))
 
+from framing import BROADCAST, KEEPALIVE_MS, LONGEST, first_data, next_data
 from hidlog_conformance import ctap_cbor
 from hostile import MAKE, RESET, Maker, encode
 from judging import judge_all
 
 PING, INIT, CBOR, CANCEL, KEEPALIVE, ERROR = 0x01, 0x06, 0x10, 0x11, 0x3B, 0x3F
-BROADCAST, LONGEST = 0xFFFFFFFF, 7609
 EXCLUDED = 0x19
 INPUTS = (b">", b"t", b"p", b"k", b"s")
 REPLIES = {b"presence": b"p", b"key": b"k", b"signature": b"s"}
@@ -232,7 +232,7 @@ class Machine:
             times = f"its last packet came at {self.open.last}, 500 ms or more before {self.now}"
             self.refuse(self.open, 0x05, f"the message timed out: {times}")
             self.open = None
-        elif self.work and self.now - self.alive >= 100:
+        elif self.work and self.now - self.alive >= KEEPALIVE_MS:
             self.keep_alive()
 
     # ---- packets of hosts
@@ -245,7 +245,7 @@ class Machine:
             self.cancel(number, channel)
         else:
             length = int.from_bytes(packet[5:7], "big")
-            begun = Transaction(number, channel, packet[4] & 0x7F, length, packet[7 : 7 + min(length, 57)], self.now)
+            begun = Transaction(number, channel, packet[4] & 0x7F, length, first_data(packet, length), self.now)
             self.transactions[number] = begun
             self.owners[number] = number
             self.begin(begun)
@@ -271,7 +271,7 @@ class Machine:
             return
         message.next += 1
         message.last = self.now
-        message.data += packet[5 : 5 + min(59, message.length - len(message.data))]
+        message.data += next_data(packet, message.length - len(message.data))
         if message.is_whole:
             self.open = None
             self.finish(message)

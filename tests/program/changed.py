@@ -8,14 +8,17 @@ greets the next host. Many requests are in one log, whose every input has the mo
 from __future__ import annotations
 
 import itertools
+import sys
 from dataclasses import dataclass
 from pathlib import Path
 from typing import Iterable, Sequence
 
+sys.path.insert(0, str(Path(__file__).resolve().parents[1] / "fuzz"))
+
+from framing import BROADCAST, packets
 from running import run
 
 PING, INIT, CBOR, KEEPALIVE, ERROR = 0x81, 0x86, 0x90, 0xBB, 0xBF
-BROADCAST = 0xFFFFFFFF
 NONCE = bytes([8] * 8)
 REGISTRATION_MEMBERS = (
     b"\x01\x58\x20"
@@ -25,14 +28,6 @@ REGISTRATION_MEMBERS = (
 REGISTRATION = b"\x01\xa5" + REGISTRATION_MEMBERS
 SIGN_IN = b"\x02\xa2\x01\x6bexample.com\x02\x58\x20" + b"\x22" * 32
 REPLIES = [b"p 0 granted", b"k 0 " + b" ".join([b"ab" * 32, b"bb" * 32, b"cc" * 32]), b"s 0 " + b"dd" * 70]
-
-
-def packets(channel: int, command: int, data: bytes) -> list[bytes]:
-    """Returns the packets of a message."""
-    front = channel.to_bytes(4, "big")
-    cut = [data[:57], *(data[at : at + 59] for at in range(57, len(data), 59))]
-    heads = itertools.chain([bytes([command]) + len(data).to_bytes(2, "big")], (bytes([it]) for it in range(128)))
-    return [(front + head + part).ljust(64, b"\0") for part, head in zip(cut, heads)]
 
 
 def came(sent: Iterable[bytes]) -> list[bytes]:
