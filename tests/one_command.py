@@ -36,6 +36,19 @@ MISSING = re.compile(
 )
 
 
+# Words that every package's command hands to the program.
+SAME: tuple[list[str], ...] = (
+    ["--help"],
+    ["-h"],
+    ["help"],
+    ["--version"],
+    ["help", "show"],
+    ["check", "--help"],
+    ["frobnicate"],
+    [],
+)
+
+
 def ran(command: list[str], *words: str) -> tuple[int, str, str]:
     """Returns how a command ends, in a folder with files that it must not run."""
     environment = {**os.environ, "PYTHONDONTWRITEBYTECODE": "1", "COLUMNS": "100", "PATH": f".:{os.environ['PATH']}"}
@@ -75,16 +88,7 @@ def differences_of(command: list[str], names: set[str]) -> list[str]:
     """Returns what a command does otherwise than the program, or than it should where the program hasn't the command."""
     wrong = []
     own = ["check", "live", "quiet", "replay", "show"]
-    for words in (
-        ["--help"],
-        ["-h"],
-        ["help"],
-        ["--version"],
-        ["help", "show"],
-        ["check", "--help"],
-        ["frobnicate"],
-        [],
-    ):
+    for words in SAME:
         if ran(command, *words) != ran([str(PROGRAM)], *words):
             wrong.append(f"{words} differ: {ran(command, *words)}")
     for name in sorted(names):

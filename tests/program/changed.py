@@ -42,12 +42,14 @@ def sent(key: Iterable[bytes]) -> list[bytes]:
 
 def status(number: int) -> bytes:
     """Returns the packet of an answer on channel 1 that is a status alone."""
-    return packets(1, CBOR, bytes([number]))[0]
+    first: bytes = packets(1, CBOR, bytes([number]))[0]
+    return first
 
 
 def greeting(channel: int) -> bytes:
     """Returns the answer to INIT on all channels."""
-    return packets(BROADCAST, INIT, NONCE + channel.to_bytes(4, "big") + b"\x02\x01\x00\x00\x0c")[0]
+    first: bytes = packets(BROADCAST, INIT, NONCE + channel.to_bytes(4, "big") + b"\x02\x01\x00\x00\x0c")[0]
+    return first
 
 
 HOST = packets(BROADCAST, INIT, NONCE)
