@@ -34,7 +34,7 @@ from dataclasses import dataclass, field
 from pathlib import Path
 
 TOP = Path(__file__).resolve().parent.parent
-SECONDS = 240
+SECONDS = 1200
 MISSING = 3
 LINK = re.compile(r"\]\(([^)#\s]+)(?:#[^)]*)?\)")
 # A path of the repository in backquotes: its first folder is there, and nothing in it is a placeholder.
@@ -175,12 +175,27 @@ def environment(installed: Path) -> dict[str, str]:
     }
 
 
+# A line that starts servers and then sleeps, as a reader does until they listen.
+SERVERS = re.compile(r"^(.*(?:--port|http\.server) \d+.*)& sleep \d+$", re.MULTILINE)
+
+
+def waiting(command: str) -> str:
+    """Returns a command that waits until servers listen on their ports in the place of sleeping: the machine may be busy."""
+
+    def line(found: re.Match[str]) -> str:
+        ports = re.findall(r"(?:--port|http\.server) (\d+)", found[1])
+        waits = (f"until (exec 9<>/dev/tcp/127.0.0.1/{port}) 2>/dev/null; do sleep 0.2; done" for port in ports)
+        return f"{found[1]}& " + "; ".join(waits)
+
+    return SERVERS.sub(line, command)
+
+
 def run(command: str, folder: Path, installed: Path | None = None) -> tuple[int, str]:
     """Runs a command in a folder, and returns its status and all that it printed. What it leaves running is ended."""
     with (
         tempfile.TemporaryFile() as printed,
         subprocess.Popen(
-            ["bash", "-c", command],
+            ["bash", "-c", waiting(command)],
             cwd=folder,
             env=environment(installed) if installed else None,
             stdin=subprocess.DEVNULL,

@@ -28,7 +28,7 @@ MANY = 500
 
 def played(command: str, log: bytes, options: list[str]) -> bytes:
     """Returns what a command writes for a log."""
-    ended = subprocess.run([PROGRAM, command, *options], input=log, capture_output=True, timeout=60, check=True)
+    ended = subprocess.run([PROGRAM, command, *options], input=log, capture_output=True, timeout=600, check=True)
     return ended.stdout
 
 
@@ -110,7 +110,7 @@ def compare(room: Path, log: Log, changes: list[tuple[bytes, str]]) -> None:
     for number, (text, _) in enumerate(changes):
         (room / str(number)).write_bytes(text)
     names = [str(number) for number in range(len(changes))]
-    ended = subprocess.run([PROGRAM, "check", *log.options, *names], cwd=room, capture_output=True, timeout=60)
+    ended = subprocess.run([PROGRAM, "check", *log.options, *names], cwd=room, capture_output=True, timeout=600)
     assert (ended.returncode, ended.stdout) == (1, b""), f"{log.name}: {ended.stdout.decode()}"
     said = [it for it in ended.stderr.decode().splitlines() if not it.startswith(" ")]
     wanted = [f"{number}: {place}" for number, (_, place) in enumerate(changes)]

@@ -5,9 +5,9 @@
 # `pg_virtualenv examples/load/run.sh`; else in sqlite. HIDLOG_PROCESSES says how many processes serve, by default 1.
 #
 # The service, a master and the workers run here, by the package of this clone. Two runs follow each other, each of so
-# many seconds (by default 10, 20 users, 2 workers); the second signs in with the users of the first. In between a
-# worker is killed where HIDLOG_KILL is set. Ends with 3 where a package of Debian is missing, and with 1 where a
-# ceremony failed or the second run knows nobody.
+# many seconds (by default 10, 20 users, 2 workers), and again where that was too short on a busy machine; the second signs
+# in with the users of the first. In between a worker is killed where HIDLOG_KILL is set. Ends with 3 where a package of
+# Debian is missing, and with 1 where a ceremony failed or the users of the first run don't sign in.
 set -euo pipefail
 here=$(cd "$(dirname "${BASH_SOURCE[0]}")" && pwd)
 seconds=${1:-10}
@@ -18,10 +18,10 @@ python=/usr/bin/python3
     { echo "locust, flask or fido2 is missing (apt-get install python3-locust python3-flask python3-fido2)" >&2 && exit 3; }
 work=$(mktemp -d)
 started=()
-# Waits for these processes, for ten seconds at most. What is left of them then is killed, as one that was stopped.
+# Waits for these processes, for two minutes at most. What is left of them then is killed, as one that was stopped.
 await() {
     local tenths
-    for ((tenths = 0; tenths < 100; tenths++)); do
+    for ((tenths = 0; tenths < 1200; tenths++)); do
         kill -0 "$@" 2>/dev/null || return 0
         sleep 0.1
     done
@@ -62,7 +62,7 @@ until "$python" -c "import socket; socket.create_connection(('127.0.0.1', $port)
     sleep 0.1
 done
 
-# Runs Locust once: load NAME [USERS BEFORE AFTER], with the words of figures.py
+# Runs Locust once: load NAME USERS [BEFORE] AFTER, with the words of figures.py
 load() {
     local words=("$python" -W ignore -m locust -f "$here/locustfile.py" --loglevel WARNING --security-keys "$work/keys.db"
         --failed-logs "$work/failed") each ran=() master
@@ -85,6 +85,18 @@ load() {
     "$python" "$here/figures.py" "$1" "$work/$1_stats.csv" "${@:2}"
 }
 
-load one
+# Runs Locust until the run was long enough: loads NAME USERS [BEFORE] AFTER
+loads() {
+    local status tries
+    for tries in 1 2 3 4 5 6 7 8 9 10; do
+        status=0
+        load "$@" || status=$?
+        [ "$status" = 4 ] || return "$status"
+        echo "$1: run $tries was too short"
+    done
+    return 1
+}
+
+loads one "$users" "$work/keys.db"
 "$python" -c 'import sqlite3, sys; sqlite3.connect(sys.argv[1]).execute("vacuum into ?", sys.argv[2:])' "$work/keys.db" "$work/before.db"
-load two "$users" "$work/before.db" "$work/keys.db"
+loads two "$users" "$work/before.db" "$work/keys.db"

@@ -25,6 +25,8 @@ PACKET = 64
 INIT, PING, CBOR, KEEPALIVE, ERROR = 0x86, 0x81, 0x90, 0xBB, 0xBF
 SO_SNDBUFFORCE = 32
 BROADCAST = b"\xff" * 4
+# Seconds that only a bridge takes that hangs.
+HANGS = 300.0
 
 
 def packets_of(name: str) -> list[bytes]:
@@ -106,7 +108,7 @@ class Bridge:
                 it.ended()
         cls.running.clear()
 
-    def plugged_in(self, seconds: float = 20) -> bool:
+    def plugged_in(self, seconds: float = HANGS) -> bool:
         """Waits until the bridge has made its device. False where it ended before."""
         try:
             return next(self.events(seconds))[0] == CREATE2
@@ -146,7 +148,7 @@ class Bridge:
             if kind == INPUT2:
                 yield data[2 : 2 + PACKET]
 
-    def answer(self, channel: bytes, seconds: float = 20) -> bytes:
+    def answer(self, channel: bytes, seconds: float = HANGS) -> bytes:
         """Returns the next message on a channel that is no KEEPALIVE: its command and its data."""
         data, wanted, command = b"", 0, 0
         for it in self.packets(seconds):
@@ -160,7 +162,7 @@ class Bridge:
                 return bytes([command]) + data[:wanted]
         raise TimeoutError(f"channel {channel.hex()} got no answer in {seconds} s")
 
-    def channel(self, nonce: bytes, seconds: float = 20) -> bytes:
+    def channel(self, nonce: bytes, seconds: float = HANGS) -> bytes:
         """Gets a channel, as each program does first."""
         self.write(packet(BROADCAST, INIT, nonce))
         for it in self.packets(seconds):
@@ -179,12 +181,12 @@ class Bridge:
             self.write(channel + it[4:])
         return self.answer(channel)
 
-    def end(self, number: int = signal.SIGTERM, seconds: float = 20) -> tuple[int, str]:
+    def end(self, number: int = signal.SIGTERM, seconds: float = HANGS) -> tuple[int, str]:
         """Ends the bridge by a signal, and returns its status and what it said."""
         self.process.send_signal(number)
         return self.ended(seconds)
 
-    def ended(self, seconds: float = 20) -> tuple[int, str]:
+    def ended(self, seconds: float = HANGS) -> tuple[int, str]:
         """Waits until the bridge ends, and returns its status and what it said."""
         try:
             _, said = self.process.communicate(timeout=seconds)

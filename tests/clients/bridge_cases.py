@@ -29,6 +29,7 @@ from bridge import (
     CBOR,
     ERROR,
     Ended,
+    HANGS,
     INIT,
     INPUT2,
     OUTPUT,
@@ -44,8 +45,6 @@ NOBODY = 65534
 BUSY = 0x06
 UHID_PLAIN = str(Path(sys.argv[1]).resolve()) if len(sys.argv) > 1 else ""
 UHID = str(Path(sys.argv[-1]).resolve()) if len(sys.argv) > 1 else ""
-# In how many seconds a program is answered while another floods. Alone the registration takes 0.05, its touch aside.
-FAIR = 2.0
 
 
 def made(room: Path) -> tuple[Path, bytes]:
@@ -153,7 +152,7 @@ def a_link_planted_meanwhile_is_not_written_over(room: Path) -> None:
         pass
     finally:
         is_over.set()
-        lane.join(20)
+        lane.join(HANGS)
     wants(bridge.ended(), 1, "File exists: nothing was saved, and the old file is kept")
     assert other.read_bytes() == b"another's" and state.read_bytes() == old
 
@@ -314,15 +313,23 @@ class Flood:
 
     def is_under_way(self) -> bool:
         """Waits until it has written a thousand packets."""
-        end = time.monotonic() + 20
-        while self.written < 1000 and time.monotonic() < end:
+        return self.has_written(1000)
+
+    def goes_on(self) -> bool:
+        """Waits until it has written another packet."""
+        return self.has_written(self.written + 1)
+
+    def has_written(self, count: int) -> bool:
+        """Waits until it has written so many packets."""
+        end = time.monotonic() + HANGS
+        while self.written < count and time.monotonic() < end:
             time.sleep(0.01)
-        return self.written >= 1000
+        return self.written >= count
 
     def stop(self) -> int:
         """Ends it, and returns how many packets it wrote."""
         self.is_over = True
-        self.lane.join(20)
+        self.lane.join(HANGS)
         return self.written
 
 
@@ -343,30 +350,30 @@ def floods_of(channel: bytes) -> dict[str, list[bytes]]:
 
 def asked(bridge: Bridge) -> bytes:
     """Asks for a registration on a channel of its own, and returns the answer."""
-    channel = bridge.channel(os.urandom(8), FAIR)
+    channel = bridge.channel(os.urandom(8))
     for it in packets_of("registration.log")[1:]:
         bridge.write(channel + it[4:])
-    return bridge.answer(channel, 4 * FAIR)
+    return bridge.answer(channel)
 
 
 def a_flood_starves_nobody(room: Path) -> None:
-    """While one program floods, another gets its channel, registers and signs in, in little more than alone."""
+    """While one program floods, another gets its channel and registers: it needn't wait for the flood's end."""
     state = room / "key.state"
     bridge = Bridge([UHID, "-t", "200", str(state)])
     assert bridge.plugged_in(), bridge.ended()
     for name, packets in floods_of(bridge.channel(b"floods!!")).items():
         flood = Flood(bridge, packets)
         assert flood.is_under_way(), f"a flood of {name}: {flood.written} packets"
-        began = time.monotonic()
+        began = flood.written
         try:
             answer = asked(bridge)
+            assert flood.goes_on(), f"a flood of {name} ended after {flood.written} packets"
         finally:
             written = flood.stop()
-        took = time.monotonic() - began
-        print(f"a flood of {name}, {written:,} packets: another program was answered in {took:.2f} s")
+        print(f"a flood of {name}: another program was answered after {written - began:,} packets of {written:,}")
         # While a message of another program doesn't go on, the key is busy, as the standard has it.
         rights = [bytes([CBOR, 0])] + ([bytes([ERROR, BUSY])] if "don't go on" in name else [])
-        assert answer[:2] in rights and took < FAIR, (name, took, written, answer[:2])
+        assert answer[:2] in rights, (name, written, answer[:2])
         for _ in bridge.packets(0.2):
             pass
     wants(bridge.end(), 0, "")

@@ -117,7 +117,7 @@ class Provider:
         """Returns the status, the counter that was answered or 0, and what was said."""
         words = [*trace, self.program, "sign", self.handle]
         state = {"HIDLOG_SK_STATE": str(folder / "key.state"), "PATH": "/usr/bin:/bin"}
-        said = subprocess.run(words, capture_output=True, text=True, env=state, timeout=60)
+        said = subprocess.run(words, capture_output=True, text=True, env=state, timeout=600)
         return said.returncode, int(said.stdout or 0), said.stderr
 
     def judge(self, place: injection.Place, folder: Path) -> Optional[str]:

@@ -16,7 +16,7 @@ import sys
 import tempfile
 from pathlib import Path
 
-from bridge import BROADCAST, CBOR, INIT, KEEPALIVE, Bridge, Ended, packet, packets_of
+from bridge import BROADCAST, CBOR, HANGS, INIT, KEEPALIVE, Bridge, Ended, packet, packets_of
 
 UHID = str(Path(sys.argv[1]).resolve()) if len(sys.argv) > 1 else ""
 OK, DENIED = 0x00, 0x27
@@ -96,9 +96,9 @@ def nobody_is_there_to_be_asked(room: Path) -> None:
     channel = bridge.channel(bytes(8))
     for it in packets_of("registration.log")[1:]:
         bridge.write(channel + it[4:])
-    assert any(it[:5] == channel + bytes([KEEPALIVE]) for it in bridge.packets(20)), "the key didn't ask"
+    assert any(it[:5] == channel + bytes([KEEPALIVE]) for it in bridge.packets(HANGS)), "the key didn't ask"
     bridge.write(packet(BROADCAST, INIT, b"another!"))
-    assert any(it[:5] == BROADCAST + bytes([INIT]) for it in bridge.packets(20))
+    assert any(it[:5] == BROADCAST + bytes([INIT]) for it in bridge.packets(HANGS))
     status, said = bridge.end()
     assert status == 0 and "asks for a touch" in said, said
     assert answers_in(room) == []

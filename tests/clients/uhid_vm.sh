@@ -8,6 +8,9 @@ mount -t sysfs sys /sys
 mount -t devtmpfs dev /dev
 cd /root || exit
 bridge=
+# What the user types at the bridge: y is a touch.
+mkfifo typed
+exec 4<>typed
 
 # Says what came of a case: said STATUS TEXT
 said() {
@@ -61,7 +64,7 @@ is_gone() {
 plug_in() {
     record=$1
     shift
-    uhid -r "$record" "$@" key.state 2>bridge.err &
+    uhid -r "$record" "$@" key.state 2>bridge.err <&4 &
     bridge=$!
     soon is_listed
     device=$(sed 's/:.*//' listed)
@@ -128,36 +131,78 @@ waits() {
     [ "$(tail -1 second.log)" = "# need presence" ]
 }
 
-# Begins to sign in, up to the user, who takes eight seconds.
+# Begins to sign in, up to the user, who touches the key when touch_key is called.
 begin_sign_in() {
     sign_in alice >first.out 2>&1 &
     first=$!
     soon waits
 }
 
-# A second program asks what the key can do. libfido2 locks the device, so this waits for the first one.
-two_programs() {
-    begin_sign_in && fido2-token -I "$device" | grep -q FIDO_2_0 && ! waits && wait "$first"
+touch_key() {
+    echo y >&4
 }
 
-# Writes a packet, in hexadecimal digits, while another program reads ten packets from the device: packet DIGITS
+# Runs a command that wants a touch: touched COMMAND ..
+touched() {
+    "$@" &
+    first=$!
+    soon waits && touch_key && wait "$first"
+}
+
+# Whether the user took longer than the bridge's half minute, as on a machine that does much beside.
+timed_out() {
+    grep '^p ' second.log | tail -1 | grep -q 'timeout$'
+}
+
+# Does this while the user has not touched the key, and once more if the touch came too late: before_the_touch COMMAND
+before_the_touch() {
+    for _ in 1 2 3 4 5; do
+        begin_sign_in && "$1" && waits && touch_key && wait "$first" && after_the_touch && return
+        timed_out || return
+        wait "$first"
+    done
+    return 1
+}
+
+# A second program asks what the key can do. libfido2 locks the device, so it waits for the first one.
+ask_beside() {
+    fido2-token -I "$device" >second.out &
+    second=$!
+    after_the_touch() { wait "$second" && grep -q FIDO_2_0 second.out; }
+}
+
+# Whether a program has a file open: has_open PID FILE
+has_open() {
+    readlink "/proc/$1/fd/"* | grep -qx "$2"
+}
+
+# Whether the device has sent such a packet since it is read: has_sent PATTERN
+has_sent() {
+    hexdump -ve '64/1 "%02x" "\n"' packets >seen && grep -q "$1" seen
+}
+
+# Writes a packet, in hexadecimal digits, and reads packets until one comes of a pattern: packet DIGITS PATTERN
 packet() {
-    dd if="$device" bs=64 count=10 2>/dev/null | hexdump -ve '64/1 "%02x" "\n"' >seen &
+    dd if="$device" bs=64 >packets 2>/dev/null &
     reader=$!
-    usleep 400000
+    soon has_open "$reader" "$device" || return
     # The report's number and the packet; its digits become escapes of printf.
     # shellcheck disable=SC2059
     { printf "\\x00$(echo "$1" | sed 's/../\\x&/g')" && head -c 64 /dev/zero; } | head -c 65 >written
-    dd if=written of="$device" bs=65 count=1 2>/dev/null
+    dd if=written of="$device" bs=65 count=1 2>/dev/null && soon has_sent "$2"
+    has_come=$?
+    kill "$reader"
     wait "$reader"
+    return "$has_come"
 }
 
 # A second program, which doesn't lock the device, gets a channel (INIT) and sends on it (PING): the key is busy
 # (ERR_CHANNEL_BUSY), and goes on with the first.
 without_lock() {
-    begin_sign_in && packet ffffffff8600080102030405060708
+    after_the_touch() { :; }
+    packet ffffffff8600080102030405060708 ^ffffffff8600110102030405060708 || return
     channel=$(sed -n 's/^ffffffff8600110102030405060708\(........\).*/\1/p' seen)
-    [ -n "$channel" ] && packet "${channel}810001aa" && grep "^${channel}bf000106" seen && wait "$first"
+    packet "${channel}810001aa" "^${channel}bf000106"
 }
 
 # Two programs ask at the same time, each until it was answered ten times.
@@ -180,7 +225,7 @@ killed() {
     first=$!
     soon waits && kill -9 "$first"
     ! wait "$first" && [ ! -s mallory.cred ] && fido2-token -I "$device" | grep -q FIDO_2_0 &&
-        grep -q '^p .* timeout$' second.log
+        timed_out
 }
 
 # Starts the bridge as another user, with /dev/uhid open: it makes the device, answers, and ends by a signal.
@@ -230,13 +275,13 @@ all() {
     fi
     sign_in alice >/dev/null 2>&1
     works "unplugged: the bridge ends, the device goes" unplug TERM
-    works "plugged in again" plug_in second.log -t 8000
-    works "fido2-assert signs in after it, the counter one higher" sign_in_counted
-    works "two programs: libfido2's second one waits for the first" two_programs
-    works "two programs without a lock: the second one is told that the key is busy" without_lock
+    works "plugged in again, with a user who is asked" plug_in second.log -p ask
+    works "fido2-assert signs in after it, the counter one higher" touched sign_in_counted
+    works "two programs: libfido2's second one waits for the first" before_the_touch ask_beside
+    works "two programs without a lock: the second one is told that the key is busy" before_the_touch without_lock
     works "two programs take turns" taking_turns
     works "a program killed while it registers: the next one is served at once" killed
-    works "fido2-assert signs in after it" sign_in alice
+    works "fido2-assert signs in after it" touched sign_in alice
     kill -9 "$bridge"
     soon is_gone
     works "plugged in again after the bridge was killed" plug_in third.log

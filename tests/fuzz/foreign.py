@@ -447,7 +447,7 @@ def judge(task: tuple[str, str, int]) -> tuple[int, Optional[str], int]:
 
     def show(*words: str) -> Iterator[dict[str, Any]]:
         words = (program, "show", *words, "--json")
-        shown = subprocess.run(words, input=text, capture_output=True, check=True, timeout=60).stdout
+        shown = subprocess.run(words, input=text, capture_output=True, check=True, timeout=600).stdout
         return map(json.loads, shown.splitlines())
 
     told = 0

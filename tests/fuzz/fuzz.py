@@ -24,7 +24,7 @@ from hostile import hostile_log, hostile_snapshot
 from judge import COUNTS, Finding, judge, judge_saved, lines_of
 
 TOP = os.path.realpath(os.path.join(os.path.dirname(os.path.abspath(__file__)), "..", ".."))
-SECONDS = 60
+SECONDS = 600
 
 
 def arguments():

@@ -186,7 +186,7 @@ def judge(task: tuple[str, str, int]) -> tuple[int, Optional[str], int]:
     chance = random.Random(f"{seed}/{number}/broken")
 
     def run(log: bytes, *words: str) -> list[bytes]:
-        return subprocess.run([program, *words], input=log, capture_output=True, timeout=60).stdout.splitlines()
+        return subprocess.run([program, *words], input=log, capture_output=True, timeout=600).stdout.splitlines()
 
     lines = run(Hosts(f"{seed}/{number}").log(), "replay")
     break_log(lines, chance)

@@ -433,7 +433,7 @@ def judge(task: tuple[str, str, int]) -> tuple[int, Optional[str], int]:
     program, seed, number = task
 
     def run(log: bytes, *words: str) -> bytes:
-        return subprocess.run([program, *words], input=log, capture_output=True, check=True, timeout=60).stdout
+        return subprocess.run([program, *words], input=log, capture_output=True, check=True, timeout=600).stdout
 
     log = run(Hosts(f"{seed}/{number}").log(), "replay")
     try:

@@ -65,7 +65,7 @@ class Case:
         """Runs the program in a folder. Fails unless it ends as the case says."""
         log = self.lines("-|")
         (room / "log").write_bytes(log)
-        ended = subprocess.run([PROGRAM, *self.words], cwd=room, input=log, capture_output=True, timeout=60)
+        ended = subprocess.run([PROGRAM, *self.words], cwd=room, input=log, capture_output=True, timeout=600)
         written, wanted = ended.stdout, self.lines("+|")
         assert ended.returncode == self.status, f"{self.text}\nended with {ended.returncode}"
         assert ended.stderr == self.lines("?"), f"{self.text}\nsaid {ended.stderr.decode()}"
@@ -164,7 +164,7 @@ def nothing_is_saved_after_a_fault(room: Path) -> None:
 def arguments_are_utf_8(room: Path) -> None:
     """Words that are no UTF-8 are refused, and others are read."""
     for word, faults in ((b"r\xe9play", b"hidlog: an argument is not UTF-8\n"), ("r\u00e9play".encode(), None)):
-        ended = subprocess.run([PROGRAM.encode(), word], cwd=room, input=b"", capture_output=True, timeout=60)
+        ended = subprocess.run([PROGRAM.encode(), word], cwd=room, input=b"", capture_output=True, timeout=600)
         assert ended.returncode == 2, f"{word!r} ended with {ended.returncode}"
         assert ended.stderr == faults or faults is None and word in ended.stderr, f"{word!r}: {ended.stderr!r}"
 

@@ -80,7 +80,7 @@ class Run:
             (folder / name).write_bytes(data)
         trace = [it for it in trace if self.follows or it not in ("-f", "--seccomp-bpf")]
         command = [*trace, sys.executable, "-c", DRIVER, self.modules, *(it.format(folder) for it in self.words)]
-        ended = subprocess.run(command, input=self.data, capture_output=True, timeout=60, env=ENVIRONMENT)
+        ended = subprocess.run(command, input=self.data, capture_output=True, timeout=600, env=ENVIRONMENT)
         ended.stdout = ended.stdout.replace(os.fsencode(folder), b"FOLDER")
         return ended
 

@@ -59,7 +59,7 @@ class Run:
             self.at(folder).write_bytes(self.old)
         command = [*trace, program, *(it.format(folder) for it in self.words)]
         with open(self.log, "rb") as log:
-            return subprocess.run(command, stdin=log, capture_output=True, timeout=60, env=ENVIRONMENT)
+            return subprocess.run(command, stdin=log, capture_output=True, timeout=600, env=ENVIRONMENT)
 
 
 ENVIRONMENT = {"PATH": os.environ["PATH"], "PYTHONPATH": str(TOP / "python/src"), "PYTHONDONTWRITEBYTECODE": "1"}
@@ -80,7 +80,7 @@ def wrong_file(run: Run, program: str, folder: Path, new: bytes, status: int, sa
     if not copies:
         return f"neither the old nor the new snapshot is left: {len(there or b'')} bytes"
     words = [program, "replay", "--explain", "--load", str(path)]
-    loaded = subprocess.run(words, input=b"", capture_output=True, timeout=60)
+    loaded = subprocess.run(words, input=b"", capture_output=True, timeout=600)
     if loaded.returncode == 0 or copies[0].name not in loaded.stderr.decode(errors="replace"):
         return f"--load doesn't name the copy {copies[0].name}: {loaded.stderr!r}"
     return None if status == -signal.SIGKILL or copies[0].name in said else f"the copy isn't named: {said!r}"
@@ -90,7 +90,7 @@ def refused_after(program: str, path: Path) -> Optional[str]:
     """Returns what is wrong where a snapshot that is whole isn't loaded. What Python saves is no snapshot."""
     if Path(program).name != "hidlog":
         return None
-    loaded = subprocess.run([program, "replay", "--load", str(path)], input=b"", capture_output=True, timeout=60)
+    loaded = subprocess.run([program, "replay", "--load", str(path)], input=b"", capture_output=True, timeout=600)
     return None if loaded.returncode == 0 else f"the new snapshot isn't loaded: {loaded.stderr!r}"
 
 

@@ -661,7 +661,7 @@ def at_a_terminal(words: Sequence[str], typed: bytes) -> bytes:
     with subprocess.Popen([PROGRAM, *words], stdin=end, stdout=subprocess.DEVNULL, stderr=subprocess.PIPE) as program:
         os.close(end)
         os.write(terminal, typed + b"\x04")
-        _, faults = program.communicate(timeout=60)
+        _, faults = program.communicate(timeout=600)
     os.close(terminal)
     assert program.returncode == 0
     return faults

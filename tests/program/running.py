@@ -36,9 +36,9 @@ def run(
     if trace:
         command = ["strace", "-f", "-qq", "-o", "/dev/null", *trace, *command]
     if stdin is None:
-        return subprocess.run(command, input=log, capture_output=True, preexec_fn=before, timeout=60)
+        return subprocess.run(command, input=log, capture_output=True, preexec_fn=before, timeout=600)
     with open(stdin, "rb") as file:
-        return subprocess.run(command, stdin=file, capture_output=True, preexec_fn=before, timeout=60)
+        return subprocess.run(command, stdin=file, capture_output=True, preexec_fn=before, timeout=600)
 
 
 def explained(
@@ -73,7 +73,7 @@ def run_in_parts(words: Sequence[str], log: bytes, part: int) -> Said:
                     time.sleep(0.0002)
             except BrokenPipeError:
                 break
-        output, faults = program.communicate(timeout=60)
+        output, faults = program.communicate(timeout=600)
         return Said(program.args, program.returncode, output, faults)
 
 

@@ -163,13 +163,16 @@ const failsAsAsked = async (key) => {
     key.faults.cutShort = 10;
     await refuses(get(), "NotAllowedError", "no CBOR");
     key.faults.clear();
-    key.faults.delay = 350;
     const working = () => key.log().match(/^< 00000001bb000101/gm).length;
     const before = working();
-    const begun = performance.now();
-    await get();
-    expect(performance.now() - begun > 340, "it took its time");
-    expect(working() - before >= 2, "with KEEPALIVEs");
+    // A machine that does much beside sends fewer KEEPALIVEs in a time.
+    for (let delay = 350; working() - before < 2; delay *= 2) {
+        expect(delay < 200_000, "with KEEPALIVEs");
+        key.faults.delay = delay;
+        const begun = performance.now();
+        await get();
+        expect(performance.now() - begun > delay - 10, "it took its time");
+    }
     key.faults.delay = NEVER;
     await refuses(get({ timeout: 100 }), "NotAllowedError");
     key.faults.clear();

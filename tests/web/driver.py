@@ -10,7 +10,7 @@ import urllib.request
 
 # Only what hangs takes so long.
 SECONDS = 600
-START_SECONDS = 60
+START_SECONDS = 600
 
 
 def free_port():

@@ -22,14 +22,14 @@ export const rejection = async (promise) => {
 
 export const wait = (milliseconds) => new Promise((done) => setTimeout(done, milliseconds));
 
-// Only what hangs takes so long, on a machine that does much beside.
-const MOST_MS = 300_000;
+// So often a condition is looked at until it is held to be never true: five minutes of a page that has nothing else to
+// do. A page that works, or gets little of the processor, looks less often.
+const MOST_LOOKS = 30_000;
 const BEAT_MS = 5000;
 
 /** Waits until a condition holds, for as long as a busy machine takes. */
 export const until = async (holds, text) => {
-    const end = performance.now() + MOST_MS;
-    while (performance.now() < end) {
+    for (let looks = 0; looks < MOST_LOOKS; looks += 1) {
         if (holds()) {
             return;
         }

@@ -22,10 +22,11 @@ from urllib.parse import parse_qs, urlsplit
 from relying_party import RelyingParty
 
 TOP = os.path.abspath(os.path.join(os.path.dirname(__file__), "..", ".."))
-# Only a page that hangs takes so long for one test.
+# So much processor time no test takes, and for so long by the clock only a test that hangs uses next to none.
 TEST_SECONDS = 900
+IDLE_SHARE = 0.02
 # Only a page whose process is gone says nothing for so long: a thread of its own says each 5 seconds that it is there.
-SILENT_SECONDS = 180
+SILENT_SECONDS = 600
 # What Chromium and Firefox wrote last before they ended.
 LAST_LINES = 15
 
@@ -112,7 +113,7 @@ class Handler(SimpleHTTPRequestHandler):
         if path == "/lives":
             return {}
         if path == "/begun":
-            self.server.test = (given["page"], given["test"], time.monotonic())
+            self.server.test = (given["page"], given["test"], time.monotonic(), processor_seconds(self.server.browser))
             return {}
         if path == "/done":
             self.server.results.append(given)
@@ -145,15 +146,16 @@ def why_it_ended(server, started):
     """Waits for the results. Returns why there are none, or an empty text."""
     while not server.is_done.wait(1):
         server.memory = max(server.memory, peak_memory(started.pid))
-        page, test, began = server.test
+        page, test, began, used = server.test
         where = f"in {page}, test {test!r}, at a peak of {server.memory} MB in one process"
         now = time.monotonic()
         if started.poll() is not None:
             return f"the browser ended with status {started.returncode} {where}"
         if now - server.heard > SILENT_SECONDS:
             return f"the tab is gone (it crashed, or was killed) {where}"
-        if now - began > TEST_SECONDS:
-            return f"the page hangs for more than {TEST_SECONDS} seconds {where}"
+        used = processor_seconds(started.pid) - used
+        if used > TEST_SECONDS or now - began > TEST_SECONDS and used < IDLE_SHARE * (now - began):
+            return f"the page hangs: {now - began:.0f} seconds, {used:.0f} of the processor, {where}"
     server.memory = max(server.memory, peak_memory(started.pid))
     return ""
 
@@ -197,7 +199,7 @@ def main():
     server.relying_party, server.results, server.is_done = RelyingParty(origin), [], threading.Event()
     server.pages = [f"{origin}/tests/web/{page}" for page in rest]
     server.heard, server.memory = time.monotonic(), 0
-    server.test = (first, "the first", time.monotonic())
+    server.test = (first, "the first", time.monotonic(), 0.0)
     threading.Thread(target=server.serve_forever, daemon=True).start()
     why = run_browser(words, f"{origin}/tests/web/{first}", server)
     passed = [report(it, folder) for it in server.results]

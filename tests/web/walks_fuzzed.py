@@ -28,7 +28,7 @@ from transactions import Finding, Hosts, Machine, needs_in, said
 def write_log(program: str, name: str, path: Path) -> None:
     """Writes a hostile log, with the packets that the key sends."""
     with path.open("wb") as file:
-        subprocess.run([program, "replay"], input=Hosts(name).log(), stdout=file, check=True, timeout=60)
+        subprocess.run([program, "replay"], input=Hosts(name).log(), stdout=file, check=True, timeout=600)
 
 
 def main() -> int:
@@ -51,7 +51,7 @@ def main() -> int:
         )
         for path, objects in zip(paths, walked.stdout.splitlines(), strict=True):
             live = subprocess.run(
-                [asked.program, "live", str(path)], capture_output=True, check=True, timeout=60
+                [asked.program, "live", str(path)], capture_output=True, check=True, timeout=600
             ).stdout
             machine = Machine(path.read_bytes().splitlines(), needs_in(live.splitlines()))
             transactions += len(machine.transactions)

@@ -33,7 +33,7 @@ from hidlog.webdriver.server import Server
 from sockets import Notes
 
 NAME = "evil.example"
-SECONDS = 300
+SECONDS = 600
 PREFERENCES = {
     "network.dns.localDomains": NAME,
     "browser.shell.checkDefaultBrowser": False,

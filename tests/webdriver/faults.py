@@ -39,7 +39,7 @@ from processes import Run, descendants, is_running, wait_until
 DRIVER = f"{sys.executable} {HERE / 'processes.py'} --drive"
 OPTIONS = {"protocol": "ctap2", "transport": "usb"}
 LOG = "> 0 00\n"
-SECONDS = 120
+SECONDS = 600
 # Calls that reach outside of the process: the others fail where memory is short, of which Python ends.
 CALLS = ["socket", "connect", "accept4", "bind", "setsockopt", "getsockopt", "getsockname", "getpeername", "shutdown"]
 CALLS += [

@@ -25,7 +25,7 @@ import run
 from cryptography.hazmat.primitives import serialization
 from cryptography.hazmat.primitives.asymmetric import ec
 
-SECONDS = 300
+SECONDS = 600
 
 
 def encoded(data: bytes) -> str:

@@ -3,6 +3,8 @@
 const bytes = (text) => new TextEncoder().encode(text);
 const base = { challenge: bytes("a challenge"), rp: { name: "A service" },
     user: { id: bytes("ann"), name: "ann", displayName: "Ann" }, pubKeyCredParams: [{ type: "public-key", alg: -7 }] };
+// No test waits for its end.
+const LONG = 600_000;
 const flags = (data) => new Uint8Array(data)[32];
 const idOf = (text) => Uint8Array.from(atob(text.replace(/-/g, "+").replace(/_/g, "/")), (it) => it.charCodeAt(0));
 const withIds = (list) => list.map((id) => ({ type: "public-key", id: idOf(id) }));
@@ -11,7 +13,7 @@ const withIds = (list) => list.map((id) => ({ type: "public-key", id: idOf(id) }
 const register = async ({ exclude, name = "ann", ...selection } = {}) => {
     const user = { id: bytes(name), name, displayName: name };
     const excludeCredentials = withIds(exclude ?? []);
-    const publicKey = { ...base, user, excludeCredentials, authenticatorSelection: selection, timeout: 3000 };
+    const publicKey = { ...base, user, excludeCredentials, authenticatorSelection: selection, timeout: LONG };
     try {
         const made = await navigator.credentials.create({ publicKey });
         window.keyOf = { ...window.keyOf, [made.id]: made.response.getPublicKey() };
@@ -27,7 +29,7 @@ const signIn = async ({ allow, ...more } = {}) => {
     const allowCredentials = withIds(allow ?? []);
     try {
         const used = await navigator.credentials.get({ publicKey: {
-            challenge: base.challenge, allowCredentials, timeout: 3000, ...more } });
+            challenge: base.challenge, allowCredentials, timeout: LONG, ...more } });
         return { id: used.id, flags: flags(used.response.authenticatorData), attachment: used.authenticatorAttachment,
             user: used.response.userHandle && new TextDecoder().decode(used.response.userHandle) };
     } catch (error) {

@@ -26,7 +26,7 @@ from typing import Any
 
 HERE = Path(__file__).resolve()
 TOP = HERE.parents[2]
-SECONDS = 300
+SECONDS = 600
 CHROME = {"goog:chromeOptions": {"args": ["--headless=new", "--no-sandbox", "--disable-dev-shm-usage"]}}
 
 

@@ -24,7 +24,7 @@ from hidlog.webdriver.driver import Driver
 from hidlog.webdriver.proxy import Proxy
 from hidlog.webdriver.server import Server
 
-SECONDS = 120
+SECONDS = 600
 
 
 class Notes(BaseHTTPRequestHandler):

@@ -19,7 +19,7 @@ sys.path.insert(0, str(Path(__file__).resolve().parents[2] / "python" / "src"))
 
 from hidlog.webdriver.websocket import WebSocket, WebSocketError, frame
 
-SECONDS = 120
+SECONDS = 600
 GUID = "258EAFA5-E914-47DA-95CA-C5AB0DC85B11"
 HELLO = bytes.fromhex("810548656c6c6f")
 PARTS = bytes.fromhex("010348656c80026c6f")
