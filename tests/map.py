@@ -15,47 +15,38 @@ from pathlib import Path
 
 TOP = Path(__file__).resolve().parent.parent
 PAGE = TOP / "docs" / "change" / "MAP.md"
-# Folders in the order of the page, each with a pattern of its files.
+CRATES = (
+    "hid_packet",
+    "hid_assemble",
+    "ctap_cbor",
+    "ctap_message",
+    "fido_authdata",
+    "cred_table",
+    "authn_core",
+    "token_session",
+    "session_log",
+    "session_walk",
+    "session_show",
+    "webauthn_client",
+    "hidlog",
+    "hidlog_c",
+)
+# Folders in the order of the page; a file is listed in the first one that it is in.
 FOLDERS = (
-    *(
-        (f"crates/{name}/{part}", pattern)
-        for name in (
-            "hid_packet",
-            "hid_assemble",
-            "ctap_cbor",
-            "ctap_message",
-            "fido_authdata",
-            "cred_table",
-            "authn_core",
-            "token_session",
-            "session_log",
-            "session_walk",
-            "session_show",
-            "webauthn_client",
-            "hidlog",
-            "hidlog_c",
-        )
-        for part, pattern in (("specs", "*.antt"), ("src", "**/*.rt"))
-    ),
-    ("python/src/hidlog", "**/*.py"),
-    ("web", "*.js"),
-    ("web/key", "*.js"),
-    ("go", "*.go"),
-    ("rust/hidlog/src", "*.rs"),
-    ("rust/hidlog-sys/src", "*.rs"),
-    ("conformance/hidlog_conformance", "*.py"),
-    ("examples/c", "*.[ch]"),
-    ("examples/ssh", "*.[ch]"),
-    ("examples/uhid", "*.[ch]"),
-    ("standard", "*.py"),
-    ("tests", "*.py"),
-    ("tests", "*.sh"),
-    ("packages", "*.py"),
-    ("packages", "*.sh"),
-    ("release", "*.sh"),
+    *(f"crates/{name}/{part}" for name in CRATES for part in ("specs", "src")),
+    *("crates/hidlog_c", "crates/hello_key/src", "crates/page_tests/src", "standard", "release", "packages"),
+    *("python/src/hidlog", "python", "web/key", "web/rules", "web", "go", "rust/hidlog", "rust/hidlog-sys"),
+    *("conformance/hidlog_conformance", "conformance", "examples", "tests", "bench", "."),
+)
+SOURCE = re.compile(
+    r"\.(?:antt|rt|py|lua|js|mjs|cjs|ts|cts|html|css|go|rs|c|h|sh|rb|pl|java)$|(?:^|/)(?:hidlog|tests/run|installer/\w[\w-]*)$"
+)
+# What is written by another file, is a test's data, or is a proof, whose folder and name are those of what it proves.
+SKIPPED = re.compile(
+    r"^crates/\w+/proofs/|^web/dist/|^release/(?:hidlog|.*\.h$|aarch64/)|^examples/failing/|^tests/(?:edits/.*\.rt|fuzz/corpus/)"
 )
 # Files whose name says what they are: a crate's list of modules, and what only lists or tests others.
-UNLISTED = re.compile(r"(?:^|/)(?:Lib\.antt|hidlog_test\.go|cases_test\.go)$")
+UNLISTED = re.compile(r"(?:^|/)(?:Lib\.antt|hidlog_test\.go|cases_test\.go|cases/__init__\.py)$")
 HEAD = """# Every source file, by folder
 
 Made by `tests/map.py --write` from the first sentence of each file's comment, so that it isn't stale.
@@ -66,10 +57,13 @@ Made by `tests/map.py --write` from the first sentence of each file's comment, s
 def comment(path: Path) -> str:
     """Returns the comment at the top of a file, in one line."""
     text = path.read_text(encoding="utf-8")
-    text = re.sub(r"\A#![^\n]*\n", "", text)
+    text = re.sub(r"\A(?:#![^\n]*\n|<!doctype html>\n)+(?:\s*<!-- not run[^\n]*\n)?", "", text)
     if path.suffix == ".py":
         found = re.match(r'\s*(?:#[^\n]*\n)*"""(.*?)"""', text, re.DOTALL)
         return " ".join(found[1].split()) if found else ""
+    if path.suffix == ".html":
+        found = re.search(r"<!-- (.*?) -->|<title>(.*?)</title>", text, re.DOTALL)
+        return " ".join((found[1] or found[2]).split()) if found else ""
     if block := re.match(r"\s*/\*+(.*?)\*/", text, re.DOTALL):
         return " ".join(re.sub(r"^\s*\*", "", block[1], flags=re.MULTILINE).split())
     # A file without a comment of its own is about its first type or function.
@@ -102,22 +96,26 @@ def tracked() -> list[Path]:
     return sorted(path for line in listed.splitlines() if (path := TOP / line).is_file())
 
 
+def sources() -> list[str]:
+    """Returns the paths of the source files."""
+    paths = (str(path.relative_to(TOP)) for path in tracked())
+    return [path for path in paths if SOURCE.search(path) and not SKIPPED.search(path) and not UNLISTED.search(path)]
+
+
 def page() -> tuple[str, list[str]]:
     """Returns the page, and the files that have no comment."""
-    files, lines, bare = tracked(), [HEAD], list[str]()
-    for folder, pattern in FOLDERS:
-        inside = [path for path in files if path in set((TOP / folder).glob(pattern))]
-        rows = []
-        for path in inside:
-            name = str(path.relative_to(TOP / folder))
-            if UNLISTED.search(name):
-                continue
-            sentence = first_sentence(comment(path))
-            rows.append(f"| `{name}` | {sentence} |")
-            if not sentence:
-                bare.append(str(path.relative_to(TOP)))
-        if rows:
-            lines += [f"## `{folder}`", "", "| File | What it is |", "|---|---|", *rows, ""]
+    rows: dict[str, list[str]] = {folder: [] for folder in FOLDERS}
+    bare = []
+    for name in sources():
+        folder = next(each for each in FOLDERS if each == "." or name.startswith(f"{each}/"))
+        sentence = first_sentence(comment(TOP / name))
+        rows[folder].append(f"| `{name if folder == '.' else name[len(folder) + 1:]}` | {sentence} |")
+        if not sentence:
+            bare.append(name)
+    lines = [HEAD]
+    for folder, listed in rows.items():
+        title = "The root" if folder == "." else f"`{folder}`"
+        lines += [f"## {title}", "", "| File | What it is |", "|---|---|", *listed, ""] if listed else []
     return "\n".join(lines), bare
 
 
