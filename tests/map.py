@@ -1,8 +1,8 @@
 #!/usr/bin/env python3
 """Compares docs/change/MAP.md with the sources: it names every file with the first sentence of the file's own comment, or
-of that of its first type or function.
+of that of its first type or function. Each path that ARCHITECTURE.md has for a change is there.
 
-    tests/map.py            ends with 1 if the page is out of date, or if a file has no comment at its top
+    tests/map.py            ends with 1 if a page is out of date, or if a file has no comment at its top
     tests/map.py --write    writes the page
 """
 
@@ -119,6 +119,16 @@ def page() -> tuple[str, list[str]]:
     return "\n".join(lines), bare
 
 
+def wrong_paths() -> list[str]:
+    """Returns the paths in ARCHITECTURE.md's table of changes that name no file."""
+    text = PAGE.with_name("ARCHITECTURE.md").read_text(encoding="utf-8")
+    section = text.partition("## Every place of a change")[2].partition("\n## ")[0]
+    rows = [row for row in section.splitlines() if row.startswith("| ")]
+    paths = {path for row in rows for path in re.findall(r"`([\w.*-]+/[\w./*-]+)[^`]*`", row)}
+    assert len(rows) > 10 and len(paths) > 100, "the table of changes isn't found"
+    return sorted(path for path in paths if not any(TOP.glob(path)))
+
+
 def main() -> int:
     """Writes the page, or compares it."""
     text, bare = page()
@@ -127,11 +137,14 @@ def main() -> int:
         return 0
     for name in bare:
         print(f"{name} has no comment at its top")
+    unknown = wrong_paths()
+    for name in unknown:
+        print(f"docs/change/ARCHITECTURE.md names {name}, which isn't there")
     is_stale = not PAGE.is_file() or PAGE.read_text(encoding="utf-8") != text
     if is_stale:
         print("docs/change/MAP.md is out of date: tests/map.py --write")
     print(f"{text.count('| `')} files, {len(bare)} without a comment")
-    return 1 if bare or is_stale else 0
+    return 1 if bare or is_stale or unknown else 0
 
 
 if __name__ == "__main__":
