@@ -43,7 +43,7 @@ SOURCE = re.compile(
 )
 # What is written by another file, is a test's data, or is a proof, whose folder and name are those of what it proves.
 SKIPPED = re.compile(
-    r"^crates/\w+/proofs/|^web/dist/|^release/(?:hidlog|.*\.h$|aarch64/)|^examples/failing/|^tests/(?:edits/.*\.rt|fuzz/corpus/)"
+    r"^crates/\w+/proofs/|^web/dist/|^release/(?:hidlog|.*\.h$|aarch64/)|^examples/failing/|^tests/edits/.*\.rt"
 )
 # Files whose name says what they are: a crate's list of modules, and what only lists or tests others.
 UNLISTED = re.compile(r"(?:^|/)(?:Lib\.antt|hidlog_test\.go|cases_test\.go|cases/__init__\.py)$")

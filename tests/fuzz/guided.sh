@@ -8,7 +8,8 @@
 #     page     the state of the key in a page (page_state.mjs)
 #
 # The core is release/hidlog.wasm, made C by wasm2c and compiled with the fuzzer. HIDLOG_CORPUS=FOLDER keeps what reached
-# something new, for the next run; what is in tests/fuzz/corpus, and the logs of this repository, is where each begins.
+# something new, for the next run, which tests/fuzz/seeds.py --keep adds to corpus.tsv; what is in that, and the logs of
+# this repository, is where each begins.
 # A run ends with 1 at the first finding, which is kept in FOLDER, or here. What is missing is said, and ends with 3.
 set -euo pipefail
 top=$(cd "$(dirname "${BASH_SOURCE[0]}")/../.." && pwd)
@@ -49,7 +50,7 @@ need() {
             echo '#include <openssl/evp.h>' | clang -E - >/dev/null 2>&1 || nothing "the header openssl/evp.h" libssl-dev
             echo 'int LLVMFuzzerTestOneInput(const char *d, long n) { return d[n - n] & 0; }' >"$room/probe.c"
             clang -fsanitize=fuzzer "$room/probe.c" -o "$room/probe" 2>/dev/null ||
-                nothing libFuzzer libclang-rt-14-dev
+                nothing libFuzzer libclang-rt-dev
             ;;
         esac
     done
@@ -76,7 +77,7 @@ libfuzzer() {
         "${@:3}" -lm
     mkdir -p "$found/$name" "$room/seeds/$name"
     "$room/$name" -max_total_time="$seconds" -max_len="$longest" -artifact_prefix="$found/$name/finding_" \
-        "$found/$name" "$room/seeds/$name" "$top/tests/fuzz/corpus/$name" >"$room/said" 2>&1 ||
+        "$found/$name" "$room/seeds/$name" >"$room/said" 2>&1 ||
         { tail -40 "$room/said" && return 1; }
     echo "$name: $(sed -n 's/^Done //p' "$room/said"), $(grep -o 'cov: [0-9]* ft: [0-9]*' "$room/said" | tail -1)"
 }
