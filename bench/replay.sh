@@ -55,8 +55,8 @@ def took(command, lines):
 
 
 programs = [program, "replay"], [f"{work}/peer"]
-rounds = [[took(it, lines) for it in programs for lines in (count, 0)] for _ in range(25)]
-whole, none, whole_c, none_c = (statistics.median(it) for it in zip(*rounds))
+rounds = [[took(program, lines) for program in programs for lines in (count, 0)] for _ in range(25)]
+whole, none, whole_c, none_c = (statistics.median(seconds) for seconds in zip(*rounds))
 print(f"  {1e9 * (whole - none) / count:10.0f} {f'({1e9 * (whole_c - none_c) / count:.0f})':>10}", end="")
 PYTHON
 }

@@ -117,7 +117,7 @@ def main() -> int:
     other, rounds = Path(sys.argv[1]).resolve(), int(sys.argv[2]) if len(sys.argv) > 2 else 15
     for name, text in PARTS.items():
         pairs = [(milliseconds(other, text), milliseconds(TOP, text)) for _ in range(rounds)]
-        there, here = (statistics.median(it) for it in zip(*pairs))
+        there, here = (statistics.median(times) for times in zip(*pairs))
         print(f"{name:9} there {there:8.4f}, here {here:8.4f}, ratio {here / there:.3f}", flush=True)
     return 0
 

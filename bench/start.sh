@@ -40,7 +40,7 @@ import sys
 ADDR_NO_RANDOMIZE = 0x0040000
 SYSTEM = ctypes.CDLL(None)
 SNAPSHOT = ["--load", "examples/example_com.snapshot"]
-RUNS = [(it, "sign_in") for it in (["replay"], ["live"], ["check"], ["quiet"], ["show"], ["--help"])]
+RUNS = [(words, "sign_in") for words in (["replay"], ["live"], ["check"], ["quiet"], ["show"], ["--help"])]
 RUNS.append((["replay", *SNAPSHOT], "sign_in_again"))
 
 
@@ -56,7 +56,7 @@ def runs(words, log, kilobytes):
 
 
 for words, log in RUNS:
-    print(next(it for it in range(8, 8192, 4) if runs(words, log, it)), "", *words)
+    print(next(stack for stack in range(8, 8192, 4) if runs(words, log, stack)), "", *words)
 PYTHON
 echo "the stack of calls of the C library, in bytes:"
 gcc -std=c11 -O2 -D_GNU_SOURCE -I release -o "$work/stack" bench/stack.c "$library" -lpthread

@@ -56,8 +56,8 @@ type SecurityKey struct {
 type Status byte
 
 // Error returns the status as a text.
-func (it Status) Error() string {
-	return strings.TrimSpace(fmt.Sprintf("hidlog: the key answered with status %02x %s", byte(it), statusNames[it]))
+func (s Status) Error() string {
+	return strings.TrimSpace(fmt.Sprintf("hidlog: the key answered with status %02x %s", byte(s), statusNames[s]))
 }
 
 // NewSecurityKey makes a key without credentials.
@@ -69,55 +69,55 @@ func NewSecurityKey() (*SecurityKey, error) {
 	return &SecurityKey{Key: key, begun: time.Now(), pairs: map[ID]*ecdsa.PrivateKey{}, last: map[ID]uint32{}}, nil
 }
 
-func (it *SecurityKey) now() uint64 {
-	return uint64(time.Since(it.begun).Milliseconds())
+func (k *SecurityKey) now() uint64 {
+	return uint64(time.Since(k.begun).Milliseconds())
 }
 
 // PrivateKey returns the private key of a credential, or nil.
-func (it *SecurityKey) PrivateKey(id ID) *ecdsa.PrivateKey {
-	return it.pairs[id]
+func (k *SecurityKey) PrivateKey(id ID) *ecdsa.PrivateKey {
+	return k.pairs[id]
 }
 
 // AddPair puts a credential with its private key in. X and Y of the credential are those of the key.
-func (it *SecurityKey) AddPair(credential Credential, pair *ecdsa.PrivateKey) error {
+func (k *SecurityKey) AddPair(credential Credential, pair *ecdsa.PrivateKey) error {
 	if pair == nil || pair.Curve != elliptic.P256() {
 		return errors.New("hidlog: the private key has to be one on P-256")
 	}
 	pair.X.FillBytes(credential.X[:])
 	pair.Y.FillBytes(credential.Y[:])
-	if err := it.Add(credential); err != nil {
+	if err := k.Add(credential); err != nil {
 		return err
 	}
-	it.pairs[credential.ID] = pair
-	it.channel = [4]byte{}
+	k.pairs[credential.ID] = pair
+	k.channel = [4]byte{}
 	return nil
 }
 
 // Remove takes the credential with this id out.
-func (it *SecurityKey) Remove(id ID) error {
-	it.channel = [4]byte{}
-	return it.Key.Remove(id)
+func (k *SecurityKey) Remove(id ID) error {
+	k.channel = [4]byte{}
+	return k.Key.Remove(id)
 }
 
 // Clear takes all credentials out.
-func (it *SecurityKey) Clear() error {
-	it.channel = [4]byte{}
-	return it.Key.Clear()
+func (k *SecurityKey) Clear() error {
+	k.channel = [4]byte{}
+	return k.Key.Clear()
 }
 
 // user returns what the user does now.
-func (it *SecurityKey) user() Presence {
-	if len(it.Presence) == 0 {
+func (k *SecurityKey) user() Presence {
+	if len(k.Presence) == 0 {
 		return Granted
 	}
-	now := it.Presence[0]
-	if len(it.Presence) > 1 {
-		it.Presence = it.Presence[1:]
+	now := k.Presence[0]
+	if len(k.Presence) > 1 {
+		k.Presence = k.Presence[1:]
 	}
 	return now
 }
 
-func (it *SecurityKey) givePair() ([]Packet, error) {
+func (k *SecurityKey) givePair() ([]Packet, error) {
 	var id ID
 	pair, err := ecdsa.GenerateKey(elliptic.P256(), rand.Reader)
 	if err == nil {
@@ -129,20 +129,20 @@ func (it *SecurityKey) givePair() ([]Packet, error) {
 	var x, y [32]byte
 	pair.X.FillBytes(x[:])
 	pair.Y.FillBytes(y[:])
-	it.pairs[id] = pair
-	return it.NewPair(it.now(), id, x, y)
+	k.pairs[id] = pair
+	return k.NewPair(k.now(), id, x, y)
 }
 
-func (it *SecurityKey) giveSignature(need Need) ([]Packet, error) {
-	pair := it.pairs[need.ID]
+func (k *SecurityKey) giveSignature(need Need) ([]Packet, error) {
+	pair := k.pairs[need.ID]
 	if pair == nil {
-		return it.Refuse(it.now(), NeedSignature)
+		return k.Refuse(k.now(), NeedSignature)
 	}
 	signature, err := sign(pair, need.Signed)
 	if err != nil {
 		return nil, err
 	}
-	return it.Signature(it.now(), signature)
+	return k.Signature(k.now(), signature)
 }
 
 func sign(pair *ecdsa.PrivateKey, signed []byte) ([]byte, error) {
@@ -151,17 +151,17 @@ func sign(pair *ecdsa.PrivateKey, signed []byte) ([]byte, error) {
 }
 
 // serve hands the key what it needs until it needs nothing, and returns what it sends.
-func (it *SecurityKey) serve(sent []Packet, err error) ([]Packet, error) {
+func (k *SecurityKey) serve(sent []Packet, err error) ([]Packet, error) {
 	for err == nil {
 		var more []Packet
-		need := it.Need()
+		need := k.Need()
 		switch need.Kind {
 		case NeedPresence:
-			more, err = it.Key.Presence(it.now(), it.user())
+			more, err = k.Key.Presence(k.now(), k.user())
 		case NeedKey:
-			more, err = it.givePair()
+			more, err = k.givePair()
 		case NeedSignature:
-			more, err = it.giveSignature(need)
+			more, err = k.giveSignature(need)
 		default:
 			return sent, nil
 		}
@@ -171,10 +171,10 @@ func (it *SecurityKey) serve(sent []Packet, err error) ([]Packet, error) {
 }
 
 // message sends a message on a channel, and returns the command and the data of its answer.
-func (it *SecurityKey) message(channel [4]byte, command byte, data []byte) (byte, []byte, error) {
+func (k *SecurityKey) message(channel [4]byte, command byte, data []byte) (byte, []byte, error) {
 	var sent []Packet
 	for _, packet := range packetsOf(channel, command, data) {
-		more, err := it.serve(it.Packet(it.now(), packet))
+		more, err := k.serve(k.Packet(k.now(), packet))
 		if err != nil {
 			return 0, nil, err
 		}
@@ -222,41 +222,41 @@ func answerIn(channel [4]byte, sent []Packet) (command byte, data []byte, err er
 }
 
 // open allocates a channel.
-func (it *SecurityKey) open() error {
+func (k *SecurityKey) open() error {
 	var nonce [8]byte
 	if _, err := rand.Read(nonce[:]); err != nil {
 		return err
 	}
-	_, data, err := it.message([4]byte{255, 255, 255, 255}, commandInit, nonce[:])
+	_, data, err := k.message([4]byte{255, 255, 255, 255}, commandInit, nonce[:])
 	if err != nil {
 		return err
 	}
-	copy(it.channel[:], data[8:12])
+	copy(k.channel[:], data[8:12])
 	return nil
 }
 
 // Exchange sends an authenticator command with its parameters in CBOR, and returns the answer behind the status. A
 // status that isn't 0 is a Status.
-func (it *SecurityKey) Exchange(request []byte) ([]byte, error) {
-	it.mutex.Lock()
-	defer it.mutex.Unlock()
+func (k *SecurityKey) Exchange(request []byte) ([]byte, error) {
+	k.mutex.Lock()
+	defer k.mutex.Unlock()
 	if len(request) == 0 || len(request) > longestMessage {
 		return nil, fmt.Errorf("hidlog: a request has 1 to %d bytes, not %d", longestMessage, len(request))
 	}
-	if it.channel == [4]byte{} {
-		if err := it.open(); err != nil {
+	if k.channel == [4]byte{} {
+		if err := k.open(); err != nil {
 			return nil, err
 		}
 	}
-	command, data, err := it.message(it.channel, commandCBOR, request)
+	command, data, err := k.message(k.channel, commandCBOR, request)
 	if err != nil {
 		return nil, err
 	}
 	if command == hidError || len(data) == 0 {
 		return nil, fmt.Errorf("hidlog: the key answered with the error %x of the transport", data)
 	}
-	if it.Faults.Status != 0 {
-		return nil, Status(it.Faults.Status)
+	if k.Faults.Status != 0 {
+		return nil, Status(k.Faults.Status)
 	}
 	if data[0] != 0 {
 		return nil, Status(data[0])

@@ -30,14 +30,15 @@ import json, sys
 from pathlib import Path
 
 statement = json.loads(Path(sys.argv[1]).read_text(encoding="utf-8"))
-commits = [it for it in statement["predicate"]["buildDefinition"]["resolvedDependencies"] if it["name"] == "commit"]
+materials = statement["predicate"]["buildDefinition"]["resolvedDependencies"]
+commits = [material for material in materials if material["name"] == "commit"]
 if not commits or commits[0]["annotations"]["changed"]:
     sys.exit("sign: the packages weren't made from a commit: commit, and run packages/build.sh again")
-named = {it["name"]: it["digest"]["sha256"] for it in statement["subject"]}
+named = {subject["name"]: subject["digest"]["sha256"] for subject in statement["subject"]}
 lines = (line.split("  ", 1) for line in Path("SHA256SUMS").read_text(encoding="utf-8").splitlines())
 summed = {name.removeprefix("./"): digest for digest, name in lines}
 packages = {name: digest for name, digest in summed.items() if not name.endswith(".json")}
-for name in sorted(named.keys() ^ packages.keys() | {it for it in named if named[it] != packages.get(it)}):
+for name in sorted(named.keys() ^ packages.keys() | {each for each in named if named[each] != packages.get(each)}):
     sys.exit(f"sign: {name} isn't in both SHA256SUMS and the provenance, with one sum")
 files = {path.name for path in Path().iterdir()} - {"SHA256SUMS", "SHA256SUMS.sig", f"{sys.argv[1]}.sig"}
 for name in sorted(files - summed.keys()):

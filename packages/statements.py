@@ -105,21 +105,23 @@ def commit() -> list[Json]:
 
 def sum_of(paths: tuple[str, ...]) -> str:
     """Returns a SHA-256 sum of files: of a line for each, with its own sum and its path, as sha256sum prints them."""
-    files = sorted(it for path in paths for it in ([TOP / path] if (TOP / path).is_file() else (TOP / path).rglob("*")))
-    kept = (it for it in files if it.is_file() and "__pycache__" not in it.parts and it.suffix != ".pyc")
-    lines = (f"{hashlib.sha256(it.read_bytes()).hexdigest()}  {it.relative_to(TOP)}\n" for it in kept)
+    files = sorted(
+        source for path in paths for source in ([TOP / path] if (TOP / path).is_file() else (TOP / path).rglob("*"))
+    )
+    kept = (file for file in files if file.is_file() and "__pycache__" not in file.parts and file.suffix != ".pyc")
+    lines = (f"{hashlib.sha256(source.read_bytes()).hexdigest()}  {source.relative_to(TOP)}\n" for source in kept)
     return hashlib.sha256("".join(lines).encode()).hexdigest()
 
 
 def packages_of(folder: Path, version: str) -> dict[str, str]:
     """Returns the packages of this version with their SHA-256 sums."""
-    found = (it for it in sorted(folder.iterdir()) if version in it.name and it.suffix != ".json")
-    return {it.name: hashlib.sha256(it.read_bytes()).hexdigest() for it in found}
+    found = (package for package in sorted(folder.iterdir()) if version in package.name and package.suffix != ".json")
+    return {package.name: hashlib.sha256(package.read_bytes()).hexdigest() for package in found}
 
 
 def spdx_package(name: str, version: str, licence: str, **more: Any) -> Json:
     """Returns a package of SPDX. Its identifier is made of its name."""
-    letters = "".join(it if it.isalnum() or it in ".-" else "-" for it in name)
+    letters = "".join(letter if letter.isalnum() or letter in ".-" else "-" for letter in name)
     return {
         "SPDXID": f"SPDXRef-{letters}",
         "name": name,
@@ -168,13 +170,13 @@ def parts_of(name: str, version: str, parts: list[Json]) -> list[Json]:
     """Returns the parts that a package is made from: all crates, its own sources, and the C library of its program."""
     plain = name.replace(version, "VERSION")
     sets = next(found for front, found in MADE_OF if plain.startswith(front))
-    own = {f"hidlog-sources-{it}" for it in OTHERS if it not in sets}
+    own = {f"hidlog-sources-{name}" for name in OTHERS if name not in sets}
     own |= {library for library, _ in LIBRARIES.values()}
     if plain == SDIST:
         own -= {"glibc", "glibc-arm64"}
     elif plain.startswith(WITH_PROGRAM):
         own.remove("glibc-arm64" if "arm64" in sets else "glibc")
-    return [it for it in parts if it["name"] not in own]
+    return [part for part in parts if part["name"] not in own]
 
 
 def relationships(packages: list[Json], parts: list[Json], version: str) -> list[Json]:
@@ -183,8 +185,10 @@ def relationships(packages: list[Json], parts: list[Json], version: str) -> list
     def relation(first: str, kind: str, second: str) -> Json:
         return {"spdxElementId": first, "relationshipType": kind, "relatedSpdxElement": second}
 
-    described = [relation("SPDXRef-DOCUMENT", "DESCRIBES", it["SPDXID"]) for it in packages]
-    made = ((it["SPDXID"], of["SPDXID"]) for it in packages for of in parts_of(it["name"], version, parts))
+    described = [relation("SPDXRef-DOCUMENT", "DESCRIBES", package["SPDXID"]) for package in packages]
+    made = (
+        (package["SPDXID"], of["SPDXID"]) for package in packages for of in parts_of(package["name"], version, parts)
+    )
     return described + [relation(one, "GENERATED_FROM", other) for one, other in made]
 
 
@@ -226,12 +230,15 @@ def provenance(facts: dict[str, str], sums: dict[str, str]) -> Json:
                 "buildType": BUILD_TYPE,
                 "externalParameters": {"version": facts["version"], "commands": COMMANDS},
                 "internalParameters": {
-                    it: facts[it] for it in sorted(facts) if it not in ("version", "sources", "kit")
+                    fact: facts[fact] for fact in sorted(facts) if fact not in ("version", "sources", "kit")
                 },
                 "resolvedDependencies": [
                     *commit(),
                     {"name": "sources", "digest": {"sha256": facts["sources"]}},
-                    *({"name": f"sources-{it}", "digest": {"sha256": sum_of(paths)}} for it, paths in OTHERS.items()),
+                    *(
+                        {"name": f"sources-{name}", "digest": {"sha256": sum_of(paths)}}
+                        for name, paths in OTHERS.items()
+                    ),
                     {"name": facts["kit"]},
                 ],
             },

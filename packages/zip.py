@@ -20,7 +20,7 @@ def main() -> int:
         return 2
     folder, moment = Path(words[0]), time.gmtime(int(os.environ.get("SOURCE_DATE_EPOCH", "315532800")))
     with zipfile.ZipFile(words[1], "w", zipfile.ZIP_DEFLATED) as archive:
-        for path in sorted(it for it in folder.rglob("*") if it.is_file()):
+        for path in sorted(path for path in folder.rglob("*") if path.is_file()):
             entry = zipfile.ZipInfo(str(path.relative_to(folder)), moment[:6])
             entry.external_attr = 0o644 << 16
             archive.writestr(entry, path.read_bytes(), zipfile.ZIP_DEFLATED, 9)

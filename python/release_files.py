@@ -36,7 +36,7 @@ def released(processor: str, name: str) -> Path:
 
 def build_file() -> Path:
     """Returns the file that names the version and the sources of the release."""
-    found = [it for it in (TOP / "prebuilt" / "BUILD", TOP.parent / "release" / "BUILD") if it.is_file()]
+    found = [place for place in (TOP / "prebuilt" / "BUILD", TOP.parent / "release" / "BUILD") if place.is_file()]
     if not found:
         raise SystemExit("python: BUILD is neither in prebuilt nor in ../release")
     return found[0]
@@ -76,7 +76,7 @@ def processor_here() -> str | None:
 def linked(archive: Path, folder: Path) -> Path:
     """Links the shared library for aarch64."""
     own = ["ld"] if platform.machine() == "aarch64" else []
-    linker = next((it for it in ("ld.lld", "aarch64-linux-gnu-ld", *own) if shutil.which(it)), None)
+    linker = next((command for command in ("ld.lld", "aarch64-linux-gnu-ld", *own) if shutil.which(command)), None)
     if linker is None:
         raise SystemExit("python: a linker for aarch64 is missing: install lld, or binutils-aarch64-linux-gnu")
     words = ["-m", "aarch64linux", "-shared", "-soname", LIBRARY, "-z", "relro", "-z", "now", "--strip-all"]

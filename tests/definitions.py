@@ -37,7 +37,7 @@ Index = dict[tuple[str, str], dict[Path, Entry]]
 def sections_in(text: str) -> list[tuple[str, str]]:
     """Returns the sections that a text names, each with its standard."""
     joined = " ".join(text.split())
-    found = [(it[1], number) for it in CITES.finditer(joined) for number in re.findall(NUMBER, it[2])]
+    found = [(match[1], number) for match in CITES.finditer(joined) for number in re.findall(NUMBER, match[2])]
     return found + ([("CTAP 2.1", "8")] if ENCODING.search(joined) else [])
 
 
@@ -65,7 +65,7 @@ def index(comments: dict[Path, dict[str, str]]) -> Index:
 
 def order(section: str) -> list[int]:
     """Returns a section's numbers, by which sections are sorted."""
-    return [int(it) for it in section.split(".")]
+    return [int(word) for word in section.split(".")]
 
 
 def line(section: str, entries: dict[Path, Entry]) -> str:
@@ -74,7 +74,7 @@ def line(section: str, entries: dict[Path, Entry]) -> str:
     for path, entry in entries.items():
         crate, file = path.relative_to(TOP / "crates").parts[0], path.name.removesuffix(".antt")
         link = f"{crate}, {file}"
-        names = ", ".join(f"`{it}`" for it in dict.fromkeys(entry.names))
+        names = ", ".join(f"`{name}`" for name in dict.fromkeys(entry.names))
         cells.append(f"{link}: {names}" if names else link)
     return f"| {section} | {'; '.join(cells)} |\n"
 
@@ -85,5 +85,5 @@ def page(comments: dict[Path, dict[str, str]]) -> str:
     for standard in STANDARDS:
         text += f"\n## {standard}\n\n| Section | Where |\n|---|---|\n"
         sections = sorted((section for of, section in found if of == standard), key=order)
-        text += "".join(line(it, found[standard, it]) for it in sections)
+        text += "".join(line(section, found[standard, section]) for section in sections)
     return text

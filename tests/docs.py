@@ -63,8 +63,8 @@ class Shown:
 
     def is_printed(self, printed: list[str]) -> bool:
         """Returns whether the lines are those that the page shows."""
-        parts = [r"(?:.*\n)*" if it == ".." else self.pattern(it) + r"\n" for it in self.output]
-        return re.fullmatch("".join(parts), "".join(f"{it.rstrip()}\n" for it in printed)) is not None
+        parts = [r"(?:.*\n)*" if line == ".." else self.pattern(line) + r"\n" for line in self.output]
+        return re.fullmatch("".join(parts), "".join(f"{line.rstrip()}\n" for line in printed)) is not None
 
     @staticmethod
     def pattern(line: str) -> str:
@@ -76,7 +76,7 @@ class Shown:
         if self.has_to_succeed and status:
             return f"line {self.line}: status {status}: {text[-600:]}"
         if self.is_compared and not self.is_printed(printed):
-            return f"line {self.line}: {self.command}\n" + "\n".join(f"      {it}" for it in printed[:20])
+            return f"line {self.line}: {self.command}\n" + "\n".join(f"      {line}" for line in printed[:20])
         return ""
 
 
@@ -245,11 +245,11 @@ def play(found: list[Shown], room: Path) -> Result:
 def broken_links_of(page: Path) -> list[str]:
     """Returns the links of a page, and the paths that it names, that lead to no file."""
     text = page.read_text(encoding="utf-8")
-    targets = [it for it in LINK.findall(text) if "://" not in it]
-    found = [f"no file {it}" for it in targets if not (page.parent / it).exists()]
+    targets = [target for target in LINK.findall(text) if "://" not in target]
+    found = [f"no file {target}" for target in targets if not (page.parent / target).exists()]
     # What has changed names what is gone, too.
-    named = [it for it in QUOTED.findall(text) if page.name != "CHANGELOG.md" and not PLACEHOLDER.search(it)]
-    return found + [f"no path {it}" for it in named if not any(TOP.glob(it.rstrip("/")))]
+    named = [path for path in QUOTED.findall(text) if page.name != "CHANGELOG.md" and not PLACEHOLDER.search(path)]
+    return found + [f"no path {path}" for path in named if not any(TOP.glob(path.rstrip("/")))]
 
 
 def look_at(page: Path) -> Result:
@@ -264,15 +264,15 @@ def look_at(page: Path) -> Result:
 
 
 def main() -> int:
-    given = [Path(it).resolve() for it in sys.argv[1:]]
-    pages = given or sorted(it for pattern in ("*.md", "docs/**/*.md", "*/README.md") for it in TOP.glob(pattern))
+    given = [Path(word).resolve() for word in sys.argv[1:]]
+    pages = given or sorted(path for pattern in ("*.md", "docs/**/*.md", "*/README.md") for path in TOP.glob(pattern))
     passed = failed = 0
     missing: list[str] = []
     for page in pages:
         result = look_at(page)
         for failure in result.failures:
             print(f"FAILED  {page.relative_to(TOP)}: {failure}")
-        missing += [f"{page.relative_to(TOP)}: {it}" for it in result.missing]
+        missing += [f"{page.relative_to(TOP)}: {name}" for name in result.missing]
         passed, failed = passed + (not result.failures), failed + bool(result.failures)
     print(f"{passed} passed, {failed} failed")
     if failed == 0 and missing:

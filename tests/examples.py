@@ -37,10 +37,10 @@ def main() -> int:
     files = dict(FILE.findall(page))
     there = {(letter, name) for letter, path in files.items() for name in computed(path)}
     rows = [(row, examples) for row, examples in ROW.findall(page) if row not in files and row != "Letter"]
-    named = {it for _, examples in rows for it in NAMED.findall(examples)}
+    named = {name for _, examples in rows for name in NAMED.findall(examples)}
     wrong = [f"{letter} {name} is in no proof" for letter, name in sorted(named - there)]
     wrong += [f"{letter} {name} is in no row" for letter, name in sorted(there - named)]
-    wrong += [f"this row has neither an example nor `none`: {row}" for row, it in rows if not is_told(it)]
+    wrong += [f"this row has neither an example nor `none`: {row}" for row, examples in rows if not is_told(examples)]
     for line in wrong:
         print(f"tests/examples.txt: {line}")
     without = sum(examples.startswith("none: ") for _, examples in rows)

@@ -55,7 +55,7 @@ done
 keep_recordings() {
     printf 'a snapshot' >"$HIDLOG_RECORDINGS/x.snapshot"
     : >"$room/summary"
-    run_of 'it["name"] == "Keep the recordings"' >"$room/keep.sh"
+    run_of 'step["name"] == "Keep the recordings"' >"$room/keep.sh"
     FOLDER=$HIDLOG_RECORDINGS MOST=$1 GITHUB_STEP_SUMMARY=$room/summary bash -e "$room/keep.sh" ||
         stop "the action keeps no recordings"
 }
@@ -64,7 +64,7 @@ keep_recordings() {
 run_of() {
     /usr/bin/python3 -c "import sys, yaml
 steps = yaml.safe_load(open(sys.argv[1]))['runs']['steps']
-print(next(it['run'] for it in steps if $1))" "$top/action.yml"
+print(next(step['run'] for step in steps if $1))" "$top/action.yml"
 }
 
 # Runs the action's first step, where pip finds our own wheels alone: install_by_action VENV [REQUIREMENTS]
@@ -80,7 +80,7 @@ install_by_action() {
 # The action installs what a commit has, or what a file names with its hashes, and nothing else.
 fetches_nothing() {
     /usr/bin/python3 -m venv --without-pip "$room/bare" || stop "there is no venv"
-    run_of 'it.get("id") == "install"' >"$room/install.sh"
+    run_of 'step.get("id") == "install"' >"$room/install.sh"
     ! install_by_action bare || stop "the action installs without cryptography"
     grep -q '^::error::the Python package cryptography is missing' "$room/said" || stop "it says: $(cat "$room/said")"
     # The package itself, in another's place.

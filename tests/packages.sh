@@ -158,9 +158,9 @@ if command -v systemd-analyze >/dev/null; then
 else
     echo "tests/packages.sh: systemd-analyze was not run (apt-get install systemd)"
 fi
-for it in "${waiting[@]}"; do
-    wait "${it% *}" || stop "the command of ${it#* }: $(cat "$room/cases.${it#* }")"
-    echo "tests/packages.sh: the command of ${it#* }: $(tail -1 "$room/cases.${it#* }")"
+for run in "${waiting[@]}"; do
+    wait "${run% *}" || stop "the command of ${run#* }: $(cat "$room/cases.${run#* }")"
+    echo "tests/packages.sh: the command of ${run#* }: $(tail -1 "$room/cases.${run#* }")"
 done
 if command -v lintian >/dev/null; then
     # The packages aren't Debian's own, so they close no bug of Debian's.

@@ -34,7 +34,10 @@ Files = dict[str, bytes]
 def in_tar(data: bytes) -> Files:
     """Returns the files of a tar by their names; those that are links, without bytes."""
     with tarfile.open(fileobj=io.BytesIO(data)) as archive:
-        found = {it.name.removeprefix("./"): archive.extractfile(it) if it.isfile() else None for it in archive}
+        found = {
+            member.name.removeprefix("./"): archive.extractfile(member) if member.isfile() else None
+            for member in archive
+        }
         return {name: file.read() if file else b"" for name, file in found.items()}
 
 
@@ -43,17 +46,19 @@ def holds(path: Path) -> Files:
     data = path.read_bytes()
     if path.suffix in (".whl", ".zip"):
         with zipfile.ZipFile(io.BytesIO(data)) as archive:
-            return {it: archive.read(it) for it in archive.namelist()}
+            return {name: archive.read(name) for name in archive.namelist()}
     if path.suffix == ".deb":
         with tempfile.TemporaryDirectory() as folder:
             subprocess.run(["dpkg-deb", "-x", str(path), folder], check=True)
-            files = (it for it in Path(folder).rglob("*") if it.is_file() and not it.is_symlink())
-            return {str(it.relative_to(folder)): it.read_bytes() for it in files}
+            files = (path for path in Path(folder).rglob("*") if path.is_file() and not path.is_symlink())
+            return {str(file.relative_to(folder)): file.read_bytes() for file in files}
     return in_tar(data)
 
 
 PACKAGES = {
-    it.name: holds(it) for it in sorted(FOLDER.iterdir()) if it.suffix != ".json" and not it.name.endswith("SUMS")
+    path.name: holds(path)
+    for path in sorted(FOLDER.iterdir())
+    if path.suffix != ".json" and not path.name.endswith("SUMS")
 }
 
 
@@ -63,20 +68,20 @@ def have_program(program: bytes) -> set[str]:
 
 
 def have_any_program() -> set[str]:
-    return set().union(*(have_program(it) for it in PROGRAMS.values()))
+    return set().union(*(have_program(program) for program in PROGRAMS.values()))
 
 
 def licences_are_there() -> None:
     """Each package has both licences or Debian's copyright file, and one with the program names the C library's."""
     for name, files in PACKAGES.items():
-        texts = b"".join(data for it, data in files.items() if re.search(r"LICENSE|NOTICE|copyright$", it))
+        texts = b"".join(data for file, data in files.items() if re.search(r"LICENSE|NOTICE|copyright$", file))
         assert b"Permission is hereby granted" in texts, f"{name} has no MIT licence"
         assert b"Apache License" in texts or b"common-licenses/Apache-2.0" in texts, f"{name} has no Apache licence"
         if name in have_any_program():
             assert b"Free Software" in texts and b"LGPL" in texts or b"Lesser General" in texts, f"{name}: no notice"
     for library, program in PROGRAMS.items():
         found = have_program(program)
-        assert {"hidlog_", "hidlog-"} == {it[:7] for it in found}, found
+        assert {"hidlog_", "hidlog-"} == {name[:7] for name in found}, found
         assert len(found) == {"glibc": 5, "glibc-arm64": 4}[library], found
 
 
@@ -91,15 +96,15 @@ def page_names_what_is_there() -> None:
         files = next(found for name, found in PACKAGES.items() if package in name)
         for path in named:
             pattern = re.compile(root + re.escape(path).replace(r"\*", "[^/]*") + "$")
-            assert any(pattern.match(it) for it in files), f"the man page names {path}, which {package} hasn't got"
+            assert any(pattern.match(file) for file in files), f"the man page names {path}, which {package} hasn't got"
 
 
 def links_lead_somewhere() -> None:
     """Each link of a page to a file leads to one of its package."""
     count = 0
     for name, files in PACKAGES.items():
-        folders = {str(parent) for it in files for parent in Path(it).parents}
-        for page in (it for it in files if it.endswith(".md") and "CHANGELOG" not in it):
+        folders = {str(parent) for file in files for parent in Path(file).parents}
+        for page in (file for file in files if file.endswith(".md") and "CHANGELOG" not in file):
             for target in re.findall(r"\]\(([^)#\s]+)", files[page].decode("utf-8")):
                 if "://" not in target:
                     path = os.path.normpath(f"{Path(page).parent}/{target}")
@@ -110,7 +115,7 @@ def links_lead_somewhere() -> None:
 
 def readmes_are_there() -> None:
     """Each package that is for people has a README."""
-    readmes = {name: [it for it in files if it.endswith("README.md")] for name, files in PACKAGES.items()}
+    readmes = {name: [file for file in files if file.endswith("README.md")] for name, files in PACKAGES.items()}
     for name in (
         "hidlog_",
         "libhidlog-dev_",
@@ -126,28 +131,30 @@ def readmes_are_there() -> None:
 
 def statements_name_all() -> None:
     """Each package is named by both statements, with its sum, and made from its own parts."""
-    sums = {it: hashlib.sha256((FOLDER / it).read_bytes()).hexdigest() for it in PACKAGES}
+    sums = {package: hashlib.sha256((FOLDER / package).read_bytes()).hexdigest() for package in PACKAGES}
     (spdx,), (provenance,) = FOLDER.glob("*.spdx.json"), FOLDER.glob("*.provenance.json")
     document = json.loads(spdx.read_text())
     listed = document["packages"]
     assert {
-        it["packageFileName"]: it["checksums"][0]["checksumValue"] for it in listed if "packageFileName" in it
+        package["packageFileName"]: package["checksums"][0]["checksumValue"]
+        for package in listed
+        if "packageFileName" in package
     } == sums
-    named = {it["name"]: it["digest"]["sha256"] for it in json.loads(provenance.read_text())["subject"]}
+    named = {subject["name"]: subject["digest"]["sha256"] for subject in json.loads(provenance.read_text())["subject"]}
     assert named == sums
-    names = {it["SPDXID"]: it["name"] for it in listed}
+    names = {package["SPDXID"]: package["name"] for package in listed}
     made: dict[str, set[str]] = {name: set() for name in sums}
-    for it in document["relationships"]:
-        if it["relationshipType"] == "GENERATED_FROM":
-            made[names[it["spdxElementId"]]].add(names[it["relatedSpdxElement"]])
+    for relation in document["relationships"]:
+        if relation["relationshipType"] == "GENERATED_FROM":
+            made[names[relation["spdxElementId"]]].add(names[relation["relatedSpdxElement"]])
     for library, program in PROGRAMS.items():
         assert {name for name, parts in made.items() if library in parts} == have_program(program), library
     for name in have_program(PROGRAMS.get("glibc-arm64", b"none")):
         assert "hidlog-sources-arm64" in made[name] and "hidlog-sources-uhid" not in made[name], (name, made[name])
     for word, part in (("go-", "go"), (".crate", "rust"), (".tgz", "npm"), (".whl", "python"), ("uhid", "uhid")):
-        for name in (it for it in sums if word in it):
+        for name in (package for package in sums if word in package):
             assert f"hidlog-sources-{part}" in made[name], (name, made[name])
-    assert "hidlog-sources-npm" not in made[next(it for it in sums if it.endswith(".whl"))]
+    assert "hidlog-sources-npm" not in made[next(name for name in sums if name.endswith(".whl"))]
     # Versions are those of crates.txt's names, and nothing leads to a name that doesn't exist.
     uses = {
         word
@@ -155,9 +162,13 @@ def statements_name_all() -> None:
         if not line.startswith("#")
         for word in line.partition(":")[2].split()
     }
-    kit = {it["name"].rpartition("-")[2]: it["versionInfo"] for it in listed if " Rust crate " in it.get("comment", "")}
-    assert set(kit) == {it for it in uses if not (TOP / "crates" / it).is_dir()}, sorted(kit)
-    assert all(re.fullmatch(r"[0-9]+[.][0-9]+[.][0-9]+", it) for it in kit.values()), kit
+    kit = {
+        package["name"].rpartition("-")[2]: package["versionInfo"]
+        for package in listed
+        if " Rust crate " in package.get("comment", "")
+    }
+    assert set(kit) == {crate for crate in uses if not (TOP / "crates" / crate).is_dir()}, sorted(kit)
+    assert all(re.fullmatch(r"[0-9]+[.][0-9]+[.][0-9]+", version) for version in kit.values()), kit
     assert ".example" not in spdx.read_text() + provenance.read_text()
 
 
@@ -166,9 +177,11 @@ def statements_name_the_commit() -> None:
     (provenance,) = FOLDER.glob("*.provenance.json")
     made = json.loads(provenance.read_text())["predicate"]["buildDefinition"]["resolvedDependencies"]
     head = subprocess.run(["git", "-C", str(TOP), "rev-parse", "HEAD"], capture_output=True, text=True).stdout.strip()
-    assert [it["digest"]["gitCommit"] for it in made if it["name"] == "commit"] == ([head] if head else []), made
-    assert {"sources", *(f"sources-{it}" for it in ("python", "npm", "uhid", "go", "rust", "docs"))} <= {
-        it["name"] for it in made
+    assert [material["digest"]["gitCommit"] for material in made if material["name"] == "commit"] == (
+        [head] if head else []
+    ), made
+    assert {"sources", *(f"sources-{part}" for part in ("python", "npm", "uhid", "go", "rust", "docs"))} <= {
+        material["name"] for material in made
     }
 
 

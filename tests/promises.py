@@ -84,7 +84,7 @@ def promises_in(path: Path) -> Iterator[Promise]:
             contract = contract_at(lines, place, function[1])
             inside = block.of if function[1] else path.stem if path.stem == "laws" else ""
             name = f"{inside}::{function[3]}" if inside else function[3]
-            if comment and any(CLAUSE.match(it) for it in contract):
+            if comment and any(CLAUSE.match(line) for line in contract):
                 yield Promise(name, first_sentence(comment), contract)
         if not text.startswith(("#[", "//")):
             comment = []
@@ -93,26 +93,28 @@ def promises_in(path: Path) -> Iterator[Promise]:
 def crates() -> list[str]:
     """Returns the crates in their order, without those of tests."""
     names = CRATE.findall((TOP / "crates.txt").read_text(encoding="utf-8"))
-    return [it for it in names if not it.endswith("_tests")]
+    return [name for name in names if not name.endswith("_tests")]
 
 
 def all_in(crate: str) -> list[Promise]:
     """Returns the promises of a crate."""
-    return [it for path in sorted((TOP / "crates" / crate / "src").glob("**/*.rt")) for it in promises_in(path)]
+    return [
+        promise for path in sorted((TOP / "crates" / crate / "src").glob("**/*.rt")) for promise in promises_in(path)
+    ]
 
 
 def main() -> int:
     signal.signal(signal.SIGPIPE, signal.SIG_DFL)
     words = sys.argv[1:]
     count = 0
-    for crate in [it for it in words if not it.startswith("--")] or crates():
+    for crate in [word for word in words if not word.startswith("--")] or crates():
         found = all_in(crate)
         count += len(found)
         print(f"\n{crate}: {len(found)}\n")
-        for it in found:
-            print(f"{it.name} ({', '.join(it.clauses())}): {it.says}")
+        for promise in found:
+            print(f"{promise.name} ({', '.join(promise.clauses())}): {promise.says}")
             if "--contracts" in words:
-                print("\n".join(it.contract) + "\n")
+                print("\n".join(promise.contract) + "\n")
     print(f"\n{count} functions with a contract")
     return 0
 

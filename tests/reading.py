@@ -132,18 +132,18 @@ class Definition:
 
     def words(self, without: tuple[str, ...] = ()) -> set[str]:
         """Returns the words by which it may name something else, without those of these fields."""
-        dropped = tuple(f"pub {it} :" for it in without)
+        dropped = tuple(f"pub {name} :" for name in without)
         kept = (line for line in self.code() if not line.strip().startswith(dropped))
         text = FIELDS.sub(" ", "\n".join(line.split(" -- ")[0] for line in kept))
         equations = re.split(rf"^(?= *{re.escape(self.name)}(?: |$))", text, flags=re.MULTILINE)
-        return {word for it in equations for word in free_words(it)}
+        return {word for equation in equations for word in free_words(equation)}
 
     def makes(self) -> set[str]:
         """Returns the constructors of a data type."""
         if not re.match(r"\s*(pub )?data ", self.lines[0]):
             return set()
         found = (re.match(r"\s+(?:pub )?(\S+) :", line) for line in self.code()[1:])
-        return {it.group(1) for it in found if it}
+        return {match.group(1) for match in found if match}
 
     def shown(self) -> list[str]:
         """Returns the definition as the page has it: its comment, and its lines without the words for the prover."""
@@ -172,7 +172,9 @@ class Definition:
         if head[1] == "data":
             parts = (" ".join([name, *arguments(of)]) for name, _, of in split)
             notes = (line.strip() for line in self.lines[1:])
-            return one_of(f"data {head[2]}:", [it if it.startswith("--") else part for it, part in zip(notes, parts)])
+            return one_of(
+                f"data {head[2]}:", [note if note.startswith("--") else part for note, part in zip(notes, parts)]
+            )
         if any(STATES.search(of) for _, _, of in split):
             return []
         return wrapped(" ".join([f"record {head[2]}:", *named([(name, of) for name, _, of in split])]))
@@ -190,7 +192,9 @@ class Definition:
 def named(fields: list[tuple[str, str]]) -> list[str]:
     """Returns fields or named arguments, those of the same type together, with the type where that isn't plain."""
     found = list[str]()
-    for of, group in groupby(fields, key=lambda it: "" if it[1] in PLAIN or it[1].lower() == it[0] else it[1]):
+    for of, group in groupby(
+        fields, key=lambda field: "" if field[1] in PLAIN or field[1].lower() == field[0] else field[1]
+    ):
         names = " ".join(name for name, _ in group)
         found.append(f"({names} : {of})" if of else names)
     return found
@@ -229,7 +233,7 @@ def free_words(equation: str) -> set[str]:
     """Returns the words of an equation or a type, without those that are bound here: the parameters in small letters,
     and what `λ` and `let` name."""
     left = equation.partition(" =")[0] if not re.match(r" *(?:\w+ )*\S+ :", equation) else ""
-    bound = {it for it in TOKEN.findall(left) if not it[0].isupper()}
+    bound = {token for token in TOKEN.findall(left) if not token[0].isupper()}
     for group in BINDERS.findall(equation):
         bound |= set(TOKEN.findall("".join(group)))
     return set(TOKEN.findall(equation)) - bound
@@ -246,7 +250,7 @@ class File:
         """Returns the definition with this name, or the data type with this constructor."""
         if name in self.definitions:
             return self.definitions[name]
-        return next((it for it in self.definitions.values() if name in it.makes()), None)
+        return next((definition for definition in self.definitions.values() if name in definition.makes()), None)
 
 
 def take_uses(found: File, line: str) -> bool:
@@ -285,9 +289,9 @@ def read(path: Path) -> File:
     return found
 
 
-def held(it: Name) -> Definition:
+def held(name: Name) -> Definition:
     """Returns the definition with this name."""
-    return read(it.path).definitions[it.name]
+    return read(name.path).definitions[name.name]
 
 
 def path_of(module: str) -> Path | None:
@@ -340,21 +344,21 @@ class Walk:
             for name in statement(HEADLINE, pattern, f"clause `{clause}` of `drive_new`"):
                 self.visit(name)
 
-    def visit(self, it: Name) -> None:
+    def visit(self, name: Name) -> None:
         """Takes a definition and all that it uses."""
-        if it.name in self.laws:
-            self.visit_law(it)
+        if name.name in self.laws:
+            self.visit_law(name)
             return
-        here = read(it.path)
-        definition = here.holding(it.name)
+        here = read(name.path)
+        definition = here.holding(name.name)
         if definition is None:
-            raise SystemExit(f"tests/reading.py: {it.path.relative_to(TOP)} doesn't define {it.name}")
-        found = Name(it.path, definition.name)
+            raise SystemExit(f"tests/reading.py: {name.path.relative_to(TOP)} doesn't define {name.name}")
+        found = Name(name.path, definition.name)
         if found in self.needed:
             return
         self.needed.add(found)
         for word in sorted(definition.words(self.without if found.name == BOUNDS_RECORD else ())):
-            self.visit_word(it.path, word)
+            self.visit_word(name.path, word)
 
     def visit_word(self, path: Path, word: str) -> None:
         """Takes what a word of a definition in this file names, if anything."""
@@ -373,15 +377,15 @@ class Walk:
             else:
                 self.library.add(word)
 
-    def visit_law(self, it: Name) -> None:
+    def visit_law(self, name: Name) -> None:
         """Takes the statement of the law that is read in the place of a definition."""
-        law = self.laws[it.name]
-        path = it.path.parent.parent / "src" / "laws.rt"
+        law = self.laws[name.name]
+        path = name.path.parent.parent / "src" / "laws.rt"
         clause = re.compile(rf"pub fn {law}\(\)\s+ensures (?:\w+ )?\{{(.*?)\}}", re.DOTALL)
         named = statement(path, clause, f"law {law}")
         said = {word for of in named if of.name not in PREMISES for word in held(of).words()}
-        if it.name not in said:
-            self.faults.append(f"{path.relative_to(TOP)}: {law} doesn't speak of {it.name}")
+        if name.name not in said:
+            self.faults.append(f"{path.relative_to(TOP)}: {law} doesn't speak of {name.name}")
         for of in named:
             if of.name not in PREMISES:
                 self.visit(of)
@@ -435,9 +439,9 @@ def read_aside(needed: set[Name]) -> list[str]:
     found = list[str]()
     for word, name in ASIDE.items():
         other = re.compile(rf"(?<![\w.])(?<!\b{name} = ){word}(?![\w.])|(?<!\b{name} = )(?<![\w.])\w+\.{name}\b")
-        for it in sorted(needed):
-            if other.search("\n".join(line.split(" -- ")[0] for line in held(it).code())):
-                found.append(f"{it} reads {word} or the field {name}, on which no packet is to depend")
+        for reader in sorted(needed):
+            if other.search("\n".join(line.split(" -- ")[0] for line in held(reader).code())):
+                found.append(f"{reader} reads {word} or the field {name}, on which no packet is to depend")
     return found
 
 
@@ -458,7 +462,7 @@ def block_of(found: re.Match[str]) -> Block:
     lines = found[4].strip("\n").splitlines()
     path = TOP / lines[0].strip().removeprefix("-- ")
     begun = (BEGINS.match(line) for line in lines[1:])
-    names = dict.fromkeys(it[1] for it in begun if it and it[1] in read(path).definitions)
+    names = dict.fromkeys(match[1] for match in begun if match and match[1] in read(path).definitions)
     return Block(found[1], path, list(names))
 
 
@@ -519,12 +523,12 @@ def short_declaration(path: Path, name: str) -> list[str]:
         return [f"{constant[1]} = {constant[2]}"]
     inside = [line.strip().removeprefix("pub ").removesuffix(",") for line in lines[1:-1]]
     if lines[0] == f"pub struct {name} {{":
-        fields = [(it, code_type(of)) for it, _, of in (line.partition(": ") for line in inside)]
+        fields = [(field, code_type(of)) for field, _, of in (line.partition(": ") for line in inside)]
         return wrapped(" ".join([f"record {name}:", *named(fields)]))
     found = [re.fullmatch(r"(\w+)(?:\((\w.*)\)| \{ (.*) \})?", line) for line in inside]
     if lines[0] != f"pub enum {name} {{" or None in found:
         return lines
-    return one_of(f"data {name}:", [variant(it) for it in found if it])
+    return one_of(f"data {name}:", [variant(entry) for entry in found if entry])
 
 
 def variant(found: re.Match[str]) -> str:
@@ -533,8 +537,8 @@ def variant(found: re.Match[str]) -> str:
     if of:
         kind = code_type(of)
         return f"{name} ({kind})" if " " in kind else f"{name} {kind}"
-    split = (it.partition(": ") for it in (fields or "").split(", ") if it)
-    return " ".join([name, *named([(it, code_type(kind)) for it, _, kind in split])])
+    split = (field.partition(": ") for field in (fields or "").split(", ") if field)
+    return " ".join([name, *named([(field, code_type(kind)) for field, _, kind in split])])
 
 
 def clauses(path: Path, function: str, names: list[str]) -> list[str]:
@@ -546,62 +550,72 @@ def clauses(path: Path, function: str, names: list[str]) -> list[str]:
     lines = list[str]()
     signature, *parts = re.split(r"\n +(?=ensures|requires|// )", found[0].removesuffix(f"\n{found[1]}{{"))
     for name in names:
-        part = signature if name == "signature" else next((it for it in parts if it.startswith(f"ensures {name} ")), "")
+        part = (
+            signature
+            if name == "signature"
+            else next((part for part in parts if part.startswith(f"ensures {name} ")), "")
+        )
         kept = part or f"({name} isn't a clause of {function})"
         lines += textwrap.dedent(kept if name == "signature" else f"    {kept}").splitlines()
     return lines
 
 
-def is_public(it: Name) -> bool:
+def is_public(name: Name) -> bool:
     """Returns whether users of the crate can name it: its module is public, or the crate exports it."""
-    module = it.path.stem
-    root = it.path.with_name("lib.rt").read_text(encoding="utf-8")
-    return bool(re.search(EXPORTED.format(module, it.name, it.name, module), root, re.M))
+    module = name.path.stem
+    root = name.path.with_name("lib.rt").read_text(encoding="utf-8")
+    return bool(re.search(EXPORTED.format(module, name.name, name.name, module), root, re.M))
 
 
 def count(names: set[Name]) -> str:
-    lines, files = sum(len(held(it).equations()) for it in names), len({it.path for it in names})
+    lines, files = sum(len(held(name).equations()) for name in names), len({name.path for name in names})
     return f"**{len(names)} definitions, {lines:,} lines, {files} {'files' if files > 1 else 'file'}**"
 
 
 def written(needs: Needs, page: str) -> str:
     """Returns the text of both pages with the texts and the counts of today."""
     page = BLOCK.sub(filled, page)
-    counts = iter([count(it.definitions) for it in needs.parts])
-    page = COUNTS.sub(lambda it: with_numbers(it[0], next(counts, it[0])), page)
-    return MORE.sub(lambda it: re.sub(r"\d+", str(needs.more.get(it[1], 0)), str(it[0]), count=1), page)
+    counts = iter([count(part.definitions) for part in needs.parts])
+    page = COUNTS.sub(lambda match: with_numbers(match[0], next(counts, match[0])), page)
+    return MORE.sub(lambda match: re.sub(r"\d+", str(needs.more.get(match[1], 0)), str(match[0]), count=1), page)
 
 
 def with_numbers(text: str, counted: str) -> str:
     """Returns the text with the numbers of the other one, and its own line breaks."""
     numbers: Iterator[str] = iter(re.findall(r"[\d,]*\d", counted))
-    return re.sub(r"[\d,]*\d", lambda it: next(numbers), text)
+    return re.sub(r"[\d,]*\d", lambda match: next(numbers), text)
 
 
 def names_on(page: str, *kinds: str) -> list[Name]:
-    blocks = (block_of(it) for it in BLOCK.finditer(page))
-    return [Name(it.path, name) for it in blocks if it.kind in kinds for name in it.names]
+    blocks = (block_of(match) for match in BLOCK.finditer(page))
+    return [Name(block.path, name) for block in blocks if block.kind in kinds for name in block.names]
 
 
 def differences(where: str, has: list[Name], needs: set[Name]) -> list[str]:
     """Returns what is missing, not needed, or there twice."""
-    found = [f"{it} is needed and isn't {where}" for it in sorted(needs - set(has))]
-    found += [f"{it} is {where} and isn't needed" for it in sorted(set(has) - needs)]
-    return found + [f"{it} is {where} twice" for it in sorted({it for it in has if has.count(it) > 1})]
+    found = [f"{name} is needed and isn't {where}" for name in sorted(needs - set(has))]
+    found += [f"{name} is {where} and isn't needed" for name in sorted(set(has) - needs)]
+    return found + [f"{name} is {where} twice" for name in sorted({name for name in has if has.count(name) > 1})]
 
 
 def unsaid(needs: Needs, page: str) -> list[str]:
     """Returns which constructors in small letters the notation doesn't name, and which library words no prose does."""
-    made = {it for part in needs.parts for name in part.definitions for it in held(name).makes() if it[0].islower()}
+    made = {
+        symbol
+        for part in needs.parts
+        for name in part.definitions
+        for symbol in held(name).makes()
+        if symbol[0].islower()
+    }
     notation = set(TOKEN.findall(page.partition("## Notation")[2].partition("\n## ")[0]))
     prose = set(TOKEN.findall(BLOCK.sub("", page).replace("`", " ")))
-    found = [f"the notation doesn't name the constructor {it}" for it in sorted(made - notation)]
-    return found + [f"the library's {it} isn't explained" for it in sorted(needs.library - prose)]
+    found = [f"the notation doesn't name the constructor {name}" for name in sorted(made - notation)]
+    return found + [f"the library's {name} isn't explained" for name in sorted(needs.library - prose)]
 
 
 def extent(page: str) -> int:
     """Returns how many words a page has: each word, name, number and sign between two spaces."""
-    return sum(len(it.split()) for it in page.splitlines() if not UNSEEN.fullmatch(it))
+    return sum(len(line.split()) for line in page.splitlines() if not UNSEEN.fullmatch(line))
 
 
 def overlong(path: Path, page: str) -> list[str]:
@@ -637,19 +651,22 @@ def faults(needs: Needs, pages: list[str], more: str) -> list[str]:
 
 def comments() -> dict[Path, dict[str, str]]:
     """Returns the comment above each definition of the repository, by files."""
-    files = {it: read(it) for it in sorted((TOP / "crates").glob("*/specs/**/*.antt"))}
-    return {path: {it.name: it.comment for it in file.definitions.values()} for path, file in files.items()}
+    files = {path: read(path) for path in sorted((TOP / "crates").glob("*/specs/**/*.antt"))}
+    return {
+        path: {definition.name: definition.comment for definition in file.definitions.values()}
+        for path, file in files.items()
+    }
 
 
 def listing(needs: Needs) -> str:
     """Returns what is needed, by parts and files: the definitions in their order, and what the code declares."""
     lines = list[str]()
     for part in needs.parts:
-        for path in sorted({it.path for it in part.definitions}):
+        for path in sorted({definition.path for definition in part.definitions}):
             kept = [name for name in read(path).definitions if Name(path, name) in part.definitions]
             lines.append(f"{part.title}: {path.relative_to(TOP)}: {' '.join(kept)}")
-        lines += [f"{part.title}: {it}" for it in sorted(part.code)]
-    return "\n".join([*lines, *(count(it.definitions) for it in needs.parts), str(needs.more)])
+        lines += [f"{part.title}: {line}" for line in sorted(part.code)]
+    return "\n".join([*lines, *(count(part.definitions) for part in needs.parts), str(needs.more)])
 
 
 def main() -> int:

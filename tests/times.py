@@ -69,8 +69,8 @@ class Sampler:
 
     def sample(self) -> None:
         """Adds what the processes of this moment have used."""
-        running = [it for name in os.listdir("/proc") if name.isdigit() and (it := Process.read(int(name)))]
-        parents = {it.pid: it.parent for it in running}
+        running = [found for name in os.listdir("/proc") if name.isdigit() and (found := Process.read(int(name)))]
+        parents = {process.pid: process.parent for process in running}
         for process in running:
             if not self.is_below(process.pid, parents):
                 continue
@@ -115,13 +115,13 @@ def table_of(checks: list[Check]) -> str:
     for check in checks:
         row = costs.setdefault(check.crate, dict.fromkeys(KINDS, 0.0))
         row[check.kind] += check.seconds
-    rows = sorted(costs.items(), key=lambda it: -sum(it[1].values()))
+    rows = sorted(costs.items(), key=lambda row: -sum(row[1].values()))
     sums = {kind: sum(row[kind] for row in costs.values()) for kind in KINDS}
     lines = ["| Crate | " + " | ".join(kind.capitalize() for kind in KINDS) + " | Rounds of edits | All |"]
     lines.append("|---" * (len(KINDS) + 3) + "|")
     for crate, row in [*rows, ("all", sums)]:
         figures = " | ".join(f"{row[kind]:.0f}" if row[kind] else "" for kind in KINDS)
-        rounds = sum(it.kind == "edits" and crate in (it.crate, "all") for it in checks)
+        rounds = sum(check.kind == "edits" and crate in (check.crate, "all") for check in checks)
         lines.append(f"| {crate} | {figures} | {rounds or ''} | {sum(row.values()):.0f} |")
     return "\n".join(lines)
 
@@ -156,10 +156,10 @@ def main() -> int:
     given = parser.parse_args()
     began = time.monotonic()
     sampler, status = (watch(given.watch), 0) if given.watch else call(given.command)
-    checks = [it for it in sampler.checks.values() if it is not None]
+    checks = [check for check in sampler.checks.values() if check is not None]
     print(table_of(checks))
     print(
-        f"{sum(it.seconds for it in checks) / 60:.1f} minutes of processor time, "
+        f"{sum(check.seconds for check in checks) / 60:.1f} minutes of processor time, "
         f"{(time.monotonic() - began) / 60:.1f} by the clock, {os.cpu_count()} processors"
     )
     return status

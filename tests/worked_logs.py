@@ -112,7 +112,7 @@ def compare(room: Path, log: Log, changes: list[tuple[bytes, str]]) -> None:
     names = [str(number) for number in range(len(changes))]
     ended = subprocess.run([PROGRAM, "check", *log.options, *names], cwd=room, capture_output=True, timeout=600)
     assert (ended.returncode, ended.stdout) == (1, b""), f"{log.name}: {ended.stdout.decode()}"
-    said = [it for it in ended.stderr.decode().splitlines() if not it.startswith(" ")]
+    said = [line for line in ended.stderr.decode().splitlines() if not line.startswith(" ")]
     wanted = [f"{number}: {place}" for number, (_, place) in enumerate(changes)]
     for one, other in zip(said, wanted):
         assert one == other, f"{log.name}: {one}, and not {other}"
@@ -122,7 +122,7 @@ def compare(room: Path, log: Log, changes: list[tuple[bytes, str]]) -> None:
 def worked_logs() -> list[Log]:
     """Returns the logs."""
     names = (TOP / "crates/hidlog/args").read_text(encoding="utf-8").split()[1:]
-    found = sorted(str(it.relative_to(DATA)) for it in DATA.glob("*/*.log"))
+    found = sorted(str(path.relative_to(DATA)) for path in DATA.glob("*/*.log"))
     restarted = "restarted/after_restart.log"
     assert sorted([*names, restarted]) == found, "crates/hidlog/args doesn't name each log of data/"
     logs = [Log(name, (DATA / name).read_bytes(), []) for name in names]

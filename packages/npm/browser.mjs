@@ -47,7 +47,7 @@ const serving = (key) => ({
 const readLine = (line, commands) => {
     const asked = JSON.parse(line);
     const names = Object.keys(typeof asked === "object" && asked !== null ? asked : {});
-    const found = names.filter((it) => !["id", "mediation"].includes(it));
+    const found = names.filter((name) => !["id", "mediation"].includes(name));
     if (found.length !== 1 || !Object.hasOwn(commands, found[0])) {
         const all = Object.keys(commands).join(", ");
         throw new TypeError(`a line is an object with one command, such as {"get": {..}}; there are ${all}`);

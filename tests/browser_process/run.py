@@ -59,7 +59,7 @@ def npm_package(room: Path) -> list[str]:
         "packages/npm/node.mjs",
         "packages/npm/node18.mjs",
     ]
-    names += [f"web/dist/security_key.{it}" for it in ("js", "mjs")] + ["packages/npm/package.json"]
+    names += [f"web/dist/security_key.{ending}" for ending in ("js", "mjs")] + ["packages/npm/package.json"]
     for name in names:
         shutil.copy(TOP / name, room)
     return ["node", str(room / "cli.mjs"), "browser"]
@@ -106,7 +106,7 @@ def registers_and_signs_in(browser: Browser) -> Any:
     counts = []
     for _ in range(2):
         used = browser.ask("get", {"publicKey": {**REQUEST, "allowCredentials": allowed}})
-        parts = {name: data_of(it) for name, it in used["response"].items()}
+        parts = {name: data_of(text) for name, text in used["response"].items()}
         signed = parts["authenticatorData"] + sha256(parts["clientDataJSON"]).digest()
         key.verify(parts["signature"], signed, ec.ECDSA(hashes.SHA256()))
         assert json.loads(parts["clientDataJSON"])["origin"] == ORIGIN and used["id"] == made["id"]
@@ -158,7 +158,7 @@ def is_driven(browser: Browser) -> Any:
     seen += [added["credentialId"], used["id"], data_of(used["response"]["authenticatorData"])[36]]
     listed = browser.ask("credentials")
     names = ("isResidentCredential", "rpId", "userHandle", "userName", "signCount", "backupEligibility", "backupState")
-    seen.append([[it[name] for name in names] for it in listed])
+    seen.append([[credential[name] for name in names] for credential in listed])
     browser.ask("removeCredential", "AQID")
     seen.append(len(browser.ask("credentials")))
     browser.ask("clearCredentials")
@@ -172,11 +172,11 @@ def refuses_wrong_lines(browser: Browser) -> Any:
     lines += ['{"authenticator": {"isUserVerified": true}}', '{"authenticator": {"transports": "usb"}}']
     lines += ['{"get": {}, "mediation": "conditional"}', '{"faults": {"wrong": 1}}', '{"removeCredential": "AQ"}']
     lines += ['{"addCredential": {}}', '{"userVerified": true}']
-    answers = [browser.line(it) for it in lines]
-    assert all(it["message"] and "\n" not in it["message"] for it in answers), answers
+    answers = [browser.line(line) for line in lines]
+    assert all(answer["message"] and "\n" not in answer["message"] for answer in answers), answers
     assert "there are create, get" in answers[4]["message"] and "granted" in answers[6]["message"]
     browser.ask("presence", "granted")
-    return [it["error"] for it in answers], answers[6]["id"], browser.line('{"log": null, "id": "a"}')["id"]
+    return [answer["error"] for answer in answers], answers[6]["id"], browser.line('{"log": null, "id": "a"}')["id"]
 
 
 TESTS = (registers_and_signs_in, fails_as_a_page, is_driven, refuses_wrong_lines)
@@ -184,17 +184,17 @@ TESTS = (registers_and_signs_in, fails_as_a_page, is_driven, refuses_wrong_lines
 
 def check_recordings(browser: Browser) -> str:
     """Returns what is wrong with the recordings."""
-    for it in browser.ask("recordings"):
+    for recording in browser.ask("recordings"):
         with tempfile.NamedTemporaryFile() as snapshot:
-            snapshot.write(data_of(it["snapshot"]) if it["snapshot"] else b"")
+            snapshot.write(data_of(recording["snapshot"]) if recording["snapshot"] else b"")
             snapshot.flush()
-            words = ["--load", snapshot.name] if it["snapshot"] else []
+            words = ["--load", snapshot.name] if recording["snapshot"] else []
             done = subprocess.run(
-                [PROGRAM, "check", *words], input=it["log"].encode(), capture_output=True, check=False
+                [PROGRAM, "check", *words], input=recording["log"].encode(), capture_output=True, check=False
             )
             if done.returncode:
                 return str(done.stderr)
-    return "" if any(it["log"].startswith(">") for it in browser.ask("recordings")) else "no log"
+    return "" if any(recording["log"].startswith(">") for recording in browser.ask("recordings")) else "no log"
 
 
 def run_tests(commands: dict[str, list[str]]) -> bool:

@@ -32,7 +32,7 @@ HANGS = 300.0
 def packets_of(name: str) -> list[bytes]:
     """Returns the packets that hosts send in a log of examples/."""
     lines = (TOP / "examples" / name).read_text(encoding="utf-8").splitlines()
-    return [bytes.fromhex(it.split()[2]) for it in lines if it.startswith("> ")]
+    return [bytes.fromhex(line.split()[2]) for line in lines if line.startswith("> ")]
 
 
 def packet(channel: bytes, command: int, data: bytes) -> bytes:
@@ -102,10 +102,10 @@ class Bridge:
     @classmethod
     def end_all(cls) -> None:
         """Kills what still runs, after a test that failed."""
-        for it in cls.running:
-            if it.process.poll() is None:
-                it.process.kill()
-                it.ended()
+        for bridge in cls.running:
+            if bridge.process.poll() is None:
+                bridge.process.kill()
+                bridge.ended()
         cls.running.clear()
 
     def plugged_in(self, seconds: float = HANGS) -> bool:
@@ -151,13 +151,13 @@ class Bridge:
     def answer(self, channel: bytes, seconds: float = HANGS) -> bytes:
         """Returns the next message on a channel that is no KEEPALIVE: its command and its data."""
         data, wanted, command = b"", 0, 0
-        for it in self.packets(seconds):
-            if it[:4] != channel or it[4] == KEEPALIVE:
+        for packet in self.packets(seconds):
+            if packet[:4] != channel or packet[4] == KEEPALIVE:
                 continue
-            if it[4] & 0x80:
-                command, wanted, data = it[4], int.from_bytes(it[5:7], "big"), it[7:]
+            if packet[4] & 0x80:
+                command, wanted, data = packet[4], int.from_bytes(packet[5:7], "big"), packet[7:]
             else:
-                data += it[5:]
+                data += packet[5:]
             if len(data) >= wanted:
                 return bytes([command]) + data[:wanted]
         raise TimeoutError(f"channel {channel.hex()} got no answer in {seconds} s")
@@ -165,9 +165,9 @@ class Bridge:
     def channel(self, nonce: bytes, seconds: float = HANGS) -> bytes:
         """Gets a channel, as each program does first."""
         self.write(packet(BROADCAST, INIT, nonce))
-        for it in self.packets(seconds):
-            if it[:5] == BROADCAST + bytes([INIT]) and it[7:15] == nonce:
-                return it[15:19]
+        for packet_ in self.packets(seconds):
+            if packet_[:5] == BROADCAST + bytes([INIT]) and packet_[7:15] == nonce:
+                return packet_[15:19]
         raise TimeoutError(f"no channel in {seconds} s")
 
     def register(self) -> bytes:
@@ -177,8 +177,8 @@ class Bridge:
     def ask(self, packets: Sequence[bytes]) -> bytes:
         """Sends packets on a new channel, and returns the answer."""
         channel = self.channel(os.urandom(8))
-        for it in packets:
-            self.write(channel + it[4:])
+        for packet in packets:
+            self.write(channel + packet[4:])
         return self.answer(channel)
 
     def end(self, number: int = signal.SIGTERM, seconds: float = HANGS) -> tuple[int, str]:

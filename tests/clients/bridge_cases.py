@@ -298,7 +298,7 @@ class Flood:
 
     def __init__(self, bridge: Bridge, packets: Sequence[bytes], most: int = 1 << 30) -> None:
         self.bridge, self.written, self.most, self.is_over = bridge, 0, most, False
-        self.lane = threading.Thread(target=self.run, args=([output_of(it) for it in packets],))
+        self.lane = threading.Thread(target=self.run, args=([output_of(packet) for packet in packets],))
         self.lane.start()
 
     def run(self, events: Sequence[bytes]) -> None:
@@ -342,7 +342,7 @@ def floods_of(channel: bytes) -> dict[str, list[bytes]]:
         "INIT with one nonce": [packet(BROADCAST, INIT, b"floodflo")],
         "continuations of no message": [channel + b"\0" * 60],
         "channels that were never allocated": [
-            packet(bytes([7, 0, it >> 8, it & 255]), PING, b"") for it in range(999)
+            packet(bytes([7, 0, number >> 8, number & 255]), PING, b"") for number in range(999)
         ],
         "messages that don't go on": [packet(channel, PING, b"x" * 7000)[:PACKET], *[ping] * 500],
     }
@@ -351,8 +351,8 @@ def floods_of(channel: bytes) -> dict[str, list[bytes]]:
 def asked(bridge: Bridge) -> bytes:
     """Asks for a registration on a channel of its own, and returns the answer."""
     channel = bridge.channel(os.urandom(8))
-    for it in packets_of("registration.log")[1:]:
-        bridge.write(channel + it[4:])
+    for request in packets_of("registration.log")[1:]:
+        bridge.write(channel + request[4:])
     return bridge.answer(channel)
 
 
@@ -396,10 +396,12 @@ def strace_shows_turns(room: Path) -> None:
     bridge.process.kill()
     waited = turns_in(log.read_text(encoding="utf-8"), flooding, asking)
     print(
-        f"by strace: {max(it for it, _ in waited)} packets of the flood are answered before another program's, of up to "
-        f"{max(it for _, it in waited)} read before it and not answered"
+        f"by strace: {max(answered for answered, _ in waited)} packets of the flood are answered before another program's, "
+        f"of up to {max(read for _, read in waited)} read before it and not answered"
     )
-    assert len(waited) == 20 and max(it for it, _ in waited) <= 3 and max(it for _, it in waited) > 20, waited
+    assert (
+        len(waited) == 20 and max(answered for answered, _ in waited) <= 3 and max(read for _, read in waited) > 20
+    ), waited
 
 
 def turns_in(log: str, flooding: bytes, asking: bytes) -> list[tuple[int, int]]:

@@ -94,11 +94,11 @@ def nobody_is_there_to_be_asked(room: Path) -> None:
     """Where standard input has ended the key waits, answers others, and ends by a signal."""
     bridge = plugged(room, "--presence", "ask")
     channel = bridge.channel(bytes(8))
-    for it in packets_of("registration.log")[1:]:
-        bridge.write(channel + it[4:])
-    assert any(it[:5] == channel + bytes([KEEPALIVE]) for it in bridge.packets(HANGS)), "the key didn't ask"
+    for request in packets_of("registration.log")[1:]:
+        bridge.write(channel + request[4:])
+    assert any(packet[:5] == channel + bytes([KEEPALIVE]) for packet in bridge.packets(HANGS)), "the key didn't ask"
     bridge.write(packet(BROADCAST, INIT, b"another!"))
-    assert any(it[:5] == BROADCAST + bytes([INIT]) for it in bridge.packets(HANGS))
+    assert any(packet[:5] == BROADCAST + bytes([INIT]) for packet in bridge.packets(HANGS))
     status, said = bridge.end()
     assert status == 0 and "asks for a touch" in said, said
     assert answers_in(room) == []

@@ -149,7 +149,7 @@ def main() -> int:
         except AssertionError as wrong:
             print(wrong)
             lines = Path("browser.err").read_text(errors="replace").splitlines()
-            print(*[it for it in lines if "dbus" not in it][-50:], sep="\n")
+            print(*[line for line in lines if "dbus" not in line][-50:], sep="\n")
             return 1
         finally:
             process.kill()

@@ -398,7 +398,7 @@ def play(chance: random.Random) -> Log:
             flow.append(chance.choice([0, 1, 50, 120, 120, 300, 600, 1200]))
         flows.append(flow)
     while any(flows):
-        some = chance.choice([it for it in flows if it]).popleft()
+        some = chance.choice([flow for flow in flows if flow]).popleft()
         if isinstance(some, int):
             key.pass_to(key.now + some)
             if chance.random() < 0.5:
@@ -451,17 +451,17 @@ def judge(task: tuple[str, str, int]) -> tuple[int, Optional[str], int]:
         return map(json.loads, shown.splitlines())
 
     told = 0
-    if log.replies and any(it.get("strayReplies") for it in show("--summary")):
+    if log.replies and any(row.get("strayReplies") for row in show("--summary")):
         return number, "a reply that was asked for is said to be noise", told
-    for it in show():
+    for row in show():
         wrong = None
-        if it["kind"] in ("packet", "presence"):
-            told += "transaction" in it
-            wrong = wrong_owner(log, it["line"], it.get("transaction"))
-        elif it["kind"] == "transaction":
-            told += it["end"] not in ("unknown", "forgotten")
-            message = log.messages[it["transaction"]]
-            wrong = wrong_end(message, it) or wrong_reply(message, it)
+        if row["kind"] in ("packet", "presence"):
+            told += "transaction" in row
+            wrong = wrong_owner(log, row["line"], row.get("transaction"))
+        elif row["kind"] == "transaction":
+            told += row["end"] not in ("unknown", "forgotten")
+            message = log.messages[row["transaction"]]
+            wrong = wrong_end(message, row) or wrong_reply(message, row)
         if wrong:
             return number, wrong, told
     return number, None, told

@@ -65,9 +65,9 @@ def play(task):
     except subprocess.TimeoutExpired:
         return number, f"no end after {SECONDS} seconds", None
     lines = lines_of(output)
-    counts = [int(it) for it in COUNTS.fullmatch(lines[-1]).groups()]
-    inputs = sum(it[:1] in (b">", b"t", b"p", b"k", b"s") for it in lines)
-    return number, None, [faulty, inputs, sum(it[:1] == b"<" for it in lines), *counts]
+    counts = [int(group) for group in COUNTS.fullmatch(lines[-1]).groups()]
+    inputs = sum(line[:1] in (b">", b"t", b"p", b"k", b"s") for line in lines)
+    return number, None, [faulty, inputs, sum(line[:1] == b"<" for line in lines), *counts]
 
 
 def keep(options, number):

@@ -34,7 +34,7 @@ class Edges:
     """Which line follows which, in the files of some folders, while a target runs."""
 
     def __init__(self, folders: Iterable[Path]) -> None:
-        self.folders = tuple(str(it) for it in folders)
+        self.folders = tuple(str(folder) for folder in folders)
         self.seen: set[tuple[CodeType, int, int]] = set()
         self.last: tuple[Optional[CodeType], int] = (None, 0)
         self.is_new = False

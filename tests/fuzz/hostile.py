@@ -36,7 +36,7 @@ def encode(item):
     if isinstance(item, str):
         return head(3, len(item.encode())) + item.encode()
     if isinstance(item, list):
-        return head(4, len(item)) + b"".join(encode(it) for it in item)
+        return head(4, len(item)) + b"".join(encode(member) for member in item)
     pairs = sorted((encode(key), encode(value)) for key, value in item.items())
     return head(5, len(item)) + b"".join(key + value for key, value in pairs)
 

@@ -79,7 +79,7 @@ def lines_of(text):
 def is_line(line):
     """Whether a line is one of a log."""
     found = LINE.fullmatch(line)
-    return bool(found) and all(int(it) < 2**64 for it in found.groups() if it)
+    return bool(found) and all(int(group) < 2**64 for group in found.groups() if group)
 
 
 def is_front(text):
@@ -96,7 +96,7 @@ def is_front(text):
     words = {b"p": (b"granted", b"denied", b"timeout"), b"k": (b"no",), b"s": (b"no",)}.get(letter, ())
     fields = {b">": rb"%(d)s{0,128}", b"k": rb"(?:%(k)s ){0,2}%(d)s{0,64}", b"s": rb"%(d)s{0,144}"}.get(letter)
     is_field = fields and re.fullmatch(fields % {b"d": DIGITS, b"k": KEY}, field)
-    return bool(is_field) or any(it.startswith(field) for it in words)
+    return bool(is_field) or any(word.startswith(field) for word in words)
 
 
 # How files begin that aren't logs: pcap captures, pcapng behind its first line feed, gzip, zstd, UTF-16, JSON.
@@ -110,7 +110,7 @@ def misfit(line):
     """What is said of the byte at which a line stops being a log line, as a pattern."""
     if line.startswith(OTHER_FILES):
         return rb"  this is [^\n]+\n"
-    fits = max(it for it in range(len(line) + 1) if is_front(line[:it]))
+    fits = max(end for end in range(len(line) + 1) if is_front(line[:end]))
     if fits == len(line):
         return rb"  it ends after byte %d: [^\n]+\n" % fits
     return rb"  byte %d (?:is|begins) [^\n]+\n" % (fits + 1)
@@ -133,7 +133,7 @@ def is_input(line):
 
 def rewritten(lines):
     """The lines as they are written again: without the key's packets and the counts."""
-    return [it for it in lines if it[:1] not in (b"<", b"=")]
+    return [line for line in lines if line[:1] not in (b"<", b"=")]
 
 
 def answers(lines):
@@ -150,7 +150,7 @@ def answers(lines):
 def is_part(short, whole):
     """Whether a list is another one with some left out."""
     rest = iter(whole)
-    return all(it in rest for it in short)
+    return all(part in rest for part in short)
 
 
 def judge_end(command, ended, fault):
@@ -166,9 +166,9 @@ def judge_counts(line, inputs):
     """Looks at the line of what a session counted."""
     found = COUNTS.fullmatch(line)
     hold(found, "counts", repr(line[:200]))
-    held, rows, pending, requests, read, steps = (int(it) for it in found.groups())
+    held, rows, pending, requests, read, steps = (int(group) for group in found.groups())
     holds = held <= HELD and rows <= ROWS and pending <= PENDING and steps <= 4 * read + 2 * requests
-    packets = sum(it[:1] == b">" for it, _ in inputs)
+    packets = sum(line[:1] == b">" for line, _ in inputs)
     hold(holds and requests <= packets and read <= 57 * requests + 59 * packets, "counts", repr(line))
 
 
@@ -181,8 +181,8 @@ def judge_written(lines, output):
     found = answers(written)
     most = max(len(packets) for _, packets in found)
     hold(most <= PACKETS and not found[0][1], "packets", f"{most}, and {len(found[0][1])} before the first input")
-    well = all(is_line(it) and it == it.lower() for it in written if it[:1] == b"<")
-    hold(well and sum(it[:1] == b"=" for it in written) == 1, "packets", "a line is broken")
+    well = all(is_line(line) and line == line.lower() for line in written if line[:1] == b"<")
+    hold(well and sum(line[:1] == b"=" for line in written) == 1, "packets", "a line is broken")
 
 
 def judge_check(output, run):
@@ -206,7 +206,7 @@ def judge_difference(output, run):
     wanted = b"hidlog: line %d: differs at packet %d\n" % (before + 1, place - before)
     status, written, said = run("check", b"\n".join(lines) + b"\n")
     more = said.removeprefix(wanted).splitlines()
-    told = (status, written) == (1, b"") and said.startswith(wanted) and all(it[:2] == b"  " for it in more)
+    told = (status, written) == (1, b"") and said.startswith(wanted) and all(line[:2] == b"  " for line in more)
     # The digit that was changed is the packet's last.
     hold(told and b"\n  byte 63 of the packet" in said, "difference", f"{(status, written, said)!r} and not {wanted!r}")
 
@@ -245,7 +245,7 @@ def judge_live(log, output, run):
     """Looks at the log as a live session."""
     live = judge_end("live", run("live", log), None)
     lines = lines_of(live)
-    told, replayed = ([it for it in found if not it.startswith(NEEDS)] for found in (lines, lines_of(output)))
+    told, replayed = ([line for line in found if not line.startswith(NEEDS)] for found in (lines, lines_of(output)))
     hold(told == replayed and live[-1:] == b"\n", "live lines", "they differ")
     judge_needs(lines)
     hold(run("replay", live) == (0, live, b""), "live again", "its replay differs")
@@ -256,7 +256,7 @@ def judge_show(log, run):
     """Looks at what is shown: a line for each input and packet, and messages between them."""
     shown = lines_of(judge_end("show", run("show", log), None))
     # Not those of messages and of their members, which begin with more spaces, nor comments.
-    found = [it for it in shown if not re.match(rb"\d+ (  |#)", it)]
+    found = [line for line in shown if not re.match(rb"\d+ (  |#)", line)]
     wanted = []
     for number, line in enumerate(lines_of(log), 1):
         if line[:1] in (b">", b"<", b"t", b"p", b"k", b"s"):
@@ -268,7 +268,7 @@ def judge_show(log, run):
     # The fixed text has these lines too, each at the front of one that is explained. Its messages are collected by a rule of
     # its own, one in each direction.
     fixed = lines_of(judge_end("show", run("show", log, "--plain"), None))
-    packets = [it for it in fixed if not re.match(rb"\d+   ", it)]
+    packets = [line for line in fixed if not re.match(rb"\d+   ", line)]
     hold(len(packets) == len(found), "show", f"the fixed text has {len(packets)} of {len(found)} lines")
     for line, more in zip(packets, found):
         hold((more + b"  ").startswith(line + b"  "), "show", f"{line[:99]!r} of {more!r}")
@@ -276,8 +276,8 @@ def judge_show(log, run):
 
 def judge_fault(log, fault, run):
     """Looks at each command on a log with a fault; the log before the fault, and its replay's output."""
-    before = b"".join(it + b"\n" for it in lines_of(log)[: fault[0] - 1])
-    outputs = {it: judge_end(it, run(it, log), fault) for it in ("replay", "quiet", "live", "show")}
+    before = b"".join(line + b"\n" for line in lines_of(log)[: fault[0] - 1])
+    outputs = {command: judge_end(command, run(command, log), fault) for command in ("replay", "quiet", "live", "show")}
     status, output, said = run("check", log)
     differs = re.fullmatch(rb"hidlog: line (\d+): differs at packet [1-9]\d*\n(?:  .*\n)+", said)
     hold(status == 1 and output == b"", "status", f"check ended with {status}")
@@ -286,11 +286,11 @@ def judge_fault(log, fault, run):
         whole = judge_end(command, run(command, before), None)
         cut = whole
         if command in ("replay", "live"):
-            cut = b"".join(it + b"\n" for it in lines_of(whole)[:-1])
+            cut = b"".join(line + b"\n" for line in lines_of(whole)[:-1])
         elif command == "show" and whole.startswith(output):
             # Only where a log ends without a fault comes how much of a message came that isn't whole.
             behind = rb"%d   line \d+: \d+ of \d+ bytes (?:of its answer )?came" % before.count(b"\n")
-            if all(re.fullmatch(behind, it) for it in lines_of(whole[len(output) :])):
+            if all(re.fullmatch(behind, line) for line in lines_of(whole[len(output) :])):
                 cut = output
         hold(output == cut, "lines before", f"{command} wrote {len(output)} bytes and not {len(cut)}")
     for command in (*outputs, "check"):
@@ -315,7 +315,7 @@ def judge_saved(log, output, fault, run, folder, damaged):
     hold(run("replay", log, "--save", first) == (0, output, b""), "saved", "the log changed")
     status, counts, said = run("replay", b"", "--load", first, "--save", second)
     hold((status, said) == (0, b"") and read(first) == read(second), "saved", f"{status}, {said!r}")
-    rows, most = (int(COUNTS.fullmatch(lines_of(it)[-1])[2]) for it in (counts, output))
+    rows, most = (int(COUNTS.fullmatch(lines_of(text)[-1])[2]) for text in (counts, output))
     hold(rows <= most, "saved", f"{rows} rows of {most}")
     whole, wrong = read(first), damaged(read(first))
     for path in (first, third):

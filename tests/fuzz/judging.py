@@ -39,7 +39,7 @@ def judge_all(
         print("\n".join(lines_of(asked.seed, asked.only)))
     found = looked_at = 0
     with executors.playing(asked.executor, asked.jobs) as played:
-        for number, finding, count in played(judge, [(asked.program, asked.seed, it) for it in numbers]):
+        for number, finding, count in played(judge, [(asked.program, asked.seed, number) for number in numbers]):
             looked_at += count
             if finding:
                 found += 1

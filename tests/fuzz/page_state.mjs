@@ -72,7 +72,7 @@ const unsound = (key) => {
     if (!Number.isFinite(state.moment) || state.moment < 0) {
         return "the moment is none";
     }
-    if (state.credentials.some(({ signCount: it }) => !Number.isInteger(it) || it < 0 || it >= 2 ** 32)) {
+    if (state.credentials.some(({ signCount: count }) => !Number.isInteger(count) || count < 0 || count >= 2 ** 32)) {
         return "a counter is none";
     }
     const again = JSON.stringify(new SecurityKey({ origin: "https://example.com", state }).state().credentials);
@@ -105,9 +105,10 @@ const blocks = new Set();
 /** Whether the last run reached a block that none did before. */
 const isNew = async () => {
     const { result } = await session.post("Profiler.takePreciseCoverage");
-    const ranges = result.filter((it) => it.url.includes(SOURCE)).flatMap((it) => it.functions).flatMap((it) => it.ranges);
+    const ranges = result.filter((script) => script.url.includes(SOURCE))
+        .flatMap((script) => script.functions).flatMap((covered) => covered.ranges);
     const before = blocks.size;
-    ranges.filter((it) => it.count > 0).forEach((it) => blocks.add(`${it.startOffset}-${it.endOffset}`));
+    ranges.filter((range) => range.count > 0).forEach((range) => blocks.add(`${range.startOffset}-${range.endOffset}`));
     return blocks.size > before;
 };
 
@@ -124,10 +125,13 @@ for (const end = performance.now() + seconds * 1000; performance.now() < end; ru
         corpus.push(text);
     }
 }
-const known = (wrong) => [...KNOWN.keys()].find((it) => new RegExp(it, "u").test(wrong));
+const known = (wrong) => [...KNOWN.keys()].find((pattern) => new RegExp(pattern, "u").test(wrong));
 const fresh = [...findings].filter(([wrong]) => known(wrong) === undefined);
-const gone = [...KNOWN.keys()].filter((it) => seconds >= MINUTE && ![...findings.keys()].some((wrong) => known(wrong) === it));
+const hasCome = (pattern) => [...findings.keys()].some((wrong) => known(wrong) === pattern);
+const gone = [...KNOWN.keys()].filter((pattern) => seconds >= MINUTE && !hasCome(pattern));
 console.log(`page: ${runs} runs in ${seconds} s, seed ${seed}, ${blocks.size} blocks, ${corpus.length} inputs kept`);
 [...findings].forEach(([wrong, text]) => console.log(`${known(wrong) ? "known " : "FAILED"}   page: ${wrong}: ${text.slice(0, 300)}`));
-gone.forEach((it) => console.log(`PASSES   page: ${it} is in the table of known failures, and didn't come: take it out`));
+for (const pattern of gone) {
+    console.log(`PASSES   page: ${pattern} is in the table of known failures, and didn't come: take it out`);
+}
 process.exit(fresh.length + gone.length > 0 ? 1 : 0);

@@ -130,18 +130,18 @@ MEMORY = "/dev/shm" if Path("/dev/shm").is_dir() else None
 def registration(side: str) -> bytes:
     """Returns the registration of examples/: the message of one side, its head with it."""
     lines = (TOP / "examples/registration.log").read_text(encoding="utf-8").splitlines()
-    packets = [bytes.fromhex(it.split(" ")[-1]) for it in lines if it.startswith(side)]
-    begin = next(place for place, it in enumerate(packets) if it[4] == 0x90)
-    whole = packets[begin] + b"".join(it[5:] for it in packets[begin + 1 :])
+    packets = [bytes.fromhex(line.split(" ")[-1]) for line in lines if line.startswith(side)]
+    begin = next(place for place, packet in enumerate(packets) if packet[4] == 0x90)
+    whole = packets[begin] + b"".join(packet[5:] for packet in packets[begin + 1 :])
     return whole[: 7 + int.from_bytes(whole[5:7], "big")]
 
 
 def snapshots() -> Iterable[bytes]:
-    return [it.read_bytes() for it in sorted((TOP / "examples").rglob("*.snapshot"))]
+    return [path.read_bytes() for path in sorted((TOP / "examples").rglob("*.snapshot"))]
 
 
 def recordings() -> Iterable[bytes]:
-    return [it.read_bytes() for it in sorted((TOP / "examples").rglob("*.log"))]
+    return [path.read_bytes() for path in sorted((TOP / "examples").rglob("*.log"))]
 
 
 def messages() -> Iterable[bytes]:
@@ -151,7 +151,7 @@ def messages() -> Iterable[bytes]:
 def packets() -> Iterable[bytes]:
     for log in recordings():
         lines = log.decode().splitlines()
-        yield b"".join(bytes.fromhex(it.split(" ")[2]) for it in lines if it.startswith("> "))
+        yield b"".join(bytes.fromhex(line.split(" ")[2]) for line in lines if line.startswith("> "))
 
 
 def options() -> Iterable[bytes]:
@@ -166,16 +166,19 @@ def options() -> Iterable[bytes]:
         "extensions": {"credProps": True, "prf": {"eval": {"first": "AA"}}},
     }
     asked = {"challenge": "AAAA", "rpId": "example.com", "allowCredentials": listed, "userVerification": "preferred"}
-    yield from (json.dumps(it).encode() for it in (made, {**made, **more}, {"publicKey": made}, asked))
+    yield from (json.dumps(options).encode() for options in (made, {**made, **more}, {"publicKey": made}, asked))
     with hidlog.SecurityKey() as key:
         browser = key.browser("https://example.com")
         first = browser.create({**made, "authenticatorSelection": {"residentKey": "required"}})
         found = browser.get({**asked, "allowCredentials": []})
-    yield from (json.dumps(it, default=lambda it: webauthn_json.text_of(bytes(it))).encode() for it in (first, found))
+    yield from (
+        json.dumps(options, default=lambda data: webauthn_json.text_of(bytes(data))).encode()
+        for options in (first, found)
+    )
 
 
 def sessions() -> Iterable[bytes]:
-    return [it.read_bytes() for it in sorted((TOP / "conformance/sessions").rglob("*"))[:400:10] if it.is_file()]
+    return [path.read_bytes() for path in sorted((TOP / "conformance/sessions").rglob("*"))[:400:10] if path.is_file()]
 
 
 READERS = {
@@ -193,7 +196,7 @@ READERS = {
 
 def kept(folder: Path | None, name: str) -> list[bytes]:
     """Returns what an earlier run kept of a reader."""
-    return [] if folder is None else [it.read_bytes() for it in sorted((folder / name).glob("kept_*"))]
+    return [] if folder is None else [path.read_bytes() for path in sorted((folder / name).glob("kept_*"))]
 
 
 def keep(folder: Path | None, name: str, fuzzer: Fuzzer) -> None:

@@ -53,7 +53,7 @@ def reason_of(
     machine: Machine, found: dict[str, Any], needed: Optional[bytes], need: Optional[bytes], line: bytes
 ) -> Optional[str]:
     """Why the key sends something else, as far as it is known. Before the input, a line, it needed a reply, and then one."""
-    sent, logged = (bytes.fromhex(found.get(it, "")) for it in ("sent", "logged"))
+    sent, logged = (bytes.fromhex(found.get(side, "")) for side in ("sent", "logged"))
     channel = int.from_bytes((sent or logged)[:4], "big")
     held = machine.open
     if not sent and held and held.channel == channel:
@@ -206,8 +206,8 @@ def judge(task: tuple[str, str, int]) -> tuple[int, Optional[str], int]:
 
 def judged_reason(lines: list[bytes], found: dict[str, Any], run: Any) -> Optional[str]:
     """Returns the reason for a difference by the machine of the transport's rules."""
-    inputs = [it for it in lines if it[:1] in INPUTS]
-    last = sum(it[:1] in INPUTS for it in lines[: found["input"]])
+    inputs = [line for line in lines if line[:1] in INPUTS]
+    last = sum(line[:1] in INPUTS for line in lines[: found["input"]])
     log = b"\n".join(inputs) + b"\n"
     replayed = run(log, "replay")
     live = run(log, "live")

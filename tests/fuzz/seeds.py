@@ -30,7 +30,7 @@ FUZZERS = ("key", "log", "state")
 def logs() -> Iterator[Path]:
     """Returns the logs of this repository."""
     for pattern in LOGS:
-        yield from sorted(it for it in TOP.glob(pattern) if it.is_file())
+        yield from sorted(path for path in TOP.glob(pattern) if path.is_file())
 
 
 def input_of(words: list[str]) -> bytes:

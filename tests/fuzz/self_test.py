@@ -29,7 +29,7 @@ def good_log():
     events += [("p", "granted"), ("s", "01")]
     lines = [b"# A comment"]
     for number, (kind, *fields) in enumerate(events):
-        fields = [it.hex() if kind == ">" else it for it in fields]
+        fields = [field.hex() if kind == ">" else field for field in fields]
         lines.append(" ".join([kind, str(100 * number), *fields]).encode())
     return b"".join(line + b"\n" for line in lines)
 
@@ -62,7 +62,7 @@ def without_line(front):
 
     def change(text):
         lines = text.splitlines(keepends=True)
-        lines.remove(next(it for it in lines if it.startswith(front)))
+        lines.remove(next(line for line in lines if line.startswith(front)))
         return b"".join(lines)
 
     return output(change)

@@ -196,8 +196,10 @@ class Machine:
         site = asked[2]["id"]
         if message[0] == EXCLUDED:
             # An entry of another type names no credential.
-            names = [it["id"] if it["type"] == "public-key" else None for it in asked[5]]
-            held = [it for it in self.held if it.relying_party == site and it.name in names]
+            names = [descriptor["id"] if descriptor["type"] == "public-key" else None for descriptor in asked[5]]
+            held = [
+                credential for credential in self.held if credential.relying_party == site and credential.name in names
+            ]
             if held:
                 self.excluded[line] = names.index(held[-1].name), held[-1].line
             return
@@ -209,7 +211,7 @@ class Machine:
             name=data[55 : 55 + int.from_bytes(data[53:55], "big")],
             line=line,
         )
-        self.held = [it for it in self.held if not made.replaces(it)] + [made]
+        self.held = [credential for credential in self.held if not made.replaces(credential)] + [made]
 
     def go_on(self) -> None:
         """Takes what the key sends for work: a new status, or its answer."""
@@ -291,7 +293,7 @@ class Machine:
                 self.open = None
         elif is_init:
             self.greet(begun)
-        elif any(it and it.channel != channel for it in (opened, work)) or work:
+        elif any(transaction and transaction.channel != channel for transaction in (opened, work)) or work:
             self.refuse(begun, 0x06, "a request is waiting on this channel")
         elif opened:
             began = "a new message began before the open one on its channel was complete"
@@ -313,9 +315,9 @@ class Machine:
         if begun.channel == BROADCAST:
             self.given += 1
             return
-        for it in (self.open, self.work):
-            if it and it.channel == begun.channel:
-                it.end = ("dropped", begun.line)
+        for transaction in (self.open, self.work):
+            if transaction and transaction.channel == begun.channel:
+                transaction.end = ("dropped", begun.line)
         if self.open and self.open.channel == begun.channel:
             self.open = None
         if self.work and self.work.channel == begun.channel:
@@ -331,7 +333,7 @@ class Machine:
     # ---- what it comes to
 
     def counts(self) -> dict[str, int]:
-        ends = [(it.request, it.end) for it in self.transactions.values()]
+        ends = [(transaction.request, transaction.end) for transaction in self.transactions.values()]
         return {
             "credentials made": sum(end == ("status", 0) and request == 0x01 for request, end in ends),
             "credentials used": sum(end == ("status", 0) and request in (0x02, 0x08) for request, end in ends),
@@ -376,31 +378,31 @@ class Hosts(Maker):
 def said(objects: list[dict], machine: Machine) -> None:
     """Compares the objects of `show --json` with the machine."""
     ended: dict[int, dict] = {}
-    for it in objects:
-        kind, line = it["kind"], it.get("line")
-        if kind in ("packet", "presence", "key", "signature") and it.get("transaction") != machine.owners[line]:
-            raise Finding(f"line {line} is of {machine.owners[line]}, not of {it.get('transaction')}")
+    for row in objects:
+        kind, line = row["kind"], row.get("line")
+        if kind in ("packet", "presence", "key", "signature") and row.get("transaction") != machine.owners[line]:
+            raise Finding(f"line {line} is of {machine.owners[line]}, not of {row.get('transaction')}")
         if kind == "answer":
             owner = machine.answers[line]
-            if it.get("transaction") != (owner.line if owner else None):
+            if row.get("transaction") != (owner.line if owner else None):
                 raise Finding(f"the answer of line {line} is of another transaction")
-            if it.get("command") != (owner.request if owner else None):
-                raise Finding(f"the answer of line {line} is to {owner and owner.request}, not to {it.get('command')}")
+            if row.get("command") != (owner.request if owner else None):
+                raise Finding(f"the answer of line {line} is to {owner and owner.request}, not to {row.get('command')}")
         if kind == "transaction":
-            if it["transaction"] in ended:
-                raise Finding(f"the transaction of line {it['transaction']} ends twice")
-            ended[it["transaction"]] = it
+            if row["transaction"] in ended:
+                raise Finding(f"the transaction of line {row['transaction']} ends twice")
+            ended[row["transaction"]] = row
     for line, wanted in machine.transactions.items():
-        it = ended.pop(line, None)
-        if it is None:
+        row = ended.pop(line, None)
+        if row is None:
             raise Finding(f"the transaction of line {line} is missing")
-        detail = {"status": "status", "error": "code", "dropped": "by", "replaced": "by"}.get(it["end"])
-        end = (it["end"], it[detail]) if detail else (it["end"],)
+        detail = {"status": "status", "error": "code", "dropped": "by", "replaced": "by"}.get(row["end"])
+        end = (row["end"], row[detail]) if detail else (row["end"],)
         if end != wanted.end:
             raise Finding(f"the transaction of line {line} ended by {wanted.end}, not by {end}")
-        if it["keepalives"] != wanted.keepalives:
-            raise Finding(f"the transaction of line {line} had {wanted.keepalives} KEEPALIVEs, not {it['keepalives']}")
-        if ("came" in it) == wanted.is_whole:
+        if row["keepalives"] != wanted.keepalives:
+            raise Finding(f"the transaction of line {line} had {wanted.keepalives} KEEPALIVEs, not {row['keepalives']}")
+        if ("came" in row) == wanted.is_whole:
             raise Finding(f"the message of line {line} is {'' if wanted.is_whole else 'not '}whole")
     if ended:
         raise Finding(f"there is no transaction of line {min(ended)}")
@@ -416,7 +418,7 @@ def explained(text: str, machine: Machine) -> None:
         if found[2] != wanted:
             raise Finding(f"line {found[1]}: the first member is {wanted}, not {found[2]}")
     pattern = r"^(\d+)   excludeList\[(\d+)\] is the credential of line (\d+)$"
-    named = {int(it[1]): (int(it[2]), int(it[3])) for it in re.finditer(pattern, text, re.MULTILINE)}
+    named = {int(match[1]): (int(match[2]), int(match[3])) for match in re.finditer(pattern, text, re.MULTILINE)}
     for line in sorted(named.keys() | machine.excluded.keys()):
         if named.get(line) != machine.excluded.get(line):
             raise Finding(f"line {line} excludes {machine.excluded.get(line)}, not {named.get(line)}")
@@ -438,7 +440,7 @@ def judge(task: tuple[str, str, int]) -> tuple[int, Optional[str], int]:
     log = run(Hosts(f"{seed}/{number}").log(), "replay")
     try:
         machine = Machine(log.splitlines(), needs_in(run(log, "live").splitlines()))
-        said([json.loads(it) for it in run(log, "show", "--json").splitlines()], machine)
+        said([json.loads(line) for line in run(log, "show", "--json").splitlines()], machine)
         explained(run(log, "show", "--explain").decode(), machine)
         summed(run(log, "show", "--summary").decode(), machine)
     except Finding as finding:

@@ -58,7 +58,7 @@ class Case:
     def lines(self, signs: str) -> bytes:
         """Returns the lines of the case that begin with one of these signs."""
         lines = self.text.split("\n")[1:]
-        text = "".join(expanded(it[1:]) + "\n" for it in lines if it[:1] and it[0] in signs)
+        text = "".join(expanded(line[1:]) + "\n" for line in lines if line[:1] and line[0] in signs)
         return (text[:-1] if "!" in lines and "-" in signs else text).encode()
 
     def run(self, room: Path) -> None:
@@ -100,7 +100,7 @@ def saves(room: Path, old: bytes, case: str, new: bytes) -> None:
 
 def cases_of(file: Path) -> list[Case]:
     """Returns the cases of a file."""
-    lines = [it for it in file.read_text(encoding="utf-8").split("\n") if not it.startswith("#")]
+    lines = [word for word in file.read_text(encoding="utf-8").split("\n") if not word.startswith("#")]
     return [Case(text) for text in "\n".join(lines).strip("\n").split("\n\n")]
 
 
@@ -190,8 +190,8 @@ TESTS = [
 
 def main() -> int:
     failed, names = 0, sys.argv[2:]
-    tests = [it for it in TESTS if it.__name__ in names or not names]
-    if unknown := set(names) - {it.__name__ for it in TESTS}:
+    tests = [test for test in TESTS if test.__name__ in names or not names]
+    if unknown := set(names) - {test.__name__ for test in TESTS}:
         print(f"there is no test {', '.join(sorted(unknown))}", file=sys.stderr)
         return 2
     for test in tests:

@@ -32,12 +32,12 @@ REPLIES = [b"p 0 granted", b"k 0 " + b" ".join([b"ab" * 32, b"bb" * 32, b"cc" * 
 
 def came(sent: Iterable[bytes]) -> list[bytes]:
     """Returns the lines of packets of a host."""
-    return [b"> 0 " + it.hex().encode() for it in sent]
+    return [b"> 0 " + packet.hex().encode() for packet in sent]
 
 
 def sent(key: Iterable[bytes]) -> list[bytes]:
     """Returns the lines of packets of the key."""
-    return [b"< " + it.hex().encode() for it in key]
+    return [b"< " + packet.hex().encode() for packet in key]
 
 
 def status(number: int) -> bytes:
@@ -92,7 +92,7 @@ def live(inputs: Sequence[bytes], *options: str) -> Lived:
             answers.append(Answered(key, line[7:]))
             key = []
     assert len(answers) == len(inputs), f"{len(answers)} inputs of {len(inputs)} were answered"
-    return Lived(answers, [int(it) for it in lines[-2].split()[2::2]])
+    return Lived(answers, [int(word) for word in lines[-2].split()[2::2]])
 
 
 def same(room: Path, logs: Sequence[list[bytes]]) -> None:
@@ -148,14 +148,14 @@ def each_byte_changed(request: bytes, after: list[bytes], *options: str) -> None
     """Fails unless each changed request waits for presence or is refused, is then served, and leaves nothing waiting."""
     requests = changes(request)
     count = len(packets(1, CBOR, request))
-    groups = [[*came(packets(1, CBOR, it)), *REPLIES, *after] for it in requests]
+    groups = [[*came(packets(1, CBOR, request)), *REPLIES, *after] for request in requests]
     lived = live([*came(HOST), *itertools.chain.from_iterable(groups)], *options)
     begin = 1
     for changed, group in zip(requests, groups):
         told = lived.answers[begin : begin + len(group)]
         begin += len(group)
         first, served = told[count - 1], told[count + 2]
-        assert all(it == Answered([], b"nothing") for it in told[: count - 1]), changed.hex()
+        assert all(answer == Answered([], b"nothing") for answer in told[: count - 1]), changed.hex()
         if first.need == b"presence":
             assert first.packets == [WAITS], changed.hex()
         else:
@@ -176,7 +176,7 @@ def each_packet_changed(request: bytes, after: list[bytes], *options: str) -> No
             # What an open message leaves on its channel ends with an INIT there.
             ends = [packets(channel, INIT, NONCE)[0] for channel in (1, int.from_bytes(changed[:4], "big"))]
             begun = came([*whole[:number], changed, *whole[number + 1 :]])
-            groups.append([*begun, *REPLIES, *host, *came(it for it in ends if it != HOST[0]), *after])
+            groups.append([*begun, *REPLIES, *host, *came(packet for packet in ends if packet != HOST[0]), *after])
     lived = live([*host, *itertools.chain.from_iterable(groups)], *options)
     begin, greeted_front = 1, greeting(0)[:15]
     for group in groups:

@@ -78,8 +78,8 @@ class Run:
         """Runs it once in a folder."""
         for name, data in self.kept.items():
             (folder / name).write_bytes(data)
-        trace = [it for it in trace if self.follows or it not in ("-f", "--seccomp-bpf")]
-        command = [*trace, sys.executable, "-c", DRIVER, self.modules, *(it.format(folder) for it in self.words)]
+        trace = [word for word in trace if self.follows or word not in ("-f", "--seccomp-bpf")]
+        command = [*trace, sys.executable, "-c", DRIVER, self.modules, *(word.format(folder) for word in self.words)]
         ended = subprocess.run(command, input=self.data, capture_output=True, timeout=600, env=ENVIRONMENT)
         ended.stdout = ended.stdout.replace(os.fsencode(folder), b"FOLDER")
         return ended
@@ -168,7 +168,7 @@ def places_of(log: Path) -> List[Place]:
         faults = (*injection.FAULTS.get(name, injection.OTHERS), "KILL")
         # Python itself waits for ever for a thread that has no memory to begin.
         starts = range(1, others.get(name, 0) + 1) if "ENOMEM" in faults else ()
-        found += [Place(name, it, fault) for fault in faults for it in sorted(numbers.difference(starts))]
+        found += [Place(name, number, fault) for fault in faults for number in sorted(numbers.difference(starts))]
     return found
 
 
@@ -184,7 +184,7 @@ def wrong(
     """Runs with a fault, and returns what is wrong with what it left."""
     log, space = folder / "strace", folder / "space"
     space.mkdir()
-    trace = [it.replace("trace=openat,", "trace=openat,access,faccessat,faccessat2,") for it in place.words(log)]
+    trace = [word.replace("trace=openat,", "trace=openat,access,faccessat,faccessat2,") for word in place.words(log)]
     ended = run.start(space, trace)
     if not began(log):
         return None
@@ -207,7 +207,7 @@ def wrong(
 def wrong_files(run: Run, new: bytes, is_done: bool, is_killed: bool, space: Path) -> Optional[str]:
     """Returns what is wrong with the files that a run left."""
     names = {*run.kept, *([run.output] if run.output else [])}
-    others = sorted(it.name for it in space.iterdir() if it.name not in names)
+    others = sorted(path.name for path in space.iterdir() if path.name not in names)
     if others and not is_killed:
         return f"files are left: {others}"
     for name in names:
@@ -223,8 +223,8 @@ def wrong_files(run: Run, new: bytes, is_done: bool, is_killed: bool, space: Pat
 def sample_of(places: Sequence[Place]) -> List[Place]:
     """Returns some places of each call, evenly spaced over its faults and numbers."""
     found: List[Place] = []
-    for call in sorted({it.call for it in places}):
-        own = [it for it in places if it.call == call]
+    for call in sorted({place.call for place in places}):
+        own = [place for place in places if place.call == call]
         found += own[len(own) // (SAMPLE + 1) :: len(own) // (SAMPLE + 1) + 1]
     return found
 
@@ -247,7 +247,7 @@ def short(run: Run) -> int:
     with tempfile.TemporaryDirectory() as first, tempfile.TemporaryDirectory() as second:
         with tempfile.TemporaryDirectory() as library:
             right, ended = run.start(Path(first), []), run.start(Path(second), injection.short_calls(Path(library)))
-        files = [{it.name: it.read_bytes() for it in Path(folder).iterdir()} for folder in (first, second)]
+        files = [{path.name: path.read_bytes() for path in Path(folder).iterdir()} for folder in (first, second)]
     if (ended.returncode, ended.stdout) == (right.returncode, right.stdout) and files[0] == files[1]:
         return 0
     print(f"FAILED   hidlog {run.name}: short reads and writes: {ended.returncode} and not {right.returncode}, {ended}")

@@ -57,7 +57,7 @@ class Run:
         """Runs it once, in a folder that has the old file alone."""
         if self.old is not None:
             self.at(folder).write_bytes(self.old)
-        command = [*trace, program, *(it.format(folder) for it in self.words)]
+        command = [*trace, program, *(word.format(folder) for word in self.words)]
         with open(self.log, "rb") as log:
             return subprocess.run(command, stdin=log, capture_output=True, timeout=600, env=ENVIRONMENT)
 
@@ -68,15 +68,15 @@ ENVIRONMENT = {"PATH": os.environ["PATH"], "PYTHONPATH": str(TOP / "python/src")
 def wrong_file(run: Run, program: str, folder: Path, new: bytes, status: int, said: str) -> Optional[str]:
     """Returns what is wrong with the files that a run left."""
     path, whole = run.at(folder), {new} if run.old is None else {run.old, new}
-    others = [it for it in folder.iterdir() if it.name not in ("keys", "strace", "keys.hidlog-sum")]
+    others = [path for path in folder.iterdir() if path.name not in ("keys", "strace", "keys.hidlog-sum")]
     there = path.read_bytes() if path.exists() else None
     if status == 0 and (there != new or others):
-        return f"status 0, and the file isn't the new one, or a copy is left: {[it.name for it in others]}"
+        return f"status 0, and the file isn't the new one, or a copy is left: {[other.name for other in others]}"
     if there is None and run.old is None:
         return None
     if there in whole:
         return refused_after(program, path) if there in (new, SHORT) else None
-    copies = [it for it in others if it.read_bytes() in whole]
+    copies = [other for other in others if other.read_bytes() in whole]
     if not copies:
         return f"neither the old nor the new snapshot is left: {len(there or b'')} bytes"
     words = [program, "replay", "--explain", "--load", str(path)]
@@ -133,7 +133,7 @@ def loop(run: Run, program: str, jobs: int) -> int:
         counts = injection.calls_of(lambda trace: run.start(program, Path(first), trace), Path(second))
     base = base_of(run)
     added = {name for name, count in counts.items() if count > base.get(name, 0)}
-    places = [it for it in injection.places_of(counts, added) if it.number > base.get(it.call, 0)]
+    places = [place for place in injection.places_of(counts, added) if place.number > base.get(place.call, 0)]
     wrong = injection.each(places, lambda place, at: judged(run, program, new, right.stdout, place, at), jobs)
     return injection.report(run.name, len(places), wrong, KNOWN.get(run.name, {}))
 
@@ -203,7 +203,7 @@ def main() -> int:
         print("tests/program/faults.py: strace is missing (apt-get install strace); nothing was run", file=sys.stderr)
         return 3
     program = str(Path(words.program).resolve())
-    chosen = [(it, program) for it in RUNS] + [(it, sys.executable) for it in PYTHON_RUNS]
+    chosen = [(run, program) for run in RUNS] + [(run, sys.executable) for run in PYTHON_RUNS]
     bad = sum(loop(run, of, words.jobs) for run, of in chosen if not words.only or run.name in words.only)
     bad += command_faults.check(words.only, words.jobs, words.every)
     return 1 if bad else 0

@@ -59,7 +59,7 @@ def read_up_to(program: subprocess.Popen[bytes], part: bytes) -> bytes:
 def lived(text: bytes) -> bytes:
     """Returns what `live` writes where `replay` writes ticks and comments."""
     need = b"# need nothing\n"
-    return b"".join(it + need if it.startswith(b"t") else it for it in text.splitlines(keepends=True))
+    return b"".join(line + need if line.startswith(b"t") else line for line in text.splitlines(keepends=True))
 
 
 def no_text_waits_for_input(_: Path) -> None:

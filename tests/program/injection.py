@@ -94,7 +94,7 @@ def calls_of(run: Callable[[Sequence[str]], object], folder: Path) -> dict[str, 
 
 def places_of(counts: dict[str, int], only: Optional[Iterable[str]] = None) -> list[Place]:
     """Returns each place of a run, with each fault that can happen there; of these calls alone, where some are named."""
-    names = [it for it in sorted(counts) if it not in NEVER and (only is None or it in only)]
+    names = [call for call in sorted(counts) if call not in NEVER and (only is None or call in only)]
     # One more than were counted, since a run may make one more: then nothing is injected, and nothing is wrong.
     return [
         Place(name, number, fault)
@@ -124,7 +124,7 @@ def report(name: str, count: int, wrong: Sequence[tuple[Place, str]], known: dic
     that no place shows any more is said too. Returns how many failures are new, or known and gone."""
     bad, seen = 0, set()
     for place, said in wrong:
-        mark = next((it for it in known if re.fullmatch(it, str(place))), None)
+        mark = next((pattern for pattern in known if re.fullmatch(pattern, str(place))), None)
         seen.add(mark)
         if mark is None:
             bad += 1
@@ -135,7 +135,9 @@ def report(name: str, count: int, wrong: Sequence[tuple[Place, str]], known: dic
             print(
                 f"PASSES   {name}: {mark} is named as a known failure ({known[mark]}), and fails no more: take it out"
             )
-    expected = len(wrong) - sum(1 for place, _ in wrong if not any(re.fullmatch(it, str(place)) for it in known))
+    expected = len(wrong) - sum(
+        1 for place, _ in wrong if not any(re.fullmatch(pattern, str(place)) for pattern in known)
+    )
     print(
         f"{name}: {count} places, {len(wrong) - expected} wrong, {expected} known failures", file=sys.stdout, flush=True
     )

@@ -520,7 +520,7 @@ def several_are_checked(room: Path) -> None:
         f"{bad}: line 2: not a log line\n  byte 4 is 'x': expected the end of the line\n"
         f"hidlog: cannot read log\n  {none}: No such file or directory (os error 2)\n"
     )
-    paths = [str(it) for it in (differs, bad, none, good)]
+    paths = [str(path) for path in (differs, bad, none, good)]
     wants(explained(["check", *paths]), 1, told.encode(), f"{good}: ".encode() + same)
     # Standard input may be one of them, and a snapshot is loaded for each.
     loaded = explained(["check", "--load", str(SNAPSHOT)], stdin=AGAIN).stdout
@@ -550,11 +550,11 @@ def forms_are_shown(room: Path) -> None:
     said = explained(["show", "--json", str(log)])
     wants(said, 0, b"")
     objects = [json.loads(line) for line in said.stdout.splitlines()]
-    assert len(objects) > 20 and all(isinstance(it, dict) for it in objects)
+    assert len(objects) > 20 and all(isinstance(row, dict) for row in objects)
     said = explained(["show", "--summary", "--json", str(log)])
     wants(said, 0, b"")
     *closed, counts = [json.loads(line) for line in said.stdout.splitlines()]
-    assert closed == [it for it in objects if it["kind"] == "transaction"] and counts["kind"] == "summary"
+    assert closed == [row for row in objects if row["kind"] == "transaction"] and counts["kind"] == "summary"
     bad = room / "bad.log"
     bad.write_bytes(log.read_bytes() + b"t 5x\n")
     count = len(bad.read_bytes().splitlines())
@@ -579,17 +579,17 @@ def objects_of(log: bytes) -> list[dict[str, Any]]:
     """Returns what `show --json` writes of a log. Each line is an object of a kind that the log format's page names."""
     shown = run(["show", "--json"], log).stdout
     objects = [json.loads(line) for line in shown.split(b"\n")[:-1]]
-    assert all(it["kind"] in KINDS for it in objects)
+    assert all(row["kind"] in KINDS for row in objects)
     return objects
 
 
 def shows_each_packet(log: bytes) -> None:
     """Fails unless each packet before a fault has its object, in the log's order."""
     objects = objects_of(log)
-    fault: dict[str, Any] = next((it for it in objects if it["kind"] == "fault"), {})
+    fault: dict[str, Any] = next((row for row in objects if row["kind"] == "fault"), {})
     numbers = [number for number, line in enumerate(log.split(b"\n"), 1) if line[:1] in (b">", b"<")]
     before = [number for number in numbers if number < fault.get("line", len(log) + 1)]
-    assert [it["line"] for it in objects if it["kind"] == "packet"] == before
+    assert [row["line"] for row in objects if row["kind"] == "packet"] == before
 
 
 def changed(log: bytes, chance: random.Random) -> bytes:
@@ -601,7 +601,7 @@ def changed(log: bytes, chance: random.Random) -> bytes:
             line = line[:place] + b"%x" % chance.randrange(16) + line[place + 1 :]
         lines += line
         if line[:1] == b">":
-            lines += b"# " + bytes(it for it in chance.randbytes(60) if it != 10) + b"\n"
+            lines += b"# " + bytes(byte for byte in chance.randbytes(60) if byte != 10) + b"\n"
     return bytes(lines)
 
 

@@ -55,7 +55,7 @@ def explained(
     if "--save" not in words and not trace:
         fixed = run(words, log, stdin=stdin, before=before)
         lines = said.stderr.splitlines(keepends=True)
-        left = b"".join(it for it in lines if not it.startswith(b"  ") and b": note: " not in it)
+        left = b"".join(line for line in lines if not line.startswith(b"  ") and b": note: " not in line)
         assert fixed.returncode == said.returncode and fixed.stderr == left, (words, fixed, said)
     return said
 

@@ -123,7 +123,7 @@ def other_files_are_kept(room: Path) -> None:
     before = sorted(os.listdir(room))
     for new in (keys, room / "new"):
         wants(run(words(keys, save=new), AGAIN.read_bytes()), 0, b"")
-    found = {it.name: it.read_bytes() for it in room.iterdir() if it.name in mine}
+    found = {path.name: path.read_bytes() for path in room.iterdir() if path.name in mine}
     assert found == mine and other.read_bytes() == b"another's", found
     assert sorted(os.listdir(room)) == sorted([*before, "new", "new.hidlog-sum"]), os.listdir(room)
     # The sums are put in place by their name, so a link that somebody put there isn't followed.
@@ -163,11 +163,11 @@ def sums_are_of_a_file(room: Path) -> None:
     """The sums are of the bytes before and after, by sha256; a file that was put in the other's place has none."""
     keys = example(room)
     first = keys.read_bytes()
-    assert [it[0] for it in sums_of(keys)] == [sha256(first).hexdigest()]
+    assert [row[0] for row in sums_of(keys)] == [sha256(first).hexdigest()]
     wants(run(words(keys), AGAIN.read_bytes()), 0, b"")
-    both = [sha256(it).hexdigest() for it in (first, keys.read_bytes())]
-    assert [it[0] for it in sums_of(keys)] == both
-    assert {it[1] for it in sums_of(keys)} == {f"{keys.stat().st_ino:016x}"}
+    both = [sha256(data).hexdigest() for data in (first, keys.read_bytes())]
+    assert [row[0] for row in sums_of(keys)] == both
+    assert {row[1] for row in sums_of(keys)} == {f"{keys.stat().st_ino:016x}"}
     # What it had before is whole too, as after a write that was cut off before its first byte.
     keys.write_bytes(first)
     wants(run(words(keys), AGAIN.read_bytes()), 0, b"")

@@ -162,7 +162,7 @@ def main() -> int:
     for kind in kinds[:1] if missing else kinds:
         found = failures(kind())
         failed |= bool(found)
-        print("\n".join(f"FAILED  {kind.__doc__} {it}" for it in found) or f"ok      {kind.__doc__}")
+        print("\n".join(f"FAILED  {kind.__doc__} {text}" for text in found) or f"ok      {kind.__doc__}")
     if missing:
         print(f"{', '.join(missing)} missing (apt-get install python3-flask python3-gevent)")
     return 1 if failed else 3 if missing else 0

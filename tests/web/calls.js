@@ -71,7 +71,7 @@ const signIn = (options = {}, more = {}) => async () => get({ ...allowing(await 
 /** Two requests at the same time. */
 const both = async (first, second) => {
     const outcomes = await Promise.allSettled([first(), second()]);
-    return outcomes.map((it) => it.reason?.name ?? "done");
+    return outcomes.map((outcome) => outcome.reason?.name ?? "done");
 };
 
 /** What is called while a user is awaited. */
@@ -424,6 +424,6 @@ export const outcomeOf = async (call) => {
 
 /** How a call ended: "done", or an error's name; of two calls both. */
 export const endOf = ({ value, error }) => {
-    const isOfSeveral = Array.isArray(value) && value.every((it) => it === "done" || /Error$/.test(it));
+    const isOfSeveral = Array.isArray(value) && value.every((one) => one === "done" || /Error$/.test(one));
     return error ?? (isOfSeveral ? value.join(" and ") : "done");
 };

@@ -103,7 +103,7 @@ const needsNoEval = async () => {
     expect(frame.contentWindow.atFirst.isKey, "the key is in place before the page's first script");
     frame.remove();
     const strict = await framed(`frame.html?csp=${encodeURIComponent("script-src 'self'")}`);
-    const error = await strict.contentWindow.register().catch((it) => it);
+    const error = await strict.contentWindow.register().catch((caught) => caught);
     expect(error.message.includes("'wasm-unsafe-eval'") && !error.message.includes("\n"), `a strict page: ${error}`);
     strict.remove();
 };

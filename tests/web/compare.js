@@ -68,7 +68,8 @@ const report = (kind, found, count, sameTexts) => {
         const said = `${name}: ${path} ${native}, here ${own}`;
         lines.set(reason, new Set(lines.get(reason)).add(reason === undefined ? said : name));
     }
-    const other = new Set(found.filter(({ path }) => !/(counter|fmt)$/.test(path)).map((it) => it.name)).size;
+    const others = found.filter(({ path }) => !/(counter|fmt)$/.test(path));
+    const other = new Set(others.map((difference) => difference.name)).size;
     results.figures.push(`${kind}: ${count} calls, of which ${count - other} gave the same but for counter and fmt; of`
         + ` the errors ${sameTexts}`);
     for (const [reason, names] of lines) {
@@ -81,8 +82,8 @@ const report = (kind, found, count, sameTexts) => {
 
 /** How many errors of the same name have the same text. */
 const textsOf = (native, own) => {
-    const both = [...native].filter(([name, it]) => it.error && it.error === own.get(name).error);
-    const same = both.filter(([name, it]) => it.text === own.get(name).text);
+    const both = [...native].filter(([name, outcome]) => outcome.error && outcome.error === own.get(name).error);
+    const same = both.filter(([name, outcome]) => outcome.text === own.get(name).text);
     return `${same.length} of ${both.length} have the same text`;
 };
 
@@ -128,8 +129,9 @@ const both = async (kind, abilities) => {
 /** Compares both, and returns how Chromium's calls ended. What differs by the machine's moment differs no second time. */
 const compare = async (kind, abilities) => {
     let seen = await both(kind, abilities);
-    for (let time = 1; time < TIMES && seen.found.some((it) => it.reason === undefined); time += 1) {
-        const what = seen.found.filter((it) => it.reason === undefined).map(({ name, path }) => `${name}: ${path}`);
+    for (let time = 1; time < TIMES && seen.found.some((difference) => difference.reason === undefined); time += 1) {
+        const unexplained = seen.found.filter((difference) => difference.reason === undefined);
+        const what = unexplained.map(({ name, path }) => `${name}: ${path}`);
         results.figures.push(`${kind}: tried again after ${what.join("; ")}`);
         seen = await both(kind, abilities);
     }

@@ -15,9 +15,9 @@ START_SECONDS = 600
 
 def free_port():
     """Returns a port that nothing listens on."""
-    with socket.socket() as it:
-        it.bind(("127.0.0.1", 0))
-        return it.getsockname()[1]
+    with socket.socket() as listener:
+        listener.bind(("127.0.0.1", 0))
+        return listener.getsockname()[1]
 
 
 def is_there():

@@ -43,16 +43,18 @@ ROLES = [
 def missing_roles(driver):
     """Returns what Chromium's accessibility tree lacks of the roles, and whether a row that is chosen is told."""
     driver.run("document.getElementById('scroller').focus(); arguments[0]()")
-    nodes = [it for it in driver.devtools("Accessibility.getFullAXTree")["nodes"] if not it.get("ignored")]
-    found = [(it["role"]["value"], it.get("name", {}).get("value", ""), it.get("properties", [])) for it in nodes]
+    nodes = [node for node in driver.devtools("Accessibility.getFullAXTree")["nodes"] if not node.get("ignored")]
+    found = [
+        (node["role"]["value"], node.get("name", {}).get("value", ""), node.get("properties", [])) for node in nodes
+    ]
     texts = " ".join(name for _, name, _ in found)
 
     def is_there(role, name):
         return any(kind == role and (name in said or (role == "status" and name in texts)) for kind, said, _ in found)
 
-    wrong = [it for it in ROLES if not is_there(*it)]
+    wrong = [role for role in ROLES if not is_there(*role)]
     listed = next(properties for kind, _, properties in found if kind == "listbox")
-    if not any(it["name"] == "activedescendant" for it in listed):
+    if not any(property_["name"] == "activedescendant" for property_ in listed):
         wrong.append("the row that is chosen")
     return wrong
 

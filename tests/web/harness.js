@@ -69,7 +69,7 @@ const outcomeOf = async (name, test) => {
 export const run = async (tests) => {
     const only = new URLSearchParams(location.search).getAll("only");
     const heart = beat();
-    for (const [name, test] of Object.entries(tests).filter(([it]) => !only.length || only.includes(it))) {
+    for (const [name, test] of Object.entries(tests).filter(([name]) => !only.length || only.includes(name))) {
         await post("/begun", { page: location.pathname.split("/").at(-1), test: name });
         results.tests.push(await outcomeOf(name, test));
     }

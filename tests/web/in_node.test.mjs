@@ -41,7 +41,7 @@ test("what is missing is said by the first call, in one line", async () => {
         });
         vm.runInContext(`delete globalThis.${missing}; ${readFileSync(SCRIPT, "utf8")}`, world);
         vm.runInContext('hidlogKey.install({ origin: "https://example.com" })', world);
-        const error = await vm.runInContext(`${REGISTER}.catch((it) => it.message)`, world);
+        const error = await vm.runInContext(`${REGISTER}.catch((caught) => caught.message)`, world);
         assert.match(error, said);
         assert.match(error, /^[^\n]*node 20[^\n]*$/);
     }

@@ -49,7 +49,7 @@ def in_python(log: bytes) -> Dict[str, Any]:
         found = judged_log.judge(log)
     except judged_log.NoLog as refused:
         return {"refused": str(refused)}
-    findings = [judged_report.object_of(it) for it in found.findings]
+    findings = [judged_report.object_of(finding) for finding in found.findings]
     return {"findings": findings, "notes": judged_report.notes_of(found), "total": judged_report.total(found)}
 
 
@@ -91,7 +91,11 @@ def dropped(driver: Any) -> List[str]:
     log = bytes(driver.run("arguments[0](Array.from(hidlogViewer.state.bytes))"))
     wrong = [] if in_python(log)["total"] in shown else [f"the page shows of {CAPTURE.name}: {shown}"]
     findings = in_python(log)["findings"]
-    wrong += [f"the page doesn't show line {it['line']}" for it in findings if f"Line {it['line']} " not in shown]
+    wrong += [
+        f"the page doesn't show line {finding['line']}"
+        for finding in findings
+        if f"Line {finding['line']} " not in shown
+    ]
     driver.run("document.querySelector('#judged li button').click(); arguments[0]()")
     line = findings[0]["line"]
     driver.wait_for(f"document.querySelector('[aria-selected=true].row')?.firstChild.textContent === '{line}'")

@@ -9,12 +9,12 @@ const NEVER = 1_000_000;
 
 const fromText = (text) => {
     const plain = atob(text.replaceAll("-", "+").replaceAll("_", "/"));
-    return Uint8Array.from(plain, (it) => it.charCodeAt(0));
+    return Uint8Array.from(plain, (letter) => letter.charCodeAt(0));
 };
 
 /** Options as a page makes them of what a server sent. */
 const decoded = ({ publicKey }) => {
-    const ids = (list) => list?.map((it) => ({ ...it, id: fromText(it.id) }));
+    const ids = (list) => list?.map((descriptor) => ({ ...descriptor, id: fromText(descriptor.id) }));
     const options = { ...publicKey, challenge: fromText(publicKey.challenge) };
     if (publicKey.user) {
         options.user = { ...publicKey.user, id: fromText(publicKey.user.id) };
@@ -87,7 +87,8 @@ const choosesAmongAccounts = async (key) => {
     await register({ user: "ann", resident: true });
     await register({ user: "bob", resident: true });
     expect((await signIn()).user === "bob", "the newest account comes first");
-    key.account = (accounts) => accounts.find((it) => it.userHandle === btoa("ann") && it.userName === "ann");
+    const isAnn = ({ userHandle, userName }) => userHandle === btoa("ann") && userName === "ann";
+    key.account = (accounts) => accounts.find(isAnn);
     expect((await signIn()).user === "ann", "the account that is chosen");
 };
 

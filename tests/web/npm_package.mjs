@@ -19,7 +19,7 @@ const ran = (file, words, input = "", variables = { HIDLOG_CLI: "wasm" }) => {
 };
 
 const logsIn = (path) =>
-    readdirSync(join(TOP, path)).filter((it) => it.endsWith(".log")).map((it) => join(TOP, path, it));
+    readdirSync(join(TOP, path)).filter((name) => name.endsWith(".log")).map((name) => join(TOP, path, name));
 const logs = [join(TOP, "examples/registration.log"), ...logsIn("examples/failing"),
     ...logsIn("crates/hidlog/data/capacity_64").filter((_, place) => place % 3 === 0)];
 const calls = logs.flatMap((log) => [["check", log], ["replay", log], ["quiet", log], ["show", log],
@@ -62,15 +62,15 @@ const readme = readFileSync(join(folder, "node_modules/hidlog/README.md"), "utf8
 const blocks = [...readme.matchAll(/^```js\n([\s\S]*?)^```$/gm)].map(([, text]) => text);
 assert.equal(blocks.length, 2);
 const lines = blocks.join("\n").split("\n");
-const imports = lines.filter((it) => it.startsWith("import "));
-const rest = lines.filter((it) => !it.startsWith("import "));
+const imports = lines.filter((line) => line.startsWith("import "));
+const rest = lines.filter((line) => !line.startsWith("import "));
 writeFileSync(join(folder, "readme.mjs"), [...imports, ...rest].join("\n"));
 const first = ran("node", ["readme.mjs"]);
 assert.equal(first.stdout, "true YW5u\n", first.stderr);
-const named = [...readme.matchAll(/hidlog\/([\w./]+)/g)].map(([, it]) => it);
+const named = [...readme.matchAll(/hidlog\/([\w./]+)/g)].map(([, name]) => name);
 const have = readdirSync(join(folder, "node_modules/hidlog"));
-named.forEach((it) => assert.ok(have.includes(it), `README names ${it}`));
-const commands = [...readme.matchAll(/^ {4}npx hidlog ((?:check|show) .*)$/gm)].map(([, it]) => it.split(" "));
+named.forEach((name) => assert.ok(have.includes(name), `README names ${name}`));
+const commands = [...readme.matchAll(/^ {4}npx hidlog ((?:check|show) .*)$/gm)].map(([, words]) => words.split(" "));
 assert.equal(commands.length, 2);
 const [checked, shown] = commands.map((words) => ran("node", [command, ...words]));
 assert.match(checked.stdout, /^same \d+ inputs \d+ packets\n$/, checked.stderr);

@@ -61,7 +61,7 @@ const standIn = () => ({
 const runsItsInjections = async () => {
     const script = await fetched("web/dist/security_key.js");
     const fs = { readFileSync: () => script };
-    for (const { tool, text } of (await blocksOf()).filter((it) => it.tool)) {
+    for (const { tool, text } of (await blocksOf()).filter((block) => block.tool)) {
         await new AsyncFunction("page", "fs", text)(standIn(), fs);
         expect(hidlogKey.current() !== null, `${tool}: the key is in place`);
         hidlogKey.current().uninstall();

@@ -53,7 +53,7 @@ const survivesDenials = async () => {
 const isOneOfTabs = async () => {
     localStorage.clear();
     const frames = await Promise.all([1, 2].map(() => framed("frame.html?store=local")));
-    const [one, other] = frames.map((it) => it.contentWindow);
+    const [one, other] = frames.map((frame) => frame.contentWindow);
     await one.register("ann");
     for (const page of [other, one, other, other, one]) {
         await page.signIn();
@@ -67,7 +67,7 @@ const isOneOfTabs = async () => {
     expect(parts.map(({ part }) => part).join() === "1,2", "a change by hand begins a part");
     expect(parts[1].snapshot.length > 0 && countOf(parts[1].log, "\ns ") === 2, "with its snapshot");
     keep("tabs", parts);
-    frames.forEach((it) => it.remove());
+    frames.forEach((frame) => frame.remove());
     localStorage.clear();
 };
 
@@ -112,7 +112,8 @@ const isBounded = async () => {
     const parts = key.recordings();
     expect(length < 1_300_000 && length > 400_000, `the store has ${length} letters`);
     const numbers = parts.map(({ part }) => part);
-    expect(numbers[0] > 1 && numbers.every((it, at) => it === numbers[0] + at), `the oldest are gone: ${numbers}`);
+    const areNext = numbers.every((number, at) => number === numbers[0] + at);
+    expect(numbers[0] > 1 && areNext, `the oldest are gone: ${numbers}`);
     keep("bounded", parts);
     sessionStorage.clear();
 };

@@ -32,7 +32,7 @@ class RelyingParty:
     def __init__(self, origin):
         entity = PublicKeyCredentialRpEntity("localhost", "A service under test")
         self._server = Fido2Server(
-            entity, attestation="direct", verify_origin=lambda it: it == origin, verify_attestation=verify_packed
+            entity, attestation="direct", verify_origin=lambda found: found == origin, verify_attestation=verify_packed
         )
         self._state = None
         self._credentials = {}
@@ -43,7 +43,7 @@ class RelyingParty:
     def register_begin(self, user, exclude=False, resident=False, verification=None):
         """The options of a registration."""
         entity = {"id": user.encode(), "name": user, "displayName": f"User {user}"}
-        known = [it.data for it in self._of(user)] if exclude else None
+        known = [credential.data for credential in self._of(user)] if exclude else None
         options, self._state = self._server.register_begin(
             entity, known, resident_key=resident, user_verification=verification
         )
@@ -58,23 +58,23 @@ class RelyingParty:
 
     def sign_in_begin(self, user=None, verification=None):
         """The options of a sign-in: of a user by an allow list, or of whoever comes."""
-        known = [it.data for it in self._of(user)] if user else None
+        known = [credential.data for credential in self._of(user)] if user else None
         options, self._state = self._server.authenticate_begin(known, user_verification=verification)
         return plain(options)
 
     def sign_in_complete(self, id, clientDataJSON, authenticatorData, signature, userHandle=None, **_):
         """Verifies a sign-in: the signature, and a counter that rose."""
-        known = [it for kept in self._credentials.values() for it in kept]
+        known = [credential for kept in self._credentials.values() for credential in kept]
         data = AuthenticatorData(websafe_decode(authenticatorData))
         used = self._server.authenticate_complete(
             self._state,
-            [it.data for it in known],
+            [credential.data for credential in known],
             websafe_decode(id),
             ClientData(websafe_decode(clientDataJSON)),
             data,
             websafe_decode(signature),
         )
-        row = next(it for it in known if it.data.credential_id == used.credential_id)
+        row = next(credential for credential in known if credential.data.credential_id == used.credential_id)
         if data.counter <= row.counter:
             raise ValueError("the counter did not rise")
         row.counter = data.counter

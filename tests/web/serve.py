@@ -63,7 +63,7 @@ def peak_of(process):
 def peak_memory(session):
     """Returns the most that one of a session's processes had so far."""
     with contextlib.suppress(OSError):
-        return max(peak_of(it) for it in os.listdir("/proc") if it.isdigit() and is_of(session, it))
+        return max(peak_of(name) for name in os.listdir("/proc") if name.isdigit() and is_of(session, name))
     return 0
 
 
@@ -202,7 +202,7 @@ def main():
     server.test = (first, "the first", time.monotonic(), 0.0)
     threading.Thread(target=server.serve_forever, daemon=True).start()
     why = run_browser(words, f"{origin}/tests/web/{first}", server)
-    passed = [report(it, folder) for it in server.results]
+    passed = [report(result, folder) for result in server.results]
     print(f"    the browser's largest process had {server.memory} MB at its peak")
     if why:
         print(f"FAILED  {why}")

@@ -45,7 +45,7 @@ const survivesReloads = async () => {
 const sharesAStore = async () => {
     localStorage.clear();
     const frames = await Promise.all([1, 2].map(() => framed("frame.html?store=local")));
-    const [one, other] = frames.map((it) => it.contentWindow);
+    const [one, other] = frames.map((frame) => frame.contentWindow);
     await one.register("ann");
     const counters = [await one.signIn(), await other.signIn(), await one.signIn()];
     expect(counters.join() === "1,2,3", `in turns: ${counters}`);
@@ -60,10 +60,10 @@ const sharesAStore = async () => {
     const expected = Array.from({ length: 40 }, (_, at) => at + 4);
     expect(both.sort((left, right) => left - right).join() === expected.join(), `at the same time: ${both}`);
     await Promise.all([one.register("bob"), other.register("eve")]);
-    const held = (await one.key.getCredentials()).map((it) => it.userName).sort();
+    const held = (await one.key.getCredentials()).map((credential) => credential.userName).sort();
     expect(held.join() === "ann,bob,eve", `registered at the same time: ${held}`);
-    one.key.recordings().forEach((it, at) => keep(`shared_${at}`, it));
-    frames.forEach((it) => it.remove());
+    one.key.recordings().forEach((recording, at) => keep(`shared_${at}`, recording));
+    frames.forEach((frame) => frame.remove());
     localStorage.clear();
 };
 
@@ -83,7 +83,7 @@ const seesChangesInAWait = async () => {
     await tab.removeAllCredentials();
     key.presence = "granted";
     await refuses(gone, "NotAllowedError", "NO_CREDENTIALS");
-    key.recordings().forEach((it, at) => keep(`changed_${at}`, it));
+    key.recordings().forEach((recording, at) => keep(`changed_${at}`, recording));
     localStorage.clear();
 };
 

@@ -15,7 +15,7 @@ export const suite = async (publicKey: PublicKeyCredentialCreationOptions): Prom
     key.faults.status = "KEY_STORE_FULL";
     key.faults.clear();
     const state: State = key.state();
-    const other = new SecurityKey({ state, account: (accounts) => accounts.findIndex((it) => it.userName === "ann") });
+    const other = new SecurityKey({ state, account: (all) => all.findIndex(({ userName }) => userName === "ann") });
     const made: PublicKeyCredential = await other.create({ publicKey });
     key.addEventListener("credentialAsserted", ({ detail }) => console.log(detail.credential.signCount));
     const { credential } = await key.once("credentialAdded");

@@ -95,7 +95,7 @@ const checkedAfter = async (change) => {
     await open("changed.log", encode(lines.join("\n")));
     press("c");
     const marked = rows().filter((row) => row.classList.contains("differs")).map((row) => row.firstChild.textContent);
-    const marks = [...at("detail-text").querySelectorAll("mark")].map((it) => it.textContent.trim());
+    const marks = [...at("detail-text").querySelectorAll("mark")].map((mark) => mark.textContent.trim());
     return { told: notice(), marked: marked.join(), marks };
 };
 
@@ -183,9 +183,9 @@ const hasTheCoresWords = async () => {
         await open(`${name}.log`, bytes);
         choose("view", "recorded");
         const shown = new TextDecoder().decode(core.run("show", bytes).text).split("\n");
-        const numbers = rows().filter((it) => it.querySelector(".kind-host, .kind-key")).map(cellOf(0));
+        const numbers = rows().filter((row) => row.querySelector(".kind-host, .kind-key")).map(cellOf(0));
         for (const number of numbers) {
-            const row = rows().find((it) => cellOf(0)(it) === number);
+            const row = rows().find((each) => cellOf(0)(each) === number);
             const [channel, says] = [cellOf(3)(row), cellOf(4)(row)];
             const [head, ...below] = shown.filter((line) => line.startsWith(`${number} `));
             expect(`${says}  `.includes(`${head.slice(head.indexOf(channel) + 9)}  `), `${name}: ${says} for ${head}`);
@@ -389,8 +389,8 @@ const savesItself = async () => {
 
 /** The brightness of a colour, as WCAG 2.1 computes it. */
 const brightness = (colour) => {
-    const parts = colour.match(/[\d.]+/g).slice(0, 3).map((it) => it / 255);
-    const [red, green, blue] = parts.map((it) => (it <= 0.04045 ? it / 12.92 : ((it + 0.055) / 1.055) ** 2.4));
+    const parts = colour.match(/[\d.]+/g).slice(0, 3).map((part) => part / 255);
+    const [red, green, blue] = parts.map((part) => (part <= 0.04045 ? part / 12.92 : ((part + 0.055) / 1.055) ** 2.4));
     return 0.2126 * red + 0.7152 * green + 0.0722 * blue;
 };
 

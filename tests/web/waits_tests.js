@@ -164,7 +164,7 @@ const replacesStatics = async () => {
     key.uninstall();
     expect(NAMES.every((name, at) => PublicKeyCredential[name] === before[at]), "the statics are put back");
     const after = [navigator.credentials, navigator.credentials.create, navigator.credentials.get];
-    expect(after.every((it, at) => it === functions[at]), "the functions are put back");
+    expect(after.every((one, at) => one === functions[at]), "the functions are put back");
 };
 
 const FIRST = 40;

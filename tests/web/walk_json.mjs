@@ -19,10 +19,11 @@ const endOf = ({ answer, by, code, end }) => {
     return ends[end] ?? { end: "open" };
 };
 
-const transactionOf = (it) => {
-    const keepalives = it.all.filter((line) => line.kind === "key" && line.message?.command === KEEPALIVE).length;
-    const came = it.isWhole ? {} : { came: it.came };
-    return { kind: "transaction", transaction: it.line.number, keepalives, ...came, ...endOf(it) };
+const transactionOf = (transaction) => {
+    const isKeepalive = ({ kind, message }) => kind === "key" && message?.command === KEEPALIVE;
+    const keepalives = transaction.all.filter(isKeepalive).length;
+    const came = transaction.isWhole ? {} : { came: transaction.came };
+    return { kind: "transaction", transaction: transaction.line.number, keepalives, ...came, ...endOf(transaction) };
 };
 
 const saidOf = (path) => {

@@ -33,7 +33,10 @@ const found = (name) => {
     return [
         ...session.slice(0, session.length).filter(isWalked).map(({ number, transaction }) =>
             `${number} of ${transaction ? transaction.line.number : "none"}`),
-        ...transactions.map((it) => `${it.line.number}: ${it.channel} ${nameOf(it.command)} ${it.length}: ${ended(it)}`),
+        ...transactions.map((transaction) => {
+            const { line, channel, command, length } = transaction;
+            return `${line.number}: ${channel} ${nameOf(command)} ${length}: ${ended(transaction)}`;
+        }),
     ];
 };
 
@@ -152,10 +155,11 @@ const PARTS = {
 
 test("transactions have their lines, and messages their packets", () => {
     for (const [name, { all, own, came, answer = [] }] of Object.entries(PARTS)) {
-        const it = readSession(new TextEncoder().encode(`${TEXTS[name][0].join("\n")}\n`)).transaction(0);
-        const found = [it.all, it.lines, it.answer?.lines ?? []].map((lines) => lines.map(({ number }) => number));
-        assert.deepEqual([...found, it.came, it.count], [all, own, answer, came, all.length], name);
-        assert.equal(it.answer ? it.answer.asks.place : it.place, it.place, name);
+        const transaction = readSession(new TextEncoder().encode(`${TEXTS[name][0].join("\n")}\n`)).transaction(0);
+        const groups = [transaction.all, transaction.lines, transaction.answer?.lines ?? []];
+        const found = groups.map((lines) => lines.map(({ number }) => number));
+        assert.deepEqual([...found, transaction.came, transaction.count], [all, own, answer, came, all.length], name);
+        assert.equal(transaction.answer ? transaction.answer.asks.place : transaction.place, transaction.place, name);
     }
 });
 

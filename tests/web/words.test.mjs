@@ -19,8 +19,8 @@ const FOLDERS = [
     "examples/", "examples/failing/", "crates/hidlog/data/capacity_64/", "tests/captures/data/", "tests/web/walks/",
     "tests/web/words/",
 ];
-const names = FOLDERS.flatMap((folder) => readdirSync(fileOf(folder)).filter((it) => it.endsWith(".log"))
-    .map((it) => folder + it));
+const names = FOLDERS.flatMap((folder) => readdirSync(fileOf(folder)).filter((name) => name.endsWith(".log"))
+    .map((name) => folder + name));
 
 const show = (bytes) => spawnSync(PROGRAM, ["show", "--explain"], { input: bytes, encoding: "utf8", maxBuffer: 2 ** 28 });
 
@@ -97,7 +97,7 @@ test("the first lines of a long log have the words of all of it, and all of them
     for (const line of lines) {
         assert.deepEqual(shown.words(line), whole.words(line.place), `line ${line.number}`);
     }
-    assert.ok(lines.some((line) => shown.words(line).below.some((it) => it.startsWith("request 01"))));
+    assert.ok(lines.some((line) => shown.words(line).below.some((line) => line.startsWith("request 01"))));
     shown.keep([], [session.log]);
     assert.equal(shown.words(lines.at(-1)).head, "…");
     shown.endAll();
@@ -108,11 +108,12 @@ test("what can't be explained says so, and nothing else", async () => {
     const bytes = new TextEncoder().encode(slowLog(400));
     const changes = [];
     const work = () => ({ outcome: Promise.reject(new Error("no memory")), end: () => {} });
-    const shown = new globalThis.hidlogShown.Shown(core, { atOnce: 1000, work, changed: (it) => changes.push(it?.message) });
+    const changed = (error) => changes.push(error?.message);
+    const shown = new globalThis.hidlogShown.Shown(core, { atOnce: 1000, work, changed });
     const session = readSession(bytes);
     await shown.ready([session.log]);
     const other = new globalThis.hidlogShown.Shown(core, {
-        atOnce: 1000, most: bytes.length - 1, changed: (it) => changes.push(it.message),
+        atOnce: 1000, most: bytes.length - 1, changed: (error) => changes.push(error.message),
     });
     await other.ready([readSession(bytes).log]);
     assert.deepEqual(changes, ["no memory", "the log is too long"]);
@@ -171,8 +172,8 @@ test("ends are told in words that hold of every cause", () => {
 const noJsdom = { skip: !existsSync(JSDOM) && "node-jsdom is missing" };
 const isItem = (line) => /^(request|answer) /.test(line);
 // An item's line may be shown by its number and its name alone, where its members have lines of their own.
-const shortened = (lines) => lines.map((it) => (isItem(it)
-    ? it.split(" ").slice(0, 2).join(" ") + (/ {2}\w+$/.exec(it)?.[0] ?? "") : it));
+const shortened = (lines) => lines.map((line) => (isItem(line)
+    ? line.split(" ").slice(0, 2).join(" ") + (/ {2}\w+$/.exec(line)?.[0] ?? "") : line));
 
 /** The page, ready for a log. */
 const openPage = async () => {
@@ -238,7 +239,7 @@ class Hands {
         const shown = this.at("detail-text").firstChild.data.split("\n");
         const refusal = transaction?.code ? transaction.by.message : null;
         const messages = transaction ? [transaction, transaction.answer ?? refusal].filter(Boolean) : [line.message ?? line];
-        const due = messages.map((it) => [...it.lines ?? [it]].map(({ number }) => expected(number)));
+        const due = messages.map((message) => [...message.lines ?? [message]].map(({ number }) => expected(number)));
         for (const words of due) {
             const said = shown.splice(0, 1 + words.flatMap(({ below }) => below).length);
             assert.deepEqual(shortened(said.slice(1)), shortened(words.flatMap(({ below }) => below)), where);

@@ -234,7 +234,7 @@ def crossing(name: str, has_gate: bool) -> Victim:
     """Shows a browser a page of another origin, and returns what was at the port."""
     victim = Victim(has_gate)
     with victim.at() as port:
-        handler = evil(CROSSING.replace("BASES", json.dumps([f"http://{it}:{port}" for it in ("127.0.0.1", NAME)])))
+        handler = evil(CROSSING.replace("BASES", json.dumps([f"http://{host}:{port}" for host in ("127.0.0.1", NAME)])))
         with serving(handler) as own, browser(name, f"http://{NAME}:{own}/"):
             assert handler.reported.wait(SECONDS), "the page doesn't end"
     return victim

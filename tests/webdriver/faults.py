@@ -149,7 +149,7 @@ def places(folder: Path) -> list[Place]:
     assert wrong_files(folder / "logs", False, False) is None
     # strace counts the calls of each thread.
     found = Counter(re.findall(r"^(\d+) +([a-z_0-9]+)\(", (folder / "calls").read_text(errors="replace"), re.MULTILINE))
-    counts = {name: max((found[it] for it in found if it[1] == name), default=0) for name in CALLS}
+    counts = {name: max((found[place] for place in found if place[1] == name), default=0) for name in CALLS}
     counts = {name: count for name, count in counts.items() if count}
     injection.FAULTS.update(FAULTS)
     return list(injection.places_of(counts))

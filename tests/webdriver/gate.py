@@ -52,13 +52,14 @@ ACCEPTED = [
 
 REFUSED = {
     405: [
-        GOOD_GET._replace(method=it) for it in ("PUT", "OPTIONS", "HEAD", "PATCH", "CONNECT", "TRACE", "get", "", "G T")
+        GOOD_GET._replace(method=method)
+        for method in ("PUT", "OPTIONS", "HEAD", "PATCH", "CONNECT", "TRACE", "get", "", "G T")
     ],
     403: [
         # DNS rebinding, and names that only look like this server's.
         *[
-            GOOD_POST._replace(hosts=[it])
-            for it in (
+            GOOD_POST._replace(hosts=[host])
+            for host in (
                 "evil.example",
                 f"evil.example:{PORT}",
                 f"localhost.evil.example:{PORT}",
@@ -78,8 +79,8 @@ REFUSED = {
         ],
         # Pages.
         *[
-            GOOD_POST._replace(origins=it)
-            for it in (
+            GOOD_POST._replace(origins=origins)
+            for origins in (
                 ["http://evil.example"],
                 ["null"],
                 [""],
@@ -93,11 +94,11 @@ REFUSED = {
             )
         ],
         # What a page gets without an Origin: an image, a frame, a link.
-        *[GOOD_GET._replace(sites=it) for it in (["cross-site"], ["same-site"], [""], ["none", "cross-site"])],
+        *[GOOD_GET._replace(sites=sites) for sites in (["cross-site"], ["same-site"], [""], ["none", "cross-site"])],
     ],
     415: [
-        GOOD_POST._replace(types=it)
-        for it in (
+        GOOD_POST._replace(types=types)
+        for types in (
             [],
             ["text/plain"],
             ["text/plain;application/json"],
@@ -112,12 +113,12 @@ REFUSED = {
     ]
     + [GOOD_GET._replace(lengths=["5"])],
     411: [GOOD_POST._replace(lengths=[])],
-    413: [GOOD_POST._replace(lengths=[it]) for it in (str(BODY_MAX + 1), "107374182400", "9" * 18)],
+    413: [GOOD_POST._replace(lengths=[length]) for length in (str(BODY_MAX + 1), "107374182400", "9" * 18)],
     414: [GOOD_GET._replace(path="/session/" + "a" * 5000)],
     400: [
         *[
-            GOOD_POST._replace(lengths=it)
-            for it in (
+            GOOD_POST._replace(lengths=lengths)
+            for lengths in (
                 ["-1"],
                 ["+2"],
                 [" 2"],
@@ -136,17 +137,20 @@ REFUSED = {
                 ["9" * 5000],
             )
         ],
-        *[GOOD_POST._replace(encodings=it) for it in (["chunked"], ["identity"], ["gzip, chunked"], [""])],
-        GOOD_POST._replace(encodings=["chunked"], lengths=[]),
-        *[GOOD_GET._replace(hosts=it) for it in ([], [OWN, OWN], [""], ["a b"], [f"{OWN}/"], [f"x@{OWN}"])],
         *[
-            GOOD_GET._replace(hosts=[it])
-            for it in ("127.0.0.1:", "127.0.0.1:0", "127.0.0.1:99999", "[::1", "\u24db\u24de")
+            GOOD_POST._replace(encodings=encodings)
+            for encodings in (["chunked"], ["identity"], ["gzip, chunked"], [""])
+        ],
+        GOOD_POST._replace(encodings=["chunked"], lengths=[]),
+        *[GOOD_GET._replace(hosts=hosts) for hosts in ([], [OWN, OWN], [""], ["a b"], [f"{OWN}/"], [f"x@{OWN}"])],
+        *[
+            GOOD_GET._replace(hosts=[host])
+            for host in ("127.0.0.1:", "127.0.0.1:0", "127.0.0.1:99999", "[::1", "\u24db\u24de")
         ],
         # Paths that have another reading, or none.
         *[
-            GOOD_GET._replace(path=it)
-            for it in (
+            GOOD_GET._replace(path=path)
+            for path in (
                 "",
                 "/",
                 "status",
@@ -211,9 +215,9 @@ def status_of(head: Head, policy: Policy = POLICY) -> int:
 
 def table() -> list[str]:
     """Returns what a row of the tables gets otherwise."""
-    wrong = [f"{it} gets {status_of(it)}" for it in ACCEPTED if status_of(it) != 200]
+    wrong = [f"{head} gets {status_of(head)}" for head in ACCEPTED if status_of(head) != 200]
     for status, heads in REFUSED.items():
-        wrong += [f"{it} gets {status_of(it)}, not {status}" for it in heads if status_of(it) != status]
+        wrong += [f"{head} gets {status_of(head)}, not {status}" for head in heads if status_of(head) != status]
     for (address, host), is_right in LISTENING.items():
         if (status_of(GOOD_GET._replace(hosts=[host]), Policy(PORT, address)) == 200) != is_right:
             wrong.append(f"{host} at {address}")
@@ -293,10 +297,10 @@ def faults_of(head: Head) -> list[str]:
     host = head.hosts[0].lower() if len(head.hosts) == 1 else None
     if head.method not in ("GET", "POST", "DELETE"):
         found.append("method")
-    own = {f"{it}:{PORT}" for it in ("127.0.0.1", "localhost", "[::1]")} | {"chrome", "ci.example:8080"}
+    own = {f"{host}:{PORT}" for host in ("127.0.0.1", "localhost", "[::1]")} | {"chrome", "ci.example:8080"}
     if host not in own and not (host or "").startswith("chrome:"):
         found.append("host")
-    if [it.lower() for it in head.origins] not in ([], [f"http://{host}"]):
+    if [origin.lower() for origin in head.origins] not in ([], [f"http://{host}"]):
         found.append("origin")
     if set(map(str.lower, head.sites)) - {"none", "same-origin"}:
         found.append("site")
@@ -307,7 +311,7 @@ def faults_of(head: Head) -> list[str]:
     if not is_length and (head.lengths or head.method == "POST"):
         found.append("length")
     if head.method == "POST" or (is_length and int(digits)):
-        kinds = [it.partition(";")[0].strip().lower() for it in head.types]
+        kinds = [text.partition(";")[0].strip().lower() for text in head.types]
         found += [] if kinds == ["application/json"] else ["type"]
     path = head.path.replace("%3D", "=")
     is_plain = path.isascii() and path.isprintable() and not set(path) & set(' "#%<>?[\\]^`{|}')

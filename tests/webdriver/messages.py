@@ -108,7 +108,7 @@ def no_foreign_keys(rig: Rig) -> None:
     begun = rig.send(rig.evil, {"id": 1, "name": "begin"})
     assert begun[0] == 1 and begun[1]["credentials"] == [], begun
     own = rig.send(rig.bank, {"id": 2, "name": "begin"})
-    assert [it["rpId"] for it in own[1]["credentials"]] == ["bank.example"]
+    assert [credential["rpId"] for credential in own[1]["credentials"]] == ["bank.example"]
     number = rig.private.private_numbers().private_value.to_bytes(32, "big")
     held = base64.urlsafe_b64decode(own[1]["credentials"][0]["privateKey"] + "==")
     assert number not in held and held.endswith(point) and len(held) == len(rig.pkcs8)
@@ -168,10 +168,10 @@ def no_foreign_changes(rig: Rig) -> None:
     rig.refused(rig.evil, {**sign, "data": text(signed_for("bank.example"))})
     assert rig.send(rig.evil, sign)[1]["signature"]
     assert not rig.send(rig.evil, {**end, "credentials": [mine]})[2]
-    assert [it["rpId"] for it in rig.key.credentials] == ["bank.example", "evil.example"]
+    assert [credential["rpId"] for credential in rig.key.credentials] == ["bank.example", "evil.example"]
     # A counter only rises.
     assert not rig.send(rig.evil, {**end, "credentials": [{**mine, "signCount": 3}]})[2]
-    assert [it["signCount"] for it in rig.key.credentials] == [7, 7]
+    assert [credential["signCount"] for credential in rig.key.credentials] == [7, 7]
 
 
 def bounded_recordings(rig: Rig) -> None:
@@ -281,7 +281,7 @@ def fuzz(rig: Rig, count: int, seed: int) -> int:
     for _ in range(count):
         message = random_message(rng, rig)
         reply = rig.send(rig.evil, message)
-        own = [it for it in rig.key.credentials if it["rpId"] == "bank.example"]
+        own = [credential for credential in rig.key.credentials if credential["rpId"] == "bank.example"]
         assert json.dumps(own) == rig.held, message
         if reply and not reply[2]:
             taken += 1

@@ -111,11 +111,11 @@ def other_origin(suite: Suite) -> None:
     assert len(loot) > 10_000 and own["id"] in loot, "the page keeps what comes by"
     for held in secret:
         assert not sees(loot, held), (held["credentialId"], sees(loot, held))
-    mine = [it for it in suite.held() if it["rpId"] == "a.localhost"]
+    mine = [credential for credential in suite.held() if credential["rpId"] == "a.localhost"]
     assert len(mine) == 2
-    numbers = [{**it, "credentialId": it["privateKey"]} for it in mine]
+    numbers = [{**credential, "credentialId": credential["privateKey"]} for credential in mine]
     if suite.has_devtools:
-        assert not any(sees(loot, it) for it in numbers), "no private key is in a page"
+        assert not any(sees(loot, number) for number in numbers), "no private key is in a page"
         assert suite.page_call("signIn", allow=[secret[0]["credentialId"]]) == "NotAllowedError"
     suite.open(suite.page)
     assert suite.page_call("signIn", allow=[secret[0]["credentialId"]])["id"] == secret[0]["credentialId"]
@@ -144,7 +144,7 @@ def cleared(suite: Suite) -> None:
     suite.run(clear)
     suite.post("/refresh", {})
     assert suite.page_call("signIn")["id"] == made["id"]
-    assert [it["credentialId"] for it in suite.held()] == [made["id"]]
+    assert [credential["credentialId"] for credential in suite.held()] == [made["id"]]
 
 
 def leaves(suite: Suite) -> None:
@@ -155,7 +155,7 @@ def leaves(suite: Suite) -> None:
         time.sleep(0.05)
     made = url.partition("made=")[2]
     assert suite.page_call("signIn")["id"] == made
-    assert [it["credentialId"] for it in suite.held()] == [made]
+    assert [credential["credentialId"] for credential in suite.held()] == [made]
 
 
 FRAME = """const frame = document.createElement("iframe"); frame.src = arguments[0];
@@ -223,7 +223,7 @@ def removed(suite: Suite) -> None:
     assert suite.run(names) == [], suite.run(names)
     assert suite.run("return /native code/.test(navigator.credentials.create)")
     stored = suite.run("return Object.keys({ ...localStorage, ...sessionStorage })")
-    assert not [it for it in stored if it.startswith("hidlog")], stored
+    assert not [name for name in stored if name.startswith("hidlog")], stored
     suite.post("/refresh", {})
     assert suite.run(names) == [], "a new document"
 

@@ -6,7 +6,8 @@ const base = { challenge: bytes("a challenge"), rp: { name: "A service" },
 // No test waits for its end.
 const LONG = 600_000;
 const flags = (data) => new Uint8Array(data)[32];
-const idOf = (text) => Uint8Array.from(atob(text.replace(/-/g, "+").replace(/_/g, "/")), (it) => it.charCodeAt(0));
+const codeOf = (letter) => letter.charCodeAt(0);
+const idOf = (text) => Uint8Array.from(atob(text.replace(/-/g, "+").replace(/_/g, "/")), codeOf);
 const withIds = (list) => list.map((id) => ({ type: "public-key", id: idOf(id) }));
 
 /** Registers: what a page sees of it, or the error's name. */

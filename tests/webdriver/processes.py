@@ -322,12 +322,17 @@ def main() -> int:
         ("SIGINT ends all", lambda: ends(own, signal.SIGINT, 0)),
         ("kill -9 ends all", lambda: ends(own, signal.SIGKILL, -9)),
     ]
-    tests += [(str(it.__doc__), lambda it=it: it(own)) for it in (ends_with_group, driver_ends, unwritable, written)]
-    tests += [(str(it.__doc__), lambda it=it: it(own)) for it in (wrong_calls, warns, with_credentials)]
+    tests += [
+        (str(test.__doc__), lambda test=test: test(own)) for test in (ends_with_group, driver_ends, unwritable, written)
+    ]
+    tests += [(str(test.__doc__), lambda test=test: test(own)) for test in (wrong_calls, warns, with_credentials)]
     if shutil.which("chromedriver"):
         tests += [
-            (f"{name} ends chromedriver and Chromium", lambda it=it, code=code: ends("chromedriver", it, code))
-            for name, it, code in (("SIGTERM", signal.SIGTERM, 0), ("kill -9", signal.SIGKILL, -9))
+            (
+                f"{name} ends chromedriver and Chromium",
+                lambda number=number, code=code: ends("chromedriver", number, code),
+            )
+            for name, number, code in (("SIGTERM", signal.SIGTERM, 0), ("kill -9", signal.SIGKILL, -9))
         ]
     failed = False
     for name, test in tests:

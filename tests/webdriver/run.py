@@ -53,9 +53,9 @@ class Files(SimpleHTTPRequestHandler):
 
 
 def free_port() -> int:
-    with socket.socket() as it:
-        it.bind(("127.0.0.1", 0))
-        port: int = it.getsockname()[1]
+    with socket.socket() as listener:
+        listener.bind(("127.0.0.1", 0))
+        port: int = listener.getsockname()[1]
         return port
 
 
@@ -76,8 +76,8 @@ def wait_for_port(port: int, started: subprocess.Popen[bytes]) -> None:
     """Waits until a process that was started listens."""
     end = time.monotonic() + HANGS
     while time.monotonic() < end:
-        with socket.socket() as it:
-            if it.connect_ex(("127.0.0.1", port)) == 0:
+        with socket.socket() as client:
+            if client.connect_ex(("127.0.0.1", port)) == 0:
                 return
         if started.poll() is not None:
             raise SystemExit(f"FAILED  {started.args!r} ended with status {started.returncode} before it listened")
@@ -123,11 +123,11 @@ def saw(language: str, url: str, page: str) -> dict[str, Any]:
 def compare(language: str, at_driver: dict[str, Any], at_proxy: dict[str, Any], kind: str) -> bool:
     """Says where both aren't the same."""
     assert len(at_driver) >= LEAST[language], at_driver
-    wrong = {it: (at_driver[it], at_proxy.get(it)) for it in at_driver if at_proxy.get(it) != at_driver[it]}
+    wrong = {name: (at_driver[name], at_proxy.get(name)) for name in at_driver if at_proxy.get(name) != at_driver[name]}
     for name in set(wrong) & set(DIFFERS):
         print(f"    {name}: {DIFFERS[name]}")
         del wrong[name]
-    unforeseen = [it for it in at_driver.values() if isinstance(it, str) and "NoMethodError" in it]
+    unforeseen = [outcome for outcome in at_driver.values() if isinstance(outcome, str) and "NoMethodError" in outcome]
     ok = not wrong and not unforeseen
     print(
         f"{'ok' if ok else 'FAILED'}  {len(at_driver)} tests in {language} at chromedriver and {kind}: {wrong or 'same'}"
@@ -229,8 +229,8 @@ class Commands:
         self.refused("invalid argument", "cutShort", f"{key}/faults", {"wrong": 1})
         ((origin, parts),) = call("GET", f"{self.url}{key}/log")[1].items()
         assert self.page.startswith(origin) and "# fault: the answer is status 0x28" in parts[-1]["log"]
-        assert sum(it["log"].count(" denied\n") for it in parts) == 1, parts
-        assert [it["part"] for it in parts] == list(range(1, len(parts) + 1)), parts
+        assert sum(part["log"].count(" denied\n") for part in parts) == 1, parts
+        assert [part["part"] for part in parts] == list(range(1, len(parts) + 1)), parts
         assert call("DELETE", self.url + key) == (200, None)
 
     def waiting_requests(self) -> None:
@@ -263,7 +263,10 @@ class Commands:
         self.post("/url", {"url": self.page.replace("localhost", "a.localhost")})
         self.page_call("register", residentKey="required", name="bob")
         status, listed = call("GET", f"{self.url}{key}/credentials")
-        assert status == 200 and sorted(it["rpId"] for it in listed) == ["a.localhost", "localhost"], listed
+        assert status == 200 and sorted(credential["rpId"] for credential in listed) == [
+            "a.localhost",
+            "localhost",
+        ], listed
         self.post("/url", {"url": self.page})
         assert self.page_call("signIn")["user"] == "ann"
         self.post("/execute/sync", {"script": "localStorage.clear()", "args": []})

@@ -56,8 +56,11 @@ class Suite:
 
     def credentials(self) -> Any:
         """Returns the credentials without what is drawn anew, by their user handles."""
-        listed = [it.to_dict() for it in self.driver.get_credentials()]
-        return sorted((it.get("userHandle") or "", it["isResidentCredential"], it["rpId"]) for it in listed)
+        listed = [credential.to_dict() for credential in self.driver.get_credentials()]
+        return sorted(
+            (credential.get("userHandle") or "", credential["isResidentCredential"], credential["rpId"])
+            for credential in listed
+        )
 
     def credential(self, resident: bool = True, name: bytes = b"\x01\x02\x03\x04", rp: str = "localhost") -> Any:
         """Returns a credential to add."""
@@ -109,7 +112,7 @@ class Suite:
         self.driver.add_credential(self.credential(False))
         self.driver.add_credential(self.credential(False, b"\x05"))
         self.driver.remove_credential(encoded(b"\x05"))
-        return [encoded(decoded(it.id)) for it in self.driver.get_credentials()]
+        return [encoded(decoded(credential.id)) for credential in self.driver.get_credentials()]
 
     def test_remove_all_credentials(self) -> Any:
         self.add()
@@ -230,8 +233,8 @@ class Suite:
 
     def test_broken_private_key(self) -> Any:
         self.add()
-        it = Credential.create_non_resident_credential(b"\x01", "localhost", b"no key", 0)
-        return self.ended(self.driver.add_credential, it)
+        credential = Credential.create_non_resident_credential(b"\x01", "localhost", b"no key", 0)
+        return self.ended(self.driver.add_credential, credential)
 
     def test_moves_a_credential(self) -> Any:
         self.add()
@@ -263,7 +266,7 @@ def main() -> None:
     options.add_argument("--disable-dev-shm-usage")
     driver = webdriver.Remote(url, options=options)
     driver.set_script_timeout(300)
-    names = [it for it in dir(Suite) if it.startswith("test_")]
+    names = [name for name in dir(Suite) if name.startswith("test_")]
     try:
         for name in names:
             driver.get(page)

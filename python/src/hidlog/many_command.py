@@ -36,15 +36,15 @@ def _parser() -> argparse.ArgumentParser:
 def _logs(given: Sequence[str]) -> list[Path]:
     """Returns the logs that are named, and those in folders."""
     paths = []
-    for it in map(Path, given):
-        paths += sorted(_logs_in(it)) if it.is_dir() else [it]
+    for path in map(Path, given):
+        paths += sorted(_logs_in(path)) if path.is_dir() else [path]
     return paths
 
 
 def _logs_in(folder: Path) -> Iterator[Path]:
     """Returns the files *.log in a folder and those below. What is no regular file is skipped, and said."""
     for name, _, files in os.walk(folder, onerror=_raise):
-        for path in (Path(name, it) for it in files if it.endswith(".log")):
+        for path in (Path(name, file) for file in files if file.endswith(".log")):
             if is_regular(path):
                 yield path
             else:
@@ -76,22 +76,22 @@ def _checked(paths: list[Path], jobs: int, executor: str | None) -> Iterator[Che
 def _with_progress(found: Iterator[Checked], count: int) -> Iterator[Checked]:
     """Says how far it is, where a person looks."""
     last = time.monotonic()
-    for number, it in enumerate(found, 1):
+    for number, checked in enumerate(found, 1):
         if sys.stderr.isatty() and time.monotonic() - last > _SECONDS:
             last = time.monotonic()
             print(f"\r{number} of {count}", end="", file=sys.stderr, flush=True)
-        yield it
+        yield checked
     if sys.stderr.isatty():
         print("\r", end="", file=sys.stderr)
 
 
 def _junit(found: list[Checked]) -> str:
-    failed = [it for it in found if it.outcome != "same"]
+    failed = [checked for checked in found if checked.outcome != "same"]
     suite = xml.Element("testsuite", name="hidlog check-many", tests=str(len(found)), failures=str(len(failed)))
-    for it in sorted(found):
-        case = xml.SubElement(suite, "testcase", classname="hidlog.check", name=it.path.translate(_CONTROLS))
-        if it.outcome != "same":
-            xml.SubElement(case, "failure", type=it.outcome, message=it.text.translate(_CONTROLS))
+    for checked in sorted(found):
+        case = xml.SubElement(suite, "testcase", classname="hidlog.check", name=checked.path.translate(_CONTROLS))
+        if checked.outcome != "same":
+            xml.SubElement(case, "failure", type=checked.outcome, message=checked.text.translate(_CONTROLS))
     return xml.tostring(suite, encoding="unicode")
 
 
@@ -99,14 +99,14 @@ def _write(found: Iterator[Checked], report: str) -> Counter[str]:
     """Writes what each recording gives, in its order or as it comes, and returns how many there are of each outcome."""
     kept: list[Checked] = []
     counts: Counter[str] = Counter()
-    for it in found:
-        counts[it.outcome] += 1
+    for checked in found:
+        counts[checked.outcome] += 1
         if report == "junit":
-            kept.append(it)
+            kept.append(checked)
         elif report == "json":
-            print(json.dumps(it._asdict()), flush=True)
-        elif it.outcome != "same":
-            print(f"{it.outcome:8} {_printable(it.path)}: {it.text}")
+            print(json.dumps(checked._asdict()), flush=True)
+        elif checked.outcome != "same":
+            print(f"{checked.outcome:8} {_printable(checked.path)}: {checked.text}")
     if report == "junit":
         print(_junit(kept))
     return counts

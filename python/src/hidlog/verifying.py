@@ -58,8 +58,8 @@ def signatures(log: bytes, snapshot: bytes | None = None) -> list[Signature]:
     reading = _Reading(_verifier())
     from .credentials import read_snapshot  # it needs cryptography, too
 
-    for credential in read_snapshot(begin):
-        reading.keys[credential.id] = (credential.x, credential.y)
+    for row in read_snapshot(begin):
+        reading.keys[row.id] = (row.x, row.y)
     ran = subprocess.run([program(), "show", "--json"], input=data, stdout=subprocess.PIPE, check=False)
     if ran.returncode and (ran.returncode < 0 or not logs.show(data).status):
         raise HidlogError(f"hidlog show ended with status {ran.returncode}")
@@ -181,7 +181,7 @@ def main(words: list[str]) -> int:
     parser.add_argument("logs", nargs="*", metavar="LOG", help="a log; standard input where none is named")
     given = parser.parse_args(words)
     snapshot = read_input(Path(given.load)) if given.load else None
-    wrong = [_is_wrong(path, snapshot) for path in given.logs or ["-"]]
+    wrong = [_is_wrong(log, snapshot) for log in given.logs or ["-"]]
     return int(any(wrong))
 
 

@@ -11,10 +11,10 @@ const hidlogPage = (() => {
     const NO_KEY = "A".repeat(43);
     const POINT_BYTES = 64;
 
-    const toText = (bytes) => btoa(Array.from(bytes, (it) => String.fromCharCode(it)).join(""));
+    const toText = (bytes) => btoa(Array.from(bytes, (byte) => String.fromCharCode(byte)).join(""));
     const toUrl = (bytes) => toText(bytes).replace(/\+/g, "-").replace(/\//g, "_").replace(/=+$/, "");
-    const toBytes = (text) => Uint8Array.from(atob(text), (it) => it.charCodeAt(0));
-    const toHex = (bytes) => Array.from(bytes, (it) => it.toString(16).padStart(2, "0")).join("");
+    const toBytes = (text) => Uint8Array.from(atob(text), (letter) => letter.charCodeAt(0));
+    const toHex = (bytes) => Array.from(bytes, (byte) => byte.toString(16).padStart(2, "0")).join("");
 
     /** The key in this document, and what the proxy last said and was told. */
     let key = null;
@@ -25,7 +25,7 @@ const hidlogPage = (() => {
     // Names this document among those of its origin.
     const id = isPage ? toText(crypto.getRandomValues(new Uint8Array(12))) : "";
     const sent = new Map();
-    const idsOf = (credentials) => credentials.map((it) => it.credentialId);
+    const idsOf = (credentials) => credentials.map((credential) => credential.credentialId);
 
     // The channel to the proxy: calls and their results. A result of call 0 is a change of the settings.
 
@@ -205,11 +205,11 @@ const hidlogPage = (() => {
     /** The proxy's credentials with what this page changed of those that it knew. */
     const merged = (proxy) => {
         const { credentials } = key.state();
-        const own = new Map(credentials.map((it) => [it.credentialId, it]));
+        const own = new Map(credentials.map((credential) => [credential.credentialId, credential]));
         const ids = idsOf(proxy);
         const kept = proxy.filter(({ credentialId: id }) => own.has(id) || !known.includes(id));
-        const counted = kept.map((it) =>
-            ({ ...it, signCount: Math.max(it.signCount, own.get(it.credentialId)?.signCount ?? 0) }));
+        const countOf = ({ credentialId, signCount }) => Math.max(signCount, own.get(credentialId)?.signCount ?? 0);
+        const counted = kept.map((credential) => ({ ...credential, signCount: countOf(credential) }));
         return [...counted, ...credentials.filter(({ credentialId: id }) => !ids.includes(id) && !known.includes(id))];
     };
 
