@@ -173,7 +173,10 @@ ask_beside() {
 
 # Whether a program has a file open: has_open PID FILE
 has_open() {
-    readlink "/proc/$1/fd/"* | grep -qx "$2"
+    for open in "/proc/$1/fd/"*; do
+        [ "$(readlink "$open")" != "$2" ] || return 0
+    done
+    return 1
 }
 
 # Whether the device has sent such a packet since it is read: has_sent PATTERN
