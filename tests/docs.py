@@ -35,6 +35,8 @@ from pathlib import Path
 
 TOP = Path(__file__).resolve().parent.parent
 SECONDS = 1200
+# Pages whose paths are those of older trees, or are written from the tree.
+UNCHECKED = ("CHANGELOG.md", "MAP.md")
 MISSING = 3
 LINK = re.compile(r"\]\(([^)#\s]+)(?:#[^)]*)?\)")
 # A path of the repository in backquotes: its first folder is there, and nothing in it is a placeholder.
@@ -248,7 +250,7 @@ def broken_links_of(page: Path) -> list[str]:
     targets = [target for target in LINK.findall(text) if "://" not in target]
     found = [f"no file {target}" for target in targets if not (page.parent / target).exists()]
     # What has changed names what is gone, too.
-    named = [path for path in QUOTED.findall(text) if page.name != "CHANGELOG.md" and not PLACEHOLDER.search(path)]
+    named = [path for path in QUOTED.findall(text) if page.name not in UNCHECKED and not PLACEHOLDER.search(path)]
     return found + [f"no path {path}" for path in named if not any(TOP.glob(path.rstrip("/")))]
 
 
