@@ -10,6 +10,9 @@ copy="$work/a copy"
 mkdir -p "$copy/crates" "$work/bin"
 cp -a "$top"/{hidlog,crates.txt,HANDLES,release,packages,python} "$copy/"
 (cd "$top" && release/sources.sh | grep ^crates/ | xargs cp -a --parents -t "$copy")
+# As in a clone, release/ is written after the sources.
+find "$copy" -exec touch -h -d 2010-01-01 {} +
+touch -d 2010-01-01 "$copy/release/BUILD"
 every_path=$PATH
 for name in sh awk cat cut dirname find grep readlink sed sha256sum sort uname xargs; do
     ln -s "$(command -v "$name")" "$work/bin/$name"
