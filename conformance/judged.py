@@ -29,7 +29,7 @@ from wire_faults import WIRE  # noqa: E402
 
 from hidlog_conformance import hid_packets as hid  # noqa: E402
 from hidlog_conformance.devices import Device, LiveDevice  # noqa: E402
-from hidlog_conformance.judged_log import HOST, KEY, MUST, Finding, judge  # noqa: E402
+from hidlog_conformance.judged_log import HOST, KEY, MUST, Finding  # noqa: E402
 from hidlog_conformance.known import known  # noqa: E402
 from hidlog_conformance.offers import Offers  # noqa: E402
 from hidlog_conformance.outcome import Outcome  # noqa: E402
@@ -40,6 +40,7 @@ from hidlog_conformance.answers import Differs  # noqa: E402
 from hidlog_conformance.run import all_sessions, play_one, words_of  # noqa: E402
 from hidlog_conformance.session_file import Session  # noqa: E402
 from hidlog_conformance.unplayable import Unplayable  # noqa: E402
+from proved_walk import judge  # noqa: E402
 
 FAULTS: Dict[str, Fault] = {fault.name: fault for fault in WIRE + ANSWERS}
 # How long a host waits for what doesn't come, in milliseconds: the runner's own patience with a device in real time.

@@ -17,10 +17,11 @@ from typing import Dict, List, Tuple
 
 from clients import compiled
 from hidlog_conformance.client_runner import client_sessions, play_clients
-from hidlog_conformance.judged_log import KEY, MUST, Finding, judge
+from hidlog_conformance.judged_log import KEY, MUST, Finding
 from hidlog_conformance.known import known
 from hidlog_conformance.outcome import Outcome
 from hidlog_conformance.places import CLIENTS
+from proved_walk import judge
 
 # How long a client waits for what doesn't come, in milliseconds.
 PATIENCE = 3000

@@ -22,9 +22,10 @@ for folder in ("self_tests", "others"):
 import kept_device  # noqa: E402
 import odd_clients  # noqa: E402
 import odd_devices  # noqa: E402
+import walks  # noqa: E402
 import ways  # noqa: E402
 
-TESTS = {**ways.TESTS, **kept_device.TESTS, **odd_devices.TESTS, **odd_clients.TESTS}
+TESTS = {**ways.TESTS, **kept_device.TESTS, **odd_devices.TESTS, **odd_clients.TESTS, **walks.TESTS}
 
 
 # So many processes wait beside each other. What is played in real time, the ways to a device, is one of them.

@@ -28,12 +28,22 @@
     const findingOf = ({ line, side, level, section, also, rule, due, came }) =>
         ({ line, side, level, section, also, rule, due, came });
 
+    /** Which transaction each line of a log belongs to, as the core says: what the rules ask for. */
+    const walkOf = (core) => (log) => {
+        const { status, text, ...fault } = core.run("transactions", log.data);
+        if (status) {
+            throw new Error(globalThis.hidlog.faultText({ status, ...fault }));
+        }
+        return new globalThis.hidlogPython.Bytes(text);
+    };
+
     /** What a log breaks: findings with their lines, what wasn't judged, and the whole in a line. */
     const judge = async (bytes) => {
         await load();
         const python = globalThis.hidlogPython;
         const report = python.module("judged_report");
-        const rules = () => python.module("judged_log").judge(new python.Bytes(bytes));
+        const walk = walkOf(await globalThis.hidlog.load());
+        const rules = () => python.module("judged_log").judge(new python.Bytes(bytes), walk);
         const { found, unsure } = await globalThis.hidlogVerified(rules);
         const notes = report.notes_of(found);
         if (unsure) {

@@ -65,7 +65,7 @@ def map_of(data: bytes) -> Dict[Any, Any]:
     """Returns the map of a successful answer."""
     hold(data[:1] == b"\0", "status 00 and a map", f"status {data[:1].hex()}" if data else "an empty message")
     try:
-        item = ctap_cbor.decode(data[1:])
+        item = ctap_cbor.decoded(data[1:])
     except ctap_cbor.CborFault as fault:
         raise Differs("a map in CTAP2 canonical CBOR", f"{fault}: {data[1:].hex()}") from None
     hold(isinstance(item, dict), "a map", item)
@@ -82,7 +82,7 @@ def member(item: Dict[Any, Any], key: Any, kind: type, name: str) -> Any:
 
 def parameters(request: bytes) -> Dict[Any, Any]:
     """Returns the parameters of a request that was sent."""
-    found = ctap_cbor.decode(request[1:])
+    found = ctap_cbor.decoded(request[1:])
     return dict(found) if isinstance(found, dict) else {}
 
 

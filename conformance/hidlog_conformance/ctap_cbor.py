@@ -2,9 +2,12 @@
 
 from __future__ import annotations
 
+from functools import lru_cache
 from typing import Any, Dict, List, Tuple
 
 DEEPEST = 4
+# By additional information the least argument that no shorter head has.
+LEAST = {24: 24, 25: 2**8, 26: 2**16, 27: 2**32}
 
 
 class CborFault(Exception):
@@ -74,7 +77,7 @@ class Reader:
         """Returns an item's major type, additional information and argument, where the head is the shortest."""
         start = self.place
         major, info, argument = self.read_any_head()
-        if major != 7 and head(major, argument) != self.data[start : self.place]:
+        if major != 7 and info in LEAST and argument < LEAST[info]:
             raise CborFault(f"not the shortest head at {start}")
         return major, info, argument
 
@@ -131,6 +134,12 @@ def decode(data: bytes) -> Any:
     if reader.place != len(data):
         raise CborFault(f"bytes after the item at {reader.place}")
     return item
+
+
+@lru_cache(maxsize=16)
+def decoded(data: bytes) -> Any:
+    """Does the same for bytes that are read several times: the item isn't changed."""
+    return decode(data)
 
 
 def shown(item: Any) -> str:

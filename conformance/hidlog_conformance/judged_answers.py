@@ -9,10 +9,19 @@ from hidlog_conformance import answers, ctap_cbor, rules
 from hidlog_conformance import hid_packets as hid
 from hidlog_conformance.answers import GET, INFO, MAKE, NEXT, RESET, SELECTION, UP, UV, Credential, Differs, Facts, hold
 from hidlog_conformance.judged_log import KEY, MUST, SHOULD, Recording, seen
-from hidlog_conformance.judged_parts import USER_TOKEN, ExtensionDiffers, Kept, Pending, Pins, judge_extension_answers
+from hidlog_conformance.judged_parts import (
+    USER_TOKEN,
+    ExtensionDiffers,
+    Kept,
+    KeptCredentials,
+    Pending,
+    Pins,
+    judge_extension_answers,
+    made_id,
+)
 from hidlog_conformance.judged_stored import BLOB_KEY, BLOBS, MANAGE, StoredJudge
 from hidlog_conformance.requests import FORM, MISSING, PIN, UNKNOWN, fault_of, parameters_of, unknown_parts
-from hidlog_conformance.walk import NO_TIME_OUT, Entry, Transaction
+from hidlog_conformance.transactions import NO_TIME_OUT, Entry, Transaction
 
 # Milliseconds: how long a reset is taken after power comes, and how long assertions are pending (6.6, 6.3).
 RESET_WITHIN, PENDING = 10000, 30000
@@ -45,9 +54,8 @@ class AnswerJudge:
         self.recording = recording
         self.facts = Facts()
         self.info: Dict[Any, Any] = {}
-        self.known: Dict[bytes, Credential] = {}
-        self.kept: Dict[bytes, Kept] = {}
-        self.forgotten: Dict[bytes, str] = {}
+        self.kept = KeptCredentials()
+        self.forgotten: Set[bytes] = set()
         self.replaced: Set[bytes] = set()
         # Credentials from before the log, of which the counters are followed.
         self.strangers: Dict[Tuple[str, bytes], Credential] = {}
@@ -56,7 +64,8 @@ class AnswerJudge:
         self.stored = StoredJudge()
         # Whether all that the key holds is in the log, since a reset.
         self.is_complete = False
-        self.started = recording.start or 0
+        # The moment of the last power cycle.
+        self.powered: Optional[int] = None
         self.passed_over = ""
 
     def power_cycle(self, at: int) -> None:
@@ -64,7 +73,7 @@ class AnswerJudge:
         self.pending = Pending(b"", 0, 0)
         self.pins.retries, self.pins.wrong = None, 0
         self.stored.power_cycle()
-        self.started = at
+        self.powered = at
 
     def passed(self, it: Transaction) -> None:
         """Takes an answer that can't be read: what it leaves behind isn't known."""
@@ -108,7 +117,6 @@ class AnswerJudge:
                 self.pins.judge(request, data)
             elif command in (MANAGE, BLOBS):
                 self.stored.judge(request, data, self.kept, self.pins, self.info)
-                self.known = {name: one for name, one in self.known.items() if name in self.kept}
         except ExtensionDiffers as differs:
             self.recording.find(entry.line, KEY, differs.section, differs.wanted, differs.came)
         except Differs as differs:
@@ -150,7 +158,7 @@ class AnswerJudge:
         elif command == NEXT:
             self.judge_next_status(entry, it, status)
         elif command == RESET:
-            elapsed = it.last - self.started
+            elapsed = it.last - (self.powered if self.powered is not None else self.recording.start or 0)
             hold(
                 status != 0 or elapsed <= RESET_WITHIN + JITTER,
                 "status 30, 10 s after power came",
@@ -237,7 +245,7 @@ class AnswerJudge:
         hold(status != EXCLUDED or bool(asked.get(5)), "no status 19, since there is no list", "status 19")
         if status == EXCLUDED and not excluded:
             names = [one["id"] for one in asked[5] if one["type"] == "public-key"]
-            open_question = not self.is_complete and any(name not in self.kept for name in names)
+            open_question = not self.is_complete and any(name not in self.kept.by_id for name in names)
             said = "no status 19, since the list has no credential of this key and RP"
             hold(open_question or self.has_hidden(asked, 5), said, "status 19")
         listed = [entry["alg"] for entry in asked[4] if entry["type"] == "public-key"]
@@ -292,19 +300,15 @@ class AnswerJudge:
 
     def is_protected(self, asked: Dict[Any, Any]) -> bool:
         """Says whether a credential that may not show itself belongs to the RP."""
-        return any(one.credential.rp == asked[1] and one.extensions for one in self.kept.values())
+        return bool(self.kept.extended.get(asked[1]))
 
     def candidates(self, asked: Dict[Any, Any]) -> List[Kept]:
         """Returns the credentials of the log that a sign-in may use."""
         if asked.get(3):
             return self.listed(asked, 3, asked[1])
-        of_rp = [one for one in self.kept.values() if one.credential.rp == asked[1] and one.discoverable]
+        of_rp = self.kept.discoverable.get(asked[1], {}).values()
         verified = 6 in asked or bool(asked.get(5, {}).get("uv"))
         return [one for one in of_rp if verified or "credProtect" not in one.extensions]
-
-    def has_hidden_of(self, asked: Dict[Any, Any]) -> bool:
-        """Says whether extensions may hide a credential of the RP."""
-        return any(one.credential.rp == asked[1] and one.extensions for one in self.kept.values())
 
     def judge_next_status(self, entry: Entry, it: Transaction, status: int) -> None:
         """Judges whether assertions were pending."""
@@ -340,13 +344,13 @@ class AnswerJudge:
         words = ["up"] + (["no-uv"] if self.has_no_verification(request) else [])
         if answers.parameters(request).get(8):
             words.append("uv")
-        made = answers.judge_made(data, request, words, self.known, self.facts)
+        made = answers.judge_made(data, request, words, self.kept.near(made_id(data)), self.facts)
+        hold(ctap_cbor.encode(made.cose) not in self.kept.by_key, "a new pair of keys", made.cose)
         asked = answers.parameters(request)
         judge_extension_answers(MAKE, data, asked, self.info, {})
         self.replace(made, asked)
-        self.known[made.id] = made
         extensions = {name: value for name, value in asked.get(6, {}).items()}
-        self.kept[made.id] = Kept(made, bool(asked.get(7, {}).get("rk")), extensions)
+        self.kept.add(Kept(made, bool(asked.get(7, {}).get("rk")), extensions))
         self.stored.judge_key(data, self.served(extensions), made.id, 5, True)
 
     def served(self, extensions: Dict[str, Any]) -> Dict[str, Any]:
@@ -357,10 +361,10 @@ class AnswerJudge:
         """Forgets the discoverable credential that a new one of the same RP and user takes the place of."""
         if not asked.get(7, {}).get("rk"):
             return
-        for name, one in list(self.kept.items()):
-            if one.discoverable and (one.credential.rp, one.credential.user) == (made.rp, made.user):
+        for name, one in list(self.kept.discoverable.get(made.rp, {}).items()):
+            if one.credential.user == made.user:
                 self.replaced.add(name)
-                del self.kept[name], self.known[name]
+                self.kept.remove(name)
 
     def has_no_verification(self, request: bytes) -> bool:
         """Says whether a key can't have verified the user: it names no way of its own, and no PIN was used."""
@@ -376,7 +380,8 @@ class AnswerJudge:
         asked = answers.parameters(request)
         item = answers.map_of(data)
         words = self.words_of(asked, item, follows)
-        known, identity = dict(self.known), self.identity(asked, item)
+        identity = self.identity(asked, item)
+        kept = self.kept.get(identity)
         if identity in self.forgotten:
             self.recording.find(
                 transaction.by or transaction.line, KEY, "6.6", "no credential from before the reset", identity.hex()
@@ -387,15 +392,17 @@ class AnswerJudge:
         listed = [one["id"] for one in asked.get(3, []) if one["type"] == "public-key"]
         hold(not asked.get(3) or identity in listed, "a credential of the allow list", identity)
         self.judge_protection(item, asked, identity)
-        if identity not in known:
+        if kept is None:
             hold(not self.is_complete or identity in self.forgotten, "a credential that this key made", identity)
             stranger = Credential(identity, {3: 0}, asked[1], b"", -1)
-            known[identity] = self.strangers.setdefault((asked[1], identity), stranger)
+            known = {identity: self.strangers.setdefault((asked[1], identity), stranger)}
+        else:
+            known = {identity: kept.credential}
         words += ["counter-rises"]
         answers.judge_asserted(data, request, words, known, None, self.facts)
-        extensions = self.kept[identity].extensions if identity in self.kept else {}
+        extensions = kept.extensions if kept is not None else {}
         judge_extension_answers(GET, data, asked, self.info, extensions)
-        if identity in self.kept:
+        if kept is not None:
             self.stored.judge_key(data, self.served(asked.get(4, {})), identity, 7, BLOB_KEY in extensions)
         self.judge_account(asked, item, follows, identity)
 
@@ -415,7 +422,8 @@ class AnswerJudge:
 
     def judge_protection(self, item: Dict[Any, Any], asked: Dict[Any, Any], identity: bytes) -> None:
         """Judges that a protected credential signs as it may: with the user verified, or at level 2 by a list."""
-        level = self.kept[identity].extensions.get("credProtect") if identity in self.kept else None
+        kept = self.kept.get(identity)
+        level = kept.extensions.get("credProtect") if kept is not None else None
         if level is None or item[2][32] & UV or "credProtect" not in self.info.get(2, []):
             return
         if level == 3 or (level == 2 and not asked.get(3)):
@@ -446,27 +454,27 @@ class AnswerJudge:
         hold(item.get(5) != 1, "no numberOfCredentials of one", item)
         if asked.get(3):
             return
-        mine = self.candidates(asked)
-        if identity in self.kept and not follows:
-            words = ["user", self.kept[identity].credential.user.hex()]
+        mine, kept = self.candidates(asked), self.kept.get(identity)
+        if kept is not None and not follows:
+            words = ["user", kept.credential.user.hex()]
             answers.judge_user(item, words, self.facts)
         names = [one.credential.id for one in mine]
-        if not follows and names and identity in names and not self.has_hidden_of(asked):
+        if not follows and names and identity in names and not self.is_protected(asked):
             hold(identity == names[-1], f"the newest credential, {names[-1].hex()}", identity)
         if not follows and len(mine) > 1 and self.facts.protection < 2 and item.get(6) is not True:
             number = item.get(5)
             hold(isinstance(number, int), f"numberOfCredentials of at least {len(mine)}", item)
             hold(isinstance(number, int) and number >= len(mine), f"numberOfCredentials of at least {len(mine)}", item)
             hold(not self.is_complete or number == len(mine), f"numberOfCredentials {len(mine)}", item)
-        if identity in self.kept and not self.kept[identity].discoverable:
+        if kept is not None and not kept.discoverable:
             self.recording.find(0, KEY, "6.2.2", "a discoverable credential", identity.hex(), SHOULD)
 
     def follow(self, entry: Entry, it: Transaction, data: bytes) -> None:
         """Keeps what an answer leaves behind."""
         command, status = it.data[0], data[0]
         if command == RESET and status == 0:
-            self.forgotten.update({name: one.credential.rp for name, one in self.kept.items()})
-            self.kept, self.known, self.is_complete = {}, {}, True
+            self.forgotten.update(list(self.kept.by_id))
+            self.kept, self.is_complete = KeptCredentials(), True
             self.pins, self.pending = Pins(is_set=False), Pending(b"", 0, entry.at)
             self.stored.reset()
         elif command == GET and status == 0:

@@ -8,7 +8,7 @@ from hidlog_conformance import hid_packets as hid
 from hidlog_conformance import rules
 from hidlog_conformance.judged_log import HOST, MUST, SHOULD, Recording, section_of
 from hidlog_conformance.requests import fault_of
-from hidlog_conformance.walk import Entry, Transaction
+from hidlog_conformance.transactions import Entry, Transaction
 
 INVALID_CHANNEL = 0x0B
 # What a message of the transport has to have in it.
@@ -29,8 +29,8 @@ class HostJudge:
 
     def __init__(self, recording: Recording) -> None:
         self.recording = recording
-        self.starts = {it.line: it for it in recording.walk.transactions}
-        # By channel the message that is under way, and the last that was refused.
+        # By channel the message that began last, the one that is under way, and the last that was refused.
+        self.begun: Dict[bytes, Transaction] = {}
         self.open: Dict[bytes, Transaction] = {}
         self.refused: Dict[bytes, Transaction] = {}
         self.given: Set[bytes] = set()
@@ -42,7 +42,7 @@ class HostJudge:
     def take(self, entry: Entry) -> None:
         """Takes a packet."""
         channel = entry.packet[:4]
-        if entry.kind == "device":
+        if not entry.is_host:
             self.take_answer(entry, channel)
         elif entry.packet[4] & 0x80:
             self.take_start(entry, channel)
@@ -72,9 +72,10 @@ class HostJudge:
             if length:
                 self.find(entry.line, rules.CANCEL, "a CANCEL without data", f"{length} bytes")
             return
-        transaction = self.starts.get(entry.line)
+        transaction = entry.transaction
         if transaction is None:
             return
+        self.begun[channel] = transaction
         self.judge_length(entry.line, command, length)
         self.judge_channel(entry.line, command, channel)
         before = self.open.get(channel)
@@ -117,16 +118,16 @@ class HostJudge:
         if refused is not None and not refused.whole and number == refused.next:
             refused.parts.append(entry.packet[5:])
             return
-        if entry.part == "stray" and not self.timed_out(channel, number, entry.line):
+        if entry.part == "stray" and not self.timed_out(channel, number):
             self.find(entry.line, rules.SEQUENCE, "a message that is open", f"continuation packet {number}")
         elif entry.transaction is not None:
             wanted = f"continuation packet {len(self.numbered(entry)) - 1}"
             self.find(entry.line, rules.SEQUENCE, wanted, f"continuation packet {number}")
 
-    def timed_out(self, channel: bytes, number: int, line: int) -> bool:
+    def timed_out(self, channel: bytes, number: int) -> bool:
         """Says whether a message timed out just before its next packet came: the host couldn't know."""
-        of_channel = [it for it in self.starts.values() if it.channel.to_bytes(4, "big") == channel and it.line < line]
-        return bool(of_channel) and of_channel[-1].end == "timed out" and number >= of_channel[-1].next
+        last = self.begun.get(channel)
+        return last is not None and last.end == "timed out" and number >= last.next
 
     def numbered(self, entry: Entry) -> Set[int]:
         """Returns the lines of an entry's message up to it."""

@@ -2,7 +2,7 @@
 
 from __future__ import annotations
 
-from typing import Dict, List, Optional, Set
+from typing import Dict, List, Optional, Set, Tuple
 
 from hidlog_conformance import hid_packets as hid
 from hidlog_conformance import rules
@@ -11,12 +11,23 @@ from hidlog_conformance.greeting import CBOR, NMSG, WINK, is_lawful_keepalive, j
 from hidlog_conformance.judged_answers import AnswerJudge
 from hidlog_conformance.judged_parts import judge_u2f
 from hidlog_conformance.judged_log import KEY, MUST, SHOULD, SILENCE, Recording, message_of, seen
-from hidlog_conformance.walk import BUSY, CANCELLED, INVALID_COMMAND, NO_TIME_OUT, TIMED_OUT, Entry, Transaction
+from hidlog_conformance.transactions import (
+    BUSY,
+    CANCELLED,
+    INVALID_COMMAND,
+    NO_TIME_OUT,
+    TIMED_OUT,
+    Entry,
+    Transaction,
+)
 
 # Milliseconds after which a message that isn't finished should have been dropped.
 PATIENCE = 3000
 OTHER_ERROR = 0x7F
 SERVED = (hid.PING, hid.MSG, hid.LOCK, hid.INIT, hid.WINK, hid.CBOR)
+# So many transactions are followed that have no end yet, and so many messages of the key: the oldest make way. A device
+# has one at a time.
+MOST_OPEN = 64
 
 
 class KeyJudge:
@@ -25,20 +36,28 @@ class KeyJudge:
     def __init__(self, recording: Recording) -> None:
         self.recording = recording
         self.answers = AnswerJudge(recording)
-        self.starts = {it.line: it for it in recording.walk.transactions}
         self.guest = hid.Collector()
         self.given: Dict[int, int] = {}
         self.capabilities: Dict[int, int] = {}
         self.is_first = True
-        self.cycles = list(recording.power_cycles)
+        # Whether CBOR was answered, and the lines of INIT answers that don't name it, with what they are of.
+        self.serves_cbor = False
+        self.without_cbor: List[Tuple[int, Transaction, hid.Message]] = []
         # What is under way: transactions in the order in which they began.
         self.open: List[Transaction] = []
         # By channel the host's last packet.
         self.last: Dict[bytes, Entry] = {}
         self.input: Optional[Entry] = None
+        # Packets of another number, the first of each message, until the key sends something; the messages' first lines.
+        self.wrong: List[Entry] = []
+        self.disturbed: Set[int] = set()
+        # The first lines of messages between whose packets a CANCEL came.
+        self.cancelled_inside: Set[int] = set()
         # When each channel's unfinished message of the key went on, and at which line.
         self.parts: Dict[int, Entry] = {}
         self.missed: Set[int] = set()
+        # By a transaction's first line the moment of the last KEEPALIVE for it, of those under way.
+        self.heard: Dict[int, int] = {}
 
     def find(self, line: int, section: str, due: str, came: str, level: str = MUST) -> None:
         """Keeps a finding."""
@@ -46,13 +65,14 @@ class KeyJudge:
 
     def take(self, entry: Entry) -> None:
         """Takes a packet of either side."""
-        while self.cycles and self.cycles[0][0] < entry.line:
-            self.power_cycle(self.cycles.pop(0)[1])
+        cycles = self.recording.power_cycles
+        while cycles and cycles[0][0] < entry.line:
+            self.power_cycle(cycles.pop(0)[1])
         self.judge_silence(entry.at, entry.line)
-        if entry.kind == "device":
-            self.take_sent(entry)
-        else:
+        if entry.is_host:
             self.take_input(entry)
+        else:
+            self.take_sent(entry)
 
     def power_cycle(self, at: int) -> None:
         """Forgets what ends with the power."""
@@ -62,17 +82,37 @@ class KeyJudge:
     def take_input(self, entry: Entry) -> None:
         """Keeps a packet of the host."""
         self.last[entry.packet[:4]] = self.input = entry
-        transaction = self.starts.get(entry.line)
-        if transaction is not None:
-            self.open.append(transaction)
+        if entry.part == "start" and entry.transaction is not None:
+            self.open.append(entry.transaction)
+            if len(self.open) > MOST_OPEN:
+                self.open.pop(0)
+        elif entry.part == "wrong number" and entry.transaction is not None:
+            if entry.transaction.line not in self.disturbed:
+                self.disturbed.add(entry.transaction.line)
+                self.wrong.append(entry)
+        elif entry.part == "cancel":
+            channel = int.from_bytes(entry.packet[:4], "big")
+            inside = [one for one in self.open if one.channel == channel and one.lines[-1] > entry.line]
+            self.cancelled_inside.update([one.line for one in inside])
 
     def take_sent(self, entry: Entry) -> None:
         """Judges a packet of the key."""
+        self.judge_unfinished(entry)
+        self.judge_packet(entry)
+        if entry.message is not None and entry.message.lines[-1] == entry.line and entry.message.whole:
+            self.judge_whole(entry)
+        self.close(entry)
+        self.is_first = False
+
+    def judge_packet(self, entry: Entry) -> None:
+        """Judges a packet of the key by itself, and what it begins."""
         channel = int.from_bytes(entry.packet[:4], "big")
         message = self.guest.feed(entry.packet)
         self.parts.pop(channel, None)
         if message is None:
             self.parts[channel] = entry
+            if len(self.parts) > MOST_OPEN:
+                del self.parts[list(self.parts)[0]]
         elif message.problem:
             said, came = "the packets of a message in their order", message.problem
             self.recording.find(entry.line, KEY, rules.PACKETS, said, came, MUST, rules.SEQUENCE)
@@ -84,19 +124,29 @@ class KeyJudge:
             self.judge_error(entry, message)
         elif entry.packet[4] & 0x80:
             self.judge_start(entry)
-        if entry.message is not None and entry.message.lines[-1] == entry.line and entry.message.whole:
-            self.judge_whole(entry)
-        self.open = [it for it in self.open if it.by is None or it.by > entry.line or self.starts.get(it.by)]
+
+    def close(self, entry: Entry) -> None:
+        """Takes out of what is under way what ended by a packet of the key, or before it otherwise than by a new message
+        of the host, which the key may not have taken."""
+        self.open = [one for one in self.open if one.by is None or one.by > entry.line or self.is_ousted(one)]
         ended = entry.transaction
         if ended is not None and ended.by == entry.line:
-            self.open = [it for it in self.open if it is not ended]
+            self.heard.pop(ended.line, None)
+            self.open = [one for one in self.open if one is not ended]
             if ended.command == hid.INIT and ended.channel != hid.BROADCAST:
-                self.open = [it for it in self.open if it.channel != ended.channel]
-        self.is_first = False
+                self.open = [one for one in self.open if one.channel != ended.channel]
+
+    def is_ousted(self, transaction: Transaction) -> bool:
+        """Says whether a message of the host ended a transaction: another one, or INIT."""
+        return transaction.end == "replaced" or (
+            transaction.end == "dropped" and transaction.by != transaction.cancelled
+        )
 
     def judge_keepalive(self, entry: Entry, message: Optional[hid.Message]) -> None:
         """Judges a KEEPALIVE."""
         data = message.data if message is not None else entry.packet[7:]
+        if entry.transaction is not None:
+            self.heard[entry.transaction.line] = entry.at
         if not is_lawful_keepalive(data):
             said = "a KEEPALIVE of one byte, 01 or 02, for a request"
             self.find(entry.line, rules.KEEPALIVE, said, f"KEEPALIVE {data[:8].hex()}")
@@ -117,8 +167,7 @@ class KeyJudge:
         """Judges that a cancelled request ends."""
         if transaction.cancelled is None or self.recording.was_unread(entry.line):
             return
-        cancel = next(it for it in self.recording.walk.entries if it.line == transaction.cancelled)
-        if entry.at - cancel.at >= SILENCE and cancel.line < entry.line:
+        if entry.at - transaction.cancelled_at >= SILENCE and transaction.cancelled < entry.line:
             self.find(entry.line, rules.CANCEL, "the answer 2d, since CANCEL came", "KEEPALIVEs go on")
 
     def is_late_start(self, entry: Entry) -> bool:
@@ -244,8 +293,7 @@ class KeyJudge:
 
     def judge_gap(self, entry: Entry, transaction: Transaction) -> None:
         """Judges that a message wasn't taken whose packets came long after one another."""
-        moments = [one.at for one in self.recording.walk.entries if one.line in transaction.lines]
-        gaps = [after - before for before, after in zip(moments, moments[1:])]
+        gaps = [after - before for before, after in zip(transaction.moments, transaction.moments[1:])]
         if gaps and max(gaps) >= PATIENCE:
             self.find(
                 entry.line, rules.TIMEOUT, "error 05, since the message wasn't finished in time", "an answer", SHOULD
@@ -258,8 +306,8 @@ class KeyJudge:
         if it.whole and it.lines[-1] < other.line:
             return it.end in ("answered", "timed out")
         # An unfinished message has the device for as long as no key drops it.
-        before = [one for one in self.recording.walk.entries if one.line in it.lines and one.line < other.line]
-        return bool(before) and other.began - before[-1].at < NO_TIME_OUT
+        before = [at for line, at in zip(it.lines, it.moments) if line < other.line]
+        return bool(before) and other.began - before[-1] < NO_TIME_OUT
 
     def judge_unasked(self, entry: Entry, command: int, name: str) -> None:
         """Judges a message that answers nothing."""
@@ -310,19 +358,15 @@ class KeyJudge:
         transaction, message = entry.transaction, message_of(entry.message)
         if transaction is None:
             return
+        if message.command == hid.CBOR and not self.serves_cbor:
+            self.serves_cbor = True
+            self.judge_without_cbor()
         if self.recording.is_cut(entry.message, transaction):
             self.answers.passed(transaction)
             return
         try:
             if message.command == hid.INIT:
-                nonce = transaction.data
-                data = message.data
-                if len(data) == 17 and not self.serves_cbor():
-                    # A key of U2F alone has no CBOR.
-                    data = data[:16] + bytes([data[16] | CBOR])
-                channel = judge_greeting(data, nonce, transaction.channel, self.given)
-                self.given[channel] = entry.line
-                self.capabilities[channel] = message.data[16]
+                self.judge_greeting(entry, transaction, message)
             elif message.command == hid.PING:
                 self.judge_echo(transaction, message)
             elif message.command == hid.CBOR:
@@ -335,9 +379,24 @@ class KeyJudge:
             expected = {hid.INIT: "init", hid.MSG: "message"}.get(message.command, "echo")
             self.recording.judged(seen(transaction, expected, message), entry.line, differs)
 
-    def serves_cbor(self) -> bool:
-        """Says whether the log has an answer of CBOR."""
-        return any(it.command == hid.CBOR and it.answer is not None for it in self.recording.walk.transactions)
+    def judge_greeting(self, entry: Entry, transaction: Transaction, message: hid.Message) -> None:
+        """Judges an answer of INIT. That it doesn't name CBOR is wrong where the key serves it: a key of U2F has none."""
+        data = message.data
+        if len(data) == 17:
+            data = data[:16] + bytes([data[16] | CBOR])
+        channel = judge_greeting(data, transaction.data, transaction.channel, self.given)
+        self.given[channel] = entry.line
+        self.capabilities[channel] = message.data[16]
+        if not message.data[16] & CBOR:
+            self.without_cbor.append((entry.line, transaction, message))
+            self.judge_without_cbor()
+
+    def judge_without_cbor(self) -> None:
+        """Judges the answers of INIT that don't name CBOR, once CBOR was answered."""
+        for line, transaction, message in self.without_cbor if self.serves_cbor else []:
+            came = Differs("the capability CBOR", f"capabilities {message.data[16]:02x}")
+            self.recording.judged(seen(transaction, "init", message), line, came)
+        self.without_cbor = [] if self.serves_cbor else self.without_cbor
 
     def judge_echo(self, transaction: Transaction, message: hid.Message) -> None:
         """Judges that a PING comes back with its bytes."""
@@ -366,6 +425,23 @@ class KeyJudge:
 
     def judge_silence(self, now: int, line: int) -> None:
         """Judges what didn't come until a moment."""
+        if self.parts:
+            self.judge_parts(now, line)
+        for owner in self.open:
+            is_due = owner.whole or owner.length > hid.LONGEST
+            if owner.line in self.missed:
+                continue
+            if is_due and self.is_silent(owner, now, line):
+                self.missed.add(owner.line)
+                self.missing(owner)
+            elif not is_due and owner.by is None and now - owner.last >= PATIENCE:
+                self.missed.add(owner.line)
+                self.find(
+                    owner.lines[-1], rules.TIMEOUT, "error 05, since the message isn't finished", "nothing", SHOULD
+                )
+
+    def judge_parts(self, now: int, line: int) -> None:
+        """Judges that the rest of the key's messages came until a moment."""
         for channel, entry in list(self.parts.items()):
             if now - entry.at >= SILENCE and not self.recording.was_unread(line):
                 part = self.guest.open.get(channel)
@@ -373,21 +449,15 @@ class KeyJudge:
                 due = f"the other {left} bytes of the message"
                 self.recording.find(entry.line, KEY, rules.PACKETS, due, "nothing", MUST, rules.SEQUENCE)
                 del self.parts[channel]
-        for it in self.open:
-            is_due = it.whole or it.length > hid.LONGEST
-            if it.line not in self.missed and is_due and self.is_silent(it, now, line):
-                self.missed.add(it.line)
-                self.missing(it)
-            elif it.line not in self.missed and not is_due and it.by is None and now - it.last >= PATIENCE:
-                self.missed.add(it.line)
-                self.find(it.lines[-1], rules.TIMEOUT, "error 05, since the message isn't finished", "nothing", SHOULD)
 
-    def is_silent(self, it: Transaction, now: int, line: int) -> bool:
+    def is_silent(self, owner: Transaction, now: int, line: int) -> bool:
         """Says whether nothing came for a whole message for a while."""
-        if it.end == "replaced" or (it.by is not None and it.by < line) or self.recording.was_unread(line):
+        if now - owner.last < SILENCE or owner.end == "replaced" or owner.is_unknown:
             return False
-        heard = [one.at for one in it.keepalives if one.line < line]
-        return now - max([it.last, *heard]) >= SILENCE
+        if (owner.by is not None and owner.by < line) or self.recording.was_unread(line):
+            return False
+        heard = self.heard.get(owner.line, owner.last)
+        return now - heard >= SILENCE
 
     def missing(self, it: Transaction) -> None:
         """Keeps that an answer is missing, under the rule that calls for it."""
@@ -420,22 +490,21 @@ class KeyJudge:
         else:
             self.find(line, rules.OF_COMMAND.get(it.command, rules.ERROR), "an answer", "nothing")
 
-    def was_cancelled_inside(self, it: Transaction) -> bool:
+    def was_cancelled_inside(self, owner: Transaction) -> bool:
         """Says whether a CANCEL came between a message's packets."""
-        inside = [one for one in self.recording.walk.entries if it.line < one.line < it.lines[-1]]
-        return any(one.part == "cancel" and one.packet[:4] == it.channel.to_bytes(4, "big") for one in inside)
+        return owner.line in self.cancelled_inside
 
     def finish(self) -> None:
         """Judges what didn't come until the log's end."""
         self.judge_silence(self.recording.walk.now, self.recording.lines + 1)
-        for it in self.recording.walk.transactions:
-            self.judge_unfinished(it)
+        self.judge_unfinished(None)
 
-    def judge_unfinished(self, it: Transaction) -> None:
-        """Judges that a packet of another number was answered."""
-        wrong = [one for one in self.recording.walk.entries if one.transaction is it and one.part == "wrong number"]
-        if not wrong or it.code == 0x04 or it.end in ("refused", "timed out"):
-            return
-        after = [one for one in self.recording.walk.entries if one.kind == "device" and one.line > wrong[0].line]
-        if self.recording.walk.now - wrong[0].at >= SILENCE or after:
-            self.find(wrong[0].line, rules.SEQUENCE, "error 04", "nothing")
+    def judge_unfinished(self, entry: Optional[Entry]) -> None:
+        """Judges that a packet of another number was answered: at the key's next packet, or at the log's end."""
+        for wrong in self.wrong:
+            owner, late = wrong.transaction, self.recording.walk.now - wrong.at >= SILENCE
+            if owner is None or (entry is None and not late):
+                continue
+            if owner.code != 0x04 and owner.end not in ("refused", "timed out") and not owner.is_unknown:
+                self.find(wrong.line, rules.SEQUENCE, "error 04", "nothing")
+        self.wrong = []

@@ -8,31 +8,26 @@ from __future__ import annotations
 
 import re
 from dataclasses import dataclass
-from typing import Dict, List, Optional, Set, Tuple
+from typing import TYPE_CHECKING, Callable, Dict, List, Optional, Set, Tuple
 
 from hidlog_conformance import hid_packets as hid
 from hidlog_conformance import rules
 from hidlog_conformance.answers import Differs
 from hidlog_conformance.hid_packets import Message
 from hidlog_conformance.sections import SECTIONS
-from hidlog_conformance.walk import Answer, Entry, Part, Transaction, Walk, take_line
+from hidlog_conformance.transactions import Answer, Lines, Owners, Part, Transaction, Transactions
+
+if TYPE_CHECKING:
+    from hidlog_conformance.judged_host import HostJudge
+    from hidlog_conformance.judged_key import KeyJudge
 
 TITLES = {title.split(" ")[0]: "CTAP 2.1, " + title for title in SECTIONS.values()}
 KEY, HOST = "key", "host"
 MUST, SHOULD = "must", "should"
 # Milliseconds of silence after which an answer, or the rest of one, is missed: ten KEEPALIVEs would have come.
 SILENCE = 1000
-_LINE = re.compile(
-    rb"(?:> \d{1,20} [0-9a-fA-F]{128}|< [0-9a-fA-F]{128}|t \d{1,20}|p \d{1,20} (?:granted|denied|timeout)"
-    rb"|[ks] \d{1,20} [0-9a-fA-F no]+|[#=].*|)"
-)
-
-
+POWER_CYCLE = b"# power cycle"
 _CUT = re.compile(rb"# cut to \d+ bytes: ([<>]) (\d{1,20}) ((?:[0-9a-f]{2}){8,63})")
-
-
-class NoLog(Exception):
-    """Says which line isn't one of a log."""
 
 
 @dataclass
@@ -61,13 +56,15 @@ class Finding:
 
 
 class Recording:
-    """A log that is judged: the walk over it, and what was found so far."""
+    """A log that is judged line by line: what is open, and what was found so far."""
 
-    def __init__(self, log: bytes) -> None:
-        self.walk = Walk()
+    def __init__(self) -> None:
+        self.walk = Transactions()
         self.findings: List[Finding] = []
+        self.found: Set[Tuple[int, str, str]] = set()
         # Lines at which a recorder says that nobody had read from the key before.
         self.unread: List[int] = []
+        # The power cycles that weren't judged yet: the line and the moment of each.
         self.power_cycles: List[Tuple[int, int]] = []
         # Whether the log has no moments, nor KEEPALIVEs: of a client's debug output.
         self.is_timeless = False
@@ -77,43 +74,50 @@ class Recording:
         self.cut: Set[int] = set()
         self.start: Optional[int] = None
         self.lines = 0
-        for number, line in enumerate(log.split(b"\n"), 1):
-            self.take(number, line)
-        self.walk.finish()
 
-    def take(self, number: int, line: bytes) -> None:
+    def take(self, number: int, line: bytes, owners: Owners) -> None:
         """Takes a line."""
-        if len(line) > 255 or not _LINE.fullmatch(line):
-            raise NoLog(f"line {number}: not a log line")
         self.lines = number
-        if line.startswith(b"#"):
-            if b"nobody read it" in line:
-                self.unread.append(number)
-            if line.startswith(b"# moment 0 is made up"):
-                self.is_timeless = True
-            if b"one client alone" in line:
-                self.is_of_one_client = True
-            if line.startswith(b"# cut to "):
-                self.take_cut(number, line)
-            if line == b"# power cycle":
-                self.power_cycles.append((number, self.walk.now))
-                self.walk.channels.clear()
-        entry = take_line(self.walk, number, line)
-        if self.start is None and (entry is not None or line[:2] == b"t "):
+        kind = line[:1]
+        if kind == b"<":
+            self.walk.device(number, bytes.fromhex(line[2:].decode()), owners.of(number))
+        elif kind == b">":
+            moment, _, digits = line[2:].partition(b" ")
+            self.walk.host(number, int(moment), bytes.fromhex(digits.decode()), owners.of(number))
+        elif kind == b"#":
+            self.take_comment(number, line, owners)
+            return
+        elif kind in (b"t", b"p", b"k", b"s"):
+            self.walk.pass_time(int(line.split(b" ")[1]))
+            self.walk.passed(number, owners.of(number))
+        else:
+            return
+        if self.start is None:
             self.start = self.walk.now
 
-    def take_cut(self, number: int, line: bytes) -> None:
-        """Takes a comment with the front of a packet, of which a recorder kept no more: its head counts."""
+    def take_comment(self, number: int, line: bytes, owners: Owners) -> None:
+        """Takes a comment: what a recorder says of its log."""
+        if b"nobody read it" in line:
+            self.unread.append(number)
+        if line.startswith(b"# moment 0 is made up"):
+            self.is_timeless = True
+        if b"one client alone" in line:
+            self.is_of_one_client = True
         found = _CUT.fullmatch(line)
-        if not found:
-            return
-        packet = bytes.fromhex(found[3].decode()).ljust(64, b"\0")
+        if found:
+            self.take_cut(number, found[1] == b">", int(found[2]), padded(found[3]), owners)
+        if line == POWER_CYCLE:
+            self.power_cycles.append((number, self.walk.now))
+            self.walk.restart()
+
+    def take_cut(self, number: int, is_host: bool, at: int, packet: bytes, owners: Owners) -> None:
+        """Takes the front of a packet, of which a recorder kept no more: its head counts."""
         self.cut.add(number)
-        if found[1] == b">":
-            self.walk.host(number, int(found[2]), packet)
-        else:
-            self.walk.pass_time(int(found[2]))
-            self.walk.device(number, packet)
+        if is_host:
+            self.walk.host(number, at, packet, owners.of(number))
+            return
+        self.walk.pass_time(at)
+        self.walk.device(number, packet, owners.of(number))
 
     def is_cut(self, *parts: Optional[Part]) -> bool:
         """Says whether a recorder kept only the front of a packet of these messages."""
@@ -121,7 +125,8 @@ class Recording:
 
     def find(self, line: int, side: str, section: str, due: str, came: str, level: str = MUST, also: str = "") -> None:
         """Keeps a finding, once for a line and a rule."""
-        if not any(it.line == line and it.section == section and it.side == side for it in self.findings):
+        if (line, side, section) not in self.found:
+            self.found.add((line, side, section))
             self.findings.append(Finding(line, side, level, section, due, came, also if also != section else ""))
 
     def judged(self, seen: rules.Seen, line: int, differs: Differs, level: str = MUST) -> None:
@@ -131,7 +136,12 @@ class Recording:
 
     def was_unread(self, line: int) -> bool:
         """Says whether packets at a line may be late, since no program read from the key before."""
-        return any(number < line for number in self.unread)
+        return bool(self.unread) and self.unread[0] < line
+
+
+def padded(digits: bytes) -> bytes:
+    """Returns the packet of which these digits are the front."""
+    return bytes.fromhex(digits.decode()).ljust(64, b"\0")
 
 
 def message_of(answer: Answer) -> Message:
@@ -156,25 +166,65 @@ def seen(
     return rules.Seen(section, expected, came, partial, request, cancelled)
 
 
-def in_order(recording: Recording) -> List[Entry]:
-    """Returns the packets in the log's order."""
-    return [it for it in recording.walk.entries if it.packet]
+def walked(log: bytes) -> bytes:
+    """Returns the log as the walk takes it, with the same lines: the front of a packet that was cut is one, and behind
+    a power cycle nothing is known of what was before."""
+    if b"# cut to " not in log:
+        return log
+    return b"\n".join([whole_line(line) for line in log.split(b"\n")])
 
 
-def judge(log: bytes) -> Recording:
-    """Judges a log."""
+def whole_line(line: bytes) -> bytes:
+    """Returns the line of the packet that a comment has the front of, and any other line as it is."""
+    found = _CUT.fullmatch(line)
+    if not found:
+        return line
+    digits = padded(found[3]).hex().encode()
+    return b"> " + found[2] + b" " + digits if found[1] == b">" else b"< " + digits
+
+
+def judge(log: bytes, walk: Callable[[bytes], bytes]) -> Recording:
+    """Judges a log. `walk` returns what `hidlog_transactions` writes of one, and raises at a broken line."""
     # These import this module's names.
     from hidlog_conformance.judged_host import HostJudge
     from hidlog_conformance.judged_key import KeyJudge
 
-    recording = Recording(log)
+    recording = Recording()
     host, key = HostJudge(recording), KeyJudge(recording)
-    for entry in in_order(recording):
+    number = 0
+    for part in powered(log):
+        owners, lines = Owners(walk(walked(part)), number), Lines(part)
+        block = lines.block()
+        while block:
+            for line in block:
+                number += 1
+                recording.take(number, line, owners)
+                if recording.walk.entries and recording.walk.is_quiet:
+                    judge_taken(recording, host, key)
+            block = lines.block()
+    judge_taken(recording, host, key)
+    key.finish()
+    recording.findings.sort(key=lambda found: (found.line, found.side, found.section))
+    return recording
+
+
+def judge_taken(recording: Recording, host: "HostJudge", key: "KeyJudge") -> None:
+    """Judges the packets that were taken, and keeps them no longer: what is known of them is all that will be."""
+    for entry in recording.walk.taken():
         host.take(entry)
         key.take(entry)
-    key.finish()
-    recording.findings.sort(key=lambda it: (it.line, it.side, it.section))
-    return recording
+
+
+def powered(log: bytes) -> List[bytes]:
+    """Returns the parts of a log between which the device had no power, each but the first from that comment on."""
+    if POWER_CYCLE not in log:
+        return [log]
+    parts: List[List[bytes]] = [[]]
+    for line in log.split(b"\n"):
+        if line == POWER_CYCLE:
+            parts.append([])
+        parts[-1].append(line)
+    return [b"\n".join(part) for part in parts]
 
 
 def counts(findings: List[Finding]) -> Dict[str, int]:

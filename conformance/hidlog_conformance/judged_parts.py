@@ -42,6 +42,68 @@ class Kept:
     name: Optional[str] = None
 
 
+class KeptCredentials:
+    """The credentials that a log knows of: by id, and so that none has to be compared with all others."""
+
+    def __init__(self) -> None:
+        self.by_id: Dict[bytes, Kept] = {}
+        # By RP and id those that are discoverable, and those with extensions.
+        self.discoverable: Dict[str, Dict[bytes, Kept]] = {}
+        self.extended: Dict[str, Dict[bytes, Kept]] = {}
+        # By the number that an id is but for its last eight bytes, and by public key.
+        self.by_front: Dict[int, Dict[bytes, Kept]] = {}
+        self.by_key: Dict[bytes, Kept] = {}
+
+    def add(self, kept: Kept) -> None:
+        """Adds a credential."""
+        credential = kept.credential
+        self.by_id[credential.id] = kept
+        self.by_key[ctap_cbor.encode(credential.cose)] = kept
+        self.by_front.setdefault(front_of(credential.id), {})[credential.id] = kept
+        if kept.discoverable:
+            self.discoverable.setdefault(credential.rp, {})[credential.id] = kept
+        if kept.extensions:
+            self.extended.setdefault(credential.rp, {})[credential.id] = kept
+
+    def remove(self, identity: bytes) -> None:
+        """Removes a credential, if it is there."""
+        kept = self.by_id.pop(identity, None)
+        if kept is None:
+            return
+        self.by_key.pop(ctap_cbor.encode(kept.credential.cose), None)
+        self.by_front[front_of(identity)].pop(identity, None)
+        self.discoverable.get(kept.credential.rp, {}).pop(identity, None)
+        self.extended.get(kept.credential.rp, {}).pop(identity, None)
+
+    def get(self, identity: Any) -> Optional[Kept]:
+        """Returns the credential with an id."""
+        return self.by_id.get(identity)
+
+    def near(self, identity: bytes) -> Dict[bytes, Credential]:
+        """Returns the credentials that an id may follow from, or be that of, by their ids."""
+        front = front_of(identity)
+        found = [*self.by_front.get(front - 1, {}).values(), *self.by_front.get(front, {}).values()]
+        found += self.by_front.get(front + 1, {}).values()
+        return {one.credential.id: one.credential for one in found}
+
+    def stored(self) -> List[Credential]:
+        """Returns those that are discoverable."""
+        return [one.credential for of_rp in self.discoverable.values() for one in of_rp.values()]
+
+
+def front_of(identity: bytes) -> int:
+    """Returns the number that an id is, but for its last eight bytes."""
+    return int.from_bytes(identity[: max(0, len(identity) - 8)], "big")
+
+
+def made_id(data: bytes) -> bytes:
+    """Returns the id of the credential that an answer to a registration has; nothing if it can't be read."""
+    auth = (parameters_of(data) or {}).get(2)
+    if not isinstance(auth, bytes) or len(auth) <= 55:
+        return b""
+    return auth[55 : 55 + int.from_bytes(auth[53:55], "big")]
+
+
 class ExtensionDiffers(Differs):
     """Says which section of an extension is broken."""
 

@@ -15,7 +15,7 @@ SIDES = {KEY: "the key", "host": "the host"}
 
 def packets_of(recording: Recording) -> int:
     """Returns how many packets were judged."""
-    return sum(bool(it.packet) for it in recording.walk.entries)
+    return recording.walk.packets
 
 
 def total(recording: Recording) -> str:
@@ -23,7 +23,7 @@ def total(recording: Recording) -> str:
     counts = {level: sum(it.level == level for it in recording.findings) for level in (MUST, SHOULD)}
     packets = packets_of(recording)
     return (
-        f"{packets} packets, {len(recording.walk.transactions)} transactions: "
+        f"{packets} packets, {recording.walk.count} transactions: "
         f"{counts[MUST]} broken musts, {counts[SHOULD]} broken shoulds"
     )
 
@@ -39,7 +39,7 @@ def notes_of(recording: Recording) -> List[str]:
         found.append("the log has the packets of one client alone: refusals for other clients' sake weren't judged")
     if recording.unread:
         found.append("nobody read from the key for a while: silence wasn't judged behind it")
-    if not any(it.kind == "device" for it in recording.walk.entries):
+    if not recording.walk.answers:
         found.append("the log has no packet of a key: hidlog replay writes those of this project's key")
     if not THERE:
         found.append("signatures weren't verified: the package cryptography is missing")
@@ -81,7 +81,7 @@ def as_json(name: str, recording: Recording) -> str:
     whole = {
         "log": name,
         "packets": packets_of(recording),
-        "transactions": len(recording.walk.transactions),
+        "transactions": recording.walk.count,
         "findings": [object_of(it) for it in recording.findings],
         "notes": notes_of(recording),
     }

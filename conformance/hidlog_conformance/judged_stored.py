@@ -7,7 +7,7 @@ from typing import Any, Dict, List, Optional, Set
 
 from hidlog_conformance import answers
 from hidlog_conformance.answers import Credential, Differs, hold
-from hidlog_conformance.judged_parts import ExtensionDiffers, Kept, Pins
+from hidlog_conformance.judged_parts import ExtensionDiffers, KeptCredentials, Pins
 from hidlog_conformance.managed import CREDENTIALS, PROTECTION, RPS, Listing, hash_of, judge_piece
 from hidlog_conformance.requests import parameters_of
 
@@ -51,7 +51,7 @@ class StoredJudge:
         self.listing = Listing()
         self.array, self.coming, self.expected, self.is_reset = EMPTY, b"", 0, True
 
-    def judge(self, request: bytes, data: bytes, kept: Dict[bytes, Kept], pins: Pins, info: Dict[Any, Any]) -> None:
+    def judge(self, request: bytes, data: bytes, kept: KeptCredentials, pins: Pins, info: Dict[Any, Any]) -> None:
         """Judges an answer; kept has the credentials that the log knows."""
         asked = parameters_of(request)
         if asked is None:
@@ -66,20 +66,19 @@ class StoredJudge:
         else:
             self.judge_written(asked, pins, info)
 
-    def judge_managed(self, asked: Dict[Any, Any], data: bytes, kept: Dict[bytes, Kept], pins: Pins) -> None:
+    def judge_managed(self, asked: Dict[Any, Any], data: bytes, kept: KeptCredentials, pins: Pins) -> None:
         """Judges an answer of credential management with status 00."""
         command, parameters = asked.get(1), asked.get(2, {})
         if command not in (NEXT_RP, NEXT):
             self.judge_token(asked, 4, MAY_MANAGE, pins)
             self.judge_rp(command, parameters, kept, pins)
-        known = [one.credential for one in kept.values()]
-        stored = [one for one in known if one.discoverable]
+        stored = kept.stored()
         if command == COUNT:
             self.listing.judge_count(answers.map_of(data), len(stored))
         elif command in (LIST_RPS, NEXT_RP):
             self.judge_next(command == NEXT_RP, RPS)
             total = len({one.rp for one in stored}) if command == LIST_RPS else None
-            self.listing.judge_rp(answers.map_of(data), known, total)
+            self.listing.judge_rp(answers.map_of(data), stored, total)
         elif command in (LIST, NEXT):
             self.judge_listed(command, parameters, data, stored, kept)
         elif command in (DELETE, UPDATE):
@@ -96,7 +95,7 @@ class StoredJudge:
         permitted = pins.permissions is None or bool(pins.permissions & permission)
         hold(permitted, "status 33, since the token doesn't permit this", "status 00")
 
-    def judge_rp(self, command: Any, parameters: Dict[Any, Any], kept: Dict[bytes, Kept], pins: Pins) -> None:
+    def judge_rp(self, command: Any, parameters: Dict[Any, Any], kept: KeptCredentials, pins: Pins) -> None:
         """Judges that a token for one RP does nothing elsewhere."""
         if pins.rp is None or pins.permissions is None:
             return
@@ -106,7 +105,7 @@ class StoredJudge:
         hold(right, f"status 33, since the token is for {pins.rp}", "status 00")
 
     def judge_listed(
-        self, command: int, parameters: Dict[Any, Any], data: bytes, stored: List[Credential], kept: Dict[bytes, Kept]
+        self, command: int, parameters: Dict[Any, Any], data: bytes, stored: List[Credential], kept: KeptCredentials
     ) -> None:
         """Judges a credential of a list."""
         self.judge_next(command == NEXT, CREDENTIALS)
@@ -114,9 +113,9 @@ class StoredJudge:
         item = answers.map_of(data)
         hold(item[7].get("id") not in self.deleted, "no credential that was deleted", item)
         mine = [one for one in stored if hash_of(one.rp) == self.rp]
-        known = [one.credential for one in kept.values()]
-        self.listing.judge_credential(item, known, self.rp, len(mine) if command == LIST else None)
         one = kept.get(item[7].get("id"))
+        named = [one.credential] if one is not None else []
+        self.listing.judge_credential(item, named, self.rp, len(mine) if command == LIST else None)
         if one is None:
             return
         level = one.extensions.get("credProtect")
@@ -126,7 +125,7 @@ class StoredJudge:
         if one.extensions.get(BLOB_KEY) is True:
             self.listing.judge_blob_key(item, 11, ["blob-key", one.credential.id.hex()])
 
-    def judge_change(self, command: int, parameters: Dict[Any, Any], kept: Dict[bytes, Kept]) -> None:
+    def judge_change(self, command: int, parameters: Dict[Any, Any], kept: KeptCredentials) -> None:
         """Judges a deletion, or another name of a user."""
         identity = parameters.get(2, {}).get("id")
         one = kept.get(identity)
@@ -135,7 +134,7 @@ class StoredJudge:
         )
         if command == DELETE:
             self.deleted.add(identity)
-            kept.pop(identity, None)
+            kept.remove(identity)
         elif one is not None:
             user = parameters.get(3, {})
             hold(user.get("id") == one.credential.user, "status 02, since the user's id is another", "status 00")

@@ -3,6 +3,7 @@
 from __future__ import annotations
 
 import hashlib
+from functools import lru_cache
 from typing import Any, Dict, Tuple
 
 try:
@@ -45,11 +46,17 @@ class KeyMaker:
         return signature
 
 
+@lru_cache(maxsize=64)
+def point(x: bytes, y: bytes) -> Any:
+    """Returns the public key on P-256 of two coordinates."""
+    numbers = int.from_bytes(x, "big"), int.from_bytes(y, "big")
+    return ec.EllipticCurvePublicNumbers(*numbers, ec.SECP256R1()).public_key()
+
+
 def public_of(cose: Any) -> Any:
     """Returns the public key of a COSE key: ES256, EdDSA or RS256; None for another algorithm."""
     if cose.get(3) == -7:
-        x, y = int.from_bytes(cose[-2], "big"), int.from_bytes(cose[-3], "big")
-        return ec.EllipticCurvePublicNumbers(x, y, ec.SECP256R1()).public_key()
+        return point(cose[-2], cose[-3])
     if cose.get(3) == -8:
         return ed25519.Ed25519PublicKey.from_public_bytes(cose[-2])
     if cose.get(3) == -257:

@@ -27,6 +27,7 @@ class Listing:
         self.rps: Set[str] = set()
         self.ids: Set[bytes] = set()
         self.blob_keys: Dict[str, bytes] = {}
+        self.blob_names: Dict[bytes, str] = {}
 
     def judge_count(self, item: Dict[Any, Any], count: int) -> None:
         """Judges how many credentials are stored, and that it is said how many more fit."""
@@ -107,8 +108,8 @@ class Listing:
         found = member(item, key, bytes, "the key of large blobs")
         hold(len(found) == 32, "a key of large blobs of 32 bytes", found)
         hold(self.blob_keys.setdefault(name, found) == found, f"the key of large blobs {name} again", found)
-        others = [other for other, one in self.blob_keys.items() if other != name and one == found]
-        hold(not others, f"another key of large blobs than {' '.join(others)}", found)
+        other = self.blob_names.setdefault(found, name)
+        hold(other == name, f"another key of large blobs than {other}", found)
 
 
 def judge_piece(item: Dict[Any, Any], wanted: bytes) -> None:

@@ -3,6 +3,7 @@
 from __future__ import annotations
 
 from dataclasses import dataclass
+from functools import lru_cache
 from typing import Any, Callable, Dict, List, Optional, Tuple
 
 from hidlog_conformance import ctap_cbor, rules
@@ -136,12 +137,13 @@ MEMBERS: Dict[int, Dict[int, Member]] = {
 def parameters_of(request: bytes) -> Optional[Dict[Any, Any]]:
     """Returns the parameters of a request; none where they can't be read."""
     try:
-        item = ctap_cbor.decode(request[1:]) if len(request) > 1 else {}
+        item = ctap_cbor.decoded(request[1:]) if len(request) > 1 else {}
     except ctap_cbor.CborFault:
         return None
     return dict(item) if isinstance(item, dict) else None
 
 
+@lru_cache(maxsize=16)
 def fault_of(request: bytes) -> Optional[Fault]:
     """Returns what is wrong with a request; None where nothing is."""
     command = request[0]
@@ -153,7 +155,7 @@ def fault_of(request: bytes) -> Optional[Fault]:
     if command in (INFO, RESET, NEXT, SELECTION):
         return Fault(FORM, "a command without parameters", f"{len(request) - 1} bytes behind it", should=True)
     try:
-        item = ctap_cbor.decode(request[1:])
+        item = ctap_cbor.decoded(request[1:])
     except ctap_cbor.CborFault as fault:
         return Fault(FORM, "parameters in CTAP2 canonical CBOR", str(fault), "8")
     if not isinstance(item, dict):

@@ -3,16 +3,22 @@
 from __future__ import annotations
 
 import json
+import random
 import subprocess
 import sys
+from collections.abc import Callable
 from pathlib import Path
+from types import FrameType
+from typing import Any
 from xml.etree import ElementTree
 
 import pytest
 
 import hidlog
+import hidlog.judge
 from hidlog.captures import read
 from hidlog.judge import judge
+from hidlog.webauthn_json import text_of
 
 TOP = Path(__file__).resolve().parents[2]
 DATA = Path(__file__).resolve().parent / "data"
@@ -181,6 +187,52 @@ def test_json_and_junit() -> None:
     assert (suite.get("failures"), len(suite.findall("testcase/failure"))) == ("1", 1)
     clean = ElementTree.fromstring(run("--format", "junit", DATA / "killed.log").stdout)
     assert clean.get("failures") == "0" and len(clean.findall("testcase")) == 1
+
+
+def signed_in(count: int) -> bytes:
+    """Returns a recording: a registration and a sign-in with it, so many times, beside one that is discoverable."""
+    with hidlog.SecurityKey(random=random.Random(1).randbytes) as key:
+        browser = key.browser("https://example.com")
+        challenge = text_of(bytes(32))
+        for number in range(count):
+            options = {
+                "rp": {"name": "Example"},
+                "user": {"id": text_of(b"%d" % number), "name": "ann", "displayName": "Ann"},
+                "challenge": challenge,
+                "pubKeyCredParams": [{"type": "public-key", "alg": -7}],
+                "authenticatorSelection": {"residentKey": "discouraged" if number else "required"},
+            }
+            made = browser.create(options)
+            browser.get({"challenge": challenge, "allowCredentials": [{"type": "public-key", "id": made["id"]}]})
+            browser.get({"challenge": challenge})
+        return bytes(key.log)
+
+
+def steps_of(log: bytes) -> int:
+    """Returns how many lines of Python it takes to judge a log; a loop within a line counts each time."""
+    count = 0
+
+    def trace(frame: FrameType, event: str, _: object) -> Callable[..., Any]:
+        nonlocal count
+        count += event == "line"
+        return trace
+
+    sys.settrace(trace)
+    try:
+        assert not [finding for finding in judge(log) if finding.level == "must"]
+    finally:
+        sys.settrace(None)
+    return count
+
+
+def test_work_grows_as_the_log_does() -> None:
+    once, twice, fourfold = (steps_of(signed_in(count)) for count in (15, 30, 60))
+    assert fourfold - twice <= 1.1 * 2 * (twice - once)
+
+
+def test_what_was_judged_is_not_kept() -> None:
+    recording = hidlog.judge._recording(signed_in(20))
+    assert recording.walk.count >= 60 and not recording.walk.entries and not recording.walk.open
 
 
 def test_what_is_no_log() -> None:

@@ -42,7 +42,7 @@ for name in sys.argv.pop(1).split():
     importlib.import_module(name)
 if "hidlog.judge" in sys.modules:
     from hidlog.captures import corpus
-    list(map(corpus.module, ("judged_log", "judged_report", "judged_host", "judged_key", "walk")))
+    list(map(corpus.module, ("judged_log", "judged_report", "judged_host", "judged_key", "transactions")))
 if "hidlog.browser_process" in sys.modules:
     from hidlog import SecurityKey
     with SecurityKey() as key: key.browser("https://example.com")
@@ -87,7 +87,7 @@ class Run:
 
 REGISTRATION = (EXAMPLES / "registration.log").read_bytes()
 BROKEN = (EXAMPLES / "failing/counter_stays.log").read_bytes()
-LOADED_BY_IMPORT = "hidlog.captures.commands hidlog.core hidlog.captures.corpus hidlog_conformance.walk"
+LOADED_BY_IMPORT = "hidlog.captures.commands hidlog.core hidlog.captures.corpus hidlog_conformance.transactions"
 LOADED_BY_JUDGE = "hidlog.judge cryptography.hazmat.backends.openssl.backend"
 TICKS = b"t 1\np 2 granted\nt 3\n"
 RUNS = [

@@ -21,7 +21,9 @@ sys.path[:0] = [str(TOP / "conformance"), str(TOP / "python" / "src"), str(TOP /
 
 import judged  # noqa: E402
 from driver import Driver, is_there  # noqa: E402
-from hidlog_conformance import judged_log, judged_report  # noqa: E402
+from hidlog.errors import LogError  # noqa: E402
+from hidlog_conformance import judged_report  # noqa: E402
+from proved_walk import judge  # noqa: E402
 
 PAGE = TOP / "web" / "index.html"
 FOLDERS = ("examples", "tests/captures/data", "conformance/clients/logs", "conformance/recorded", "conformance/fuzzed")
@@ -32,7 +34,7 @@ CAPTURE = TOP / "tests" / "captures" / "data" / "killed.pcapng"
 JUDGE = """
 const [text, done] = arguments;
 hidlogJudge.judge(hidlogBytes.fromBase64(text))
-    .then(done, (fault) => done({ refused: fault.args ? hidlogPython.format(fault, "") : String(fault.stack) }));
+    .then(done, (fault) => done({ refused: fault.args ? hidlogPython.format(fault, "") : fault.message }));
 """
 DROP = """
 const [name, text, done] = arguments;
@@ -46,8 +48,8 @@ done();
 def in_python(log: bytes) -> Dict[str, Any]:
     """Returns what the package says of a log."""
     try:
-        found = judged_log.judge(log)
-    except judged_log.NoLog as refused:
+        found = judge(log)
+    except LogError as refused:
         return {"refused": str(refused)}
     findings = [judged_report.object_of(finding) for finding in found.findings]
     return {"findings": findings, "notes": judged_report.notes_of(found), "total": judged_report.total(found)}

@@ -14,7 +14,7 @@ from typing import Callable, Dict, List, Optional, Set, Tuple
 
 PACKAGE = "hidlog_conformance"
 # Modules that say something of types alone, and decorators that the class statement looks at.
-TYPES = ("__future__", "typing", "dataclasses")
+TYPES = ("__future__", "typing", "dataclasses", "functools")
 GENERIC = ("Tuple", "Dict", "List", "Optional", "Callable")
 BUILTINS = (
     "len isinstance bool any all bytes set range int str dict max min sum list tuple next map enumerate sorted repr zip "

@@ -160,6 +160,13 @@ def show(log: bytes, explain: bool, capacity: int) -> tuple[Outcome, bytes]:
     return outcome, out.raw[: outcome.written]
 
 
+def transactions(log: bytes, capacity: int) -> tuple[Outcome, bytes]:
+    """Writes which transaction each line of a whole log belongs to, and returns the outcome and what was written."""
+    out, outcome, size = ctypes.create_string_buffer(capacity), Outcome(), ctypes.c_size_t
+    library().hidlog_transactions(log, size(len(log)), out, size(capacity), ctypes.byref(outcome))
+    return outcome, ctypes.string_at(out, outcome.written)
+
+
 _AT, _SIZE, _BYTES, _OUT = ctypes.c_uint64, ctypes.c_size_t, ctypes.c_char_p, ctypes.c_void_p
 # What the functions of a key take after the key.
 _KEY_FUNCTIONS: dict[str, list[Any]] = {

@@ -12,6 +12,7 @@ import argparse
 import sys
 from typing import Any
 
+from . import logs
 from .captures import corpus
 from .captures.pcap import is_capture
 from .captures.reading import read_capture
@@ -32,11 +33,7 @@ def judge(log: bytes) -> list[Any]:
 
 
 def _recording(log: bytes) -> Any:
-    judged_log = corpus.module("judged_log")
-    try:
-        return judged_log.judge(log)
-    except judged_log.NoLog as error:
-        raise LogError(str(error)) from None
+    return corpus.module("judged_log").judge(log, lambda part: logs.transactions(part).raise_for_fault().text)
 
 
 def main(words: list[str]) -> int:

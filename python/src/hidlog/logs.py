@@ -58,12 +58,12 @@ def _run(command: str, log: bytes, snapshot: bytes | None) -> Result:
     """Runs a command on a log that began with a snapshot."""
     data = bytes_of("the log", log)
     begin = b"" if snapshot is None else bytes_of("the snapshot", snapshot)
-    return _written(lambda capacity: core.run(command, data, begin, capacity), len(data))
+    return _written(lambda capacity: core.run(command, data, begin, capacity), 2 * len(data))
 
 
 def _written(call: Callable[[int], tuple[core.Outcome, bytes]], length: int) -> Result:
-    """Makes a call, again with a larger buffer where the buffer was too small for a log of this length."""
-    capacity = 2 * length + 4096
+    """Makes a call, again with a larger buffer where the buffer was too small for a text of this length."""
+    capacity = length + 4096
     while True:
         outcome, text = call(capacity)
         if (outcome.status, outcome.fault) != (1, _WRITE):
@@ -95,4 +95,10 @@ def show(log: bytes, *, explain: bool = False) -> Result:
     """Writes what the log's lines say: the fixed text, or with names, members and comments for people where it is to
     explain. A faulty line ends it, with the text of the lines before."""
     data = bytes_of("the log", log)
-    return _written(lambda capacity: core.show(data, explain, capacity), len(data))
+    return _written(lambda capacity: core.show(data, explain, capacity), 2 * len(data))
+
+
+def transactions(log: bytes) -> Result:
+    """Writes which transaction each line belongs to, and how each one ends (hidlog_transactions of hidlog.h)."""
+    data = bytes_of("the log", log)
+    return _written(lambda capacity: core.transactions(data, capacity), len(data) // 5)

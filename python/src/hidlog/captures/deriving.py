@@ -4,7 +4,7 @@ from __future__ import annotations
 
 from typing import Any
 
-from .. import cbor
+from .. import cbor, logs
 from .. import packets as hid
 from ..errors import HidlogError
 from . import corpus
@@ -23,9 +23,9 @@ class Deriver:
 
     def __init__(self, placed: list[tuple[int, bool, bytes]]):
         self._lines: dict[int, list[Derived]] = {}
-        walk = _walk_of(placed)
-        self._due = {it.line for it in walk.entries if it.part == "keepalive" and it.why == "time"}
-        for transaction in walk.transactions:
+        entries = _entries_of(placed)
+        self._due = {_place(entry) for entry in entries if entry.part == "keepalive" and entry.why == "time"}
+        for transaction in [entry.transaction for entry in entries if entry.part == "start"]:
             if transaction.command == hid.CBOR and transaction.answer and transaction.data:
                 self._derive(transaction)
 
@@ -37,41 +37,53 @@ class Deriver:
         """Returns whether a packet is a KEEPALIVE that came because time had passed."""
         return number in self._due
 
-    def _derive(self, it: Any) -> None:
-        request, answer = it.data[0], it.answer.data
-        if not answer or not it.answer.whole:
+    def _derive(self, transaction: Any) -> None:
+        request, answer = transaction.data[0], transaction.answer.data
+        if not answer or not transaction.answer.whole:
             return
-        replies = self._lines.setdefault(it.answer.line, [])
-        consent = _consent(it, request, answer)
+        end = _place(transaction.answer)
+        replies = self._lines.setdefault(end, [])
+        consent = _consent(transaction, request, answer)
         if consent:
-            changed = [k.line for k in it.keepalives if k.packet[7] == _PROCESSING]
-            asked = [k.line for k in it.keepalives if k.packet[7] == _UP_NEEDED]
-            after = [line for line in changed if asked and line > asked[-1]]
-            place = after[0] if after and consent[1] == b"granted" else it.answer.line
-            reason = "the KEEPALIVE's status behind it is another" if place != it.answer.line else consent[2]
+            changed = [_place(entry) for entry in transaction.keepalives if entry.packet[7] == _PROCESSING]
+            asked = [_place(entry) for entry in transaction.keepalives if entry.packet[7] == _UP_NEEDED]
+            after = [place for place in changed if asked and place > asked[-1]]
+            place = after[0] if after and consent[1] == b"granted" else end
+            reason = "the KEEPALIVE's status behind it is another" if place != end else consent[2]
             self._lines.setdefault(place, []).insert(0, (consent[0], consent[1], f"the user's reply: {reason}"))
         if answer[0] == 0 and request in _SIGNS:
             replies += _of_answer(request, answer)
 
 
-def _walk_of(placed: list[tuple[int, bool, bytes]]) -> Any:
-    """Returns the walk over packets, each under its place as its line."""
-    walk = corpus.module("walk").Walk()
+def _entries_of(placed: list[tuple[int, bool, bytes]]) -> list[Any]:
+    """Returns the packets with their transactions, which the library finds in a log of them: it has two lines for each,
+    the moment and the packet, if there is one."""
+    lines = []
+    for at, sent, data in placed:
+        word = b"> %d" % at if sent else b"<"
+        lines.append(b"t %d\n%s %s\n" % (at, word, data.hex().encode()) if data else b"t %d\n\n" % at)
+    module = corpus.module("transactions")
+    found, owners = module.Transactions(), module.Owners(logs.transactions(b"".join(lines)).raise_for_fault().text)
     for number, (at, sent, data) in enumerate(placed):
-        walk.pass_time(at)
+        found.pass_time(at)
+        found.passed(2 * number + 1, owners.of(2 * number + 1))
         if data and sent:
-            walk.host(number, at, data)
+            found.host(2 * number + 2, at, data, owners.of(2 * number + 2))
         elif data:
-            walk.device(number, data)
-    walk.finish()
-    return walk
+            found.device(2 * number + 2, data, owners.of(2 * number + 2))
+    return list(found.taken())
 
 
-def _consent(it: Any, request: int, answer: bytes) -> Derived | None:
+def _place(part: Any) -> int:
+    """Returns which packet a message begins with, or an entry is."""
+    return int(part.line) // 2 - 1
+
+
+def _consent(transaction: Any, request: int, answer: bytes) -> Derived | None:
     """Returns the user's reply that an answer shows."""
     if request not in _NEEDS_USER:
         return None
-    was_asked = any(k.packet[7] == _UP_NEEDED for k in it.keepalives)
+    was_asked = any(entry.packet[7] == _UP_NEEDED for entry in transaction.keepalives)
     if answer[0] == _DENIED:
         return b"p", b"denied", "the answer is OPERATION_DENIED"
     if answer[0] in (_USER_TIMEOUT, _ACTION_TIMEOUT):

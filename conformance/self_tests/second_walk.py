@@ -1,7 +1,8 @@
-"""Walks over the packets of a log: which transaction each belongs to, and how each transaction ends.
+"""A second walk over the packets of a log, the tests' independent source beside the proved one: which transaction each
+packet belongs to, and how each transaction ends.
 
-It decides from the packets alone, their order and the moments (CTAP 2.1, 11.2). No authenticator is inside, so that
-recordings of any key are read. Nothing is kept across channels but the latest moment and the last input.
+It decides from the packets alone, their order and the moments (CTAP 2.1, 11.2). Where packets don't show an owner it
+guesses one, so it is compared with the proved walk (hidlog_transactions) where that one is sure.
 """
 
 from __future__ import annotations
@@ -43,7 +44,7 @@ class Part:
     @property
     def whole(self) -> bool:
         """Says whether all bytes came."""
-        return self.came == self.length <= LONGEST
+        return bool(self.came == self.length <= LONGEST)
 
     @property
     def data(self) -> bytes:
@@ -129,7 +130,8 @@ def may_refuse(code: int, start: Transaction) -> bool:
     """Says whether an ERROR may be for a start: INIT is taken at any time on its own channel."""
     if start.command != INIT:
         return True
-    return code not in (INVALID_SEQUENCE, TIMED_OUT) and (code != BUSY or start.channel == BROADCAST)
+    is_taken: bool = code in (INVALID_SEQUENCE, TIMED_OUT) or (code == BUSY and start.channel != BROADCAST)
+    return not is_taken
 
 
 class Walk:

@@ -1,0 +1,354 @@
+"""Joins the packets of a log to messages and transactions, as the proved walk says which packet belongs to which.
+
+The walk is that of the C library: `hidlog_transactions` (crates/hidlog_c/hidlog.h) writes a line for each packet, tick
+and reply. It decides by CTAP 2.1, 11.2, alone, so that recordings of any key are read, and says where packets can't show
+it. This reads that text beside the log, line by line, and keeps what is open alone.
+"""
+
+from __future__ import annotations
+
+from dataclasses import dataclass, field
+from typing import Dict, List, Optional
+
+from hidlog_conformance.hid_packets import CANCEL, ERROR, KEEPALIVE, LONGEST
+
+INVALID_COMMAND, INVALID_LENGTH, INVALID_SEQUENCE, TIMED_OUT, BUSY, INVALID_CHANNEL = 0x01, 0x03, 0x04, 0x05, 0x06, 0x0B
+CANCELLED = 0x2D
+# Milliseconds within which no key drops an unfinished message: KEEPALIVE's own interval.
+NO_TIME_OUT = 100
+# How a transaction ends that packets alone don't show the end of.
+UNKNOWN = ("unknown", "forgotten")
+# What the walk's words say of a transaction's end, beside answers.
+ENDS = {ord("d"): "dropped", ord("r"): "replaced", ord("f"): "forgotten", ord("u"): "unknown"}
+ANSWERED, BY_ERROR, LATE = b"sac", ord("e"), ord("l")
+# Words that name the line that ends a transaction.
+NAMES_LINE = b"dr"
+# Bytes of a text that are split into lines at once.
+BLOCK = 1 << 16
+
+
+@dataclass(eq=False)
+class Part:
+    """What the packets of one message carry."""
+
+    line: int
+    channel: int
+    command: int
+    length: int
+    parts: List[bytes]
+    lines: List[int]
+
+    @property
+    def next(self) -> int:
+        """Returns the sequence number of the next packet."""
+        return len(self.parts) - 1
+
+    @property
+    def came(self) -> int:
+        """Returns how many bytes came."""
+        return min(self.length, 57 + 59 * self.next)
+
+    @property
+    def whole(self) -> bool:
+        """Says whether all bytes came."""
+        return self.came == self.length <= LONGEST
+
+    @property
+    def data(self) -> bytes:
+        """Returns the bytes that came."""
+        return (self.parts[0] if len(self.parts) == 1 else b"".join(self.parts))[: self.length]
+
+    @property
+    def padding(self) -> bytes:
+        """Returns what is behind the message in its last packet."""
+        return b"".join(self.parts)[self.length :]
+
+
+@dataclass(eq=False)
+class Transaction(Part):
+    """A message of a host, except CANCEL, and what became of it."""
+
+    # answered, refused, timed out, dropped, replaced; unknown, forgotten; empty at the log's end.
+    end: str = ""
+    # The code of the ERROR that ended it, and the line of what ended it.
+    code: Optional[int] = None
+    by: Optional[int] = None
+    answer: Optional["Answer"] = None
+    keepalives: List["Entry"] = field(default_factory=list)
+    # The line and the moment of a CANCEL that came while it waited.
+    cancelled: Optional[int] = None
+    cancelled_at: int = 0
+    # The moments of its packets.
+    moments: List[int] = field(default_factory=list)
+
+    @property
+    def began(self) -> int:
+        """Returns the moment of its first packet."""
+        return self.moments[0]
+
+    @property
+    def last(self) -> int:
+        """Returns the moment of its last packet."""
+        return self.moments[len(self.moments) - 1]
+
+    @property
+    def is_unknown(self) -> bool:
+        """Says whether packets don't show how it ended."""
+        return self.end in UNKNOWN
+
+
+@dataclass(eq=False)
+class Answer(Part):
+    """A message of the device."""
+
+    request: Optional[Transaction] = None
+
+
+@dataclass(eq=False)
+class Entry:
+    """A packet: what it is, and which transaction it belongs to."""
+
+    line: int
+    is_host: bool
+    at: int
+    packet: bytes
+    # start, more, wrong number, stray, cancel; keepalive, error, answer.
+    part: str = ""
+    transaction: Optional[Transaction] = None
+    # Of a KEEPALIVE: whether its status is another than before, or time has come.
+    why: str = ""
+    message: Optional[Answer] = None
+
+
+@dataclass
+class Ending:
+    """A word of the walk: a letter, a line that it is about, and the status, the code or the line behind it."""
+
+    letter: int
+    line: int
+    number: int
+
+
+@dataclass
+class Owned:
+    """What the walk says of a line: the first lines of its transaction and its message, 0 for none, and words."""
+
+    transaction: int = 0
+    message: int = 0
+    words: List[Ending] = field(default_factory=list)
+
+
+class Lines:
+    """Reads the lines of a text in pieces, so that its lines aren't all kept at once."""
+
+    def __init__(self, text: bytes) -> None:
+        self.text = text
+        self.at = 0
+        self.rest = b""
+
+    def block(self) -> List[bytes]:
+        """Returns some of the lines, the last one of the text too if it has no line feed; none at the end."""
+        while self.at < len(self.text):
+            lines = (self.rest + self.text[self.at : self.at + BLOCK]).split(b"\n")
+            self.at += BLOCK
+            self.rest = lines.pop()
+            if lines:
+                return lines
+        lines, self.rest, self.at = [self.rest] if self.rest else [], b"", len(self.text)
+        return lines
+
+
+class Owners:
+    """Reads the text of `hidlog_transactions`, beside the lines of its log, before which there are others."""
+
+    def __init__(self, text: bytes, before: int = 0) -> None:
+        self.lines = Lines(text)
+        self.before = before
+        self.ready: List[bytes] = []
+        self.place = 0
+
+    def of(self, number: int) -> Owned:
+        """Returns what is said of a line; lines are asked for in their order."""
+        while True:
+            if self.place == len(self.ready):
+                self.ready, self.place = self.lines.block(), 0
+                if not self.ready:
+                    return Owned()
+            parts = self.ready[self.place].split(b" ")
+            line = self.line(parts[0])
+            if line > number:
+                return Owned()
+            self.place += 1
+            if line == number:
+                return Owned(self.line(parts[1]), self.line(parts[2]), [self.ending(word) for word in parts[3:]])
+
+    def line(self, digits: bytes) -> int:
+        """Returns a line of the whole log, 0 for none."""
+        line = int(digits)
+        return line + self.before if line else 0
+
+    def ending(self, word: bytes) -> Ending:
+        """Reads a word: `s12:46`, `r12:17`, `u12`."""
+        parts = word[1:].split(b":")
+        number = int(parts[1]) if len(parts) > 1 else 0
+        if word[0] in NAMES_LINE:
+            number += self.before
+        return Ending(word[0], self.line(parts[0]), number)
+
+
+class Transactions:
+    """Takes the packets of a log, each with what the walk says of it. `entries` has those that weren't taken from it."""
+
+    def __init__(self) -> None:
+        self.entries: List[Entry] = []
+        self.now = 0
+        # How many packets of each side and transactions there were.
+        self.packets = self.answers = self.count = 0
+        # By their first lines the transactions that may go on, and by channel the device's message that may.
+        self.open: Dict[int, Transaction] = {}
+        self.answering: Dict[int, Answer] = {}
+        # The host's last packet.
+        self.input: Optional[Entry] = None
+
+    @property
+    def is_quiet(self) -> bool:
+        """Says whether nothing that comes may still belong to a packet that was taken."""
+        return not self.open and not self.answering
+
+    def restart(self) -> None:
+        """Forgets what is open: the device lost its power."""
+        self.open, self.answering, self.input = {}, {}, None
+
+    def taken(self) -> List[Entry]:
+        """Returns the entries, and keeps them no longer."""
+        entries, self.entries = self.entries, []
+        return entries
+
+    def pass_time(self, at: int) -> None:
+        """Lets time pass."""
+        self.now = max(self.now, at)
+
+    def host(self, line: int, at: int, packet: bytes, owned: Owned) -> None:
+        """Takes a packet of a host."""
+        self.pass_time(at)
+        self.packets += 1
+        entry = Entry(line, True, self.now, packet)
+        self.input = entry
+        entry.transaction = self.open.get(owned.transaction)
+        if packet[4] == 0x80 | CANCEL:
+            self.cancel(entry)
+        elif packet[4] & 0x80:
+            self.begin(entry)
+        else:
+            self.go_on(entry, owned)
+        self.entries.append(entry)
+        self.take_words(entry, owned.words)
+
+    def device(self, line: int, packet: bytes, owned: Owned) -> None:
+        """Takes a packet of the device."""
+        self.packets += 1
+        self.answers += 1
+        entry = Entry(line, False, self.now, packet)
+        channel = int.from_bytes(packet[:4], "big")
+        entry.transaction = self.open.get(owned.transaction)
+        if packet[4] < 0x80:
+            self.go_on_answering(entry, owned, channel)
+        else:
+            self.answering.pop(channel, None)
+            self.answer(entry, channel)
+        self.entries.append(entry)
+        self.take_words(entry, owned.words)
+
+    def passed(self, line: int, owned: Owned) -> None:
+        """Takes what is said of a tick or a reply."""
+        self.take_words(Entry(line, True, self.now, b""), owned.words)
+
+    def cancel(self, entry: Entry) -> None:
+        """Takes a CANCEL."""
+        entry.part = "cancel"
+        if entry.transaction is not None:
+            entry.transaction.cancelled, entry.transaction.cancelled_at = entry.line, entry.at
+
+    def begin(self, entry: Entry) -> None:
+        """Takes an initialization packet of a host, which begins a transaction."""
+        packet = entry.packet
+        channel, length = int.from_bytes(packet[:4], "big"), packet[5] << 8 | packet[6]
+        begun = Transaction(entry.line, channel, packet[4] & 0x7F, length, [packet[7:]], [entry.line])
+        begun.moments = [self.now]
+        entry.part, entry.transaction = "start", begun
+        self.open[entry.line] = begun
+        self.count += 1
+
+    def go_on(self, entry: Entry, owned: Owned) -> None:
+        """Takes a continuation packet of a host."""
+        owner = entry.transaction
+        if owner is None:
+            entry.part = "stray"
+        elif owned.message == 0:
+            entry.part = "wrong number"
+        else:
+            entry.part = "more"
+            owner.parts.append(entry.packet[5:])
+            owner.lines.append(entry.line)
+            owner.moments.append(self.now)
+
+    def answer(self, entry: Entry, channel: int) -> None:
+        """Takes an initialization packet of the device."""
+        packet, owner = entry.packet, entry.transaction
+        command, length = packet[4] & 0x7F, packet[5] << 8 | packet[6]
+        if command == KEEPALIVE:
+            entry.part = "keepalive"
+            if owner is not None:
+                before = owner.keepalives[-1].packet[7] if owner.keepalives else None
+                entry.why = "time" if before == packet[7] else "status"
+                owner.keepalives.append(entry)
+            return
+        if command == ERROR:
+            entry.part = "error"
+            return
+        answer = Answer(entry.line, channel, command, length, [packet[7:]], [entry.line], owner)
+        entry.part, entry.message = "answer", answer
+        if answer.came < length:
+            self.answering[channel] = answer
+        if owner is not None:
+            owner.answer, owner.end, owner.by = answer, "answered", entry.line
+
+    def go_on_answering(self, entry: Entry, owned: Owned, channel: int) -> None:
+        """Takes a continuation packet of the device."""
+        answer, entry.part = self.answering.get(channel), "stray"
+        if answer is None or answer.line != owned.message:
+            entry.transaction = None
+            return
+        answer.parts.append(entry.packet[5:])
+        answer.lines.append(entry.line)
+        entry.part, entry.transaction, entry.message = "answer", answer.request, answer
+        if answer.came == answer.length:
+            del self.answering[channel]
+
+    def take_words(self, entry: Entry, words: List[Ending]) -> None:
+        """Takes what a line shows of transactions."""
+        for word in words:
+            if word.letter == LATE:
+                self.leave_late(word.line)
+            elif word.line in self.open:
+                self.ended(self.open.pop(word.line), word, entry)
+
+    def ended(self, owner: Transaction, word: Ending, entry: Entry) -> None:
+        """Ends a transaction."""
+        if word.letter == BY_ERROR:
+            owner.end, owner.code, owner.by = "refused", word.number, entry.line
+            if word.number == TIMED_OUT:
+                owner.end = "timed out"
+        elif word.letter not in ANSWERED:
+            owner.end, owner.by = ENDS[word.letter], word.number or entry.line
+
+    def leave_late(self, line: int) -> None:
+        """Takes a continuation packet, the last input, out of a message that had timed out before it came."""
+        entry = self.input
+        if entry is None or entry.line != line or entry.transaction is None:
+            return
+        if entry.part == "more":
+            entry.transaction.parts.pop()
+            entry.transaction.lines.pop()
+            entry.transaction.moments.pop()
+        entry.part, entry.transaction = "stray", None

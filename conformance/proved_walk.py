@@ -1,0 +1,21 @@
+"""Judges logs for the scripts of this folder, by the walk of the C library (release/libhidlog.so.0)."""
+
+from __future__ import annotations
+
+import os
+import sys
+
+sys.path.append(os.path.join(os.path.dirname(os.path.abspath(__file__)), "..", "python", "src"))
+
+from hidlog import logs  # noqa: E402
+from hidlog_conformance import judged_log  # noqa: E402
+
+
+def walk(log: bytes) -> bytes:
+    """Returns which transaction each line of a log belongs to, as `hidlog_transactions` writes it."""
+    return bytes(logs.transactions(log).raise_for_fault().text)
+
+
+def judge(log: bytes) -> judged_log.Recording:
+    """Judges a log."""
+    return judged_log.judge(log, walk)
