@@ -14,6 +14,8 @@ UP, UV, BE, BS, AT, ED = 0x01, 0x04, 0x08, 0x10, 0x40, 0x80
 RESERVED = 0x22
 # The formats of attestation that WebAuthn registers.
 FORMATS = ("packed", "tpm", "android-key", "android-safetynet", "fido-u2f", "apple", "none", "compound")
+# Versions whose rules aren't those of CTAP 2.1.
+DRAFTS = ("FIDO_2_0", "FIDO_2_1_PRE")
 # A PIN may be wrong so often, and a user may fail to be verified by the device.
 MOST_RETRIES, MOST_USER_RETRIES = 8, 25
 MAKE, GET, INFO, RESET, NEXT, SELECTION, BLOBS = 0x01, 0x02, 0x04, 0x07, 0x08, 0x0B, 0x0C
@@ -46,13 +48,18 @@ class Facts:
 
     aaguid: bytes = b""
     algorithms: List[int] = field(default_factory=list)
-    # Whether it names FIDO_2_0 alone, and whether it shows its accounts on a display.
+    # Whether it names no version from FIDO_2_1 on, and whether it shows its accounts on a display.
     old: bool = False
     display: bool = False
     # The first half of each signature by ES256, which is never the same twice, with what it signs.
     halves: Dict[bytes, bytes] = field(default_factory=dict)
     # How far a device protects credentials for which nobody asked it to (credProtect).
     protection: int = 1
+
+
+def is_old(versions: List[Any]) -> bool:
+    """Says whether a device names no version from FIDO_2_1 on: FIDO_2_1_PRE is a draft of it."""
+    return not any(name.startswith("FIDO_2_") and name not in DRAFTS for name in versions if isinstance(name, str))
 
 
 def hold(holds: bool, wanted: str, came: Any) -> None:

@@ -16,17 +16,31 @@ from hidlog_conformance.judged_parts import (
     KeptCredentials,
     Pending,
     Pins,
+    UnsureDiffers,
     judge_extension_answers,
     made_id,
 )
-from hidlog_conformance.judged_stored import BLOB_KEY, BLOBS, MANAGE, StoredJudge
-from hidlog_conformance.requests import FORM, MISSING, PIN, UNKNOWN, fault_of, parameters_of, unknown_parts
+from hidlog_conformance.judged_stored import (
+    BLOB_KEY,
+    BLOBS,
+    DELETE,
+    MANAGE,
+    PREVIEW,
+    UPDATE,
+    StoredJudge,
+    named_in,
+)
+from hidlog_conformance.requests import FORM, MISSING, PIN, UNKNOWN, Fault, fault_of, parameters_of, unknown_parts
 from hidlog_conformance.transactions import NO_TIME_OUT, Entry, Transaction
 
 # Milliseconds: how long a reset is taken after power comes, and how long assertions are pending (6.6, 6.3).
 RESET_WITHIN, PENDING = 10000, 30000
 # So many milliseconds may be between what was recorded and what the key saw.
 JITTER = 100
+# Milliseconds within which nobody deletes a credential otherwise than by what is recorded: on the key, or through NFC.
+DELETED_WITHIN = 1000
+OTHERWISE = "unless it was deleted on the key"
+LIMIT = 0x15
 DENIED, TIMED_OUT, CANCELLED, OTHER = 0x27, 0x2F, 0x2D, 0x7F
 EXCLUDED, NO_CREDENTIALS, NOT_ALLOWED, UNSUPPORTED = 0x19, 0x2E, 0x30, 0x26
 # Statuses that say that a request is wrong by itself (8.2), and those that any request may have.
@@ -52,7 +66,8 @@ class AnswerJudge:
 
     def __init__(self, recording: Recording) -> None:
         self.recording = recording
-        self.facts = Facts()
+        # Until getInfo says that a key has the rules of 2.1 it may have those of 2.0.
+        self.facts = Facts(old=True)
         self.info: Dict[Any, Any] = {}
         self.kept = KeptCredentials()
         self.forgotten: Set[bytes] = set()
@@ -64,6 +79,8 @@ class AnswerJudge:
         self.stored = StoredJudge()
         # Whether all that the key holds is in the log, since a reset.
         self.is_complete = False
+        # Whether it has no display: it says how many accounts there are, which one with a display lets its user choose.
+        self.no_display = False
         # The moment of the last power cycle.
         self.powered: Optional[int] = None
         self.passed_over = ""
@@ -75,10 +92,53 @@ class AnswerJudge:
         self.stored.power_cycle()
         self.powered = at
 
+    def restart(self, at: int, is_likely: bool) -> None:
+        """Takes that the key may have been plugged in again, as a channel that is given out a second time shows."""
+        self.powered = at
+        self.pins.restart()
+        if is_likely:
+            self.pending, self.pins.retries = None, None
+            self.stored.coming = None
+
     def passed(self, it: Transaction) -> None:
         """Takes an answer that can't be read: what it leaves behind isn't known."""
         self.pending, self.is_complete = None, False
         self.pins, self.stored = Pins(), StoredJudge()
+
+    def unanswered(self, transaction: Transaction) -> None:
+        """Takes a request of which packets don't show whether it was done."""
+        if transaction.command == hid.MSG:
+            self.is_complete = False
+        if transaction.command != hid.CBOR or not transaction.data or self.recording.is_cut(transaction):
+            return
+        request = transaction.data
+        asked = parameters_of(request) or {}
+        if request[0] == RESET:
+            self.kept, self.strangers = KeptCredentials(), {}
+            self.passed(transaction)
+        elif request[0] in (MAKE, PIN, MANAGE, PREVIEW, BLOBS):
+            self.passed(transaction)
+            if request[0] == MAKE and fault_of(request) is None:
+                self.forget_account(asked[2]["id"], asked[3]["id"])
+            elif request[0] in (MANAGE, PREVIEW) and asked.get(1) in (DELETE, UPDATE):
+                self.kept.remove(named_in(asked))
+        elif request[0] in (GET, NEXT):
+            self.pending = None
+
+    def forget_account(self, rp: str, user: bytes) -> None:
+        """Forgets the discoverable credential of an account, in the place of which another one may be."""
+        for name, one in list(self.kept.discoverable.get(rp, {}).items()):
+            if one.credential.user == user:
+                self.kept.remove(name)
+
+    def take_u2f(self, request: bytes, data: bytes) -> None:
+        """Takes an answer of U2F: a registration makes a credential that isn't known by its RP's id."""
+        if request[1:2] == b"\1" and data[-2:] == b"\x90\x00":
+            self.is_complete = False
+
+    def is_fresh(self, kept: Kept, transaction: Transaction) -> bool:
+        """Says whether the key showed so lately that it has a credential that nobody can have deleted it since."""
+        return not self.recording.is_timeless and transaction.last - kept.shown < DELETED_WITHIN
 
     def user_needed(self, entry: Entry, it: Transaction) -> None:
         """Judges that the user isn't asked for a request which has to be refused before, or which needs no user."""
@@ -101,7 +161,7 @@ class AnswerJudge:
         elif it.data[0] == GET and options.get("up") is False and self.info and not own.get("alwaysUv"):
             if not options.get("uv"):
                 self.recording.find(entry.line, KEY, section, "an answer without the user, since up is false", came)
-        elif it.data[0] == MAKE and 10 in asked and self.info and not own.get("ep"):
+        elif it.data[0] == MAKE and 10 in asked and self.lacks_enterprise():
             self.recording.find(entry.line, KEY, section, "a refusal, since there is no enterprise attestation", came)
 
     def judge(self, entry: Entry, transaction: Transaction, message: hid.Message) -> None:
@@ -116,17 +176,39 @@ class AnswerJudge:
             if command == PIN:
                 self.pins.judge(request, data)
             elif command in (MANAGE, BLOBS):
-                self.stored.judge(request, data, self.kept, self.pins, self.info)
+                self.judge_stored(transaction, data)
+            elif command == PREVIEW:
+                self.take_preview(request, data)
         except ExtensionDiffers as differs:
             self.recording.find(entry.line, KEY, differs.section, differs.wanted, differs.came)
         except Differs as differs:
             fault = fault_of(request)
-            level = SHOULD if fault is not None and fault.section == "8" else MUST
+            is_should = isinstance(differs, UnsureDiffers) or (fault is not None and fault.section == "8")
+            level = SHOULD if is_should else MUST
             self.recording.judged(self.seen(transaction, expected, message), entry.line, differs, level)
         except (KeyError, TypeError, ValueError, IndexError, AttributeError) as fault:
             shape = Differs("an answer of the standard's shape", said_of(fault))
             self.recording.judged(self.seen(transaction, expected, message), entry.line, shape)
         self.follow(entry, transaction, data)
+
+    def judge_stored(self, transaction: Transaction, data: bytes) -> None:
+        """Judges an answer of credential management, or of large blobs: one that lists fewer credentials may be right."""
+        stored = [one for of_rp in self.kept.discoverable.values() for one in of_rp.values()]
+        try:
+            self.stored.judge(transaction.data, data, self.kept, self.pins, self.info)
+        except Differs as differs:
+            if transaction.data[0] != MANAGE or all(self.is_fresh(one, transaction) for one in stored):
+                raise
+            raise UnsureDiffers(differs.wanted, differs.came) from None
+
+    def take_preview(self, request: bytes, data: bytes) -> None:
+        """Takes an answer of credential management as keys had it before CTAP 2.1: what it deletes or changes."""
+        asked = parameters_of(request)
+        if asked is None or data[0] != 0 or asked.get(1) not in (DELETE, UPDATE):
+            return
+        if asked[1] == DELETE:
+            self.stored.deleted.add(named_in(asked))
+            self.kept.remove(named_in(asked))
 
     def seen(self, transaction: Transaction, expected: str, message: hid.Message) -> rules.Seen:
         """Returns what the corpus's rules look at: of a request that has no fault its command's section is the own."""
@@ -143,7 +225,7 @@ class AnswerJudge:
         fault = fault_of(it.data)
         if fault is not None:
             if not fault.should:
-                self.judge_refusal(fault.kind, fault.due, status)
+                self.judge_refusal(command, fault, status)
             return
         self.judge_user(entry, it, data)
         if command in FIT and status not in (*FIT[command], *ANY):
@@ -159,11 +241,10 @@ class AnswerJudge:
             self.judge_next_status(entry, it, status)
         elif command == RESET:
             elapsed = it.last - (self.powered if self.powered is not None else self.recording.start or 0)
-            hold(
-                status != 0 or elapsed <= RESET_WITHIN + JITTER,
-                "status 30, 10 s after power came",
-                f"status 00 after {elapsed} ms",
-            )
+            if status == 0 and elapsed > RESET_WITHIN + JITTER and not self.recording.is_timeless:
+                came = f"status 00 after {elapsed} ms"
+                hold(not self.no_display, "status 30, 10 s after power came", came)
+                raise UnsureDiffers("status 30, 10 s after power came, unless the key has a display", came)
 
     def judge_user(self, entry: Entry, it: Transaction, data: bytes) -> None:
         """Judges that the user was asked before an answer that needs it: packets show no touch, but KEEPALIVEs."""
@@ -187,14 +268,15 @@ class AnswerJudge:
         said = "a test of the user's presence before it, as a KEEPALIVE with 02 shows it"
         self.recording.find(entry.line, KEY, section, said, f"status {status:02x} at once", SHOULD)
 
-    def judge_refusal(self, kind: str, due: str, status: int) -> None:
+    def judge_refusal(self, command: int, fault: Fault, status: int) -> None:
         """Judges that a faulty request is refused, and by the status that is for it."""
-        wanted = {UNKNOWN: (0x01,), MISSING: (0x14,)}.get(kind, ())
-        if kind == MISSING and status not in (0, *wanted, *ANY):
-            raise Differs(f"status 14, since it lacks {due}", f"status {status:02x}")
-        if kind == UNKNOWN and status not in (*wanted, *ANY):
+        # A key needn't have every command.
+        unknown = () if command in (MAKE, GET, INFO) else (0x01,)
+        if fault.kind == MISSING and status not in (0, 0x14, *unknown, *ANY):
+            raise Differs(f"status 14, since it lacks {fault.due}", f"status {status:02x}")
+        if fault.kind == UNKNOWN and status not in (0x01, *ANY):
             raise Differs("status 01", f"status {status:02x}")
-        hold(status != 0 or kind not in (FORM, MISSING), f"a refusal, since {due} is due", "status 00")
+        hold(status != 0 or fault.kind not in (FORM, MISSING), f"a refusal, since {fault.due} is due", "status 00")
 
     def judge_form(self, it: Transaction, status: int) -> None:
         """Judges that a request which lacks nothing isn't refused as one that does."""
@@ -207,6 +289,8 @@ class AnswerJudge:
             return
         if self.stored.is_refused(asked, status, it.data[0] == MAKE, self.info):
             return
+        if status == LIMIT and self.has_long_list(asked.get(5 if it.data[0] == MAKE else 3, [])):
+            return
         strange = unknown_parts(it.data[0], asked)
         # A PIN, enterprise attestation and what a key can't serve have refusals of their own.
         own = {8, 9, 10} if it.data[0] == MAKE else {6, 7}
@@ -218,6 +302,12 @@ class AnswerJudge:
         self.passed_over = "" if not strange or strange[0].startswith("the option") else strange[0]
         said = f" passes over {strange[0]}" if strange else " takes a request that lacks nothing"
         raise Differs(f"a key that{said}", f"status {status:02x}")
+
+    def has_long_list(self, listed: List[Any]) -> bool:
+        """Says whether a list has more or longer ids than the key takes at a time (6.4: maxCredentialCountInList,
+        maxCredentialIdLength); what it doesn't say isn't known."""
+        count, length = self.info.get(7, 1), self.info.get(8)
+        return len(listed) > count or any(length is None or len(entry["id"]) > length for entry in listed)
 
     def wrong_option(self, command: int, asked: Dict[Any, Any], options: Dict[str, Any]) -> str:
         """Returns an option that can't be served: rk at a sign-in, up false at a registration, uv where it isn't."""
@@ -241,7 +331,10 @@ class AnswerJudge:
         """Judges the status of a registration."""
         asked = parameters_of(it.data) or {}
         excluded = self.listed(asked, 5, asked[2]["id"])
-        hold(status != 0 or not excluded, "status 19, since the list has a credential of this key", "status 00")
+        if status == 0 and excluded:
+            said = "status 19, since the list has a credential of this key"
+            hold(not any(self.is_fresh(one, it) for one in excluded), said, "status 00")
+            raise UnsureDiffers(f"{said}, {OTHERWISE}", "status 00")
         hold(status != EXCLUDED or bool(asked.get(5)), "no status 19, since there is no list", "status 19")
         if status == EXCLUDED and not excluded:
             names = [one["id"] for one in asked[5] if one["type"] == "public-key"]
@@ -262,12 +355,16 @@ class AnswerJudge:
         found = [self.kept.get(entry["id"]) for entry in asked.get(key, [])]
         return any(one is not None and "credProtect" in one.extensions for one in found)
 
+    def lacks_enterprise(self) -> bool:
+        """Says whether the key has to refuse enterprise attestation (6.1.2, step 9): one of 2.0 passes the member over."""
+        return bool(self.info) and not self.facts.old and not self.info.get(4, {}).get("ep")
+
     def judge_capabilities(self, asked: Dict[Any, Any], status: int) -> None:
         """Judges a registration by what getInfo says: rk, a PIN, enterprise attestation."""
         options, own = asked.get(7, {}), self.info.get(4, {})
         if options.get("rk") and own.get("rk"):
             hold(status != 0x2B, "a discoverable credential, since getInfo names rk", "status 2b")
-        if 10 in asked and self.info and not own.get("ep"):
+        if 10 in asked and self.lacks_enterprise():
             hold(status != 0, "a refusal, since there is no enterprise attestation", "status 00")
         if (
             options.get("rk")
@@ -291,8 +388,10 @@ class AnswerJudge:
         used = self.identity(asked, parameters_of(data) or {}) if status == 0 else b""
         if used in self.forgotten:
             raise ExtensionDiffers("6.6", "no credential from before the reset", used.hex())
-        if mine and self.facts.protection < 2:
-            hold(status != NO_CREDENTIALS, "an assertion, since the key made a credential for it", "status 2e")
+        if mine and self.facts.protection < 2 and status == NO_CREDENTIALS:
+            said = "an assertion, since the key made a credential for it"
+            hold(not any(self.is_fresh(one, it) for one in mine), said, "status 2e")
+            raise UnsureDiffers(f"{said}, {OTHERWISE}", "status 2e")
         if status == 0 and self.is_complete and not mine and not self.is_protected(asked):
             raise Differs("status 2e, since the key has no credential for it", "status 00")
         if not mine and self.is_complete and status not in (0, NO_CREDENTIALS, *ANY, TIMED_OUT) and status < 0x31:
@@ -336,7 +435,7 @@ class AnswerJudge:
         self.facts.aaguid = item[3]
         self.facts.algorithms = [one["alg"] for one in item.get(10, [])]
         self.pins.judge_info(item)
-        self.facts.old = not any(name.startswith("FIDO_2_1") for name in item[1])
+        self.facts.old = answers.is_old(item[1])
 
     def judge_made(self, transaction: Transaction, data: bytes) -> None:
         """Judges a registration, and keeps its credential."""
@@ -349,8 +448,12 @@ class AnswerJudge:
         asked = answers.parameters(request)
         judge_extension_answers(MAKE, data, asked, self.info, {})
         self.replace(made, asked)
+        if self.recording.has_lost:
+            self.is_complete = False
         extensions = {name: value for name, value in asked.get(6, {}).items()}
-        self.kept.add(Kept(made, bool(asked.get(7, {}).get("rk")), extensions))
+        kept = Kept(made, bool(asked.get(7, {}).get("rk")), extensions)
+        kept.shown = transaction.last
+        self.kept.add(kept)
         self.stored.judge_key(data, self.served(extensions), made.id, 5, True)
 
     def served(self, extensions: Dict[str, Any]) -> Dict[str, Any]:
@@ -402,9 +505,10 @@ class AnswerJudge:
         answers.judge_asserted(data, request, words, known, None, self.facts)
         extensions = kept.extensions if kept is not None else {}
         judge_extension_answers(GET, data, asked, self.info, extensions)
+        self.judge_account(transaction, item, follows, identity)
         if kept is not None:
+            kept.shown = transaction.last
             self.stored.judge_key(data, self.served(asked.get(4, {})), identity, 7, BLOB_KEY in extensions)
-        self.judge_account(asked, item, follows, identity)
 
     def judge_series(self, item: Dict[Any, Any], follows: bool, identity: bytes) -> None:
         """Judges an assertion that follows another: another credential, the same flags, no number."""
@@ -449,44 +553,60 @@ class AnswerJudge:
             words.append("no-number")
         return words
 
-    def judge_account(self, asked: Dict[Any, Any], item: Dict[Any, Any], follows: bool, identity: bytes) -> None:
+    def judge_account(self, transaction: Transaction, item: Dict[Any, Any], follows: bool, identity: bytes) -> None:
         """Judges the user and the number of accounts, where the log knows them."""
-        hold(item.get(5) != 1, "no numberOfCredentials of one", item)
-        if asked.get(3):
+        asked = parameters_of(transaction.data) or {}
+        if item.get(5) == 1:
+            # 2.0 asks for it with more than one account, and doesn't say what it is with one.
+            kind = UnsureDiffers if self.facts.old else Differs
+            raise kind("no numberOfCredentials of one", ctap_cbor.shown(item))
+        if follows or asked.get(3):
             return
         mine, kept = self.candidates(asked), self.kept.get(identity)
-        if kept is not None and not follows:
+        if kept is not None:
             words = ["user", kept.credential.user.hex()]
             answers.judge_user(item, words, self.facts)
-        names = [one.credential.id for one in mine]
-        if not follows and names and identity in names and not self.is_protected(asked):
+            if not kept.discoverable:
+                self.recording.find(0, KEY, "6.2.2", "a discoverable credential", identity.hex(), SHOULD)
+        is_sure = all(self.is_fresh(one, transaction) for one in mine)
+        try:
+            self.judge_newest(asked, item, [one.credential.id for one in mine], identity)
+        except Differs as differs:
+            if is_sure:
+                raise
+            raise UnsureDiffers(f"{differs.wanted}, {OTHERWISE}", differs.came) from None
+
+    def judge_newest(self, asked: Dict[Any, Any], item: Dict[Any, Any], names: List[bytes], identity: bytes) -> None:
+        """Judges that the newest of an RP's credentials signs, and that the answer says how many there are."""
+        if identity in names and not self.is_protected(asked):
             hold(identity == names[-1], f"the newest credential, {names[-1].hex()}", identity)
-        if not follows and len(mine) > 1 and self.facts.protection < 2 and item.get(6) is not True:
+        if len(names) > 1 and self.facts.protection < 2 and item.get(6) is not True:
             number = item.get(5)
-            hold(isinstance(number, int), f"numberOfCredentials of at least {len(mine)}", item)
-            hold(isinstance(number, int) and number >= len(mine), f"numberOfCredentials of at least {len(mine)}", item)
-            hold(not self.is_complete or number == len(mine), f"numberOfCredentials {len(mine)}", item)
-        if kept is not None and not kept.discoverable:
-            self.recording.find(0, KEY, "6.2.2", "a discoverable credential", identity.hex(), SHOULD)
+            hold(isinstance(number, int), f"numberOfCredentials of at least {len(names)}", item)
+            least = isinstance(number, int) and number >= len(names)
+            hold(least, f"numberOfCredentials of at least {len(names)}", item)
+            hold(not self.is_complete or number == len(names), f"numberOfCredentials {len(names)}", item)
 
     def follow(self, entry: Entry, it: Transaction, data: bytes) -> None:
         """Keeps what an answer leaves behind."""
         command, status = it.data[0], data[0]
         if command == RESET and status == 0:
             self.forgotten.update(list(self.kept.by_id))
-            self.kept, self.is_complete = KeptCredentials(), True
+            # In 2.0 a reset doesn't say that credentials of U2F end with it.
+            self.kept, self.is_complete = KeptCredentials(), not self.facts.old and not self.recording.has_lost
             self.pins, self.pending = Pins(is_set=False), Pending(b"", 0, entry.at)
             self.stored.reset()
         elif command == GET and status == 0:
             item = parameters_of(data) or {}
             number, auth = item.get(5), item.get(2)
+            self.no_display = self.no_display or (isinstance(number, int) and number > 1)
             left = number - 1 if isinstance(number, int) else 0
             flags = auth[32] if isinstance(auth, bytes) and len(auth) > 32 else 0
             signed = [self.identity(parameters_of(it.data) or {}, item)]
             self.pending = Pending(it.data, left, entry.at, it.channel, True, signed, flags)
         elif command == NEXT and status == 0 and self.pending is not None:
             self.pending.left, self.pending.at = self.pending.left - 1, entry.at
-        elif command != NEXT and self.pending is not None:
+        elif self.pending is not None and (command != NEXT or status != NOT_ALLOWED):
             if command == GET:
                 self.pending = Pending(b"", 0, entry.at)
             elif command == MAKE and status == 0:

@@ -39,6 +39,10 @@ class HostJudge:
         """Keeps a finding."""
         self.recording.find(line, HOST, section, due, came, level)
 
+    def find_gap(self, line: int, section: str, due: str, came: str) -> None:
+        """Keeps a finding of what is missing or out of order."""
+        self.recording.find_gap(line, HOST, section, due, came)
+
     def take(self, entry: Entry) -> None:
         """Takes a packet."""
         channel = entry.packet[:4]
@@ -106,9 +110,9 @@ class HostJudge:
         """Judges that a channel has one transaction at a time."""
         came = f"a new message while that of line {before.line} is under way"
         if not before.whole:
-            self.find(entry.line, rules.SEQUENCE, f"the other packets of the message of line {before.line}", came)
+            self.find_gap(entry.line, rules.SEQUENCE, f"the other packets of the message of line {before.line}", came)
         elif entry.at - before.last < 60000:
-            self.find(entry.line, rules.BUSY, "the answer first, or CANCEL or INIT", came)
+            self.find_gap(entry.line, rules.BUSY, "the answer first, or CANCEL or INIT", came)
 
     def judge_continuation(self, entry: Entry, channel: bytes) -> None:
         """Judges a continuation packet that belongs to nothing. Those of a message that is refused meanwhile are under
@@ -119,10 +123,10 @@ class HostJudge:
             refused.parts.append(entry.packet[5:])
             return
         if entry.part == "stray" and not self.timed_out(channel, number):
-            self.find(entry.line, rules.SEQUENCE, "a message that is open", f"continuation packet {number}")
+            self.find_gap(entry.line, rules.SEQUENCE, "a message that is open", f"continuation packet {number}")
         elif entry.transaction is not None:
             wanted = f"continuation packet {len(self.numbered(entry)) - 1}"
-            self.find(entry.line, rules.SEQUENCE, wanted, f"continuation packet {number}")
+            self.find_gap(entry.line, rules.SEQUENCE, wanted, f"continuation packet {number}")
 
     def timed_out(self, channel: bytes, number: int) -> bool:
         """Says whether a message timed out just before its next packet came: the host couldn't know."""

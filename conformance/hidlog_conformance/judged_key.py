@@ -8,7 +8,7 @@ from hidlog_conformance import hid_packets as hid
 from hidlog_conformance import rules
 from hidlog_conformance.answers import Differs
 from hidlog_conformance.greeting import CBOR, NMSG, WINK, is_lawful_keepalive, judge_greeting
-from hidlog_conformance.judged_answers import AnswerJudge
+from hidlog_conformance.judged_answers import JITTER, AnswerJudge
 from hidlog_conformance.judged_parts import judge_u2f
 from hidlog_conformance.judged_log import KEY, MUST, SHOULD, SILENCE, Recording, message_of, seen
 from hidlog_conformance.transactions import (
@@ -23,8 +23,13 @@ from hidlog_conformance.transactions import (
 
 # Milliseconds after which a message that isn't finished should have been dropped.
 PATIENCE = 3000
+# Milliseconds that a key which is plugged in again is away at least: so long its contacts are debounced (USB 2.0,
+# 7.1.7.3).
+AWAY = 100
 OTHER_ERROR = 0x7F
 SERVED = (hid.PING, hid.MSG, hid.LOCK, hid.INIT, hid.WINK, hid.CBOR)
+# Commands that a device needn't have.
+OPTIONAL = (hid.MSG, hid.LOCK, hid.WINK)
 # So many transactions are followed that have no end yet, and so many messages of the key: the oldest make way. A device
 # has one at a time.
 MOST_OPEN = 64
@@ -56,12 +61,21 @@ class KeyJudge:
         # When each channel's unfinished message of the key went on, and at which line.
         self.parts: Dict[int, Entry] = {}
         self.missed: Set[int] = set()
+        # Channels on which packets don't show which message of the host was answered.
+        self.unsure: Set[bytes] = set()
+        # The moment of the key's last packet, and until when which channel locks out the others.
+        self.sent_at: Optional[int] = None
+        self.locked: Tuple[int, int] = (0, 0)
         # By a transaction's first line the moment of the last KEEPALIVE for it, of those under way.
         self.heard: Dict[int, int] = {}
 
     def find(self, line: int, section: str, due: str, came: str, level: str = MUST) -> None:
         """Keeps a finding."""
         self.recording.find(line, KEY, section, due, came, level)
+
+    def find_gap(self, line: int, section: str, due: str, came: str, level: str = MUST, also: str = "") -> None:
+        """Keeps a finding of what is missing or out of order."""
+        self.recording.find_gap(line, KEY, section, due, came, level, also)
 
     def take(self, entry: Entry) -> None:
         """Takes a packet of either side."""
@@ -76,8 +90,13 @@ class KeyJudge:
 
     def power_cycle(self, at: int) -> None:
         """Forgets what ends with the power."""
-        self.guest, self.open, self.given, self.parts = hid.Collector(), [], {}, {}
+        self.forget()
         self.answers.power_cycle(at)
+
+    def forget(self) -> None:
+        """Forgets what the key forgets without power."""
+        self.guest, self.open, self.given, self.parts = hid.Collector(), [], {}, {}
+        self.unsure, self.locked = set(), (0, 0)
 
     def take_input(self, entry: Entry) -> None:
         """Keeps a packet of the host."""
@@ -86,6 +105,10 @@ class KeyJudge:
             self.open.append(entry.transaction)
             if len(self.open) > MOST_OPEN:
                 self.open.pop(0)
+            if entry.transaction.is_unknown:
+                self.unsure.add(entry.packet[:4])
+            if entry.transaction.end not in ("answered", "refused", "timed out"):
+                self.answers.unanswered(entry.transaction)
         elif entry.part == "wrong number" and entry.transaction is not None:
             if entry.transaction.line not in self.disturbed:
                 self.disturbed.add(entry.transaction.line)
@@ -98,11 +121,16 @@ class KeyJudge:
     def take_sent(self, entry: Entry) -> None:
         """Judges a packet of the key."""
         self.judge_unfinished(entry)
+        if entry.transaction is not None and not entry.transaction.is_unknown and entry.part == "answer":
+            self.unsure = {channel for channel in self.unsure if channel != entry.packet[:4]}
         self.judge_packet(entry)
-        if entry.message is not None and entry.message.lines[-1] == entry.line and entry.message.whole:
-            self.judge_whole(entry)
+        if entry.message is not None and entry.message.lines[-1] == entry.line:
+            if entry.message.whole:
+                self.judge_whole(entry)
+            elif entry.transaction is not None:
+                self.answers.unanswered(entry.transaction)
         self.close(entry)
-        self.is_first = False
+        self.is_first, self.sent_at = False, entry.at
 
     def judge_packet(self, entry: Entry) -> None:
         """Judges a packet of the key by itself, and what it begins."""
@@ -115,7 +143,7 @@ class KeyJudge:
                 del self.parts[list(self.parts)[0]]
         elif message.problem:
             said, came = "the packets of a message in their order", message.problem
-            self.recording.find(entry.line, KEY, rules.PACKETS, said, came, MUST, rules.SEQUENCE)
+            self.find_gap(entry.line, rules.PACKETS, said, came, MUST, rules.SEQUENCE)
         elif any(message.padding):
             self.find(entry.line, rules.PACKETS, "zeros behind the message", message.padding.hex(), SHOULD)
         if entry.part == "keepalive":
@@ -150,10 +178,12 @@ class KeyJudge:
         if not is_lawful_keepalive(data):
             said = "a KEEPALIVE of one byte, 01 or 02, for a request"
             self.find(entry.line, rules.KEEPALIVE, said, f"KEEPALIVE {data[:8].hex()}")
-        elif entry.transaction is None and not self.is_late_start(entry):
-            section = rules.ABORT if self.was_aborted(entry) else rules.KEEPALIVE
-            self.find(entry.line, section, "a KEEPALIVE of a request that waits", "nothing waits on this channel")
-        elif entry.transaction is not None and entry.transaction.command == hid.CBOR:
+        elif entry.transaction is None:
+            if not self.is_late_start(entry) and entry.packet[:4] not in self.unsure:
+                section = rules.ABORT if self.was_aborted(entry) else rules.KEEPALIVE
+                said = "a KEEPALIVE of a request that waits"
+                self.find_gap(entry.line, section, said, "nothing waits on this channel")
+        elif entry.transaction.command == hid.CBOR:
             self.judge_cancelled_on(entry, entry.transaction)
             if data == b"\2" and not self.recording.is_cut(entry.transaction):
                 self.answers.user_needed(entry, entry.transaction)
@@ -198,45 +228,52 @@ class KeyJudge:
     def judge_stray_error(self, entry: Entry) -> None:
         """Judges an ERROR that nothing of its channel is for."""
         last = self.last.get(entry.packet[:4])
-        if last is None and self.recording.is_of_one_client:
+        if (last is None and self.recording.is_of_one_client) or entry.packet[:4] in self.unsure:
             return
         came = f"ERROR {entry.packet[7]:02x}"
         if last is None:
             if not self.is_first and not self.is_late_start(entry):
-                self.find(entry.line, rules.ERROR, "an ERROR for something", came)
+                self.find_gap(entry.line, rules.ERROR, "an ERROR for something", came)
             elif self.open and not self.is_first:
-                self.find(entry.line, rules.BUSY, "an ERROR on the channel of the message that is refused", came)
+                self.find_gap(entry.line, rules.BUSY, "an ERROR on the channel of the message that is refused", came)
         elif last.packet[4] == 0x80 | hid.CANCEL:
-            self.find(entry.line, rules.CANCEL, "no answer to CANCEL", came)
+            self.find_gap(entry.line, rules.CANCEL, "no answer to CANCEL", came)
         elif last.part == "stray":
-            self.find(entry.line, rules.SEQUENCE, "no answer to a continuation packet of no message", came)
+            self.find_gap(entry.line, rules.SEQUENCE, "no answer to a continuation packet of no message", came)
         else:
             section = rules.ABORT if self.was_aborted(entry) else rules.ERROR
-            self.find(entry.line, section, "an ERROR for something", came)
+            self.find_gap(entry.line, section, "an ERROR for something", came)
 
-    def due_codes(self, it: Transaction, entry: Entry) -> "tuple[int, ...]":
+    def due_codes(self, owner: Transaction, entry: Entry) -> Tuple[int, ...]:
         """Returns which codes fit a message that is refused; none where nothing in the log calls for an ERROR."""
-        if it.channel == 0 or (it.channel == hid.BROADCAST and it.command != hid.INIT):
+        if owner.channel == 0 or (owner.channel == hid.BROADCAST and owner.command != hid.INIT):
             return (0x0B,)
-        wrong_length = it.length > hid.LONGEST or (it.command == hid.INIT and it.length != 8)
-        wrong_length = wrong_length or (it.command == hid.CBOR and it.length == 0)
-        others = [one for one in self.open if one is not it and one.line < it.line and one.channel != it.channel]
-        own = [one for one in self.open if one is not it and one.line < it.line and one.channel == it.channel]
-        own = [one for one in own if one.command != hid.INIT]
-        strange = (0x0B,) if it.channel not in self.given and it.channel != hid.BROADCAST else ()
-        while_other = (BUSY,) if others else (BUSY, 0x04) if own else ()
-        if wrong_length:
-            first = (0x03, INVALID_COMMAND) if it.command not in SERVED else (0x03,)
-            return (*first, *strange, *while_other)
-        if it.command not in SERVED:
-            return (INVALID_COMMAND, *strange, *while_other)
-        if others and it.command != hid.INIT:
-            return (BUSY, *strange)
-        if own and it.command != hid.INIT:
-            return (BUSY, 0x04, *strange)
-        return strange or self.due_of_open(it, entry)
+        before = [one for one in self.open if one is not owner and one.line < owner.line]
+        own = [one for one in before if one.channel == owner.channel and one.command != hid.INIT]
+        others = [one for one in before if one.channel != owner.channel]
+        busy: Tuple[int, ...] = (BUSY,) if others or own or self.is_locked_out(owner) else ()
+        busy = (*busy, 0x04) if own else busy
+        strange = (0x0B,) if owner.channel not in self.given and owner.channel != hid.BROADCAST else ()
+        wrong_length = owner.length > hid.LONGEST or (owner.command == hid.INIT and owner.length != 8)
+        if wrong_length or (owner.command == hid.CBOR and owner.length == 0):
+            first = (0x03, INVALID_COMMAND) if owner.command not in SERVED else (0x03,)
+            return (*first, *strange, *busy)
+        if owner.command not in SERVED:
+            return (INVALID_COMMAND, *strange, *busy)
+        if busy and owner.command != hid.INIT:
+            optional = (INVALID_COMMAND,) if owner.command in OPTIONAL else ()
+            return (*busy, *strange, *optional, *self.due_of_open(owner, entry))
+        if strange and owner.command in OPTIONAL:
+            return (*strange, INVALID_COMMAND)
+        return strange or self.due_of_open(owner, entry)
 
-    def due_of_open(self, it: Transaction, entry: Entry) -> "tuple[int, ...]":
+    def is_locked_out(self, transaction: Transaction) -> bool:
+        """Says whether another channel may have the lock (11.2.9.2.2)."""
+        channel, until = self.locked
+        has_time = self.recording.is_timeless or transaction.began <= until
+        return channel != 0 and channel != transaction.channel and has_time
+
+    def due_of_open(self, it: Transaction, entry: Entry) -> Tuple[int, ...]:
         """Returns which codes fit an unfinished message: after a packet of another number, or after a while."""
         last = self.last.get(entry.packet[:4])
         if it.whole:
@@ -250,7 +287,7 @@ class KeyJudge:
     def judge_refusal(self, entry: Entry, it: Transaction) -> None:
         """Judges an ERROR of a message that nothing in the log speaks against."""
         code = entry.packet[7]
-        if code == OTHER_ERROR or (code == BUSY and self.recording.is_of_one_client):
+        if code == OTHER_ERROR or (code == BUSY and (self.recording.is_of_one_client or self.is_locked_out(it))):
             return
         if it.command in (hid.MSG, hid.WINK, hid.LOCK):
             self.judge_capability(it, code)
@@ -312,7 +349,7 @@ class KeyJudge:
     def judge_unasked(self, entry: Entry, command: int, name: str) -> None:
         """Judges a message that answers nothing."""
         last = self.last.get(entry.packet[:4])
-        if (last is None and self.is_first) or entry.line in self.recording.cut:
+        if (last is None and self.is_first) or entry.line in self.recording.cut or entry.packet[:4] in self.unsure:
             return
         if entry.packet[:4] == b"\xff" * 4 and command != hid.INIT:
             self.find(
@@ -324,27 +361,27 @@ class KeyJudge:
         if command == hid.INIT:
             waiting = [it for it in self.open if it.command == hid.INIT]
             came = f"nonce {entry.packet[7:15].hex()} on {entry.packet[:4].hex()}"
-            self.find(entry.line, rules.INIT, self.due_greeting(waiting), came)
+            self.find_gap(entry.line, rules.INIT, self.due_greeting(waiting), came)
             return
         on_channel = [it for it in self.open if it.channel.to_bytes(4, "big") == entry.packet[:4]]
         if on_channel and on_channel[-1].whole:
             held = on_channel[-1]
-            self.find(
+            self.find_gap(
                 entry.line, rules.OF_COMMAND.get(held.command, rules.ERROR), "an answer of the same command", name
             )
         elif on_channel:
-            self.find(entry.line, rules.SEQUENCE, "no answer before the message is whole", name)
+            self.find_gap(entry.line, rules.SEQUENCE, "no answer before the message is whole", name)
         elif self.was_aborted(entry):
-            self.find(entry.line, rules.ABORT, "no answer of what INIT ended", name)
+            self.find_gap(entry.line, rules.ABORT, "no answer of what INIT ended", name)
         elif last is not None and last.packet[4] == 0x80 | hid.CANCEL:
-            self.find(entry.line, rules.CANCEL, "no answer to CANCEL", name)
+            self.find_gap(entry.line, rules.CANCEL, "no answer to CANCEL", name)
         elif last is not None and last.part == "stray":
-            self.find(entry.line, rules.SEQUENCE, "no answer to a continuation packet of no message", name)
+            self.find_gap(entry.line, rules.SEQUENCE, "no answer to a continuation packet of no message", name)
         elif last is None and any(it.command == command and it.whole for it in self.open):
             came = f"{name} on {entry.packet[:4].hex()}"
-            self.find(entry.line, rules.CHANNELS, "an answer on the channel that asked", came)
+            self.find_gap(entry.line, rules.CHANNELS, "an answer on the channel that asked", came)
         elif last is not None:
-            self.find(entry.line, rules.OF_COMMAND.get(command, rules.ERROR), "an answer of something", name)
+            self.find_gap(entry.line, rules.OF_COMMAND.get(command, rules.ERROR), "an answer of something", name)
 
     def due_greeting(self, waiting: List[Transaction]) -> str:
         """Says which INIT answer was due."""
@@ -375,6 +412,10 @@ class KeyJudge:
                 self.judge_capability(transaction, None)
                 if message.command == hid.MSG:
                     judge_u2f(transaction.data, message.data)
+                    self.answers.take_u2f(transaction.data, message.data)
+            elif message.command == hid.LOCK and len(transaction.data) == 1:
+                seconds = transaction.data[0]
+                self.locked = (transaction.channel if seconds else 0, entry.at + 1000 * seconds + JITTER)
         except Differs as differs:
             expected = {hid.INIT: "init", hid.MSG: "message"}.get(message.command, "echo")
             self.recording.judged(seen(transaction, expected, message), entry.line, differs)
@@ -384,12 +425,24 @@ class KeyJudge:
         data = message.data
         if len(data) == 17:
             data = data[:16] + bytes([data[16] | CBOR])
+            if transaction.channel == hid.BROADCAST:
+                self.judge_restart(entry, int.from_bytes(data[8:12], "big"))
         channel = judge_greeting(data, transaction.data, transaction.channel, self.given)
         self.given[channel] = entry.line
         self.capabilities[channel] = message.data[16]
         if not message.data[16] & CBOR:
             self.without_cbor.append((entry.line, transaction, message))
             self.judge_without_cbor()
+
+    def judge_restart(self, entry: Entry, channel: int) -> None:
+        """Takes that the key may have been plugged in again before it gave out a channel, if it was silent for long
+        enough: with a channel that it gave out before it has been, or breaks the rule."""
+        away = self.recording.is_timeless or self.sent_at is None or entry.at - self.sent_at >= AWAY
+        if away and channel in self.given:
+            self.forget()
+            self.answers.restart(entry.at, True)
+        elif away:
+            self.answers.restart(entry.at, False)
 
     def judge_without_cbor(self) -> None:
         """Judges the answers of INIT that don't name CBOR, once CBOR was answered."""
@@ -447,7 +500,8 @@ class KeyJudge:
                 part = self.guest.open.get(channel)
                 left = part.length - len(part.data) if part is not None else 0
                 due = f"the other {left} bytes of the message"
-                self.recording.find(entry.line, KEY, rules.PACKETS, due, "nothing", MUST, rules.SEQUENCE)
+                if entry.message is None or entry.message.lines[-1] <= entry.line:
+                    self.find_gap(entry.line, rules.PACKETS, due, "nothing", MUST, rules.SEQUENCE)
                 del self.parts[channel]
 
     def is_silent(self, owner: Transaction, now: int, line: int) -> bool:
@@ -459,36 +513,36 @@ class KeyJudge:
         heard = self.heard.get(owner.line, owner.last)
         return now - heard >= SILENCE
 
-    def missing(self, it: Transaction) -> None:
+    def missing(self, owner: Transaction) -> None:
         """Keeps that an answer is missing, under the rule that calls for it."""
-        line, others = it.lines[-1], [one for one in self.open if one is not it and one.line < it.line]
-        others = [one for one in others if one.channel != it.channel and one.command != hid.INIT]
-        if it.channel in (0, hid.BROADCAST) and it.command != hid.INIT:
-            self.find(line, rules.CHANNELS, "error 0b", "nothing")
-        elif it.length > hid.LONGEST:
-            self.find(line, rules.PACKETS, "error 03", "nothing")
-        elif self.was_cancelled_inside(it):
-            self.find(line, rules.CANCEL, "an answer, since CANCEL drops no message that comes in", "nothing")
-        elif it.command == hid.INIT:
-            self.find(line, rules.INIT if it.length == 8 else rules.PACKETS, "an answer of INIT", "nothing")
-        elif it.command not in SERVED:
-            self.find(line, rules.ERROR, "error 01", "nothing")
-        elif others:
-            self.find(line, rules.BUSY, f"error 06, since line {others[0].line} has the device", "nothing")
-        elif self.given and it.channel not in self.given:
-            self.find(line, rules.CHANNELS, "error 0b, or an answer", "nothing")
-        elif it.cancelled is not None:
-            self.find(line, rules.CANCEL, "the answer 2d, since CANCEL came", "nothing")
-        elif it.command == hid.CBOR and it.length:
-            self.find(
-                line,
-                rules.KEEPALIVE,
-                "an answer, or KEEPALIVEs each 100 ms",
-                "nothing",
-                SHOULD if it.keepalives else MUST,
-            )
-        else:
-            self.find(line, rules.OF_COMMAND.get(it.command, rules.ERROR), "an answer", "nothing")
+        section, due, level = self.due_answer(owner)
+        # One that comes later was slow: no rule says how slow a device may be, but for KEEPALIVEs, which it should send.
+        level = SHOULD if owner.end in ("answered", "refused", "timed out") else level
+        self.find_gap(owner.lines[-1], section, due, "nothing", level)
+
+    def due_answer(self, owner: Transaction) -> Tuple[str, str, str]:
+        """Returns which answer is missing: its rule, what is due, and the level."""
+        others = [one for one in self.open if one is not owner and one.line < owner.line]
+        others = [one for one in others if one.channel != owner.channel and one.command != hid.INIT]
+        if owner.channel in (0, hid.BROADCAST) and owner.command != hid.INIT:
+            return rules.CHANNELS, "error 0b", MUST
+        if owner.length > hid.LONGEST:
+            return rules.PACKETS, "error 03", MUST
+        if self.was_cancelled_inside(owner):
+            return rules.CANCEL, "an answer, since CANCEL drops no message that comes in", MUST
+        if owner.command == hid.INIT:
+            return rules.INIT if owner.length == 8 else rules.PACKETS, "an answer of INIT", MUST
+        if owner.command not in SERVED:
+            return rules.ERROR, "error 01", MUST
+        if others:
+            return rules.BUSY, f"error 06, since line {others[0].line} has the device", MUST
+        if self.given and owner.channel not in self.given:
+            return rules.CHANNELS, "error 0b, or an answer", MUST
+        if owner.cancelled is not None:
+            return rules.CANCEL, "the answer 2d, since CANCEL came", MUST
+        if owner.command in (hid.CBOR, hid.MSG) and owner.length:
+            return rules.KEEPALIVE, "an answer, or KEEPALIVEs each 100 ms", SHOULD
+        return rules.OF_COMMAND.get(owner.command, rules.ERROR), "an answer", MUST
 
     def was_cancelled_inside(self, owner: Transaction) -> bool:
         """Says whether a CANCEL came between a message's packets."""
@@ -506,5 +560,5 @@ class KeyJudge:
             if owner is None or (entry is None and not late):
                 continue
             if owner.code != 0x04 and owner.end not in ("refused", "timed out") and not owner.is_unknown:
-                self.find(wrong.line, rules.SEQUENCE, "error 04", "nothing")
+                self.find_gap(wrong.line, rules.SEQUENCE, "error 04", "nothing")
         self.wrong = []

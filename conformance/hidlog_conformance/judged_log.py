@@ -27,6 +27,8 @@ MUST, SHOULD = "must", "should"
 # Milliseconds of silence after which an answer, or the rest of one, is missed: ten KEEPALIVEs would have come.
 SILENCE = 1000
 POWER_CYCLE = b"# power cycle"
+# What recorders' notes on packets that are missing say.
+LOST = (b"the recorder lost ", b"it was passed over", b"is left out: ")
 _CUT = re.compile(rb"# cut to \d+ bytes: ([<>]) (\d{1,20}) ((?:[0-9a-f]{2}){8,63})")
 
 
@@ -70,6 +72,11 @@ class Recording:
         self.is_timeless = False
         # Whether other clients' packets aren't in it.
         self.is_of_one_client = False
+        # Whether it was imported from a capture, and whether a recorder says that packets are missing in it.
+        self.is_imported = False
+        self.has_lost = False
+        # The first line that doesn't follow what is before it.
+        self.gap: Optional[int] = None
         # Lines of packets of which the front alone is known.
         self.cut: Set[int] = set()
         self.start: Optional[int] = None
@@ -103,6 +110,10 @@ class Recording:
             self.is_timeless = True
         if b"one client alone" in line:
             self.is_of_one_client = True
+        if line.startswith(b"# imported from "):
+            self.is_imported = True
+        if line.startswith(b"# note: ") and any(word in line for word in LOST):
+            self.has_lost = True
         found = _CUT.fullmatch(line)
         if found:
             self.take_cut(number, found[1] == b">", int(found[2]), padded(found[3]), owners)
@@ -128,6 +139,15 @@ class Recording:
         if (line, side, section) not in self.found:
             self.found.add((line, side, section))
             self.findings.append(Finding(line, side, level, section, due, came, also if also != section else ""))
+
+    def find_gap(
+        self, line: int, side: str, section: str, due: str, came: str, level: str = MUST, also: str = ""
+    ) -> None:
+        """Keeps a finding of what is missing or out of order, which a recorder that loses packets may have caused: then
+        it is a should. What a client wrote has all that it sent, but not what its system's queue had no space for."""
+        lost = self.has_lost or (self.is_of_one_client and side == KEY)
+        self.gap = line if self.gap is None else self.gap
+        self.find(line, side, section, due, came, SHOULD if lost else level, also)
 
     def judged(self, seen: rules.Seen, line: int, differs: Differs, level: str = MUST) -> None:
         """Keeps what a judge of the corpus raised, under the rule that the corpus names for it."""

@@ -40,6 +40,8 @@ class Kept:
     extensions: Dict[str, Any] = field(default_factory=dict)
     # The user's name, where it was changed.
     name: Optional[str] = None
+    # The moment at which the key showed last that it has the credential.
+    shown: int = 0
 
 
 class KeptCredentials:
@@ -110,6 +112,10 @@ class ExtensionDiffers(Differs):
     def __init__(self, section: str, wanted: str, came: str) -> None:
         super().__init__(wanted, came)
         self.section = section
+
+
+class UnsureDiffers(Differs):
+    """Says what differs, unless something happened that packets don't show: it counts as a should."""
 
 
 def outputs_of(auth: bytes) -> Dict[Any, Any]:
@@ -238,6 +244,10 @@ class Pins:
         answers.agreement_key(found)
         hold(not self.is_stale or found.get(1) != self.agreement, "a new key after a wrong PIN", found)
         self.agreement, self.is_stale = found.get(1), False
+
+    def restart(self) -> None:
+        """Takes that the key may have lost its power: wrong PINs are counted anew."""
+        self.wrong = 0
 
     def judge_info(self, item: Dict[Any, Any]) -> None:
         """Judges what authenticatorGetInfo says of a PIN."""

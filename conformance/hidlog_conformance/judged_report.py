@@ -29,8 +29,13 @@ def total(recording: Recording) -> str:
 
 
 def notes_of(recording: Recording) -> List[str]:
-    """Says what wasn't judged."""
+    """Says what wasn't judged, and what may be the recorder's fault."""
     found = []
+    if recording.has_lost:
+        found.append("the recorder lost packets: what is missing or out of order counts as a should")
+    elif recording.is_imported and recording.gap is not None:
+        said = f"line {recording.gap} doesn't follow what is before it"
+        found.append(f"the capture may have lost packets, since {said}: what comes behind may not be the key's fault")
     if recording.is_timeless:
         found.append("the log has no moments: nothing that depends on time was judged")
     if recording.cut:
@@ -57,8 +62,8 @@ def lines_of(it: Finding) -> List[str]:
 
 def as_text(name: str, recording: Recording) -> str:
     """Writes text."""
-    lines = [line for it in recording.findings for line in lines_of(it)]
-    lines += [f"note: {note}" for note in notes_of(recording)]
+    lines = [f"note: {note}" for note in notes_of(recording)]
+    lines += [line for finding in recording.findings for line in lines_of(finding)]
     return "".join(f"{line}\n" for line in [*lines, total(recording)])
 
 

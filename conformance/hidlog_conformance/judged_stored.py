@@ -12,6 +12,8 @@ from hidlog_conformance.managed import CREDENTIALS, PROTECTION, RPS, Listing, ha
 from hidlog_conformance.requests import parameters_of
 
 MANAGE, BLOBS = 0x0A, 0x0C
+# Credential management as keys had it before CTAP 2.1 (authenticatorCredentialManagementPreview).
+PREVIEW = 0x41
 COUNT, LIST_RPS, NEXT_RP, LIST, NEXT, DELETE, UPDATE = range(1, 8)
 READ, SET, OFFSET, LENGTH, PARAM = 1, 2, 3, 4, 5
 # What a token has to permit, and the shortest array.
@@ -22,6 +24,14 @@ BLOB_KEY = "largeBlobKey"
 def array_of(data: bytes) -> bytes:
     """Returns an array's bytes with the hash that ends them."""
     return data + hashlib.sha256(data).digest()[:16]
+
+
+def named_in(asked: Dict[Any, Any]) -> bytes:
+    """Returns the id of the credential that a request of credential management deletes or changes."""
+    parameters = asked.get(2, {})
+    descriptor = parameters.get(2, {}) if isinstance(parameters, dict) else {}
+    identity = descriptor.get("id") if isinstance(descriptor, dict) else None
+    return identity if isinstance(identity, bytes) else b""
 
 
 EMPTY = array_of(b"\x80")

@@ -181,7 +181,7 @@ class Offers:
     @property
     def old(self) -> bool:
         """Says whether the device names FIDO_2_0 and no later version, so that 2.0's text may count."""
-        return bool(self.versions) and not {"FIDO_2_1", "FIDO_2_2", "FIDO_2_3"} & set(map(str, self.versions))
+        return bool(self.versions) and answers.is_old(self.versions)
 
     @property
     def protected(self) -> bool:
