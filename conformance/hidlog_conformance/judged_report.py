@@ -3,7 +3,7 @@
 from __future__ import annotations
 
 import json
-from typing import Callable, Dict, List
+from typing import Callable, Dict, List, Tuple
 from xml.sax.saxutils import escape, quoteattr
 
 from hidlog_conformance.judged_log import KEY, MUST, SHOULD, Finding, Recording
@@ -60,11 +60,18 @@ def lines_of(it: Finding) -> List[str]:
     ]
 
 
-def as_text(name: str, recording: Recording) -> str:
-    """Writes text."""
+def text_of(recording: Recording) -> str:
+    """Writes what was judged of a recording for people: first what they have to know of it."""
     lines = [f"note: {note}" for note in notes_of(recording)]
     lines += [line for finding in recording.findings for line in lines_of(finding)]
     return "".join(f"{line}\n" for line in [*lines, total(recording)])
+
+
+def as_text(judged: List[Tuple[str, Recording]]) -> str:
+    """Writes text; of several recordings each below its name."""
+    if len(judged) == 1:
+        return text_of(judged[0][1])
+    return "\n".join(f"{clean(name)}\n{text_of(recording)}" for name, recording in judged)
 
 
 def object_of(it: Finding) -> Dict[str, object]:
@@ -81,32 +88,45 @@ def object_of(it: Finding) -> Dict[str, object]:
     }
 
 
-def as_json(name: str, recording: Recording) -> str:
-    """Writes one object."""
-    whole = {
+def whole_of(name: str, recording: Recording) -> Dict[str, object]:
+    """Returns what was judged of a recording as an object."""
+    return {
         "log": name,
         "packets": packets_of(recording),
         "transactions": recording.walk.count,
-        "findings": [object_of(it) for it in recording.findings],
+        "findings": [object_of(finding) for finding in recording.findings],
         "notes": notes_of(recording),
     }
-    return json.dumps(whole, indent=1) + "\n"
 
 
-def as_junit(name: str, recording: Recording) -> str:
-    """Writes JUnit XML: a case for each section that is broken, or one that passes."""
+def as_json(judged: List[Tuple[str, Recording]]) -> str:
+    """Writes one object, or a list of several."""
+    found = [whole_of(name, recording) for name, recording in judged]
+    return json.dumps(found[0] if len(found) == 1 else found, indent=1) + "\n"
+
+
+def suite_of(name: str, recording: Recording) -> List[str]:
+    """Writes a suite of JUnit XML: a case for each section that is broken, or one that passes."""
     cases = []
-    for it in recording.findings:
-        text = escape("\n".join(lines_of(it)))
-        title = quoteattr(f"line {it.line}: {it.side}: {it.rule}")
-        kind = "failure" if it.level == MUST else "system-out"
-        opened = f"<failure message={quoteattr(clean(it.due))}>" if it.level == MUST else "<system-out>"
+    for finding in recording.findings:
+        text = escape("\n".join(lines_of(finding)))
+        title = quoteattr(f"line {finding.line}: {finding.side}: {finding.rule}")
+        kind = "failure" if finding.level == MUST else "system-out"
+        opened = f"<failure message={quoteattr(clean(finding.due))}>" if finding.level == MUST else "<system-out>"
         cases.append(f"  <testcase classname={quoteattr(name)} name={title}>{opened}{text}</{kind}></testcase>")
     if not cases:
         cases.append(f'  <testcase classname={quoteattr(name)} name="no rule is broken"/>')
-    failures = sum(it.level == MUST for it in recording.findings)
+    failures = sum(finding.level == MUST for finding in recording.findings)
     head = f'<testsuite name="hidlog judge" tests="{len(cases)}" failures="{failures}">'
-    return "\n".join(['<?xml version="1.0" encoding="UTF-8"?>', head, *cases, "</testsuite>", ""])
+    return [head, *cases, "</testsuite>"]
 
 
-WRITERS: Dict[str, Callable[[str, Recording], str]] = {"text": as_text, "json": as_json, "junit": as_junit}
+def as_junit(judged: List[Tuple[str, Recording]]) -> str:
+    """Writes JUnit XML: a suite for each recording."""
+    suites = [line for name, recording in judged for line in suite_of(name, recording)]
+    if len(judged) > 1:
+        suites = ["<testsuites>", *suites, "</testsuites>"]
+    return "\n".join(['<?xml version="1.0" encoding="UTF-8"?>', *suites, ""])
+
+
+WRITERS: Dict[str, Callable[[List[Tuple[str, Recording]]], str]] = {"text": as_text, "json": as_json, "junit": as_junit}

@@ -180,6 +180,46 @@ def test_the_command() -> None:
     assert run("--side", "host", "-", standard_input=doctored()).returncode == 0
 
 
+TEXTS = [path for path in CAPTURES if path.suffix == ".txt"]
+ENCODED = [*((path, "") for path in CAPTURES), *((path, name) for path in TEXTS for name in ("utf-16-le", "utf-16-be"))]
+
+
+@pytest.mark.parametrize("path, encoding", ENCODED, ids=str)
+def test_the_command_reads_captures(path: Path, encoding: str) -> None:
+    """Texts too as PowerShell writes them: in UTF-16, with a mark in front and carriage returns."""
+    data = path.read_bytes()
+    if encoding:
+        data = ("\ufeff" + data.decode().replace("\n", "\r\n")).encode(encoding)
+    ran = run("-", standard_input=data)
+    assert (ran.returncode, ran.stderr) == (0, b"")
+    (found,) = read(data)
+    packets = sum(line[:2] in (b"> ", b"< ") or line.startswith(b"# cut to ") for line in found.log.split(b"\n"))
+    assert ran.stdout.splitlines()[-1].startswith(b"%d packets, " % packets)
+
+
+def test_a_log_of_utf_16() -> None:
+    log = ("\ufeff" + doctored().decode().replace("\n", "\r\n")).encode("utf-16-le")
+    assert run("-", standard_input=log).stdout == run("-", standard_input=doctored()).stdout
+    ran = run("-", standard_input=b"\xff\xfe\x00\xd8\x00\x00")
+    assert ran.returncode == 2 and b"begins as UTF-16 and isn't" in ran.stderr
+
+
+def test_several_files() -> None:
+    lawful = DATA / "libfido2_register.log"
+    ran = run(lawful, "-", standard_input=doctored())
+    assert ran.returncode == 1
+    lines = ran.stdout.decode().splitlines()
+    assert lines[0] == str(lawful) and lines[1].startswith("46 packets, ") and lines[2] == ""
+    assert lines[3] == "standard input" and lines[4].startswith("line 4: the key breaks a must")
+    ran = run(lawful, "nothing.log", DATA / "killed.pcapng")
+    assert ran.returncode == 2 and ran.stderr == b"hidlog judge: nothing.log: No such file or directory\n"
+    assert ran.stdout.count(b" packets, ") == 2
+    said = json.loads(run("--format", "json", lawful, "-", standard_input=doctored()).stdout)
+    assert [(one["log"], len(one["findings"])) for one in said] == [(str(lawful), 0), ("standard input", 1)]
+    suites = ElementTree.fromstring(run("--format", "junit", lawful, "-", standard_input=doctored()).stdout)
+    assert [suite.get("failures") for suite in suites.findall("testsuite")] == ["0", "1"]
+
+
 def test_json_and_junit() -> None:
     said = json.loads(run("--format", "json", "-", standard_input=doctored()).stdout)
     assert [it["section"] for it in said["findings"]] == ["11.2.9.1.4"] and said["packets"] == 4
@@ -236,7 +276,21 @@ def test_what_was_judged_is_not_kept() -> None:
 
 
 def test_what_is_no_log() -> None:
-    ran = run("-", standard_input=b"> 0 00\n")
+    ran = run("-", standard_input=b"# a log\n> 0 00\n")
     assert (ran.returncode, ran.stdout) == (2, b"")
-    assert ran.stderr == b"hidlog judge: standard input: line 1: not a log line\n"
+    assert ran.stderr.startswith(
+        b"hidlog judge: standard input: line 2: not a log line: expected '> MOMENT DIGITS' and "
+    )
+    assert ran.stderr.endswith(b"; got '> 0 00'\n")
+    ran = run("-", standard_input=doctored().replace(b"\n", b"\r\n"))
+    assert ran.stderr == (
+        b"hidlog judge: standard input: line 1: not a log line: it ends in a carriage return; lines end in a line feed "
+        b"alone\n"
+    )
+    ran = run("-", standard_input=b"hello\n")
+    assert (ran.returncode, ran.stdout) == (2, b"")
+    assert b"no session log, which begins with '> MOMENT DIGITS'" in ran.stderr and b"got 'hello'; " in ran.stderr
+    assert b"libfido2's FIDO_DEBUG" in ran.stderr
+    damaged = (DATA / "killed.pcapng").read_bytes()[:40] + bytes(90)
+    assert b"no key is in the capture" in run("-", standard_input=damaged).stderr
     assert run("nothing.log").stderr == b"hidlog judge: nothing.log: No such file or directory\n"

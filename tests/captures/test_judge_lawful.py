@@ -258,12 +258,12 @@ def test_packets_that_were_lost(head: list[str], wanted: Broken) -> None:
 
 def test_what_a_recorder_lost_is_said_first() -> None:
     lost = Log("# note: the recorder lost 3 packets").init().sent(10, 1, PING, b"a").came(1, PING, b"b")
-    found = judged_report.as_text("log", _recording(lost.text)).splitlines()
+    found = judged_report.text_of(_recording(lost.text)).splitlines()
     assert found[0].startswith("note: the recorder lost packets")
     assert found[1].startswith("line 6: the key breaks a must")
     gap = Log("# imported from a capture of USB: bus 1").init().sent(10, 1, PING, b"a" * 200)
     gap = gap.came(1, PING, b"a" * 200, lost=2).init(2000, 2)
-    found = judged_report.as_text("log", _recording(gap.text)).splitlines()
+    found = judged_report.text_of(_recording(gap.text)).splitlines()
     assert found[0].startswith("note: the capture may have lost packets, since line 11 ")
 
 

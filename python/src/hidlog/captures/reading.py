@@ -9,7 +9,7 @@ from pathlib import Path
 from typing import NamedTuple
 
 from ..files import open_input
-from . import chromium, debug_text, strace, unpacked, usbmon_text
+from . import chromium, debug_text, strace, unpacked, usbmon_text, utf16
 from .pcap import is_capture
 from .source import CaptureError, Readable, Source
 from .streams import Finder, Stream
@@ -45,6 +45,9 @@ def read_file(file: Readable) -> Capture:
     front = source.peek(4096)
     if front.startswith(unpacked.MAGIC):
         source = Source(unpacked.unpack(file, front))
+        front = source.peek(4096)
+    if front.startswith(utf16.MARKS):
+        source = Source(utf16.Utf16Text(source))
         front = source.peek(4096)
     if not front:
         raise CaptureError("the capture is empty")
