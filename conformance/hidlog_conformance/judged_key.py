@@ -162,7 +162,14 @@ class KeyJudge:
             self.heard.pop(ended.line, None)
             self.open = [one for one in self.open if one is not ended]
             if ended.command == hid.INIT and ended.channel != hid.BROADCAST:
-                self.open = [one for one in self.open if one.channel != ended.channel]
+                self.close_channel(ended)
+
+    def close_channel(self, init: Transaction) -> None:
+        """Takes that an INIT ended what its channel had open. Whether one that was refused did isn't known."""
+        if init.end == "answered":
+            self.open = [one for one in self.open if one.channel != init.channel]
+        else:
+            self.unsure.add(init.channel.to_bytes(4, "big"))
 
     def is_ousted(self, transaction: Transaction) -> bool:
         """Says whether a message of the host ended a transaction: another one, or INIT."""

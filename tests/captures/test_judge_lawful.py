@@ -289,6 +289,18 @@ def test_a_message_that_took_a_channel_times_out() -> None:
     assert [one for one in log.musts() if one[0] == "key"] == []
 
 
+def test_an_init_that_is_refused_may_end_nothing() -> None:
+    """11.2.5.3 says that INIT ends what its channel has open, and not what one of a wrong length does."""
+    log = Log().init().sent(10, 1, CBOR, INFO + bytes(80))
+    log.lines.pop()
+    log = log.sent(50, 1, INIT, bytes(7)).came(1, ERROR, b"\3").came(1, ERROR, b"\5", at=600)
+    assert [one for one in log.musts() if one[0] == "key"] == []
+    log = Log().init().sent(10, 1, CBOR, GET + ctap_cbor.encode(getting())).came(1, KEEPALIVE, b"\2")
+    log = log.sent(50, 1, INIT, bytes(7)).came(1, ERROR, b"\3").came(1, KEEPALIVE, b"\2", at=150)
+    log = log.sent(200, 1, CBOR, INFO).came(1, ERROR, b"\6").came(1, CBOR, b"\x27", at=300)
+    assert [one for one in log.musts() if one[0] == "key"] == []
+
+
 def test_a_key_needs_no_pin() -> None:
     """A command that a key doesn't have is refused by 01 (8.2), whatever its parameters lack."""
     assert [one for one in Log().init().asked(100, PIN, {1: 1}, b"\1").musts() if one[0] == "key"] == []
