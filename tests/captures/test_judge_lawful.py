@@ -225,13 +225,13 @@ def test_enterprise_attestation_of_a_key_that_does_not_know_it(version: str, wan
     assert sorted(set(log.musts())) == wanted
 
 
-@pytest.mark.parametrize("seconds, at, wanted", [
-    (5, 1000, []), (5, 9000, [("key", "11.2.5.1")]), (0, 1000, [("key", "11.2.5.1")])
-])  # fmt: skip
-def test_another_channel_has_the_lock(seconds: int, at: int, wanted: Broken) -> None:
+@pytest.mark.parametrize("seconds, at, is_locked", [(5, 1000, True), (5, 9000, False), (0, 20, False)])
+@pytest.mark.parametrize("command, section", [(PING, "11.2.5.1"), (0x3C, "11.2.9.1.6")])
+def test_another_channel_has_the_lock(command: int, section: str, seconds: int, at: int, is_locked: bool) -> None:
     """11.2.9.2.2: as long as the lock is active, any other channel that tries to send a message fails."""
     log = Log().init().init(1, 2).sent(10, 1, LOCK, bytes([seconds])).came(1, LOCK)
-    assert log.sent(at, 2, PING, b"a").came(2, ERROR, b"\6").musts() == wanted
+    found = log.sent(at, 2, command, b"a").came(2, ERROR, b"\6").musts()
+    assert [one for one in found if one[0] == "key"] == ([] if is_locked else [("key", section)])
 
 
 def test_keepalives_are_a_should() -> None:
@@ -239,6 +239,8 @@ def test_keepalives_are_a_should() -> None:
     request = ctap_cbor.encode(getting())
     log = Log().init().info("FIDO_2_0").sent(100, 1, CBOR, GET + request)
     log = log.came(1, KEEPALIVE, b"\2", at=2600).came(1, CBOR, b"\x27", at=5200)
+    assert (log.musts(), log.shoulds()) == ([], [("key", "11.2.9.1.7")])
+    log = Log().init().info("FIDO_2_0").sent(100, 1, CBOR, GET + request).init(5000, 2)
     assert (log.musts(), log.shoulds()) == ([], [("key", "11.2.9.1.7")])
     log = Log().init().sent(100, 1, PING, b"a").came(1, PING, b"a", at=2600)
     assert (log.musts(), log.shoulds()) == ([], [("key", "11.2.9.1.4")])
