@@ -120,7 +120,7 @@ class HostJudge:
         number = entry.packet[4]
         refused = self.refused.get(channel)
         if refused is not None and not refused.whole and number == refused.next:
-            refused.parts.append(entry.packet[5:])
+            refused.add(entry.packet[5:], entry.line)
             return
         if entry.part == "stray" and not self.timed_out(channel, number):
             self.find_gap(entry.line, rules.SEQUENCE, "a message that is open", f"continuation packet {number}")

@@ -132,6 +132,8 @@ class Recording:
 
     def is_cut(self, *parts: Optional[Part]) -> bool:
         """Says whether a recorder kept only the front of a packet of these messages."""
+        if not self.cut:
+            return False
         return any(part is not None and any(line in self.cut for line in part.lines) for part in parts)
 
     def find(self, line: int, side: str, section: str, due: str, came: str, level: str = MUST, also: str = "") -> None:
@@ -219,7 +221,7 @@ def judge(log: bytes, walk: Callable[[bytes], bytes]) -> Recording:
             for line in block:
                 number += 1
                 recording.take(number, line, owners)
-                if recording.walk.entries and recording.walk.is_quiet:
+                if line[:1] == b"<" and recording.walk.is_quiet:
                     judge_taken(recording, host, key)
             block = lines.block()
     judge_taken(recording, host, key)

@@ -134,8 +134,9 @@ MEMBERS: Dict[int, Dict[int, Member]] = {
 }
 
 
+@lru_cache(maxsize=16)
 def parameters_of(request: bytes) -> Optional[Dict[Any, Any]]:
-    """Returns the parameters of a request; none where they can't be read."""
+    """Returns the parameters of a request, which aren't changed; none if they can't be read."""
     try:
         item = ctap_cbor.decoded(request[1:]) if len(request) > 1 else {}
     except ctap_cbor.CborFault:

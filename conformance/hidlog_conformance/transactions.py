@@ -37,6 +37,8 @@ class Part:
     length: int
     parts: List[bytes]
     lines: List[int]
+    # The bytes that came, joined; none before they are asked for.
+    joined: Optional[bytes] = None
 
     @property
     def next(self) -> int:
@@ -56,7 +58,21 @@ class Part:
     @property
     def data(self) -> bytes:
         """Returns the bytes that came."""
-        return (self.parts[0] if len(self.parts) == 1 else b"".join(self.parts))[: self.length]
+        if self.joined is None:
+            self.joined = b"".join(self.parts)[: self.length]
+        return self.joined
+
+    def add(self, piece: bytes, line: int) -> None:
+        """Adds a packet."""
+        self.parts.append(piece)
+        self.lines.append(line)
+        self.joined = None
+
+    def remove_last(self) -> None:
+        """Removes the last packet."""
+        self.parts.pop()
+        self.lines.pop()
+        self.joined = None
 
     @property
     def padding(self) -> bytes:
@@ -288,8 +304,7 @@ class Transactions:
             entry.part = "wrong number"
         else:
             entry.part = "more"
-            owner.parts.append(entry.packet[5:])
-            owner.lines.append(entry.line)
+            owner.add(entry.packet[5:], entry.line)
             owner.moments.append(self.now)
 
     def answer(self, entry: Entry, channel: int) -> None:
@@ -306,7 +321,7 @@ class Transactions:
         if command == ERROR:
             entry.part = "error"
             return
-        answer = Answer(entry.line, channel, command, length, [packet[7:]], [entry.line], owner)
+        answer = Answer(entry.line, channel, command, length, [packet[7:]], [entry.line], request=owner)
         entry.part, entry.message = "answer", answer
         if answer.came < length:
             self.answering[channel] = answer
@@ -319,8 +334,7 @@ class Transactions:
         if answer is None or answer.line != owned.message:
             entry.transaction = None
             return
-        answer.parts.append(entry.packet[5:])
-        answer.lines.append(entry.line)
+        answer.add(entry.packet[5:], entry.line)
         entry.part, entry.transaction, entry.message = "answer", answer.request, answer
         if answer.came == answer.length:
             del self.answering[channel]
@@ -348,7 +362,6 @@ class Transactions:
         if entry is None or entry.line != line or entry.transaction is None:
             return
         if entry.part == "more":
-            entry.transaction.parts.pop()
-            entry.transaction.lines.pop()
+            entry.transaction.remove_last()
             entry.transaction.moments.pop()
         entry.part, entry.transaction = "stray", None
