@@ -31,7 +31,7 @@ def test_the_recordings_of_a_failed_test(pytester: pytest.Pytester) -> None:
     assert sorted(it.name for it in Path("kept").glob("*.log")) == names
     result.stdout.fnmatch_lines(
         [
-            "*CtapError 0x27 OPERATION_DENIED",
+            "*CtapError 0x27 OPERATION_DENIED: the user refused",
             "*- security key -*",
             "*authenticatorGetInfo *CTAP2_OK 00*",
             "recorded in kept/test_suite.test_bad.log",

@@ -175,7 +175,8 @@ class Browser:
         except (NoAnswer, CtapError) as error:
             raise ending.reason(error, begun.call) from error
         if response[:1] != b"\0":
-            refused = CtapError(response[0] if response else 0x7F)
+            status = response[0] if response else 0x7F
+            refused = CtapError(status, self._key.cause(status))
             raise ending.reason(refused, begun.call) from refused
         if self._key.faults.cut_short:
             _check_whole(response)
@@ -273,7 +274,7 @@ class _Ending:
             return NotAllowedError(str(error))
         if error.status == 0x2D and self._is_late():
             return NotAllowedError(f"the user did nothing for {self._timeout} ms, the timeout of the options", 0x2D)
-        return call.refusal(error.status)
+        return call.refusal(error.status, error.cause)
 
 
 def _public_key(options: Any) -> Any:

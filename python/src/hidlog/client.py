@@ -36,6 +36,8 @@ class Client:
         own = threading.RLock()
         # A key has one exchange at a time, whichever client makes it.
         self._exclusive: Callable[[], AbstractContextManager[Any]] = getattr(connection, "exchange", lambda: own)
+        # A key of this package says why it refuses; another one doesn't.
+        self._cause: Callable[[int], str] = getattr(connection, "cause", lambda _: "")
         # The nonce is the same in each run, so that a recording can be given to the client again.
         nonce = sha256(b"hidlog").digest()[:8]
         answer = self.transact(packets.INIT, nonce, channel=packets.BROADCAST)
@@ -79,7 +81,7 @@ class Client:
                 return message.data
             if message.command == packets.ERROR:
                 code = (message.data or b"\x7f")[0]
-                raise KeyLost() if code == _LOST else CtapError(code)
+                raise KeyLost() if code == _LOST else CtapError(code, self._cause(code))
             if message.command == packets.KEEPALIVE and message.data[:1] != bytes([last & 0xFF]):
                 last = (message.data or b"\0")[0]
                 on_keepalive(last)
@@ -95,5 +97,6 @@ class Client:
         data = bytes([command]) + (b"" if parameters is None else cbor.encode(parameters))
         answer = self.transact(packets.CBOR, data, is_cancelled)
         if not answer or answer[0]:
-            raise CtapError(answer[0] if answer else 0x7F)
+            status = answer[0] if answer else 0x7F
+            raise CtapError(status, self._cause(status))
         return cbor.decode(answer[1:]) if answer[1:] else {}

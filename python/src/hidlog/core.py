@@ -37,6 +37,9 @@ _CAPACITY = 64
 # enum hidlog_need_kind.
 _NEEDS = ("nothing", "presence", "key", "signature")
 _SIGNATURE = 3
+# What hidlog_key_cause is asked for: the input, and not what time dropped before it; no sentence is longer.
+_OF_INPUT = 1
+_SENTENCE_MOST = 160
 # hidlog_key_lines writes at most 18,000 bytes for a line, of which 17,000 are an answer; and so few lines more that have
 # none.
 _TEXT_MOST = 36_000
@@ -76,6 +79,18 @@ class _Need(ctypes.Structure):
         ("signed_len", ctypes.c_uint32),
         ("id", ctypes.c_uint8 * 32),
         ("signed_bytes", ctypes.c_uint8 * 196),
+    ]
+
+
+class _Cause(ctypes.Structure):
+    """struct hidlog_cause."""
+
+    status: int
+    _fields_ = [
+        ("code", ctypes.c_uint32),
+        ("status", ctypes.c_uint32),
+        ("first", ctypes.c_uint64),
+        ("second", ctypes.c_uint64),
     ]
 
 
@@ -188,6 +203,7 @@ _KEY_FUNCTIONS: dict[str, list[Any]] = {
     "save": [_OUT, _SIZE],
     "meters": [_OUT],
     "lines": [_BYTES, _SIZE, _OUT, _SIZE, _OUT],
+    "cause": [ctypes.c_uint32, _OUT, _OUT, _SIZE],
 }
 # How many bytes a word of these functions has to have: a number, or that of the word after it. The library reads so
 # many, whatever was handed in.
@@ -282,6 +298,12 @@ class Handle:
         if kind != _SIGNATURE:
             return _NEEDS[kind], b"", b""
         return _NEEDS[kind], bytes(need.id), bytes(need.signed_bytes)[: need.signed_len]
+
+    def cause(self, status: int | None) -> str:
+        """Returns why the last input was refused, with this status if one is given; nothing where it wasn't so."""
+        cause, text = _Cause(), ctypes.create_string_buffer(_SENTENCE_MOST)
+        length = self.call("cause", _OF_INPUT, ctypes.byref(cause), text, _SENTENCE_MOST)
+        return text.raw[:length].decode() if status in (None, cause.status) else ""
 
     def credential(self, place: int) -> HeldCredential:
         """Returns the credential at a place, from 0."""

@@ -22,9 +22,9 @@ except ImportError as missing:
 class DeviceError(CtapError, FidoError):
     """A transport error of a key, for python-fido2 and for this package."""
 
-    def __init__(self, status: int):
+    def __init__(self, status: int, cause: str = ""):
         FidoError.__init__(self, status)
-        CtapError.__init__(self, status)
+        CtapError.__init__(self, status, cause)
 
 
 class KeyDevice(CtapDevice):
@@ -63,7 +63,7 @@ class KeyDevice(CtapDevice):
         try:
             return self._client.transact(int(cmd), bytes(data), event.is_set if event else lambda: False, seen)
         except CtapError as error:
-            raise DeviceError(error.status) from None
+            raise DeviceError(error.status, error.cause) from None
 
     def close(self) -> None:
         """Leaves the key as it is: others may use it."""

@@ -83,18 +83,19 @@ class CtapError(HidlogError):
 
     status   the number, as in CTAP 2.1, "Status codes".
     name     its name there, such as NO_CREDENTIALS.
+    cause    why, as a sentence, such as "the user refused"; empty where it isn't known: of another key, or a fault.
     """
 
-    def __init__(self, status: int):
-        self.status = status
+    def __init__(self, status: int, cause: str = ""):
+        self.status, self.cause = status, cause
         self.name = STATUS_NAMES.get(status, "UNKNOWN")
-        Exception.__init__(self, f"CtapError 0x{status:02X} {self.name}")
+        Exception.__init__(self, str(self))
 
     def __reduce__(self) -> tuple[Any, ...]:
-        return type(self), (self.status,)  # what an error is made of again in another process
+        return type(self), (self.status, self.cause)  # what an error is made of again in another process
 
     def __str__(self) -> str:
-        return f"CtapError 0x{self.status:02X} {self.name}"
+        return f"CtapError 0x{self.status:02X} {self.name}" + (f": {self.cause}" if self.cause else "")
 
 
 class KeyLost(CtapError):

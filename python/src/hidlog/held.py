@@ -106,6 +106,10 @@ class HeldKey:
             return handle.call("new_key", at, *fields)
         return handle.call("signature", at, fields[0], len(fields[0]))
 
+    def cause(self, status: int | None) -> str:
+        """Returns why the last input was refused, with this status if one is given; nothing after lines."""
+        return "" if self._last is not None else self._handle.cause(status)
+
     def credentials(self, _: bytes) -> list[Credential]:
         """Returns the credentials, also once the key has ended."""
         if self._last is not None:

@@ -55,6 +55,9 @@ class Engine(Protocol):
     def play(self, kind: str, at: int, fields: tuple[Field, ...]) -> Reply:
         """Hands in an input at a moment, and returns what comes of it. Fields that are bytes are written in hexadecimal."""
 
+    def cause(self, status: int | None) -> str:
+        """Returns why the last input was refused, with this status if one is given; nothing where that isn't known."""
+
     def credentials(self, log: bytes) -> list[Credential]:
         """Returns the credentials, where this is the log of the session so far."""
 

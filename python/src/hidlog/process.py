@@ -134,6 +134,10 @@ class ProcessKey:
         """Hands in an input at a moment, and returns what comes of it."""
         return self.exchange(line_of(kind, at, fields).encode())
 
+    def cause(self, _: int | None) -> str:
+        """Returns nothing: `hidlog live` doesn't say why it refuses."""
+        return ""
+
     def credentials(self, log: bytes) -> list[Credential]:
         """Returns the credentials after this log."""
         from .credentials import read_snapshot  # which needs the package cryptography

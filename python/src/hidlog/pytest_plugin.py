@@ -121,7 +121,8 @@ def _summary(log: bytes) -> str:
 def _section(item: pytest.Item, key: SecurityKey, number: int, when: str) -> str:
     """Returns what a report says of a key: its summary, where it came to, and where that is recorded."""
     folder, lines = item.config.getoption("--security-key-log"), key.log.count(b"\n")
-    parts = [_summary(key.log)]
+    cause = key.cause()
+    parts = [_summary(key.log), f"the key refused its last request: {cause}" if cause else ""]
     paths = _kept(item, key, number, folder) if folder else []
     parts += [f"recorded in {path}" for path in paths]
     parts.append(f"the {when} that failed came to line {lines} of {paths[-1] if paths else 'the log'}")

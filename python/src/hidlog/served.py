@@ -13,7 +13,7 @@ from typing import TYPE_CHECKING
 from . import packets
 from .errors import CtapError, HidlogError, KeyEnded, KeyLost
 from .held import LINES_MOST, HeldKey
-from .lines import Need, line_of
+from .lines import Need, Reply, line_of
 from .packets import Message
 from .standard import KEEPALIVE_MS
 
@@ -79,7 +79,7 @@ class _Serving:
         work.waited_until = work.began
         if message.command == packets.ERROR:
             code = message.data[0]
-            raise KeyLost() if code == _INVALID_CHANNEL else CtapError(code)
+            raise KeyLost() if code == _INVALID_CHANNEL else CtapError(code, session.cause(code))
         return session.altered(message.data)
 
     def _inputs(self) -> list[tuple[Field, ...]]:
@@ -103,23 +103,35 @@ class _Serving:
         return [("t",)] * ticks + [("p", answer)]
 
     def _play(self, inputs: list[tuple[Field, ...]]) -> Message | None:
-        """Hands in inputs, and returns the message that the key sends at last."""
-        session, now = self._session, self._session._time
+        """Hands in inputs, and returns the message that the key sends at last. The last one is handed in by itself, since
+        then the key says why it refuses."""
+        session = self._session
         engine = session._engine
         if not isinstance(engine, HeldKey) or not session._is_open:
             raise KeyEnded("the key is closed")
+        *front, (kind, *fields) = inputs
         message = None
-        for start in range(0, len(inputs), LINES_MOST):
-            lines = []
-            for kind, *fields in inputs[start : start + LINES_MOST]:
-                now.passed += 1 + KEEPALIVE_MS * (kind == "t")
-                lines.append(line_of(str(kind), now.passed, tuple(fields)))
-            now.latest = now.passed
-            reply = engine.exchange_lines("\n".join(lines) + "\n")
-            session._keep(reply.text)
-            session._work.need, session._work.moment = reply.need, now.latest
-            for packet in reply.packets:
-                found = self._collector.add(packet)
-                if found and found.command != packets.KEEPALIVE:
-                    message = found
+        for start in range(0, len(front), LINES_MOST):
+            lines = [
+                line_of(str(name), self._tell(name), tuple(rest)) for name, *rest in front[start : start + LINES_MOST]
+            ]
+            message = self._take(engine.exchange_lines("\n".join(lines) + "\n")) or message
+        return self._take(engine.play(str(kind), self._tell(kind), tuple(fields))) or message
+
+    def _tell(self, kind: Field) -> int:
+        """Returns the moment of the next input."""
+        now = self._session._time
+        now.passed += 1 + KEEPALIVE_MS * (kind == "t")
+        now.latest = now.passed
+        return now.latest
+
+    def _take(self, reply: Reply) -> Message | None:
+        """Keeps what came of inputs, and returns the message that the key sent, KEEPALIVEs apart."""
+        session, message = self._session, None
+        session._keep(reply.text)
+        session._work.need, session._work.moment = reply.need, session._time.latest
+        for packet in reply.packets:
+            found = self._collector.add(packet)
+            if found and found.command != packets.KEEPALIVE:
+                message = found
         return message

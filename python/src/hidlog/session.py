@@ -438,6 +438,14 @@ class Session:
         for packet in sent:
             self._send(packet)
 
+    def cause(self, status: int | None = None) -> str:
+        """Returns why the key refused its last input, as a sentence: "the user refused".
+
+        It is empty where the input wasn't refused, with this status if one is given, and for a key in a process.
+        """
+        with self._locked():
+            return self._engine.cause(status) if self._is_open else ""
+
     def _keep(self, text: bytes) -> None:
         """Keeps lines in the recording."""
         if self._record:

@@ -172,12 +172,12 @@ class Call:
         made: Json = json.loads(ctypes.string_at(out, length))
         return made
 
-    def refusal(self, status: int) -> WebAuthnError:
-        """Returns what a page sees of a status other than 0."""
+    def refusal(self, status: int, cause: str = "") -> WebAuthnError:
+        """Returns what a page sees of a status other than 0, and why the key answers it."""
         try:
             self.response(bytes([status]))
         except WebAuthnError as error:
-            return type(error)(status_text(status), status)
+            return type(error)(status_text(status) + (f": {cause}" if cause else ""), status)
         raise HidlogError(f"status {status} makes a credential")
 
 

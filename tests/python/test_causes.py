@@ -1,0 +1,86 @@
+"""Why a key refuses, as errors say it. The sentences are those that hidlog.h's codes stand for, written by hand."""
+
+import pickle
+
+import pytest
+
+import hidlog
+from hidlog import Browser, Client, SecurityKey
+
+RP = {"rp": {"id": "example.com", "name": "x"}, "user": {"id": "AQ", "name": "ann", "displayName": "Ann"}}
+CREATION = {**RP, "challenge": "AAAA", "pubKeyCredParams": [{"type": "public-key", "alg": -7}]}
+CBOR = 0x10
+
+
+def browser(**options):
+    """A browser at https://example.com with a key."""
+    key = SecurityKey(**options)
+    return key, Browser(key, "https://example.com")
+
+
+def test_what_the_user_does():
+    key, page = browser(presence="denied")
+    with pytest.raises(hidlog.NotAllowedError, match="OPERATION_DENIED.*: the user refused$") as caught:
+        page.create(CREATION)
+    assert caught.value.__cause__.cause == "the user refused" == key.cause() == key.cause(0x27)
+    assert key.cause(0x2E) == ""
+    key.presence = "timeout"
+    with pytest.raises(hidlog.NotAllowedError, match=": the user did not respond in time$"):
+        page.create(CREATION)
+    key.presence = "granted"
+    page.create(CREATION)
+    assert key.cause() == ""
+
+
+def test_credentials_that_there_are_not():
+    _, page = browser()
+    with pytest.raises(hidlog.NotAllowedError, match=": no discoverable credential of this RP on this key$"):
+        page.get({"challenge": "AAAA", "rpId": "example.com"})
+    allowed = [{"type": "public-key", "id": "AAAA"}]
+    with pytest.raises(hidlog.NotAllowedError, match=": allowList names no credential of this RP on this key$"):
+        page.get({"challenge": "AAAA", "rpId": "example.com", "allowCredentials": allowed})
+
+
+@pytest.mark.parametrize(
+    "request_bytes, status, cause",
+    [
+        (b"\x05", 0x01, "the authenticator command 0x05 is not supported"),
+        (b"\x04\x00", 0x03, "this command takes no parameters; bytes after the command byte: 1"),
+        (b"\x01\xa0", 0x14, "the required parameter clientDataHash is missing"),
+        (
+            b"\x02\xff",
+            0x12,
+            "the parameters are not canonical CBOR at byte 0: Reserved: a length that is reserved or indefinite",
+        ),
+        (b"\x08", 0x30, "no assertion is pending"),
+    ],
+)
+def test_requests_that_fail_a_check(request_bytes, status, cause):
+    key = SecurityKey()
+    assert Client(key).transact(CBOR, request_bytes) == bytes([status])
+    assert key.cause() == key.cause(status) == cause
+
+
+def test_errors_of_the_transport():
+    key = SecurityKey()
+    client = Client(key)
+    with pytest.raises(hidlog.CtapError, match="^CtapError 0x01 .*: CTAPHID command 0x30 is not supported$") as caught:
+        client.transact(0x30)
+    copied = pickle.loads(pickle.dumps(caught.value))
+    assert (copied.status, copied.cause, str(copied)) == (1, caught.value.cause, str(caught.value))
+
+
+def test_a_fault_has_no_cause():
+    key, page = browser()
+    key.faults.status = "KEY_STORE_FULL"
+    with pytest.raises(hidlog.NotAllowedError) as caught:
+        page.create(CREATION)
+    assert caught.value.__cause__.cause == "" and not str(caught.value).endswith(":")
+
+
+def test_a_key_in_a_process_has_none():
+    key, page = browser(process=True, presence="denied")
+    with pytest.raises(hidlog.NotAllowedError, match="OPERATION_DENIED"):
+        page.create(CREATION)
+    assert key.cause() == ""
+    key.close()
