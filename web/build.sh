@@ -15,7 +15,7 @@ python3 web/bundle.py hidlogBytes web/key/bytes.js >"$work/dist/bytes.js"
 python3 web/bundle.py hidlogKey web/key/index.js >"$work/dist/security_key.js"
 # The rules by which the page judges, translated from Python, behind what they run on.
 rules=(hid_packets ctap_cbor curve plain unplayable answers greeting sections rules requests transactions managed judged_log judged_parts
-    judged_stored judged_answers judged_host judged_key judged_report)
+    judged_stored judged_statuses judged_answers judged_host judged_errors judged_key judged_report)
 {
     cat web/rules/python.js web/rules/python_calls.js web/rules/keys.js
     python3 web/rules/translate.py conformance/hidlog_conformance "${rules[@]}"

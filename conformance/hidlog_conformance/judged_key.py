@@ -7,29 +7,19 @@ from typing import Dict, List, Optional, Set, Tuple
 from hidlog_conformance import hid_packets as hid
 from hidlog_conformance import rules
 from hidlog_conformance.answers import Differs
-from hidlog_conformance.greeting import CBOR, NMSG, WINK, is_lawful_keepalive, judge_greeting
-from hidlog_conformance.judged_answers import JITTER, AnswerJudge
+from hidlog_conformance.greeting import CBOR, is_lawful_keepalive, judge_greeting
+from hidlog_conformance.judged_answers import AnswerJudge
+from hidlog_conformance.judged_errors import SERVED, ErrorJudge
 from hidlog_conformance.judged_parts import judge_u2f
 from hidlog_conformance.judged_log import KEY, MUST, SHOULD, SILENCE, Recording, message_of, seen
-from hidlog_conformance.transactions import (
-    BUSY,
-    CANCELLED,
-    INVALID_COMMAND,
-    NO_TIME_OUT,
-    TIMED_OUT,
-    Entry,
-    Transaction,
-)
+from hidlog_conformance.judged_statuses import JITTER
+from hidlog_conformance.transactions import CANCELLED, NO_TIME_OUT, Entry, Transaction
 
 # Milliseconds after which a message that isn't finished should have been dropped.
 PATIENCE = 3000
 # Milliseconds that a key which is plugged in again is away at least: so long its contacts are debounced (USB 2.0,
 # 7.1.7.3).
 AWAY = 100
-OTHER_ERROR = 0x7F
-SERVED = (hid.PING, hid.MSG, hid.LOCK, hid.INIT, hid.WINK, hid.CBOR)
-# Commands that a device needn't have.
-OPTIONAL = (hid.MSG, hid.LOCK, hid.WINK)
 # So many transactions are followed that have no end yet, and so many messages of the key: the oldest make way. A device
 # has one at a time.
 MOST_OPEN = 64
@@ -41,6 +31,7 @@ class KeyJudge:
     def __init__(self, recording: Recording) -> None:
         self.recording = recording
         self.answers = AnswerJudge(recording)
+        self.errors = ErrorJudge(self)
         self.guest = hid.Collector()
         self.given: Dict[int, int] = {}
         self.capabilities: Dict[int, int] = {}
@@ -53,7 +44,7 @@ class KeyJudge:
         # By channel the host's last packet.
         self.last: Dict[bytes, Entry] = {}
         self.input: Optional[Entry] = None
-        # Packets of another number, the first of each message, until the key sends something; the messages' first lines.
+        # Until the key sends something the first packet of another number of each message; the messages' first lines.
         self.wrong: List[Entry] = []
         self.disturbed: Set[int] = set()
         # The first lines of messages between whose packets a CANCEL came.
@@ -149,13 +140,13 @@ class KeyJudge:
         if entry.part == "keepalive":
             self.judge_keepalive(entry, message)
         elif entry.part == "error":
-            self.judge_error(entry, message)
+            self.errors.judge_error(entry, message)
         elif entry.packet[4] & 0x80:
             self.judge_start(entry)
 
     def close(self, entry: Entry) -> None:
-        """Takes out of what is under way what ended by a packet of the key, or before it otherwise than by a new message
-        of the host, which the key may not have taken."""
+        """Takes out of what is under way what ended by a packet of the key, or before it. What a new message of the
+        host ended stays: the key may not have taken that message."""
         self.open = [one for one in self.open if one.by is None or one.by > entry.line or self.is_ousted(one)]
         ended = entry.transaction
         if ended is not None and ended.by == entry.line:
@@ -210,113 +201,6 @@ class KeyJudge:
     def is_late_start(self, entry: Entry) -> bool:
         """Says whether a log began within the channel's transaction."""
         return entry.packet[:4] not in self.last
-
-    def judge_error(self, entry: Entry, message: Optional[hid.Message]) -> None:
-        """Judges an ERROR: for what it is, and its code."""
-        code, transaction = entry.packet[7], entry.transaction
-        if message is not None and not message.problem and len(message.data) != 1:
-            self.find(entry.line, rules.ERROR, "an ERROR of one byte", f"{len(message.data)} bytes")
-        if transaction is None:
-            self.judge_stray_error(entry)
-            return
-        if transaction.cancelled is not None and transaction.whole and transaction.command == hid.CBOR:
-            self.find(entry.line, rules.CANCEL, "the answer 2d of a cancelled request", f"ERROR {code:02x}")
-            return
-        due = self.due_codes(transaction, entry)
-        if due and code not in due:
-            words = "|".join(f"{it:02x}" for it in due)
-            section = rules.CODES.get(f"{due[0]:02x}", rules.ERROR)
-            if due == (0x03,) and transaction.command == hid.CBOR and transaction.length == 0:
-                section = rules.CBOR
-            self.find(entry.line, section, f"error {words}", f"ERROR {code:02x}")
-        elif not due:
-            self.judge_refusal(entry, transaction)
-
-    def judge_stray_error(self, entry: Entry) -> None:
-        """Judges an ERROR that nothing of its channel is for."""
-        last = self.last.get(entry.packet[:4])
-        if (last is None and self.recording.is_of_one_client) or entry.packet[:4] in self.unsure:
-            return
-        came = f"ERROR {entry.packet[7]:02x}"
-        if last is None:
-            if not self.is_first and not self.is_late_start(entry):
-                self.find_gap(entry.line, rules.ERROR, "an ERROR for something", came)
-            elif self.open and not self.is_first:
-                self.find_gap(entry.line, rules.BUSY, "an ERROR on the channel of the message that is refused", came)
-        elif last.packet[4] == 0x80 | hid.CANCEL:
-            self.find_gap(entry.line, rules.CANCEL, "no answer to CANCEL", came)
-        elif last.part == "stray":
-            self.find_gap(entry.line, rules.SEQUENCE, "no answer to a continuation packet of no message", came)
-        else:
-            section = rules.ABORT if self.was_aborted(entry) else rules.ERROR
-            self.find_gap(entry.line, section, "an ERROR for something", came)
-
-    def due_codes(self, owner: Transaction, entry: Entry) -> Tuple[int, ...]:
-        """Returns which codes fit a message that is refused; none where nothing in the log calls for an ERROR."""
-        if owner.channel == 0 or (owner.channel == hid.BROADCAST and owner.command != hid.INIT):
-            return (0x0B,)
-        before = [one for one in self.open if one is not owner and one.line < owner.line]
-        own = [one for one in before if one.channel == owner.channel and one.command != hid.INIT]
-        others = [one for one in before if one.channel != owner.channel]
-        busy: Tuple[int, ...] = (BUSY,) if others or own or self.is_locked_out(owner) else ()
-        busy = (*busy, 0x04) if own else busy
-        strange = (0x0B,) if owner.channel not in self.given and owner.channel != hid.BROADCAST else ()
-        wrong_length = owner.length > hid.LONGEST or (owner.command == hid.INIT and owner.length != 8)
-        if wrong_length or (owner.command == hid.CBOR and owner.length == 0):
-            first = (0x03, INVALID_COMMAND) if owner.command not in SERVED else (0x03,)
-            return (*first, *strange, *busy)
-        if owner.command not in SERVED:
-            return (INVALID_COMMAND, *strange, *busy)
-        if busy and owner.command != hid.INIT:
-            optional = (INVALID_COMMAND,) if owner.command in OPTIONAL else ()
-            return (*busy, *strange, *optional, *self.due_of_open(owner, entry))
-        if strange and owner.command in OPTIONAL:
-            return (*strange, INVALID_COMMAND)
-        return strange or self.due_of_open(owner, entry)
-
-    def is_locked_out(self, transaction: Transaction) -> bool:
-        """Says whether another channel may have the lock (11.2.9.2.2)."""
-        channel, until = self.locked
-        has_time = self.recording.is_timeless or transaction.began <= until
-        return channel != 0 and channel != transaction.channel and has_time
-
-    def due_of_open(self, it: Transaction, entry: Entry) -> Tuple[int, ...]:
-        """Returns which codes fit an unfinished message: after a packet of another number, or after a while."""
-        last = self.last.get(entry.packet[:4])
-        if it.whole:
-            return ()
-        if last is not None and last.part == "wrong number" and last.transaction is it:
-            return (0x04, TIMED_OUT)
-        if entry.at - it.last >= NO_TIME_OUT or self.input is None or self.input is not last:
-            return (TIMED_OUT,)
-        return ()
-
-    def judge_refusal(self, entry: Entry, it: Transaction) -> None:
-        """Judges an ERROR of a message that nothing in the log speaks against."""
-        code = entry.packet[7]
-        if code == OTHER_ERROR or (code == BUSY and (self.recording.is_of_one_client or self.is_locked_out(it))):
-            return
-        if it.command in (hid.MSG, hid.WINK, hid.LOCK):
-            self.judge_capability(it, code)
-            return
-        if it.command in (hid.PING, hid.INIT, hid.CBOR) and not (self.is_first and code == BUSY):
-            expected = {hid.PING: "echo", hid.INIT: "init", hid.CBOR: "status"}[it.command]
-            came = hid.Message(it.channel, hid.ERROR, bytes([code]))
-            section = rules.broken(seen(it, expected, came))
-            self.find(entry.line, section, "an answer", f"ERROR {code:02x}")
-
-    def judge_capability(self, it: Transaction, code: Optional[int]) -> None:
-        """Judges that MSG and WINK are served as INIT's capabilities say; without a code they were."""
-        said = self.capabilities.get(it.channel)
-        if said is None or it.command == hid.LOCK or (code is not None and code != INVALID_COMMAND):
-            return
-        has_it = bool(said & WINK) if it.command == hid.WINK else not said & NMSG
-        name = hid.NAMES[it.command]
-        if has_it and code is not None:
-            due = f"{name} served, as the capabilities {said:02x} say"
-            self.find(it.line, rules.OF_COMMAND[it.command], due, f"ERROR {code:02x}")
-        elif not has_it and code is None:
-            self.find(it.line, rules.ERROR, f"ERROR 01, as the capabilities {said:02x} say", f"{name} is served")
 
     def judge_start(self, entry: Entry) -> None:
         """Judges the first packet of an answer: whether it answers something, and whether another waits before it."""
@@ -416,7 +300,7 @@ class KeyJudge:
             elif message.command == hid.CBOR:
                 self.judge_status(entry, transaction, message)
             elif message.command in (hid.MSG, hid.WINK):
-                self.judge_capability(transaction, None)
+                self.errors.judge_capability(transaction, None)
                 if message.command == hid.MSG:
                     judge_u2f(transaction.data, message.data)
                     self.answers.take_u2f(transaction.data, message.data)
@@ -428,7 +312,7 @@ class KeyJudge:
             self.recording.judged(seen(transaction, expected, message), entry.line, differs)
 
     def judge_greeting(self, entry: Entry, transaction: Transaction, message: hid.Message) -> None:
-        """Judges an answer of INIT. That it doesn't name CBOR is wrong where the key serves it: a key of U2F has none."""
+        """Judges an answer of INIT. Without CBOR it is wrong if the key serves CBOR: a key of U2F alone doesn't."""
         data = message.data
         if len(data) == 17:
             data = data[:16] + bytes([data[16] | CBOR])
@@ -523,7 +407,7 @@ class KeyJudge:
     def missing(self, owner: Transaction) -> None:
         """Keeps that an answer is missing, under the rule that calls for it."""
         section, due, level = self.due_answer(owner)
-        # One that comes later was slow: no rule says how slow a device may be, but for KEEPALIVEs, which it should send.
+        # One that comes later was slow: no rule says how slow a key may be, and KEEPALIVEs are what it should send.
         level = SHOULD if owner.end in ("answered", "refused", "timed out") else level
         self.find_gap(owner.lines[-1], section, due, "nothing", level)
 

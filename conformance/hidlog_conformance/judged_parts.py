@@ -15,6 +15,8 @@ USER_TOKEN, GET_USER_RETRIES = 6, 7
 # After so many wrong PINs in a row the power has to be switched off (6.5.5.7).
 WRONG_IN_A_ROW = 3
 USER_INVALID = 0x3F
+# Why what isn't found may be gone.
+OTHERWISE = "unless it was deleted on the key"
 
 
 @dataclass

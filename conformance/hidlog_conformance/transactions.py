@@ -1,8 +1,8 @@
 """Joins the packets of a log to messages and transactions, as the proved walk says which packet belongs to which.
 
 The walk is that of the C library: `hidlog_transactions` (crates/hidlog_c/hidlog.h) writes a line for each packet, tick
-and reply. It decides by CTAP 2.1, 11.2, alone, so that recordings of any key are read, and says where packets can't show
-it. This reads that text beside the log, line by line, and keeps what is open alone.
+and reply. It decides by CTAP 2.1, 11.2, alone, so that recordings of any key are read, and says what packets can't
+show. This reads that text beside the log, line by line, and keeps what is open alone.
 """
 
 from __future__ import annotations
@@ -213,7 +213,7 @@ class Owners:
 
 
 class Transactions:
-    """Takes the packets of a log, each with what the walk says of it. `entries` has those that weren't taken from it."""
+    """Takes the packets of a log, each with what the walk says of it. `entries` has those that weren't judged yet."""
 
     def __init__(self) -> None:
         self.entries: List[Entry] = []

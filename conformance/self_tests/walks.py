@@ -1,7 +1,7 @@
 """Compares the proved walk, which the judge uses, with a second one of the corpus's own (second_walk.py).
 
-Where packets don't show how a transaction ends the proved walk says so, and the second one guesses: channels on which it
-said so aren't compared.
+Where packets don't show how a transaction ends the proved walk says so, and the second one guesses: the channels on
+which it said so aren't compared.
 """
 
 from __future__ import annotations

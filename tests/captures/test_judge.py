@@ -201,7 +201,7 @@ def test_a_log_of_utf_16() -> None:
     log = ("\ufeff" + doctored().decode().replace("\n", "\r\n")).encode("utf-16-le")
     assert run("-", standard_input=log).stdout == run("-", standard_input=doctored()).stdout
     ran = run("-", standard_input=b"\xff\xfe\x00\xd8\x00\x00")
-    assert ran.returncode == 2 and b"begins as UTF-16 and isn't" in ran.stderr
+    assert ran.returncode == 2 and b"begins as UTF-16 and is not" in ran.stderr
 
 
 def test_several_files() -> None:

@@ -28,7 +28,7 @@ class Utf16Text:
                 self._ready += self._decoder.decode(piece, self._is_ended).encode()
             except UnicodeError:
                 raise CaptureError(
-                    "the file begins as UTF-16 and isn't: write it as UTF-8, in PowerShell by | Out-File -Encoding ascii"
+                    "the file begins as UTF-16 and is not: write it in PowerShell by | Out-File -Encoding ascii"
                 ) from None
         data, self._ready = self._ready[:count], self._ready[count:]
         return data
