@@ -82,6 +82,6 @@ echo 'print("a module of the current folder")' | tee "$work/here/hidlog/__init__
 (cd "$work/here" && PATH=.:$work/bin PYTHONDONTWRITEBYTECODE=1 "$copy/hidlog" mermaid "$log" >"$work/out")
 [ "$(sed -n 1p "$work/out")" = sequenceDiagram ] || fail "hidlog mermaid: $(cat "$work/out")"
 rm "$work/bin/python3"
-PATH=$work/bin call 127 "$copy/hidlog" mermaid
-grep -q python3 "$work/said" || fail "without Python: $(cat "$work/said")"
+PATH=$work/bin call 2 "$copy/hidlog" mermaid
+grep -q "^hidlog: mermaid .* python3 is missing" "$work/said" || fail "without Python: $(cat "$work/said")"
 echo "the launcher does as it says"

@@ -53,7 +53,7 @@ def ran(command: list[str], *words: str) -> tuple[int, str, str]:
     """Returns how a command ends, in a folder with files that it must not run."""
     environment = {**os.environ, "PYTHONDONTWRITEBYTECODE": "1", "COLUMNS": "100", "PATH": f".:{os.environ['PATH']}"}
     with tempfile.TemporaryDirectory() as folder:
-        for name in ("hidlog", "python3-hidlog", "readlink.py"):
+        for name in ("hidlog", "python3", "awk", "command", "dirname", "find", "readlink", "sed", "uname"):
             Path(folder, name).write_text("#!/bin/sh\necho a program of the current folder\n", encoding="utf-8")
             Path(folder, name).chmod(0o755)
         Path(folder, "hidlog.py").write_text("print('a module of the current folder')\n", encoding="utf-8")
