@@ -16,7 +16,8 @@ end() {
 }
 trap end EXIT
 cd "$work" # workers keep what they spill here
-"$python" -m distributed.cli.dask_scheduler --host 127.0.0.1 --port 0 --no-dashboard \
+# A newer scheduler reads what it hands on.
+PYTHONPATH=$top/conformance:$top/tests/fuzz "$python" -m distributed.cli.dask_scheduler --host 127.0.0.1 --port 0 --no-dashboard \
     --scheduler-file "$work/scheduler.json" >"$work/scheduler" 2>&1 &
 started+=($!)
 until [ -s "$work/scheduler.json" ]; do

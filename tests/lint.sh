@@ -3,6 +3,11 @@
 # in `untyped`, which only gets shorter.
 set -euo pipefail
 cd "$(dirname "${BASH_SOURCE[0]}")/.."
+# Another black lays lines out in another way, and another mypy finds other faults.
+for tool in "black 23" "mypy 1.0"; do
+    [[ $(${tool% *} --version) = ${tool% *}*\ ${tool#* }.* ]] ||
+        { echo "tests/lint.sh: ${tool% *} ${tool#* } of Debian 12 is missing; nothing was run" >&2 && exit 3; }
+done
 mapfile -t shell < <(git ls-files -z -co --exclude-standard |
     xargs -0 awk 'FNR == 1 { if ($0 ~ /^#!.*[\/ ](ba)?sh$/) print FILENAME; nextfile }')
 shellcheck --severity=warning "${shell[@]}"

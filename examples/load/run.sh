@@ -5,8 +5,8 @@
 # `pg_virtualenv examples/load/run.sh`; else in sqlite. HIDLOG_PROCESSES says how many processes serve, by default 1.
 #
 # The service, a master and the workers run here, by the package of this clone. Two runs follow each other, each of so
-# many seconds (by default 10, 20 users, 2 workers), and again where that was too short on a busy machine; the second signs
-# in with the users of the first. In between a worker is killed where HIDLOG_KILL is set. Ends with 3 where a package of
+# many seconds (by default 10, 20 users, 2 workers), and again for longer where that was too short on a busy machine; the
+# second signs in with the users of the first. In between a worker is killed where HIDLOG_KILL is set. Ends with 3 where a package of
 # Debian is missing, and with 1 where a ceremony failed or the users of the first run don't sign in.
 set -euo pipefail
 here=$(cd "$(dirname "${BASH_SOURCE[0]}")" && pwd)
@@ -85,14 +85,15 @@ load() {
     "$python" "$here/figures.py" "$1" "$work/$1_stats.csv" "${@:2}"
 }
 
-# Runs Locust until the run was long enough: loads NAME USERS [BEFORE] AFTER
+# Runs Locust until the run was long enough, each time for twice as long: loads NAME USERS [BEFORE] AFTER
 loads() {
-    local status tries
-    for tries in 1 2 3 4 5 6 7 8 9 10; do
+    local status seconds=$seconds tries
+    for tries in 1 2 3 4 5 6 7 8; do
         status=0
         load "$@" || status=$?
         [ "$status" = 4 ] || return "$status"
-        echo "$1: run $tries was too short"
+        echo "$1: run $tries, of $seconds s, was too short"
+        seconds=$((seconds * 2))
     done
     return 1
 }

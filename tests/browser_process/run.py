@@ -223,6 +223,10 @@ def run_example(words: list[str], command: list[str]) -> tuple[bool, str]:
     return done.stdout.strip() == "ok", f"{done.stdout}{done.stderr}"[-600:].strip()
 
 
+# Of Debian 12; Debian 13 has the module that goes on from it, under another path.
+GO_SOURCES = Path("/usr/share/gocode/src/github.com/duo-labs/webauthn")
+
+
 def at_another_origin(command: list[str]) -> list[str]:
     """Returns a command of a browser at another origin of the relying party, whichever origin is asked for."""
     return ["sh", "-c", f"exec {shlex.join(command)} --origin https://login.example.com"]
@@ -234,6 +238,9 @@ def run_examples(commands: dict[str, list[str]]) -> bool:
     for language, words in EXAMPLES.items():
         if not shutil.which(words[0]):
             print(f"    {words[0]} is missing, and its example wasn't run")
+            continue
+        if language == "Go" and not GO_SOURCES.is_dir():
+            print("    golang-github-duo-labs-webauthn-dev is missing, and Go's example wasn't run")
             continue
         for name, command in commands.items():
             passed, printed = run_example(words, command)

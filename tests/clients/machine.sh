@@ -23,6 +23,7 @@ root=$room/root
 has_kernel() {
     image=$(find "$1/boot" -name 'vmlinuz-*' 2>/dev/null | sort -V | tail -1)
     modules=$1/lib/modules/${image##*/vmlinuz-}/kernel/drivers/hid
+    [ -d "$modules" ] || modules=$1/usr${modules#"$1"} # Debian 13's package, unpacked
     [ -n "$image" ] && [ -r "$image" ] && compgen -G "$modules/uhid.ko*" >/dev/null
 }
 

@@ -26,7 +26,8 @@ for words in "" --no-default-features; do
     echo "Rust crate${words:+, $words}: $(grep -c '^test .* ok$' "$room/said") tests passed"
 done
 if cargo clippy --version >/dev/null 2>&1; then
-    cargo clippy --quiet --offline --all-targets -- -D warnings
+    # Debian 13's warns of format! in an iterator, which a newer one doesn't.
+    cargo clippy --quiet --offline --all-targets -- -D warnings -A unknown-lints -A clippy::format-collect
 fi
 if cargo fmt --version >/dev/null 2>&1; then
     (cd "$top/rust/hidlog-sys" && cargo fmt --check) && (cd "$top/rust/hidlog" && cargo fmt --check)

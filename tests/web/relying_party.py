@@ -1,25 +1,35 @@
 """A relying party that isn't ours: python-fido2's server, over JSON with byte strings in base64url."""
 
+from collections.abc import Mapping
 from types import SimpleNamespace
 
 from fido2.attestation import PackedAttestation
-from fido2.client import ClientData
-from fido2.ctap2 import AttestationObject, AuthenticatorData
 from fido2.server import Fido2Server
 from fido2.utils import websafe_decode, websafe_encode
 from fido2.webauthn import PublicKeyCredentialRpEntity
 
+try:  # Debian 12's
+    from fido2.client import ClientData
+    from fido2.ctap2 import AttestationObject, AuthenticatorData
+
+    RESIDENT_KEY = "resident_key"
+except ImportError:
+    from fido2.webauthn import AttestationObject, AuthenticatorData, CollectedClientData as ClientData
+
+    RESIDENT_KEY = "resident_key_requirement"
+
 
 def verify_packed(attestation, client_data_hash):
     """Verifies a packed self attestation, which names no chain."""
-    PackedAttestation().verify(attestation.att_statement, attestation.auth_data, client_data_hash)
+    statement = attestation.att_statement if RESIDENT_KEY == "resident_key" else attestation.att_stmt
+    PackedAttestation().verify(statement, attestation.auth_data, client_data_hash)
 
 
 def plain(value):
     """What JSON takes of an options object."""
     if isinstance(value, bytes):
         return websafe_encode(value)
-    if isinstance(value, dict):
+    if isinstance(value, Mapping):
         return {key: plain(inner) for key, inner in value.items() if inner is not None}
     if isinstance(value, (list, tuple)):
         return [plain(inner) for inner in value]
@@ -30,7 +40,7 @@ class RelyingParty:
     """Registers users and signs them in. It keeps the credentials of each user, and each credential's last counter."""
 
     def __init__(self, origin):
-        entity = PublicKeyCredentialRpEntity("localhost", "A service under test")
+        entity = PublicKeyCredentialRpEntity(id="localhost", name="A service under test")
         self._server = Fido2Server(
             entity, attestation="direct", verify_origin=lambda found: found == origin, verify_attestation=verify_packed
         )
@@ -44,9 +54,10 @@ class RelyingParty:
         """The options of a registration."""
         entity = {"id": user.encode(), "name": user, "displayName": f"User {user}"}
         known = [credential.data for credential in self._of(user)] if exclude else None
-        options, self._state = self._server.register_begin(
-            entity, known, resident_key=resident, user_verification=verification
-        )
+        asked = {
+            RESIDENT_KEY: resident if RESIDENT_KEY == "resident_key" else "required" if resident else "discouraged"
+        }
+        options, self._state = self._server.register_begin(entity, known, user_verification=verification, **asked)
         return plain(options)
 
     def register_complete(self, user, clientDataJSON, attestationObject, **_):

@@ -15,14 +15,15 @@ const opensSessions = async (Worker) => {
     page().Worker = Worker ?? page().Worker;
     drop("sessions.log", encode(log));
     await until(() => /^sessions\.log: \d+ lines/.test(notice()) && at("story").textContent, "the lines");
-    expect(texts().some((text) => text.includes("Registration: done at example.com")), texts().join());
-    const story = at("story").textContent;
+    // The rows are there first, and their words come later.
+    await until(() => texts().some((text) => text.includes("Registration: done at example.com")), "the first words");
     at("scroller").scrollTop = at("scroller").scrollHeight;
     const isLast = (row) => row?.getAttribute("aria-posinset") === row?.getAttribute("aria-setsize");
     await until(() => isLast(rows().at(-1)) && !texts().join().includes("…"), "the words of the last lines");
     const signIn = "Sign-in: done at example.com  ·  authenticatorGetAssertion → CTAP2_OK";
     expect(texts().at(-1).includes(signIn), texts().at(-1));
-    return story;
+    await until(() => /registrations: done/.test(at("story").textContent), "the story");
+    return at("story").textContent;
 };
 
 /** Long logs are looked at by a worker, and where there is none by the page itself. */
@@ -56,12 +57,13 @@ const waitsForWords = async () => {
     await until(() => /^changed\.log: \d+ lines/.test(notice()) && at("story").textContent, "the lines");
     await seek("search", "signcount 7");
     await until(() => / of \d+ lines$/.test(at("count").textContent), "what is found");
-    expect(rows().length === 1 && texts()[0].includes("Sign-in: done at example.com"), texts().join());
+    await until(() => rows().length === 1 && texts()[0].includes("Sign-in: done at example.com"), "the row's words");
     at("check").click();
     const said = "The log has signCount 7, and the key sends signCount 2.";
     await until(() => at("story").textContent.startsWith(said), "the difference in words");
-    const detail = at("detail-text").textContent;
-    expect(detail.includes("In the log: signCount 7") && detail.includes("The key:    signCount 2"), detail);
+    const detail = () => at("detail-text").textContent;
+    await until(() => detail().includes("In the log: signCount 7"), "the detail");
+    expect(detail().includes("The key:    signCount 2"), detail());
 };
 
 /** Reading a long log is cancelled, and the page goes on with another one. */
