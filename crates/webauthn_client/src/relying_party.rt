@@ -1,6 +1,6 @@
 //! Whose page it is, and which RP ids it may use.
 
-ghost use Rattle.std.specs.Prelude.{◌≡◌, ◌∷◌, IsTrue, IfOk, List, ℕ};
+ghost use Rattle.std.specs.Prelude.{◌≡◌, ◌↔◌, ◌∷◌, ◌<◌, IsTrue, IfOk, List, ℕ, length};
 ghost use Rattle.webauthn_client.specs.RelyingParty.{MayUse};
 ghost use Rattle.webauthn_client.specs.declared.rejection.DomError.TheVariants.{Security};
 
@@ -86,7 +86,7 @@ fn is_address(host: &[u8]) -> bool {
 
 /// Returns whether bytes are a full stop and these.
 fn is_behind_stop(tail: &[u8], id: &[u8]) -> bool
-    ensures { IsTrue result → tail.now ≡ 46 ∷ id.now }
+    ensures { IsTrue result ↔ (tail.now ≡ 46 ∷ id.now) }
 {
     match tail.split_first() {
         Some((stop, domain)) => *stop == b'.' && domain == id,
@@ -96,7 +96,7 @@ fn is_behind_stop(tail: &[u8], id: &[u8]) -> bool
 
 /// Returns whether a domain is a host itself, or one above it that is longer than the host's public suffix.
 pub fn may_use(id: &[u8], host: &[u8], suffix: &[u8]) -> bool
-    ensures { IsTrue result → MayUse id.now host.now suffix.now }
+    ensures { IsTrue result ↔ MayUse id.now host.now suffix.now }
 {
     if id.len() >= host.len() || id.len() <= suffix.len() {
         return id == host;
@@ -128,7 +128,8 @@ pub fn rp_id_of<'a>(
     origin: &Origin<'a>,
     suffix: &[u8],
 ) -> Result<&'a [u8], Rejection>
-    ensures { IfOk result (λ id. (s : List ℕ) × MayUse id.now origin.now.host.now s) }
+    ensures some { IfOk result (λ id. (s : List ℕ) × MayUse id.now origin.now.host.now s) }
+    ensures known { 0 < length suffix.now → IfOk result (λ id. MayUse id.now origin.now.host.now suffix.now) }
 {
     check_context(origin)?;
     let Some(id) = given else {
