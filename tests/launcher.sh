@@ -76,12 +76,14 @@ rm "$copy/crates/session_log/src/new.rt"
 [ ! -e "$work/proved" ] || fail "the launcher started a proof"
 
 # The Python package's commands are run from the clone, and nothing of the current folder; without Python a line says so.
-ln -s "$(python3 -c 'import sys; print(sys.executable)')" "$work/bin/python3"
-mkdir -p "$work/here/hidlog"
-echo 'print("a module of the current folder")' | tee "$work/here/hidlog/__init__.py" >"$work/here/json.py"
-(cd "$work/here" && PATH=.:$work/bin PYTHONDONTWRITEBYTECODE=1 "$copy/hidlog" mermaid "$log" >"$work/out")
-[ "$(sed -n 1p "$work/out")" = sequenceDiagram ] || fail "hidlog mermaid: $(cat "$work/out")"
-rm "$work/bin/python3"
+if command -v python3 >/dev/null; then
+    ln -s "$(python3 -c 'import sys; print(sys.executable)')" "$work/bin/python3"
+    mkdir -p "$work/here/hidlog"
+    echo 'print("a module of the current folder")' | tee "$work/here/hidlog/__init__.py" >"$work/here/json.py"
+    (cd "$work/here" && PATH=.:$work/bin PYTHONDONTWRITEBYTECODE=1 "$copy/hidlog" mermaid "$log" >"$work/out")
+    [ "$(sed -n 1p "$work/out")" = sequenceDiagram ] || fail "hidlog mermaid: $(cat "$work/out")"
+    rm "$work/bin/python3"
+fi
 PATH=$work/bin call 2 "$copy/hidlog" mermaid
 grep -q "^hidlog: mermaid .* python3 is missing" "$work/said" || fail "without Python: $(cat "$work/said")"
 echo "the launcher does as it says"
