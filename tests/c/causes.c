@@ -1,5 +1,5 @@
-// Why a key refuses its last input, by hidlog_key_cause: codes, statuses and operands written by hand from CTAP 2.1. Says
-// nothing and returns 0 where each is as it should be.
+// Why a key refuses its last input, by hidlog_key_cause: codes, statuses and operands written by hand from CTAP 2.1.
+// Says nothing and returns 0 where each is as it should be.
 #include "hidlog.h"
 
 #include <inttypes.h>

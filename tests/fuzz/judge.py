@@ -102,7 +102,19 @@ def is_front(text):
 # How files begin that aren't logs: pcap captures, pcapng behind its first line feed, gzip, zstd, UTF-16, JSON.
 OTHER_FILES = tuple(
     bytes.fromhex(magic)
-    for magic in ("d4c3b2a1", "a1b2c3d4", "4d3cb2a1", "a1b23c4d", "0d0d", "1f8b", "28b52ffd", "fffe", "feff", "7b", "5b")
+    for magic in (
+        "d4c3b2a1",
+        "a1b2c3d4",
+        "4d3cb2a1",
+        "a1b23c4d",
+        "0d0d",
+        "1f8b",
+        "28b52ffd",
+        "fffe",
+        "feff",
+        "7b",
+        "5b",
+    )
 )
 
 

@@ -1,7 +1,7 @@
 """Why a request is refused with the status of a check, read apart from the core: the second source of check's sentences.
 
-The checks and their order are those of docs/use/PROFILE.md (CTAP 2.1, sections 6.1, 6.2 and 8.2); the parameters are read by
-the corpus's own reader of CBOR.
+The checks and their order are those of docs/use/PROFILE.md (CTAP 2.1, sections 6.1, 6.2 and 8.2); the parameters are
+read by the corpus's own reader of CBOR.
 """
 
 from __future__ import annotations
@@ -106,7 +106,9 @@ def fault_of(message: bytes) -> str:
         asked = ctap_cbor.decode(parameters)
     except ctap_cbor.CborFault:
         return ""  # the reader of the corpus says of other faults first: tests/rows has each kind with its place
-    typed = isinstance(asked, dict) and all(key not in asked or test(asked[key]) for key, test in TYPES[command].items())
+    typed = isinstance(asked, dict) and all(
+        key not in asked or test(asked[key]) for key, test in TYPES[command].items()
+    )
     if not typed:
         return "a parameter, or a member in one, has the wrong CBOR type"
     return missing(command, asked) or refused(command, asked)

@@ -321,7 +321,10 @@ def bad_lines_say_where(_: Path) -> None:
         (b"t \xff", "byte 3 is 0xff: expected a time in milliseconds"),
         (b"\xd4\xc3\xb2\xa1\x02\x00", "this is a pcap capture: hidlog import FILE reads it"),
         (b"\x1f\x8b\x08\x00", "this is a gzip file: gunzip it first"),
-        (b"\xff\xfet\x00 \x005\x00", "this is UTF-16, as PowerShell writes it: a log is UTF-8 (iconv -f UTF-16 -t UTF-8)"),
+        (
+            b"\xff\xfet\x00 \x005\x00",
+            "this is UTF-16, as PowerShell writes it: a log is UTF-8 (iconv -f UTF-16 -t UTF-8)",
+        ),
         (b'{"format": 1}', "this is JSON, not a log"),
     ]
     for line, reason in cases:
@@ -333,7 +336,11 @@ def bad_lines_say_where(_: Path) -> None:
     for front in (1, 3, 40, 5000):
         log = b"# a comment of some length, so that reads end within lines\n" * front + b"t 5x\nt 6y\n" + b"t 7\n" * 99
         said = explained(["quiet"], log)
-        wants(said, 1, f"hidlog: line {front + 1}: not a log line\n  byte 4 is 'x': expected the end of the line\n".encode())
+        wants(
+            said,
+            1,
+            f"hidlog: line {front + 1}: not a log line\n  byte 4 is 'x': expected the end of the line\n".encode(),
+        )
 
 
 def other_faults_have_no_reason(_: Path) -> None:

@@ -15,9 +15,15 @@ static OTHER_FILES: [(&[u8], &str); 11] = [
     (&[0x4D, 0x3C, 0xB2, 0xA1], PCAP),
     (&[0xA1, 0xB2, 0x3C, 0x4D], PCAP),
     // A pcapng file has a line feed in front of these.
-    (b"\r\r", "  this is a pcapng capture: hidlog import FILE reads it\n"),
+    (
+        b"\r\r",
+        "  this is a pcapng capture: hidlog import FILE reads it\n",
+    ),
     (&[0x1F, 0x8B], "  this is a gzip file: gunzip it first\n"),
-    (&[0x28, 0xB5, 0x2F, 0xFD], "  this is a zstd file: unzstd it first\n"),
+    (
+        &[0x28, 0xB5, 0x2F, 0xFD],
+        "  this is a zstd file: unzstd it first\n",
+    ),
     (&[0xFF, 0xFE], UTF_16),
     (&[0xFE, 0xFF], UTF_16),
     (b"{", JSON),
@@ -28,7 +34,8 @@ const PCAP: &str = "  this is a pcap capture: hidlog import FILE reads it\n";
 
 const JSON: &str = "  this is JSON, not a log\n";
 
-const UTF_16: &str = "  this is UTF-16, as PowerShell writes it: a log is UTF-8 (iconv -f UTF-16 -t UTF-8)\n";
+const UTF_16: &str =
+    "  this is UTF-16, as PowerShell writes it: a log is UTF-8 (iconv -f UTF-16 -t UTF-8)\n";
 
 /// What lines begin with.
 const LETTERS: &[u8] = b"<>tpks";
@@ -134,7 +141,10 @@ fn expected_in_field(letter: u8, field: &[u8]) -> Expected {
     let digits = digits_in_front(field);
     let is_whole = digits == field.len() as u64;
     match letter {
-        b'<' | b'>' if is_whole => (b"a packet has 128 hexadecimal digits, not %d\n", Some(digits)),
+        b'<' | b'>' if is_whole => (
+            b"a packet has 128 hexadecimal digits, not %d\n",
+            Some(digits),
+        ),
         b'<' | b'>' => (b"a packet is 128 hexadecimal digits\n", None),
         b'p' => (b"expected granted, denied or timeout\n", None),
         b'k' => (

@@ -1,6 +1,8 @@
 //! The WebAuthn client as functions of C. Each call is a function of its inputs: nothing is kept between two calls.
 
-use webauthn_client::{Abilities, Ceremony, Client, DomError, Message, Rejection, Response, Verification};
+use webauthn_client::{
+    Abilities, Ceremony, Client, DomError, Message, Rejection, Response, Verification,
+};
 
 /// What a call reports beside its result.
 #[repr(C)]

@@ -104,7 +104,10 @@ fn of_request(fault: RequestFault) -> Sentence {
             None,
         ),
         RequestFault::Trailing { count } => {
-            of_length(b"this command takes no parameters; bytes after the command byte: %d", count)
+            of_length(
+                b"this command takes no parameters; bytes after the command byte: %d",
+                count,
+            )
         }
         RequestFault::NotCanonical(Fault { at, kind }) => says(
             b"the parameters are not canonical CBOR at byte %d: %f",

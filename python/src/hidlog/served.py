@@ -103,8 +103,10 @@ class _Serving:
         return [("t",)] * ticks + [("p", answer)]
 
     def _play(self, inputs: list[tuple[Field, ...]]) -> Message | None:
-        """Hands in inputs, and returns the message that the key sends at last. The last one is handed in by itself, since
-        then the key says why it refuses."""
+        """Hands in inputs, and returns the message that the key sends at last.
+
+        The last one is handed in by itself, since then the key says why it refuses.
+        """
         session = self._session
         engine = session._engine
         if not isinstance(engine, HeldKey) or not session._is_open:
