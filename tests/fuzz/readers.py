@@ -85,14 +85,15 @@ def read_json(data: bytes) -> None:
         value: Any = json.loads(data)
     except (ValueError, RecursionError):
         return
-    for read in (
+    reads: tuple[Callable[[Any], Any], ...] = (
         webauthn_json.creation_options,
         webauthn_json.request_options,
         webauthn_json.registration,
         webauthn_json.authentication,
         partial(write_request, "create"),
         partial(write_request, "get"),
-    ):
+    )
+    for read in reads:
         try:
             read(value)
         except HidlogError:
