@@ -3,8 +3,8 @@ use Rattle.std.proofs.Common.{◌≡◌, ◌≤◌, ◌++◌, ℕ, ℤ, pos, Lis
 use Rattle.std.proofs.Common.{refl, arith, sym, ap, ◌∙◌, append_assoc, length-append, length-drop, length-take-le}
 use Rattle.std.proofs.{Common.take-append-drop, lemmas.Int.to_z_pos, lemmas.List.drop-append-le}
 use Rattle.session_log.specs.declared.fault.LogFault.{LogFault}
-use Rattle.token_session.specs.Meters.{SessionState}
-use Rattle.hidlog_c.specs.{declared.outcome.CallOutcome.CallOutcome, Changed.SavesLen, Key.DeviceState}
+use Rattle.token_session.specs.{Meters.SessionState, declared.cause.Causes.Causes as TwoCauses}
+use Rattle.hidlog_c.specs.{declared.outcome.CallOutcome.CallOutcome, Changed.SavesLen, Key.DeviceState, Key.no_causes}
 use Rattle.hidlog_c.specs.{Lines.ArePlayed, Lines.PlaysOn, Numbers.outcome_of}
 
 -- the status of an outcome is a small number
@@ -20,12 +20,12 @@ status_as s t log out outcome played =
     to_z_pos w32 outcome.status (omega (arith, small))
 
 -- what lines do, they do to the device in which the session is
-pub plays_on : (aaguid : List ℕ) (s t : SessionState) (waiting : List (List ℕ)) (log : List ℕ) (out : List ℕ × List ℕ)
-    (outcome : CallOutcome × CallOutcome) (result : ℤ) → waiting ≡ [] → ArePlayed s t log out.1 outcome.1
+pub plays_on : (aaguid : List ℕ) (s t : SessionState) (waiting : List (List ℕ)) (causes : TwoCauses) (log : List ℕ)
+    (out : List ℕ × List ℕ) (outcome : CallOutcome × CallOutcome) (result : ℤ) → waiting ≡ [] → ArePlayed s t log out.1 outcome.1
     → result ≡ pos outcome.1.status
-    → PlaysOn (record { aaguid = aaguid; session = s; waiting = waiting }) waiting
-    (Some (record { aaguid = aaguid; session = t; waiting = waiting })) log out outcome result
-plays_on aaguid s t waiting log out outcome result none played answer = rw none (t, refl, played, answer)
+    → PlaysOn (record { aaguid = aaguid; session = s; waiting = waiting; causes = causes }) waiting
+    (Some (record { aaguid = aaguid; session = t; waiting = waiting; causes = no_causes })) log out outcome result
+plays_on aaguid s t waiting causes log out outcome result none played answer = rw none (t, refl, played, answer)
 
 -- a snapshot in the first bytes of a buffer is in its front
 pub saves_len : (n : ℕ) (d : DeviceState) (out front : List ℕ) (len : ℕ) → n ≤ length out → length front ≡ n

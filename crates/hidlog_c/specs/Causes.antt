@@ -2,12 +2,12 @@
 use Rattle.std.specs.Prelude.{◌≡◌, ◌≤◌, ℕ, ℤ, pos, List, length, Bool, true, false, Option, Some, None}
 use Rattle.std.specs.Prelude.{if◌then◌else◌, nat_eq}
 use Rattle.ctap_cbor.specs.Faults.{number_of}
-use Rattle.ctap_message.specs.declared.fault.RequestFault.{RequestFault, TheVariants as fault}
-use Rattle.ctap_message.specs.RequestFaults.{status_of as request_status}
-use Rattle.hid_assemble.specs.declared.refusal.Refusal.{Refusal as TransportRefusal, TheVariants as transport}
-use Rattle.hid_assemble.specs.Refusals.{code_number}
-use Rattle.authn_core.specs.declared.refusal.Refusal.{Refusal as CommandRefusal, TheVariants as command}
-use Rattle.authn_core.specs.Refusals.{status_of as command_status}
+use Rattle.ctap_message.specs.declared.fault.RequestFault.{RequestFault}
+use Rattle.ctap_message.specs.declared.fault.RequestFault.TheVariants as fault
+use Rattle.hid_assemble.specs.declared.refusal.Refusal.{Refusal as TransportRefusal}
+use Rattle.hid_assemble.specs.declared.refusal.Refusal.TheVariants as transport
+use Rattle.authn_core.specs.declared.refusal.Refusal.{Refusal as CommandRefusal}
+use Rattle.authn_core.specs.declared.refusal.Refusal.TheVariants as command
 use Rattle.token_session.specs.declared.cause.Cause.{Cause, TheVariants.Transport, TheVariants.Request, TheVariants.Command}
 use Rattle.token_session.specs.declared.cause.Causes.{Causes as TwoCauses}
 use Rattle.hidlog_c.specs.declared.causes.CauseReport.{CauseReport}
@@ -38,8 +38,8 @@ request_report (fault.NoSuchCommand byte) = with_two 21 0x01 byte 0
 request_report (fault.Trailing count) = with_two 22 0x03 count 0
 request_report (fault.NotCanonical found) = with_two 23 0x12 found.at (number_of found.kind)
 request_report fault.WrongType = plain 24 0x11
-request_report (fault.Missing command parameter) = with_two 25 0x14 command parameter
-request_report (fault.EntryNotWhole command parameter) = with_two 26 0x14 command parameter
+request_report (fault.Missing asked parameter) = with_two 25 0x14 asked parameter
+request_report (fault.EntryNotWhole asked parameter) = with_two 26 0x14 asked parameter
 request_report (fault.HashLength len) = with_two 27 0x03 len 0
 request_report (fault.UserIdLength len) = with_two 28 0x03 len 0
 request_report fault.PinUvAuthParam = plain 29 0x02
@@ -91,10 +91,15 @@ ReportsOne None report out result = (report.1 ≡ report.0) × (out.1 ≡ out.0)
 ReportsOne (Some cause) report out result = (report.1 ≡ report_of cause)
     × ((n : ℕ) × (n ≤ length out.1) × (result ≡ pos n))
 
+-- 0 asks for what time dropped, 1 for the input
+abbrev pub which_of : ℕ → Option Bool
+which_of which = if nat_eq which 0 then Some false else if nat_eq which 1 then Some true else None
+
+abbrev pub ReportsWhich : Option Bool → TwoCauses → CauseReport × CauseReport → List ℕ × List ℕ → ℤ → Type 0
+ReportsWhich None causes report out result = (report.1 ≡ report.0) × (out.1 ≡ out.0) × (result ≡ BAD_ARGUMENT)
+ReportsWhich (Some is_input) causes report out result = ReportsOne (cause_at causes is_input) report out result
+
 -- A pair is what the caller's memory has before and after the call.
 abbrev pub ReportsCause : Option DeviceState → (which : ℕ) → CauseReport × CauseReport → List ℕ × List ℕ → ℤ → Type 0
 ReportsCause None which report out result = (report.1 ≡ report.0) × (out.1 ≡ out.0) × (result ≡ NOT_MADE)
-ReportsCause (Some d) which report out result =
-    if nat_eq which 0 then ReportsOne (cause_at d.causes false) report out result
-    else if nat_eq which 1 then ReportsOne (cause_at d.causes true) report out result
-    else (report.1 ≡ report.0) × (out.1 ≡ out.0) × (result ≡ BAD_ARGUMENT)
+ReportsCause (Some d) which report out result = ReportsWhich (which_of which) d.causes report out result

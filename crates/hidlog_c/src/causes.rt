@@ -1,6 +1,6 @@
 //! Why a key refused its last input, in a struct of C and as a sentence.
 ghost use Rattle.std.specs.Prelude.{◌≡◌, ◌≤◌, ◌<◌, length};
-ghost use Rattle.hidlog_c.specs.Causes.{cause_at, report_of, request_report, command_report, transport_report, plain};
+ghost use Rattle.hidlog_c.specs.Causes.{cause_at, report_of, request_report, command_report, transport_report, which_of};
 
 use authn_core::Refusal;
 use ctap_cbor::Fault;
@@ -112,6 +112,17 @@ pub fn report_of(cause: Cause) -> CauseReport
         Cause::Transport(why) => transport_report(why),
         Cause::Request(fault) => request_report(fault),
         Cause::Command(why) => command_report(why),
+    }
+}
+
+/// Returns whether a number of C asks for the cause of the input, and not for what time dropped before it.
+pub fn which_of(which: u32) -> Option<bool>
+    ensures { result ≡ which_of which }
+{
+    match which {
+        0 => Some(false),
+        1 => Some(true),
+        _ => None,
     }
 }
 

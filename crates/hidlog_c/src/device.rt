@@ -13,7 +13,7 @@ ghost use Rattle.hidlog_c.specs.Switched.{IsStarted};
 ghost use Rattle.hidlog_c.specs.Reports.{ReportsRow, credential_count, meters_of, need_of, pending_assertions, waiting_packets};
 
 use crate::capacity::{CAPACITY, SNAPSHOT_LONGEST};
-use crate::causes::{CauseReport, cause_at, put_sentence, report_of};
+use crate::causes::{CauseReport, cause_at, put_sentence, report_of, which_of};
 use crate::fault::{
     BAD_ARGUMENT, CLASHES, NO_PACKET, PACKETS_WAIT, TOO_MANY_ROWS, TOO_SMALL, WORK_WAITS,
 };
@@ -119,10 +119,10 @@ impl Device {
     pub fn cause(&self, which: u32, report: &mut CauseReport, out: &mut [u8]) -> i32
         ensures { ReportsCause (Some self.now) which (report.old, report.new) (out.old, out.new) result }
     {
-        if which > 1 {
+        let Some(is_input) = which_of(which) else {
             return BAD_ARGUMENT;
-        }
-        let Some(cause) = cause_at(&self.causes, which == 1) else {
+        };
+        let Some(cause) = cause_at(&self.causes, is_input) else {
             return 0;
         };
         *report = report_of(cause);
