@@ -173,6 +173,65 @@ struct hidlog_need {
 /* Writes it. Returns its kind. */
 int32_t hidlog_key_need(struct hidlog_key *key, struct hidlog_need *need);
 
+/* Why the key refused its last input: with an ERROR packet (CTAP 2.1, section 11.2.9.1.6) or a status other than 0 (8.2).
+ * Parameters are numbers of a request's map (6.1, 6.2); moments are milliseconds. */
+enum hidlog_cause_code {
+    /* ERROR packets: the transport */
+    HIDLOG_CAUSE_NO_SUCH_COMMAND = 1,    /* the CTAPHID command `first` is not supported */
+    HIDLOG_CAUSE_INIT_LENGTH = 2,        /* an INIT with `first` data bytes, not 8 */
+    HIDLOG_CAUSE_MESSAGE_LENGTH = 3,     /* a message of command `first` with a length that it cannot have, `second` */
+    HIDLOG_CAUSE_WRONG_NUMBER = 4,       /* continuation packet `first` came where `second` was expected */
+    HIDLOG_CAUSE_BROKEN_OFF = 5,         /* a message began while packet `first` of another was expected on its channel */
+    HIDLOG_CAUSE_TIMED_OUT = 6,          /* the message's last packet came at `first`, and now it is `second` */
+    HIDLOG_CAUSE_BUSY_ELSEWHERE = 7,     /* channel `first` has an open message or a waiting request */
+    HIDLOG_CAUSE_BUSY_HERE = 8,          /* a request is waiting on this channel */
+    HIDLOG_CAUSE_NO_SUCH_CHANNEL = 9,    /* channels 1 to `first` have been allocated, none where it is 0 */
+    HIDLOG_CAUSE_NO_CHANNEL_LEFT = 10,   /* all channel identifiers have been allocated */
+    /* statuses: the first check that a request fails */
+    HIDLOG_CAUSE_EMPTY_REQUEST = 20,     /* no command byte; the transport hands no such message on */
+    HIDLOG_CAUSE_COMMAND = 21,           /* the authenticator command `first` is not supported */
+    HIDLOG_CAUSE_TRAILING = 22,          /* `first` bytes behind a command without parameters */
+    HIDLOG_CAUSE_NOT_CANONICAL = 23,     /* fault `second` of the CBOR (docs/use/PROFILE.md) at byte `first` */
+    HIDLOG_CAUSE_WRONG_TYPE = 24,        /* a parameter, or a member in one, has the wrong CBOR type */
+    HIDLOG_CAUSE_MISSING = 25,           /* command `first` lacks its parameter `second`, or the id in it */
+    HIDLOG_CAUSE_ENTRY_NOT_WHOLE = 26,   /* an entry of command `first`'s list `second` lacks a member */
+    HIDLOG_CAUSE_HASH_LENGTH = 27,       /* clientDataHash has `first` bytes, not 32 */
+    HIDLOG_CAUSE_USER_ID_LENGTH = 28,    /* the user's id has `first` bytes, more than 64 */
+    HIDLOG_CAUSE_PIN_UV_AUTH_PARAM = 29, /* pinUvAuthParam is present, but the key has no PIN */
+    HIDLOG_CAUSE_NO_ALGORITHM = 30,      /* no entry of pubKeyCredParams is ES256 */
+    HIDLOG_CAUSE_UV_OPTION = 31,         /* the option uv is true */
+    HIDLOG_CAUSE_UP_OPTION = 32,         /* the option up is false, at a registration */
+    HIDLOG_CAUSE_RK_OPTION = 33,         /* the option rk is present, at an assertion */
+    HIDLOG_CAUSE_ENTERPRISE = 34,        /* enterpriseAttestation is present */
+    /* statuses: what a command came to */
+    HIDLOG_CAUSE_CANCELLED = 50,         /* the host sent CANCEL */
+    HIDLOG_CAUSE_DENIED = 51,            /* the user refused */
+    HIDLOG_CAUSE_NO_CONSENT = 52,        /* the user did not respond in time, at a registration or an assertion */
+    HIDLOG_CAUSE_NO_RESPONSE = 53,       /* the user did not respond in time, at a reset or a selection */
+    HIDLOG_CAUSE_EXCLUDED = 54,          /* excludeList names a credential on this key */
+    HIDLOG_CAUSE_FULL = 55,              /* no capacity for another credential */
+    HIDLOG_CAUSE_NO_KEY = 56,            /* hidlog_key_no_key */
+    HIDLOG_CAUSE_KEY_ID = 57,            /* the new credential ID is already in use */
+    HIDLOG_CAUSE_NO_SIGNATURE = 58,      /* hidlog_key_no_signature */
+    HIDLOG_CAUSE_NO_CREDENTIAL = 59,     /* of this RP: in allowList where `first` is 1, discoverable where it is 0 */
+    HIDLOG_CAUSE_COUNTER = 60,           /* the signature counter has reached its maximum */
+    HIDLOG_CAUSE_NOTHING_PENDING = 61,   /* no assertion is pending */
+    HIDLOG_CAUSE_PENDING_ELSEWHERE = 62, /* the pending assertions belong to channel `first` */
+    HIDLOG_CAUSE_NEXT_TOO_LATE = 63,     /* the last assertion was at `first`, more than 30 s before `second` */
+    HIDLOG_CAUSE_RESET_TOO_LATE = 64     /* power-up was at `first`, more than 10 s before `second` */
+};
+struct hidlog_cause {
+    uint32_t code;      /* enum hidlog_cause_code */
+    uint32_t status;    /* the code of the ERROR packet, or the status */
+    uint64_t first, second; /* what was compared; 0 where there is nothing */
+};
+/* Writes why the key refused its last input, and the same as a sentence of UTF-8 without a full stop to the front of
+ * `out`, as much as fits (160 bytes are enough). `which`: 0 what time dropped before the input was served, 1 the input.
+ * Returns how many bytes of the sentence it wrote. Where nothing was refused it returns 0, and writes nothing; so it does
+ * after hidlog_key_lines and after a start. HIDLOG_KEY_BAD_ARGUMENT: another `which`. */
+int32_t hidlog_key_cause(struct hidlog_key *key, uint32_t which, struct hidlog_cause *cause, uint8_t *out,
+                         size_t out_cap);
+
 /* A credential: what the key knows of it, without its private key. */
 struct hidlog_credential {
     uint8_t rp[32];        /* the SHA-256 hash of the RP id */

@@ -1132,8 +1132,9 @@ return { BROADCAST, CANCEL, CBOR, Collector, ERROR, INIT, KEEPALIVE, LOCK, LONGE
 };
 
 $.modules["ctap_cbor"] = () => {
-let DEEPEST;
+let DEEPEST, LEAST;
 DEEPEST = 4; 
+LEAST = $.dictOf([[24, 24], [25, $.pow(2, 8)], [26, $.pow(2, 16)], [27, $.pow(2, 32)]]); 
 class CborFault extends Exception {
 }
 CborFault.$names = {};
@@ -1220,7 +1221,7 @@ const self = this;
 let argument, info, major, start, $t1, $t2;
 start = $.own(self, "place"); 
 $t1 = $.call(self, "read_any_head", []); $t2 = $.unpacked($t1, 3); major = $t2[0]; info = $t2[1]; argument = $t2[2]; 
-if (((!$.eq(major, 7)) && (!$.eq($.apply(head, [major, argument]), $.slice($.own(self, "data"), start, $.own(self, "place")))))) {
+if (((!$.eq(major, 7)) && ($.has(LEAST, info)) && ($.lt(argument, $.item(LEAST, info))))) {
 throw $.apply(CborFault, [("" + "not the shortest head at " + $.format(start, ""))]);
 }
 return $.Tuple.of(major, info, argument);
@@ -1305,6 +1306,11 @@ return item;
 return null;
 }
 decode.$names = ["data"];
+function decoded(data) {
+return $.apply(decode, [data]);
+return null;
+}
+decoded.$names = ["data"];
 function shown(item) {
 let parts, $t1, $t2, $t3;
 if ($.isTrue($.apply(isinstance, [item, bytes]))) {
@@ -1321,7 +1327,7 @@ return (!$.isTrue($.apply(isinstance, [item, str])) ? $.apply(repr, [item]) : ("
 return null;
 }
 shown.$names = ["item"];
-return { CborFault, DEEPEST, Raw, Reader, decode, encode, head, shown };
+return { CborFault, DEEPEST, LEAST, Raw, Reader, decode, decoded, encode, head, shown };
 };
 
 $.modules["curve"] = () => {
@@ -1368,7 +1374,7 @@ return { Unplayable };
 };
 
 $.modules["answers"] = () => {
-let AT, BE, BLOBS, BS, ED, FORMATS, GET, INFO, MAKE, MOST_RETRIES, MOST_USER_RETRIES, NEXT, RESERVED, RESET, SELECTION, UP, UV, Unplayable, ctap_cbor, curve, hashlib, keys, $t1, $t2, $t3, $t4, $t5, $t6;
+let AT, BE, BLOBS, BS, DRAFTS, ED, FORMATS, GET, INFO, MAKE, MOST_RETRIES, MOST_USER_RETRIES, NEXT, RESERVED, RESET, SELECTION, UP, UV, Unplayable, ctap_cbor, curve, hashlib, keys, $t1, $t2, $t3, $t4, $t5, $t6;
 hashlib = $.module("hashlib");
 ctap_cbor = $.module("ctap_cbor");
 curve = $.module("curve");
@@ -1377,6 +1383,7 @@ Unplayable = $.module("unplayable").Unplayable;
 $t1 = $.Tuple.of(1, 4, 8, 16, 64, 128); $t2 = $.unpacked($t1, 6); UP = $t2[0]; UV = $t2[1]; BE = $t2[2]; BS = $t2[3]; AT = $t2[4]; ED = $t2[5]; 
 RESERVED = 34; 
 FORMATS = $.Tuple.of("packed", "tpm", "android-key", "android-safetynet", "fido-u2f", "apple", "none", "compound"); 
+DRAFTS = $.Tuple.of("FIDO_2_0", "FIDO_2_1_PRE"); 
 $t3 = $.Tuple.of(8, 25); $t4 = $.unpacked($t3, 2); MOST_RETRIES = $t4[0]; MOST_USER_RETRIES = $t4[1]; 
 $t5 = $.Tuple.of(1, 2, 4, 7, 8, 11, 12); $t6 = $.unpacked($t5, 7); MAKE = $t6[0]; GET = $t6[1]; INFO = $t6[2]; RESET = $t6[3]; NEXT = $t6[4]; SELECTION = $t6[5]; BLOBS = $t6[6]; 
 class Differs extends Exception {
@@ -1414,6 +1421,12 @@ this.protection = protection;
 }
 Facts.$names = {"__init__": ["aaguid", "algorithms", "old", "display", "halves", "protection"]};
 Facts.$fields = ["aaguid", "algorithms", "old", "display", "halves", "protection"];
+function is_old(versions) {
+let $t1, $t2;
+return !$.isTrue($.apply(any, [(function* () { for (const $t2 of $.iter(versions)) { let name; name = $t2; if (!$.isTrue($.apply(isinstance, [name, str]))) { continue; } yield ($.isTrue($t1 = $.call(name, "startswith", ["FIDO_2_"])) ? !$.has(DRAFTS, name) : $t1); } })()]));
+return null;
+}
+is_old.$names = ["versions"];
 function hold(holds, wanted, came) {
 if (!$.isTrue(holds)) {
 throw $.apply(Differs, [wanted, ($.isTrue($.apply(isinstance, [came, str])) ? came : $.call(ctap_cbor, "shown", [came]))]);
@@ -1425,7 +1438,7 @@ function map_of(data) {
 let fault, item, $t1, $t2;
 $.apply(hold, [$.eq($.slice(data, null, 1), $.hex("00")), "status 00 and a map", ($.isTrue(data) ? ("" + "status " + $.format($.call($.slice(data, null, 1), "hex", []), "")) : "an empty message")]);
 try {
-item = $.call(ctap_cbor, "decode", [$.slice(data, 1, null)]); 
+item = $.call(ctap_cbor, "decoded", [$.slice(data, 1, null)]); 
 } catch ($t1e) {
 if ($.isinstance($t1e, $.attribute(ctap_cbor, "CborFault"))) {
 fault = $t1e;
@@ -1447,7 +1460,7 @@ return null;
 member.$names = ["item", "key", "kind", "name"];
 function parameters(request) {
 let found;
-found = $.call(ctap_cbor, "decode", [$.slice(request, 1, null)]); 
+found = $.call(ctap_cbor, "decoded", [$.slice(request, 1, null)]); 
 return ($.isTrue($.apply(isinstance, [found, dict])) ? $.apply(dict, [found]) : $.dictOf([]));
 return null;
 }
@@ -1735,7 +1748,7 @@ return item;
 return null;
 }
 judge_info.$names = ["data"];
-return { AT, BE, BLOBS, BS, Credential, Differs, ED, FORMATS, Facts, GET, INFO, MAKE, MOST_RETRIES, MOST_USER_RETRIES, NEXT, RESERVED, RESET, SELECTION, UP, UV, agreement_key, cose_key, hold, judge_algorithm, judge_asserted, judge_attestation, judge_extensions, judge_half, judge_id, judge_info, judge_lists, judge_made, judge_start, judge_user, map_of, member, parameters };
+return { AT, BE, BLOBS, BS, Credential, DRAFTS, Differs, ED, FORMATS, Facts, GET, INFO, MAKE, MOST_RETRIES, MOST_USER_RETRIES, NEXT, RESERVED, RESET, SELECTION, UP, UV, agreement_key, cose_key, hold, is_old, judge_algorithm, judge_asserted, judge_attestation, judge_extensions, judge_half, judge_id, judge_info, judge_lists, judge_made, judge_start, judge_user, map_of, member, parameters };
 };
 
 $.modules["greeting"] = () => {
@@ -1985,7 +1998,7 @@ MEMBERS = $.dictOf([[MAKE, $.dictOf([[1, $.Tuple.of("clientDataHash", true, is_h
 function parameters_of(request) {
 let item, $t1;
 try {
-item = (($.lt(1, $.apply(len, [request]))) ? $.call(ctap_cbor, "decode", [$.slice(request, 1, null)]) : $.dictOf([])); 
+item = (($.lt(1, $.apply(len, [request]))) ? $.call(ctap_cbor, "decoded", [$.slice(request, 1, null)]) : $.dictOf([])); 
 } catch ($t1e) {
 if ($.isinstance($t1e, $.attribute(ctap_cbor, "CborFault"))) {
 return null;
@@ -2009,7 +2022,7 @@ if (($.has($.Tuple.of(INFO, RESET, NEXT, SELECTION), command))) {
 return $.apply(Fault, [FORM, "a command without parameters", ("" + $.format($.sub($.apply(len, [request]), 1), "") + " bytes behind it")], {should: true});
 }
 try {
-item = $.call(ctap_cbor, "decode", [$.slice(request, 1, null)]); 
+item = $.call(ctap_cbor, "decoded", [$.slice(request, 1, null)]); 
 } catch ($t3e) {
 if ($.isinstance($t3e, $.attribute(ctap_cbor, "CborFault"))) {
 fault = $t3e;
@@ -2048,28 +2061,29 @@ unknown_parts.$names = ["command", "item"];
 return { FORM, Fault, GET, INFO, MAKE, MEMBERS, MISSING, Member, NAMES, NEXT, OTHERS, PIN, RESET, SELECTION, UNKNOWN, fault_of, has_names, is_bytes, is_descriptor, is_hash, is_map, is_number, is_options, is_parameter, is_rp, is_text, is_user, listed, members_fault, parameters_of, unknown_parts };
 };
 
-$.modules["walk"] = () => {
-let BROADCAST, BUSY, CANCEL, CANCELLED, CBOR, ERROR, INIT, INVALID_CHANNEL, INVALID_COMMAND, INVALID_LENGTH, INVALID_SEQUENCE, KEEPALIVE, LONGEST, Message, NOT_SERVED, NO_TIME_OUT, PING, TIMED_OUT, $t1, $t2;
-BROADCAST = $.module("hid_packets").BROADCAST;
+$.modules["transactions"] = () => {
+let ANSWERED, BLOCK, BUSY, BY_ERROR, CANCEL, CANCELLED, ENDS, ERROR, INVALID_CHANNEL, INVALID_COMMAND, INVALID_LENGTH, INVALID_SEQUENCE, KEEPALIVE, LATE, LONGEST, NAMES_LINE, NO_TIME_OUT, TIMED_OUT, UNKNOWN, $t1, $t2, $t3, $t4;
 CANCEL = $.module("hid_packets").CANCEL;
-CBOR = $.module("hid_packets").CBOR;
 ERROR = $.module("hid_packets").ERROR;
-INIT = $.module("hid_packets").INIT;
 KEEPALIVE = $.module("hid_packets").KEEPALIVE;
 LONGEST = $.module("hid_packets").LONGEST;
-PING = $.module("hid_packets").PING;
 $t1 = $.Tuple.of(1, 3, 4, 5, 6, 11); $t2 = $.unpacked($t1, 6); INVALID_COMMAND = $t2[0]; INVALID_LENGTH = $t2[1]; INVALID_SEQUENCE = $t2[2]; TIMED_OUT = $t2[3]; BUSY = $t2[4]; INVALID_CHANNEL = $t2[5]; 
-NOT_SERVED = $.Tuple.of(INVALID_COMMAND, INVALID_SEQUENCE, BUSY, INVALID_CHANNEL); 
 CANCELLED = 45; 
 NO_TIME_OUT = 100; 
+UNKNOWN = $.Tuple.of("unknown", "forgotten"); 
+ENDS = $.dictOf([[$.apply(ord, ["d"]), "dropped"], [$.apply(ord, ["r"]), "replaced"], [$.apply(ord, ["f"]), "forgotten"], [$.apply(ord, ["u"]), "unknown"]]); 
+$t3 = $.Tuple.of($.hex("736163"), $.apply(ord, ["e"]), $.apply(ord, ["l"])); $t4 = $.unpacked($t3, 3); ANSWERED = $t4[0]; BY_ERROR = $t4[1]; LATE = $t4[2]; 
+NAMES_LINE = $.hex("6472"); 
+BLOCK = $.shiftLeft(1, 16); 
 class Part extends $.Object {
-__init__(line, channel, command, length, parts, lines) {
+__init__(line, channel, command, length, parts, lines, joined = null) {
 this.line = line;
 this.channel = channel;
 this.command = command;
 this.length = length;
 this.parts = parts;
 this.lines = lines;
+this.joined = joined;
 }
 get next() {
 const self = this;
@@ -2089,7 +2103,27 @@ return null;
 }
 get data() {
 const self = this;
-return $.slice($.call($.hex(""), "join", [$.own(self, "parts")]), null, $.own(self, "length"));
+let $t1;
+if ((($.own(self, "joined") === null))) {
+$t1 = $.slice($.call($.hex(""), "join", [$.own(self, "parts")]), null, $.own(self, "length")); self.joined = $t1; 
+}
+return $.own(self, "joined");
+return null;
+}
+add(piece, line) {
+const self = this;
+let $t1;
+$.call($.own(self, "parts"), "append", [piece]);
+$.call($.own(self, "lines"), "append", [line]);
+$t1 = null; self.joined = $t1; 
+return null;
+}
+remove_last() {
+const self = this;
+let $t1;
+$.call($.own(self, "parts"), "pop", []);
+$.call($.own(self, "lines"), "pop", []);
+$t1 = null; self.joined = $t1; 
 return null;
 }
 get padding() {
@@ -2098,44 +2132,59 @@ return $.slice($.call($.hex(""), "join", [$.own(self, "parts")]), $.own(self, "l
 return null;
 }
 }
-Part.$names = {"__init__": ["line", "channel", "command", "length", "parts", "lines"], "next": [], "came": [], "whole": [], "data": [], "padding": []};
+Part.$names = {"__init__": ["line", "channel", "command", "length", "parts", "lines", "joined"], "next": [], "came": [], "whole": [], "data": [], "add": ["piece", "line"], "remove_last": [], "padding": []};
 class Transaction extends Part {
-__init__(line, channel, command, length, parts, lines, end = "", code = null, by = null, answer = null, keepalives = $.apply(list, []), cancelled = null, began = 0, last = 0, after = 0) {
+__init__(line, channel, command, length, parts, lines, joined = null, end = "", code = null, by = null, answer = null, keepalives = $.apply(list, []), cancelled = null, cancelled_at = 0, moments = $.apply(list, [])) {
 this.line = line;
 this.channel = channel;
 this.command = command;
 this.length = length;
 this.parts = parts;
 this.lines = lines;
+this.joined = joined;
 this.end = end;
 this.code = code;
 this.by = by;
 this.answer = answer;
 this.keepalives = keepalives;
 this.cancelled = cancelled;
-this.began = began;
-this.last = last;
-this.after = after;
+this.cancelled_at = cancelled_at;
+this.moments = moments;
+}
+get began() {
+const self = this;
+return $.item($.own(self, "moments"), 0);
+return null;
+}
+get last() {
+const self = this;
+return $.item($.own(self, "moments"), $.sub($.apply(len, [$.own(self, "moments")]), 1));
+return null;
+}
+get is_unknown() {
+const self = this;
+return $.has(UNKNOWN, $.own(self, "end"));
+return null;
 }
 }
-Transaction.$names = {"__init__": ["line", "channel", "command", "length", "parts", "lines", "end", "code", "by", "answer", "keepalives", "cancelled", "began", "last", "after"]};
+Transaction.$names = {"__init__": ["line", "channel", "command", "length", "parts", "lines", "joined", "end", "code", "by", "answer", "keepalives", "cancelled", "cancelled_at", "moments"], "began": [], "last": [], "is_unknown": []};
 class Answer extends Part {
-__init__(line, channel, command, length, parts, lines, request = null, at = 0) {
+__init__(line, channel, command, length, parts, lines, joined = null, request = null) {
 this.line = line;
 this.channel = channel;
 this.command = command;
 this.length = length;
 this.parts = parts;
 this.lines = lines;
+this.joined = joined;
 this.request = request;
-this.at = at;
 }
 }
-Answer.$names = {"__init__": ["line", "channel", "command", "length", "parts", "lines", "request", "at"]};
+Answer.$names = {"__init__": ["line", "channel", "command", "length", "parts", "lines", "joined", "request"]};
 class Entry extends $.Object {
-__init__(line, kind, at = 0, packet = $.hex(""), part = "", transaction = null, why = "", message = null) {
+__init__(line, is_host, at, packet, part = "", transaction = null, why = "", message = null) {
 this.line = line;
-this.kind = kind;
+this.is_host = is_host;
 this.at = at;
 this.packet = packet;
 this.part = part;
@@ -2144,55 +2193,132 @@ this.why = why;
 this.message = message;
 }
 }
-Entry.$names = {"__init__": ["line", "kind", "at", "packet", "part", "transaction", "why", "message"]};
-class Channel extends $.Object {
-__init__(held = null, asked = null, inits = $.apply(list, []), stray = false, answering = null, status = null) {
-this.held = held;
-this.asked = asked;
-this.inits = inits;
-this.stray = stray;
-this.answering = answering;
-this.status = status;
+Entry.$names = {"__init__": ["line", "is_host", "at", "packet", "part", "transaction", "why", "message"]};
+class Ending extends $.Object {
+__init__(letter, line, number) {
+this.letter = letter;
+this.line = line;
+this.number = number;
 }
 }
-Channel.$names = {"__init__": ["held", "asked", "inits", "stray", "answering", "status"]};
-Message = $.apply(TypeVar, ["Message"], {bound: Part}); 
-function works(transaction) {
-let $t1, $t2;
-return ($.isTrue($t2 = (transaction !== null)) ? ($.isTrue($t1 = $.attribute(transaction, "whole")) ? !$.has($.Tuple.of(PING, INIT), $.attribute(transaction, "command")) : $t1) : $t2);
+Ending.$names = {"__init__": ["letter", "line", "number"]};
+Ending.$fields = ["letter", "line", "number"];
+class Owned extends $.Object {
+__init__(transaction = 0, message = 0, words = $.apply(list, [])) {
+this.transaction = transaction;
+this.message = message;
+this.words = words;
+}
+}
+Owned.$names = {"__init__": ["transaction", "message", "words"]};
+Owned.$fields = ["transaction", "message", "words"];
+class Lines extends $.Object {
+__init__(text) {
+const self = this;
+let $t1, $t2, $t3;
+$t1 = text; self.text = $t1; 
+$t2 = 0; self.at = $t2; 
+$t3 = $.hex(""); self.rest = $t3; 
 return null;
 }
-works.$names = ["transaction"];
-function may_refuse(code, start) {
-let $t1, $t2;
-if ((!$.eq($.attribute(start, "command"), INIT))) {
-return true;
+block() {
+const self = this;
+let lines, $t1, $t2, $t3;
+while (($.lt($.own(self, "at"), $.apply(len, [$.own(self, "text")])))) {
+lines = $.call($.add($.own(self, "rest"), $.slice($.own(self, "text"), $.own(self, "at"), $.add($.own(self, "at"), BLOCK))), "split", [$.hex("0a")]); 
+self.at = $.add($.own(self, "at"), BLOCK); 
+$t1 = $.call(lines, "pop", []); self.rest = $t1; 
+if ($.isTrue(lines)) {
+return lines;
 }
-return ($.isTrue($t2 = !$.has($.Tuple.of(INVALID_SEQUENCE, TIMED_OUT), code)) ? ($.isTrue($t1 = !$.eq(code, BUSY)) ? $t1 : $.eq($.attribute(start, "channel"), BROADCAST)) : $t2);
+}
+$t2 = $.Tuple.of(($.isTrue($.own(self, "rest")) ? [$.own(self, "rest")] : []), $.hex(""), $.apply(len, [$.own(self, "text")])); $t3 = $.unpacked($t2, 3); lines = $t3[0]; self.rest = $t3[1]; self.at = $t3[2]; 
+return lines;
 return null;
 }
-may_refuse.$names = ["code", "start"];
-class Walk extends $.Object {
+}
+Lines.$names = {"__init__": ["text"], "block": []};
+class Owners extends $.Object {
+__init__(text, before = 0) {
+const self = this;
+let $t1, $t2, $t3;
+$t1 = $.apply(Lines, [text]); self.lines = $t1; 
+$t2 = before; self.before = $t2; 
+self.ready = []; 
+$t3 = 0; self.place = $t3; 
+return null;
+}
+of(number) {
+const self = this;
+let line, parts, $t1, $t2, $t3;
+while ($.isTrue(true)) {
+if (($.eq($.own(self, "place"), $.apply(len, [$.own(self, "ready")])))) {
+$t1 = $.Tuple.of($.call($.own(self, "lines"), "block", []), 0); $t2 = $.unpacked($t1, 2); self.ready = $t2[0]; self.place = $t2[1]; 
+if (!$.isTrue($.own(self, "ready"))) {
+return $.apply(Owned, []);
+}
+}
+parts = $.call($.item($.own(self, "ready"), $.own(self, "place")), "split", [$.hex("20")]); 
+line = $.call(self, "line", [$.item(parts, 0)]); 
+if (($.lt(number, line))) {
+return $.apply(Owned, []);
+}
+self.place = $.add($.own(self, "place"), 1); 
+if (($.eq(line, number))) {
+return $.apply(Owned, [$.call(self, "line", [$.item(parts, 1)]), $.call(self, "line", [$.item(parts, 2)]), (() => { const $r = []; for (const $t3 of $.iter($.slice(parts, 3, null))) { let word; word = $t3; $r.push($.call(self, "ending", [word])); } return $r; })()]);
+}
+}
+return null;
+}
+line(digits) {
+const self = this;
+let line;
+line = $.apply(int, [digits]); 
+return ($.isTrue(line) ? $.add(line, $.own(self, "before")) : 0);
+return null;
+}
+ending(word) {
+const self = this;
+let number, parts;
+parts = $.call($.slice(word, 1, null), "split", [$.hex("3a")]); 
+number = (($.lt(1, $.apply(len, [parts]))) ? $.apply(int, [$.item(parts, 1)]) : 0); 
+if (($.has(NAMES_LINE, $.item(word, 0)))) {
+number = $.add(number, $.own(self, "before")); 
+}
+return $.apply(Ending, [$.item(word, 0), $.call(self, "line", [$.item(parts, 0)]), number]);
+return null;
+}
+}
+Owners.$names = {"__init__": ["text", "before"], "of": ["number"], "line": ["digits"], "ending": ["word"]};
+class Transactions extends $.Object {
 __init__() {
 const self = this;
-let $t1;
+let $t1, $t2;
 self.entries = []; 
-self.transactions = []; 
-self.channels = $.dictOf([]); 
 $t1 = 0; self.now = $t1; 
-self.first = null; 
-self.taken = null; 
+$t2 = 0; self.packets = $t2; self.answers = $t2; self.count = $t2; 
+self.open = $.dictOf([]); 
+self.answering = $.dictOf([]); 
+self.input = null; 
 return null;
 }
-finish() {
+get is_quiet() {
 const self = this;
-let transaction, $t1, $t2;
-for (const $t1$ of $.iter($.own(self, "transactions"))) {
-transaction = $t1$; 
-if (!$.isTrue($.attribute(transaction, "end"))) {
-$t2 = ($.isTrue($.attribute(transaction, "whole")) ? "unanswered" : "not whole"); transaction.end = $t2; 
+let $t1;
+return ($.isTrue($t1 = !$.isTrue($.own(self, "open"))) ? !$.isTrue($.own(self, "answering")) : $t1);
+return null;
 }
+restart() {
+const self = this;
+let $t1, $t2;
+$t1 = $.Tuple.of($.dictOf([]), $.dictOf([]), null); $t2 = $.unpacked($t1, 3); self.open = $t2[0]; self.answering = $t2[1]; self.input = $t2[2]; 
+return null;
 }
+taken() {
+const self = this;
+let entries, $t1, $t2;
+$t1 = $.Tuple.of($.own(self, "entries"), []); $t2 = $.unpacked($t1, 2); entries = $t2[0]; self.entries = $t2[1]; 
+return entries;
 return null;
 }
 pass_time(at) {
@@ -2201,348 +2327,178 @@ let $t1;
 $t1 = $.apply(max, [$.own(self, "now"), at]); self.now = $t1; 
 return null;
 }
-host(line, at, packet) {
+host(line, at, packet, owned) {
 const self = this;
 let entry, $t1, $t2;
 $.call(self, "pass_time", [at]);
-entry = $.apply(Entry, [line, "host", $.own(self, "now"), packet]); 
-$t1 = $.Tuple.of(entry, null); $t2 = $.unpacked($t1, 2); self.first = $t2[0]; self.taken = $t2[1]; 
-$.apply(($.isTrue($.and($.item(packet, 4), 128)) ? $.own(self, "start") : $.own(self, "more")), [entry, $.call(self, "channel", [packet])]);
+self.packets = $.add($.own(self, "packets"), 1); 
+entry = $.apply(Entry, [line, true, $.own(self, "now"), packet]); 
+$t1 = entry; self.input = $t1; 
+$t2 = $.call($.own(self, "open"), "get", [$.attribute(owned, "transaction")]); entry.transaction = $t2; 
+if (($.eq($.item(packet, 4), $.or(128, CANCEL)))) {
+$.call(self, "cancel", [entry]);
+} else {
+if ($.isTrue($.and($.item(packet, 4), 128))) {
+$.call(self, "begin", [entry]);
+} else {
+$.call(self, "go_on", [entry, owned]);
+}
+}
 $.call($.own(self, "entries"), "append", [entry]);
-return entry;
+$.call(self, "take_words", [entry, $.attribute(owned, "words")]);
 return null;
 }
-device(line, packet) {
+device(line, packet, owned) {
 const self = this;
-let entry, $t1;
-entry = $.apply(Entry, [line, "device", $.own(self, "now"), packet]); 
-$.call(self, "answer_of", [entry, $.call(self, "channel", [packet])]);
-$t1 = null; self.first = $t1; 
-$.call($.own(self, "entries"), "append", [entry]);
-return entry;
-return null;
-}
-reply(line, at) {
-const self = this;
-let entry, held, $t1, $t2, $t3, $t4;
-$.call(self, "pass_time", [at]);
-entry = $.apply(Entry, [line, "reply", $.own(self, "now")]); 
-held = (() => { const $r = []; for (const $t1 of $.iter($.call($.own(self, "channels"), "values", []))) { let it; it = $t1; if (!($.isTrue($.attribute(it, "held")) && $.isTrue($.attribute($.attribute(it, "held"), "whole")) && ($.eq($.attribute($.attribute(it, "held"), "command"), CBOR)))) { continue; } $r.push($.attribute(it, "held")); } return $r; })(); 
-$t2 = (($.eq($.apply(len, [held]), 1)) ? $.item(held, 0) : null); entry.transaction = $t2; 
-$t3 = $.Tuple.of(entry, null); $t4 = $.unpacked($t3, 2); self.first = $t4[0]; self.taken = $t4[1]; 
-$.call($.own(self, "entries"), "append", [entry]);
-return entry;
-return null;
-}
-channel(packet) {
-const self = this;
-return $.call($.own(self, "channels"), "setdefault", [$.slice(packet, null, 4), $.apply(Channel, [])]);
-return null;
-}
-message(entry, kind) {
-const self = this;
-let channel, packet;
-packet = $.attribute(entry, "packet"); 
+let channel, entry, $t1;
+self.packets = $.add($.own(self, "packets"), 1); 
+self.answers = $.add($.own(self, "answers"), 1); 
+entry = $.apply(Entry, [line, false, $.own(self, "now"), packet]); 
 channel = $.call(int, "from_bytes", [$.slice(packet, null, 4), "big"]); 
-return $.apply(kind, [$.attribute(entry, "line"), channel, $.and($.item(packet, 4), 127), $.or($.shiftLeft($.item(packet, 5), 8), $.item(packet, 6)), [$.slice(packet, 7, null)], [$.attribute(entry, "line")]]);
-return null;
-}
-start(entry, channel) {
-const self = this;
-let begun, fresh, waiting, $t1, $t2, $t3, $t4, $t5, $t6, $t7, $t8, $t9, $t10, $t11, $t12, $t13;
-$t1 = $.eq($.and($.item($.attribute(entry, "packet"), 4), 127), CANCEL); channel.stray = $t1; 
-if ($.isTrue($.attribute(channel, "stray"))) {
-waiting = (() => { const $r = []; for (const $t2 of $.iter($.Tuple.of($.attribute(channel, "held"), $.attribute(channel, "asked")))) { let it; it = $t2; if (!(((it !== null)) && $.isTrue($.apply(works, [it])))) { continue; } $r.push(it); } return $r; })(); 
-fresh = ($.isTrue($t4 = (() => { const $r = []; for (const $t3 of $.iter(waiting)) { let it; it = $t3; if (!!$.isTrue($.attribute(it, "cancelled"))) { continue; } $r.push(it); } return $r; })()) ? $t4 : waiting); 
-$t5 = $.Tuple.of("cancel", ($.isTrue(fresh) ? $.item(fresh, 0) : null)); $t6 = $.unpacked($t5, 2); entry.part = $t6[0]; entry.transaction = $t6[1]; 
-if ($.isTrue($.attribute(entry, "transaction"))) {
-$t7 = $.attribute(entry, "line"); $.attribute(entry, "transaction").cancelled = $t7; 
-}
-return null;
-}
-$.call(self, "settle", [channel]);
-begun = $.call(self, "message", [entry, Transaction]); 
-$t8 = $.own(self, "now"); begun.began = $t8; begun.last = $t8; 
-$.call($.own(self, "transactions"), "append", [begun]);
-$t9 = $.Tuple.of("start", begun, null); $t10 = $.unpacked($t9, 3); entry.part = $t10[0]; entry.transaction = $t10[1]; channel.asked = $t10[2]; 
-if (($.eq($.attribute(begun, "command"), INIT))) {
-$.call($.attribute(channel, "inits"), "append", [begun]);
-$t11 = begun; channel.asked = $t11; 
+$t1 = $.call($.own(self, "open"), "get", [$.attribute(owned, "transaction")]); entry.transaction = $t1; 
+if (($.lt($.item(packet, 4), 128))) {
+$.call(self, "go_on_answering", [entry, owned, channel]);
 } else {
-if ($.isTrue($.attribute(channel, "held"))) {
-$t12 = $.Tuple.of(begun, $.sub($.own(self, "now"), $.attribute($.attribute(channel, "held"), "last"))); $t13 = $.unpacked($t12, 2); channel.asked = $t13[0]; begun.after = $t13[1]; 
+$.call($.own(self, "answering"), "pop", [channel, null]);
+$.call(self, "answer", [entry, channel]);
+}
+$.call($.own(self, "entries"), "append", [entry]);
+$.call(self, "take_words", [entry, $.attribute(owned, "words")]);
+return null;
+}
+passed(line, owned) {
+const self = this;
+$.call(self, "take_words", [$.apply(Entry, [line, true, $.own(self, "now"), $.hex("")]), $.attribute(owned, "words")]);
+return null;
+}
+cancel(entry) {
+const self = this;
+let $t1, $t2, $t3;
+$t1 = "cancel"; entry.part = $t1; 
+if ((($.attribute(entry, "transaction") !== null))) {
+$t2 = $.Tuple.of($.attribute(entry, "line"), $.attribute(entry, "at")); $t3 = $.unpacked($t2, 2); $.attribute(entry, "transaction").cancelled = $t3[0]; $.attribute(entry, "transaction").cancelled_at = $t3[1]; 
+}
+return null;
+}
+begin(entry) {
+const self = this;
+let begun, channel, length, packet, $t1, $t2, $t3, $t4, $t5, $t6;
+packet = $.attribute(entry, "packet"); 
+$t1 = $.Tuple.of($.call(int, "from_bytes", [$.slice(packet, null, 4), "big"]), $.or($.shiftLeft($.item(packet, 5), 8), $.item(packet, 6))); $t2 = $.unpacked($t1, 2); channel = $t2[0]; length = $t2[1]; 
+begun = $.apply(Transaction, [$.attribute(entry, "line"), channel, $.and($.item(packet, 4), 127), length, [$.slice(packet, 7, null)], [$.attribute(entry, "line")]]); 
+$t3 = [$.own(self, "now")]; begun.moments = $t3; 
+$t4 = $.Tuple.of("start", begun); $t5 = $.unpacked($t4, 2); entry.part = $t5[0]; entry.transaction = $t5[1]; 
+$t6 = begun; $.put($.own(self, "open"), $.attribute(entry, "line"), $t6); 
+self.count = $.add($.own(self, "count"), 1); 
+return null;
+}
+go_on(entry, owned) {
+const self = this;
+let owner, $t1, $t2, $t3;
+owner = $.attribute(entry, "transaction"); 
+if (((owner === null))) {
+$t1 = "stray"; entry.part = $t1; 
 } else {
-$.call(self, "hold", [channel, begun]);
+if (($.eq($.attribute(owned, "message"), 0))) {
+$t2 = "wrong number"; entry.part = $t2; 
+} else {
+$t3 = "more"; entry.part = $t3; 
+$.call(owner, "add", [$.slice($.attribute(entry, "packet"), 5, null), $.attribute(entry, "line")]);
+$.call($.attribute(owner, "moments"), "append", [$.own(self, "now")]);
 }
 }
 return null;
 }
-more(entry, channel) {
+answer(entry, channel) {
 const self = this;
-let asked, open_one, $t1, $t2, $t3, $t4, $t5, $t6, $t7, $t8, $t9, $t10;
-$t1 = $.Tuple.of($.attribute(channel, "held"), $.attribute(channel, "asked")); $t2 = $.unpacked($t1, 2); open_one = $t2[0]; asked = $t2[1]; 
-if (($.isTrue(asked) && (!$.eq($.attribute(asked, "command"), INIT)) && ($.eq($.item($.attribute(entry, "packet"), 4), $.attribute(asked, "next"))) && !$.isTrue($.attribute(asked, "whole")))) {
-open_one = asked; 
-}
-$t4 = ($.isTrue($t3 = (open_one === null)) ? $t3 : $.attribute(open_one, "whole")); channel.stray = $t4; 
-if ((((open_one === null)) || $.isTrue($.attribute(open_one, "whole")))) {
-$t5 = "stray"; entry.part = $t5; 
-return null;
-}
-$t6 = $.Tuple.of(open_one, $.sub($.own(self, "now"), $.attribute(open_one, "last"))); $t7 = $.unpacked($t6, 2); entry.transaction = $t7[0]; self.taken = $t7[1]; 
-if ((!$.eq($.item($.attribute(entry, "packet"), 4), $.attribute(open_one, "next")))) {
-$t8 = "wrong number"; entry.part = $t8; 
-return null;
-}
-$t9 = "more"; entry.part = $t9; 
-$.call($.attribute(open_one, "parts"), "append", [$.slice($.attribute(entry, "packet"), 5, null)]);
-$.call($.attribute(open_one, "lines"), "append", [$.attribute(entry, "line")]);
-$t10 = $.own(self, "now"); open_one.last = $t10; 
-return null;
-}
-hold(channel, transaction) {
-const self = this;
-let $t1, $t2;
-$t1 = $.Tuple.of(transaction, null); $t2 = $.unpacked($t1, 2); channel.held = $t2[0]; channel.status = $t2[1]; 
-return null;
-}
-ended(it, how, code = null, by = null) {
-const self = this;
-let $t1, $t2;
-$t1 = $.Tuple.of(how, code, by); $t2 = $.unpacked($t1, 3); it.end = $t2[0]; it.code = $t2[1]; it.by = $t2[2]; 
-return null;
-}
-free(channel) {
-const self = this;
-let $t1;
-$t1 = null; channel.held = $t1; 
-$.call(self, "settle", [channel]);
-return null;
-}
-settle(channel) {
-const self = this;
-let asked, keepalive, old, $t1, $t2, $t3, $t4, $t5, $t6, $t7, $t8, $t9;
-$t1 = $.Tuple.of($.attribute(channel, "asked"), $.attribute(channel, "held")); $t2 = $.unpacked($t1, 2); asked = $t2[0]; old = $t2[1]; 
-if ((((asked === null)) || ($.eq($.attribute(asked, "command"), INIT)))) {
-return null;
-}
-$t3 = null; channel.asked = $t3; 
-if ($.isTrue(old)) {
-$.call(self, "ended", [old, ($.isTrue($.attribute(old, "cancelled")) ? "dropped" : "replaced")], {by: ($.isTrue($t4 = $.attribute(old, "cancelled")) ? $t4 : $.attribute(asked, "line"))});
-$t6 = (() => { const $r = []; for (const $t5 of $.iter($.attribute(old, "keepalives"))) { let it; it = $t5; if (!($.isTrue($.apply(works, [asked])) && ($.lt($.item($.attribute(asked, "lines"), $.sub(0, 1)), $.attribute(it, "line"))))) { continue; } $r.push(it); } return $r; })(); asked.keepalives = $t6; 
-$t7 = $.slice($.attribute(old, "keepalives"), null, $.sub($.apply(len, [$.attribute(old, "keepalives")]), $.apply(len, [$.attribute(asked, "keepalives")]))); old.keepalives = $t7; 
-for (const $t8$ of $.iter($.attribute(asked, "keepalives"))) {
-keepalive = $t8$; 
-$t9 = asked; keepalive.transaction = $t9; 
-}
-}
-$.call(self, "hold", [channel, asked]);
-return null;
-}
-answer_of(entry, channel) {
-const self = this;
-let answer, command, $t1, $t2, $t3, $t4, $t5, $t6, $t7, $t8, $t9, $t10, $t11, $t12, $t13, $t14, $t15;
-command = $.and($.item($.attribute(entry, "packet"), 4), 127); 
-if (($.lt($.item($.attribute(entry, "packet"), 4), 128))) {
-$t1 = $.Tuple.of($.attribute(channel, "answering"), "stray"); $t2 = $.unpacked($t1, 2); answer = $t2[0]; entry.part = $t2[1]; 
-if (($.isTrue(answer) && ($.eq($.item($.attribute(entry, "packet"), 4), $.attribute(answer, "next"))) && ($.lt($.attribute(answer, "came"), $.attribute(answer, "length"))))) {
-$.call($.attribute(answer, "parts"), "append", [$.slice($.attribute(entry, "packet"), 5, null)]);
-$.call($.attribute(answer, "lines"), "append", [$.attribute(entry, "line")]);
-$t3 = $.Tuple.of("answer", $.attribute(answer, "request"), answer); $t4 = $.unpacked($t3, 3); entry.part = $t4[0]; entry.transaction = $t4[1]; entry.message = $t4[2]; 
-}
-return null;
-}
-$t5 = null; channel.answering = $t5; 
+let answer, before, command, length, owner, packet, $t1, $t2, $t3, $t4, $t5, $t6, $t7, $t8, $t9, $t10, $t11, $t12;
+$t1 = $.Tuple.of($.attribute(entry, "packet"), $.attribute(entry, "transaction")); $t2 = $.unpacked($t1, 2); packet = $t2[0]; owner = $t2[1]; 
+$t3 = $.Tuple.of($.and($.item(packet, 4), 127), $.or($.shiftLeft($.item(packet, 5), 8), $.item(packet, 6))); $t4 = $.unpacked($t3, 2); command = $t4[0]; length = $t4[1]; 
 if (($.eq(command, KEEPALIVE))) {
-$t6 = $.Tuple.of("keepalive", $.call(self, "keepalive", [entry, channel])); $t7 = $.unpacked($t6, 2); entry.part = $t7[0]; entry.transaction = $t7[1]; 
-} else {
+$t5 = "keepalive"; entry.part = $t5; 
+if (((owner !== null))) {
+before = ($.isTrue($.attribute(owner, "keepalives")) ? $.item($.attribute($.item($.attribute(owner, "keepalives"), $.sub(0, 1)), "packet"), 7) : null); 
+$t6 = (($.eq(before, $.item(packet, 7))) ? "time" : "status"); entry.why = $t6; 
+$.call($.attribute(owner, "keepalives"), "append", [entry]);
+}
+return null;
+}
 if (($.eq(command, ERROR))) {
-$t8 = $.Tuple.of("error", $.call(self, "error", [entry, channel, $.item($.attribute(entry, "packet"), 7)])); $t9 = $.unpacked($t8, 2); entry.part = $t9[0]; entry.transaction = $t9[1]; 
+$t7 = "error"; entry.part = $t7; 
+return null;
+}
+answer = $.apply(Answer, [$.attribute(entry, "line"), channel, command, length, [$.slice(packet, 7, null)], [$.attribute(entry, "line")]], {request: owner}); 
+$t8 = $.Tuple.of("answer", answer); $t9 = $.unpacked($t8, 2); entry.part = $t9[0]; entry.message = $t9[1]; 
+if (($.lt($.attribute(answer, "came"), length))) {
+$t10 = answer; $.put($.own(self, "answering"), channel, $t10); 
+}
+if (((owner !== null))) {
+$t11 = $.Tuple.of(answer, "answered", $.attribute(entry, "line")); $t12 = $.unpacked($t11, 3); owner.answer = $t12[0]; owner.end = $t12[1]; owner.by = $t12[2]; 
+}
+return null;
+}
+go_on_answering(entry, owned, channel) {
+const self = this;
+let answer, $t1, $t2, $t3, $t4, $t5;
+$t1 = $.Tuple.of($.call($.own(self, "answering"), "get", [channel]), "stray"); $t2 = $.unpacked($t1, 2); answer = $t2[0]; entry.part = $t2[1]; 
+if ((((answer === null)) || (!$.eq($.attribute(answer, "line"), $.attribute(owned, "message"))))) {
+$t3 = null; entry.transaction = $t3; 
+return null;
+}
+$.call(answer, "add", [$.slice($.attribute(entry, "packet"), 5, null), $.attribute(entry, "line")]);
+$t4 = $.Tuple.of("answer", $.attribute(answer, "request"), answer); $t5 = $.unpacked($t4, 3); entry.part = $t5[0]; entry.transaction = $t5[1]; entry.message = $t5[2]; 
+if (($.eq($.attribute(answer, "came"), $.attribute(answer, "length")))) {
+$.remove($.own(self, "answering"), channel);
+}
+return null;
+}
+take_words(entry, words) {
+const self = this;
+let word, $t1;
+for (const $t1$ of $.iter(words)) {
+word = $t1$; 
+if (($.eq($.attribute(word, "letter"), LATE))) {
+$.call(self, "leave_late", [$.attribute(word, "line")]);
 } else {
-$t10 = $.call(self, "message", [entry, Answer]); channel.answering = $t10; entry.message = $t10; 
-$t11 = $.own(self, "now"); $.attribute(entry, "message").at = $t11; 
-$t12 = $.Tuple.of("answer", $.call(self, "answer", [channel, $.attribute(entry, "message")])); $t13 = $.unpacked($t12, 2); entry.part = $t13[0]; entry.transaction = $t13[1]; 
-$t14 = $.attribute(entry, "transaction"); $.attribute(entry, "message").request = $t14; 
-if ($.isTrue($.attribute(entry, "transaction"))) {
-$t15 = $.attribute(entry, "message"); $.attribute(entry, "transaction").answer = $t15; 
-$.call(self, "ended", [$.attribute(entry, "transaction"), "answered"], {by: $.attribute(entry, "line")});
+if (($.has($.own(self, "open"), $.attribute(word, "line")))) {
+$.call(self, "ended", [$.call($.own(self, "open"), "pop", [$.attribute(word, "line")]), word, entry]);
 }
 }
 }
 return null;
 }
-keepalive(entry, channel) {
+ended(owner, word, entry) {
 const self = this;
-let held, $t1, $t2;
-if (($.isTrue($.apply(works, [$.attribute(channel, "asked")])) && !$.isTrue($.apply(works, [$.attribute(channel, "held")])))) {
-$.call(self, "settle", [channel]);
+let $t1, $t2, $t3, $t4, $t5, $t6;
+if (($.eq($.attribute(word, "letter"), BY_ERROR))) {
+$t1 = $.Tuple.of("refused", $.attribute(word, "number"), $.attribute(entry, "line")); $t2 = $.unpacked($t1, 3); owner.end = $t2[0]; owner.code = $t2[1]; owner.by = $t2[2]; 
+if (($.eq($.attribute(word, "number"), TIMED_OUT))) {
+$t3 = "timed out"; owner.end = $t3; 
 }
-held = $.attribute(channel, "held"); 
-if ((((held === null)) || !$.isTrue($.apply(works, [held])))) {
-return null;
-}
-$t1 = (($.eq($.attribute(channel, "status"), $.item($.attribute(entry, "packet"), 7))) ? "time" : "status"); entry.why = $t1; 
-$t2 = $.item($.attribute(entry, "packet"), 7); channel.status = $t2; 
-$.call($.attribute(held, "keepalives"), "append", [entry]);
-return held;
-return null;
-}
-error(entry, channel, code) {
-const self = this;
-let asked, found, held, $t1, $t2, $t3, $t4;
-$t1 = $.Tuple.of($.attribute(channel, "asked"), $.attribute(channel, "held")); $t2 = $.unpacked($t1, 2); asked = $t2[0]; held = $t2[1]; 
-if ((($.eq(code, TIMED_OUT)) && $.isTrue(asked) && !$.isTrue($.attribute(asked, "whole")) && $.isTrue(held) && ($.isTrue($.attribute(held, "whole")) || ($.lt($.attribute(asked, "after"), NO_TIME_OUT))))) {
-$.call(self, "settle", [channel]);
-}
-held = $.attribute(channel, "held"); 
-if ((($.eq(code, TIMED_OUT)) && $.isTrue(held))) {
-$.call(self, "leave_late", [held]);
-if (!$.isTrue($.attribute(held, "whole"))) {
-$.call(self, "ended", [held, "timed out", code, $.attribute(entry, "line")]);
-$.call(self, "free", [channel]);
-return held;
-}
-}
-found = $.apply(next, [(function* () { for (const $t3 of $.iter($.attribute(channel, "inits"))) { let it; it = $t3; if (!((!$.eq($.attribute(it, "length"), 8)) && ($.eq(code, INVALID_LENGTH)))) { continue; } yield it; } })(), $.attribute(channel, "asked")]); 
-if (($.isTrue(found) && $.isTrue($.apply(may_refuse, [code, found])))) {
-return $.call(self, "refuse", [entry, channel, found, code]);
-}
-if (($.isTrue($.attribute(channel, "stray")) && (((held === null)) || ($.isTrue($.attribute(held, "keepalives")) && ($.has(NOT_SERVED, code)))))) {
-return null;
-}
-if ($.isTrue(held)) {
-$.call(self, "free", [channel]);
 } else {
-if ($.isTrue($.attribute(channel, "inits"))) {
-held = $.call($.attribute(channel, "inits"), "pop", []); 
-$t4 = null; channel.asked = $t4; 
+if ((!$.has(ANSWERED, $.attribute(word, "letter")))) {
+$t5 = $.Tuple.of($.item(ENDS, $.attribute(word, "letter")), ($.isTrue($t4 = $.attribute(word, "number")) ? $t4 : $.attribute(entry, "line"))); $t6 = $.unpacked($t5, 2); owner.end = $t6[0]; owner.by = $t6[1]; 
 }
 }
-if ($.isTrue(held)) {
-$.call(self, "ended", [held, (($.eq(code, TIMED_OUT)) ? "timed out" : "refused"), code, $.attribute(entry, "line")]);
-}
-return held;
 return null;
 }
-leave_late(held) {
+leave_late(line) {
 const self = this;
-let first, $t1, $t2, $t3;
-first = $.own(self, "first"); 
-if ((!$.isTrue(first) || (($.attribute(first, "transaction") !== held)) || (!$.has($.Tuple.of("more", "wrong number"), $.attribute(first, "part"))))) {
+let entry, $t1, $t2;
+entry = $.own(self, "input"); 
+if ((((entry === null)) || (!$.eq($.attribute(entry, "line"), line)) || (($.attribute(entry, "transaction") === null)))) {
 return null;
 }
-if (((($.own(self, "taken") === null)) || ($.lt($.own(self, "taken"), NO_TIME_OUT)))) {
-return null;
+if (($.eq($.attribute(entry, "part"), "more"))) {
+$.call($.attribute(entry, "transaction"), "remove_last", []);
+$.call($.attribute($.attribute(entry, "transaction"), "moments"), "pop", []);
 }
-if (($.eq($.attribute(first, "part"), "more"))) {
-$.call($.attribute(held, "parts"), "pop", []);
-$.call($.attribute(held, "lines"), "pop", []);
-$t1 = $.sub($.attribute(first, "at"), $.own(self, "taken")); held.last = $t1; 
-}
-$t2 = $.Tuple.of("stray", null); $t3 = $.unpacked($t2, 2); first.part = $t3[0]; first.transaction = $t3[1]; 
-return null;
-}
-refuse(entry, channel, found, code) {
-const self = this;
-let cause, held, $t1;
-held = $.attribute(channel, "held"); 
-$.call(self, "ended", [found, "refused", code, $.attribute(entry, "line")]);
-if ((($.attribute(channel, "asked") === found))) {
-$t1 = null; channel.asked = $t1; 
-}
-if ((($.eq($.attribute(found, "command"), INIT)) && ($.has($.attribute(channel, "inits"), found)))) {
-$.call($.attribute(channel, "inits"), "remove", [found]);
-}
-cause = (($.eq($.attribute(found, "command"), INIT)) ? INVALID_LENGTH : INVALID_SEQUENCE); 
-if (($.isTrue(held) && !$.isTrue($.attribute(held, "whole")) && ($.lt($.attribute(held, "line"), $.attribute(found, "line"))) && ($.eq(code, cause)))) {
-$.call(self, "ended", [held, (($.eq($.attribute(found, "command"), INIT)) ? "dropped" : "replaced")], {by: $.attribute(found, "line")});
-$.call(self, "free", [channel]);
-}
-return found;
-return null;
-}
-answer(channel, answer) {
-const self = this;
-let asked, held, late, $t1, $t2, $t3, $t4, $t5, $t6, $t7;
-if (($.eq($.attribute(answer, "command"), INIT))) {
-return $.call(self, "greeting", [channel, answer]);
-}
-$t1 = $.Tuple.of($.attribute(channel, "asked"), $.attribute(channel, "held")); $t2 = $.unpacked($t1, 2); asked = $t2[0]; held = $t2[1]; 
-if (($.isTrue(asked) && $.isTrue($.attribute(asked, "whole")) && ((($t3 = $.attribute(answer, "command"), $.eq($.attribute(asked, "command"), $t3)) && ($t4 = INIT, !$.eq($t3, $t4)))))) {
-late = ($.isTrue($t7 = held) ? ($.isTrue($t6 = $.attribute(held, "whole")) ? ($.isTrue($t5 = $.attribute(held, "cancelled")) ? $.eq($.attribute(held, "command"), CBOR) : $t5) : $t6) : $t7); 
-if (!($.isTrue(late) && ($.eq($.item($.item($.attribute(answer, "parts"), 0), 0), CANCELLED)))) {
-$.call(self, "settle", [channel]);
-held = asked; 
-}
-}
-if ((((held === null)) || !$.isTrue($.attribute(held, "whole")) || (!$.eq($.attribute(held, "command"), $.attribute(answer, "command"))))) {
-return null;
-}
-$.call(self, "free", [channel]);
-return held;
-return null;
-}
-greeting(channel, answer) {
-const self = this;
-let found, nonce, $t1, $t2;
-nonce = $.slice($.item($.attribute(answer, "parts"), 0), null, 8); 
-found = $.apply(next, [(function* () { for (const $t1 of $.iter($.attribute(channel, "inits"))) { let it; it = $t1; if (!(($.eq($.attribute(it, "length"), 8)) && ($.eq($.slice($.item($.attribute(it, "parts"), 0), null, 8), nonce)))) { continue; } yield it; } })(), null]); 
-if (((found === null))) {
-return null;
-}
-$.call($.attribute(channel, "inits"), "remove", [found]);
-if ((($.attribute(channel, "asked") === found))) {
-$t2 = null; channel.asked = $t2; 
-}
-if (((!$.eq($.attribute(answer, "channel"), BROADCAST)) && $.isTrue($.attribute(channel, "held")) && ($.lt($.attribute($.attribute(channel, "held"), "line"), $.attribute(found, "line"))))) {
-$.call(self, "ended", [$.attribute(channel, "held"), "dropped"], {by: $.attribute(found, "line")});
-$.call(self, "free", [channel]);
-}
-return found;
+$t1 = $.Tuple.of("stray", null); $t2 = $.unpacked($t1, 2); entry.part = $t2[0]; entry.transaction = $t2[1]; 
 return null;
 }
 }
-Walk.$names = {"__init__": [], "finish": [], "pass_time": ["at"], "host": ["line", "at", "packet"], "device": ["line", "packet"], "reply": ["line", "at"], "channel": ["packet"], "message": ["entry", "kind"], "start": ["entry", "channel"], "more": ["entry", "channel"], "hold": ["channel", "transaction"], "ended": ["it", "how", "code", "by"], "free": ["channel"], "settle": ["channel"], "answer_of": ["entry", "channel"], "keepalive": ["entry", "channel"], "error": ["entry", "channel", "code"], "leave_late": ["held"], "refuse": ["entry", "channel", "found", "code"], "answer": ["channel", "answer"], "greeting": ["channel", "answer"]};
-function walk_log(log) {
-let line, number, walk, $t1, $t2;
-walk = $.apply(Walk, []); 
-for (const $t1$ of $.iter($.apply(enumerate, [$.call(log, "split", [$.hex("0a")]), 1]))) {
-$t2 = $.unpacked($t1$, 2); number = $t2[0]; line = $t2[1]; 
-$.apply(take_line, [walk, number, line]);
-}
-$.call(walk, "finish", []);
-return walk;
-return null;
-}
-walk_log.$names = ["log"];
-function take_line(walk, number, line) {
-let _, moment, rest, word, words, $t1, $t2, $t3, $t4;
-$t1 = $.call(line, "partition", [$.hex("20")]); $t2 = $.unpacked($t1, 3); word = $t2[0]; _ = $t2[1]; rest = $t2[2]; 
-if ((($.eq(word, $.hex("3c"))) && ($.eq($.apply(len, [rest]), 128)))) {
-return $.call(walk, "device", [number, $.call(bytes, "fromhex", [$.call(rest, "decode", [])])]);
-}
-$t3 = $.call(rest, "partition", [$.hex("20")]); $t4 = $.unpacked($t3, 3); moment = $t4[0]; _ = $t4[1]; words = $t4[2]; 
-if (($.eq(word, $.hex("3e")))) {
-return $.call(walk, "host", [number, $.apply(int, [moment]), $.call(bytes, "fromhex", [$.call(words, "decode", [])])]);
-}
-if (($.has($.Tuple.of($.hex("70"), $.hex("6b"), $.hex("73")), word))) {
-return $.call(walk, "reply", [number, $.apply(int, [moment])]);
-}
-if (($.eq(word, $.hex("74")))) {
-$.call(walk, "pass_time", [$.apply(int, [moment])]);
-}
-return null;
-return null;
-}
-take_line.$names = ["walk", "number", "line"];
-function packets_in(log) {
-let lines, $t1, $t2;
-lines = (() => { const $r = []; for (const $t1 of $.iter($.call(log, "split", [$.hex("0a")]))) { let line; line = $t1; if (!($.has($.Tuple.of($.hex("3e20"), $.hex("3c20")), $.slice(line, null, 2)))) { continue; } $r.push(line); } return $r; })(); 
-return (() => { const $r = []; for (const $t2 of $.iter(lines)) { let line; line = $t2; $r.push($.Tuple.of($.eq($.slice(line, null, 1), $.hex("3e")), $.call(bytes, "fromhex", [$.call($.item($.call(line, "split", [$.hex("20")]), $.sub(0, 1)), "decode", [])]))); } return $r; })();
-return null;
-}
-packets_in.$names = ["log"];
-return { Answer, BUSY, CANCELLED, Channel, Entry, INVALID_CHANNEL, INVALID_COMMAND, INVALID_LENGTH, INVALID_SEQUENCE, Message, NOT_SERVED, NO_TIME_OUT, Part, TIMED_OUT, Transaction, Walk, may_refuse, packets_in, take_line, walk_log, works };
+Transactions.$names = {"__init__": [], "is_quiet": [], "restart": [], "taken": [], "pass_time": ["at"], "host": ["line", "at", "packet", "owned"], "device": ["line", "packet", "owned"], "passed": ["line", "owned"], "cancel": ["entry"], "begin": ["entry"], "go_on": ["entry", "owned"], "answer": ["entry", "channel"], "go_on_answering": ["entry", "owned", "channel"], "take_words": ["entry", "words"], "ended": ["owner", "word", "entry"], "leave_late": ["line"]};
+return { ANSWERED, Answer, BLOCK, BUSY, BY_ERROR, CANCELLED, ENDS, Ending, Entry, INVALID_CHANNEL, INVALID_COMMAND, INVALID_LENGTH, INVALID_SEQUENCE, LATE, Lines, NAMES_LINE, NO_TIME_OUT, Owned, Owners, Part, TIMED_OUT, Transaction, Transactions, UNKNOWN };
 };
 
 $.modules["managed"] = () => {
@@ -2566,6 +2522,7 @@ self.left = $.dictOf([[RPS, null], [CREDENTIALS, null]]);
 self.rps = $.apply(set, []); 
 self.ids = $.apply(set, []); 
 self.blob_keys = $.dictOf([]); 
+self.blob_names = $.dictOf([]); 
 return null;
 }
 judge_count(item, count) {
@@ -2656,7 +2613,7 @@ return null;
 }
 judge_blob_key(item, key, words) {
 const self = this;
-let found, name, others, $t1, $t2;
+let found, name, other;
 if (($.has(words, "no-blob-key"))) {
 $.apply(hold, [!$.has(item, key), "no key of large blobs", item]);
 }
@@ -2667,8 +2624,8 @@ name = $.item(words, $.add($.call(words, "index", ["blob-key"]), 1));
 found = $.apply(member, [item, key, bytes, "the key of large blobs"]); 
 $.apply(hold, [$.eq($.apply(len, [found]), 32), "a key of large blobs of 32 bytes", found]);
 $.apply(hold, [$.eq($.call($.own(self, "blob_keys"), "setdefault", [name, found]), found), ("" + "the key of large blobs " + $.format(name, "") + " again"), found]);
-others = (() => { const $r = []; for (const $t1 of $.iter($.call($.own(self, "blob_keys"), "items", []))) { let one, other; $t2 = $.unpacked($t1, 2); other = $t2[0]; one = $t2[1]; if (!((!$.eq(other, name)) && ($.eq(one, found)))) { continue; } $r.push(other); } return $r; })(); 
-$.apply(hold, [!$.isTrue(others), ("" + "another key of large blobs than " + $.format($.call(" ", "join", [others]), "")), found]);
+other = $.call($.own(self, "blob_names"), "setdefault", [found, name]); 
+$.apply(hold, [$.eq(other, name), ("" + "another key of large blobs than " + $.format(other, "")), found]);
 return null;
 }
 }
@@ -2682,28 +2639,26 @@ return { BLOB_KEY, COUNT, CREDENTIALS, ID, KEY, LEFT, Listing, PROTECTION, RP, R
 };
 
 $.modules["judged_log"] = () => {
-let Answer, Differs, Entry, HOST, HostJudge, KEY, KeyJudge, MUST, Message, Part, SECTIONS, SHOULD, SILENCE, TITLES, Transaction, Walk, _CUT, _LINE, hid, re, rules, take_line, $t1, $t2, $t3, $t4, $t5;
+let Answer, Differs, HOST, HostJudge, KEY, KeyJudge, LOST, Lines, MUST, Message, Owners, POWER_CYCLE, Part, SECTIONS, SHOULD, SILENCE, TITLES, Transaction, Transactions, _CUT, hid, re, rules, $t1, $t2, $t3, $t4, $t5;
 re = $.module("re");
 hid = $.module("hid_packets");
 rules = $.module("rules");
 Differs = $.module("answers").Differs;
 Message = $.module("hid_packets").Message;
 SECTIONS = $.module("sections").SECTIONS;
-Answer = $.module("walk").Answer;
-Entry = $.module("walk").Entry;
-Part = $.module("walk").Part;
-Transaction = $.module("walk").Transaction;
-Walk = $.module("walk").Walk;
-take_line = $.module("walk").take_line;
+Answer = $.module("transactions").Answer;
+Lines = $.module("transactions").Lines;
+Owners = $.module("transactions").Owners;
+Part = $.module("transactions").Part;
+Transaction = $.module("transactions").Transaction;
+Transactions = $.module("transactions").Transactions;
 TITLES = (() => { const $r = []; for (const $t1 of $.iter($.call(SECTIONS, "values", []))) { let title; title = $t1; $r.push([$.item($.call(title, "split", [" "]), 0), $.add("CTAP 2.1, ", title)]); } return $.dictOf($r); })(); 
 $t2 = $.Tuple.of("key", "host"); $t3 = $.unpacked($t2, 2); KEY = $t3[0]; HOST = $t3[1]; 
 $t4 = $.Tuple.of("must", "should"); $t5 = $.unpacked($t4, 2); MUST = $t5[0]; SHOULD = $t5[1]; 
 SILENCE = 1000; 
-_LINE = $.call(re, "compile", [$.hex("283f3a3e205c647b312c32307d205b302d39612d66412d465d7b3132387d7c3c205b302d39612d66412d465d7b3132387d7c74205c647b312c32307d7c70205c647b312c32307d20283f3a6772616e7465647c64656e6965647c74696d656f7574297c5b6b735d205c647b312c32307d205b302d39612d66412d46206e6f5d2b7c5b233d5d2e2a7c29")]); 
+POWER_CYCLE = $.hex("2320706f776572206379636c65"); 
+LOST = $.Tuple.of($.hex("746865207265636f72646572206c6f737420"), $.hex("69742077617320706173736564206f766572"), $.hex("6973206c656674206f75743a20")); 
 _CUT = $.call(re, "compile", [$.hex("232063757420746f205c642b2062797465733a20285b3c3e5d2920285c647b312c32307d292028283f3a5b302d39612d665d7b327d297b382c36337d29")]); 
-class NoLog extends Exception {
-}
-NoLog.$names = {};
 class Finding extends $.Object {
 __init__(line, side, level, section, due, came, also = "") {
 this.line = line;
@@ -2730,85 +2685,116 @@ return null;
 Finding.$names = {"__init__": ["line", "side", "level", "section", "due", "came", "also"], "rule": [], "sections": []};
 Finding.$fields = ["line", "side", "level", "section", "due", "came", "also"];
 class Recording extends $.Object {
-__init__(log) {
+__init__() {
 const self = this;
-let line, number, $t1, $t2, $t3, $t4, $t5, $t6;
-$t1 = $.apply(Walk, []); self.walk = $t1; 
+let $t1, $t2, $t3, $t4, $t5, $t6;
+$t1 = $.apply(Transactions, []); self.walk = $t1; 
 self.findings = []; 
+self.found = $.apply(set, []); 
 self.unread = []; 
 self.power_cycles = []; 
 $t2 = false; self.is_timeless = $t2; 
 $t3 = false; self.is_of_one_client = $t3; 
+$t4 = false; self.is_imported = $t4; 
+$t5 = false; self.has_lost = $t5; 
+self.gap = null; 
 self.cut = $.apply(set, []); 
 self.start = null; 
-$t4 = 0; self.lines = $t4; 
-for (const $t5$ of $.iter($.apply(enumerate, [$.call(log, "split", [$.hex("0a")]), 1]))) {
-$t6 = $.unpacked($t5$, 2); number = $t6[0]; line = $t6[1]; 
-$.call(self, "take", [number, line]);
-}
-$.call($.own(self, "walk"), "finish", []);
+$t6 = 0; self.lines = $t6; 
 return null;
 }
-take(number, line) {
+take(number, line, owners) {
 const self = this;
-let entry, $t1, $t2, $t3, $t4;
-if ((($.lt(255, $.apply(len, [line]))) || !$.isTrue($.call(_LINE, "fullmatch", [line])))) {
-throw $.apply(NoLog, [("" + "line " + $.format(number, "") + ": not a log line")]);
-}
+let _, digits, kind, moment, $t1, $t2, $t3, $t4;
 $t1 = number; self.lines = $t1; 
-if ($.isTrue($.call(line, "startswith", [$.hex("23")]))) {
-if (($.has(line, $.hex("6e6f626f64792072656164206974")))) {
-$.call($.own(self, "unread"), "append", [number]);
+kind = $.slice(line, null, 1); 
+if (($.eq(kind, $.hex("3c")))) {
+$.call($.own(self, "walk"), "device", [number, $.call(bytes, "fromhex", [$.call($.slice(line, 2, null), "decode", [])]), $.call(owners, "of", [number])]);
+} else {
+if (($.eq(kind, $.hex("3e")))) {
+$t2 = $.call($.slice(line, 2, null), "partition", [$.hex("20")]); $t3 = $.unpacked($t2, 3); moment = $t3[0]; _ = $t3[1]; digits = $t3[2]; 
+$.call($.own(self, "walk"), "host", [number, $.apply(int, [moment]), $.call(bytes, "fromhex", [$.call(digits, "decode", [])]), $.call(owners, "of", [number])]);
+} else {
+if (($.eq(kind, $.hex("23")))) {
+$.call(self, "take_comment", [number, line, owners]);
+return null;
+} else {
+if (($.has($.Tuple.of($.hex("74"), $.hex("70"), $.hex("6b"), $.hex("73")), kind))) {
+$.call($.own(self, "walk"), "pass_time", [$.apply(int, [$.item($.call(line, "split", [$.hex("20")]), 1)])]);
+$.call($.own(self, "walk"), "passed", [number, $.call(owners, "of", [number])]);
+} else {
+return null;
 }
-if ($.isTrue($.call(line, "startswith", [$.hex("23206d6f6d656e742030206973206d616465207570")]))) {
-$t2 = true; self.is_timeless = $t2; 
-}
-if (($.has(line, $.hex("6f6e6520636c69656e7420616c6f6e65")))) {
-$t3 = true; self.is_of_one_client = $t3; 
-}
-if ($.isTrue($.call(line, "startswith", [$.hex("232063757420746f20")]))) {
-$.call(self, "take_cut", [number, line]);
-}
-if (($.eq(line, $.hex("2320706f776572206379636c65")))) {
-$.call($.own(self, "power_cycles"), "append", [$.Tuple.of(number, $.attribute($.own(self, "walk"), "now"))]);
-$.call($.attribute($.own(self, "walk"), "channels"), "clear", []);
 }
 }
-entry = $.apply(take_line, [$.own(self, "walk"), number, line]); 
-if (((($.own(self, "start") === null)) && (((entry !== null)) || ($.eq($.slice(line, null, 2), $.hex("7420")))))) {
+}
+if ((($.own(self, "start") === null))) {
 $t4 = $.attribute($.own(self, "walk"), "now"); self.start = $t4; 
 }
 return null;
 }
-take_cut(number, line) {
+take_comment(number, line, owners) {
 const self = this;
-let found, packet;
+let found, $t1, $t2, $t3, $t4, $t5;
+if (($.has(line, $.hex("6e6f626f64792072656164206974")))) {
+$.call($.own(self, "unread"), "append", [number]);
+}
+if ($.isTrue($.call(line, "startswith", [$.hex("23206d6f6d656e742030206973206d616465207570")]))) {
+$t1 = true; self.is_timeless = $t1; 
+}
+if (($.has(line, $.hex("6f6e6520636c69656e7420616c6f6e65")))) {
+$t2 = true; self.is_of_one_client = $t2; 
+}
+if ($.isTrue($.call(line, "startswith", [$.hex("2320696d706f727465642066726f6d20")]))) {
+$t3 = true; self.is_imported = $t3; 
+}
+if (($.isTrue($.call(line, "startswith", [$.hex("23206e6f74653a20")])) && $.isTrue($.apply(any, [(function* () { for (const $t4 of $.iter(LOST)) { let word; word = $t4; yield $.has(line, word); } })()])))) {
+$t5 = true; self.has_lost = $t5; 
+}
 found = $.call(_CUT, "fullmatch", [line]); 
-if (!$.isTrue(found)) {
+if ($.isTrue(found)) {
+$.call(self, "take_cut", [number, $.eq($.item(found, 1), $.hex("3e")), $.apply(int, [$.item(found, 2)]), $.apply(padded, [$.item(found, 3)]), owners]);
+}
+if (($.eq(line, POWER_CYCLE))) {
+$.call($.own(self, "power_cycles"), "append", [$.Tuple.of(number, $.attribute($.own(self, "walk"), "now"))]);
+$.call($.own(self, "walk"), "restart", []);
+}
 return null;
 }
-packet = $.call($.call(bytes, "fromhex", [$.call($.item(found, 3), "decode", [])]), "ljust", [64, $.hex("00")]); 
+take_cut(number, is_host, at, packet, owners) {
+const self = this;
 $.call($.own(self, "cut"), "add", [number]);
-if (($.eq($.item(found, 1), $.hex("3e")))) {
-$.call($.own(self, "walk"), "host", [number, $.apply(int, [$.item(found, 2)]), packet]);
-} else {
-$.call($.own(self, "walk"), "pass_time", [$.apply(int, [$.item(found, 2)])]);
-$.call($.own(self, "walk"), "device", [number, packet]);
+if ($.isTrue(is_host)) {
+$.call($.own(self, "walk"), "host", [number, at, packet, $.call(owners, "of", [number])]);
+return null;
 }
+$.call($.own(self, "walk"), "pass_time", [at]);
+$.call($.own(self, "walk"), "device", [number, packet, $.call(owners, "of", [number])]);
 return null;
 }
 is_cut(...parts) {
 const self = this;
 let $t1, $t2, $t3;
+if (!$.isTrue($.own(self, "cut"))) {
+return false;
+}
 return $.apply(any, [(function* () { for (const $t3 of $.iter(parts)) { let part; part = $t3; yield ($.isTrue($t2 = (part !== null)) ? $.apply(any, [(function* () { for (const $t1 of $.iter($.attribute(part, "lines"))) { let line; line = $t1; yield $.has($.own(self, "cut"), line); } })()]) : $t2); } })()]);
 return null;
 }
 find(line, side, section, due, came, level = MUST, also = "") {
 const self = this;
-let $t1, $t2, $t3;
-if (!$.isTrue($.apply(any, [(function* () { for (const $t3 of $.iter($.own(self, "findings"))) { let it; it = $t3; yield ($.isTrue($t2 = $.eq($.attribute(it, "line"), line)) ? ($.isTrue($t1 = $.eq($.attribute(it, "section"), section)) ? $.eq($.attribute(it, "side"), side) : $t1) : $t2); } })()]))) {
+if ((!$.has($.own(self, "found"), $.Tuple.of(line, side, section)))) {
+$.call($.own(self, "found"), "add", [$.Tuple.of(line, side, section)]);
 $.call($.own(self, "findings"), "append", [$.apply(Finding, [line, side, level, section, due, came, ((!$.eq(also, section)) ? also : "")])]);
 }
+return null;
+}
+find_gap(line, side, section, due, came, level = MUST, also = "") {
+const self = this;
+let lost, $t1, $t2, $t3;
+lost = ($.isTrue($t2 = $.own(self, "has_lost")) ? $t2 : ($.isTrue($t1 = $.own(self, "is_of_one_client")) ? $.eq(side, KEY) : $t1)); 
+$t3 = ((($.own(self, "gap") === null)) ? line : $.own(self, "gap")); self.gap = $t3; 
+$.call(self, "find", [line, side, section, due, came, ($.isTrue(lost) ? SHOULD : level), also]);
 return null;
 }
 judged(seen, line, differs, level = MUST) {
@@ -2821,11 +2807,16 @@ return null;
 was_unread(line) {
 const self = this;
 let $t1;
-return $.apply(any, [(function* () { for (const $t1 of $.iter($.own(self, "unread"))) { let number; number = $t1; yield $.lt(number, line); } })()]);
+return ($.isTrue($t1 = $.apply(bool, [$.own(self, "unread")])) ? $.lt($.item($.own(self, "unread"), 0), line) : $t1);
 return null;
 }
 }
-Recording.$names = {"__init__": ["log"], "take": ["number", "line"], "take_cut": ["number", "line"], "is_cut": [], "find": ["line", "side", "section", "due", "came", "level", "also"], "judged": ["seen", "line", "differs", "level"], "was_unread": ["line"]};
+Recording.$names = {"__init__": [], "take": ["number", "line", "owners"], "take_comment": ["number", "line", "owners"], "take_cut": ["number", "is_host", "at", "packet", "owners"], "is_cut": [], "find": ["line", "side", "section", "due", "came", "level", "also"], "find_gap": ["line", "side", "section", "due", "came", "level", "also"], "judged": ["seen", "line", "differs", "level"], "was_unread": ["line"]};
+function padded(digits) {
+return $.call($.call(bytes, "fromhex", [$.call(digits, "decode", [])]), "ljust", [64, $.hex("00")]);
+return null;
+}
+padded.$names = ["digits"];
 function message_of(answer) {
 return $.apply(Message, [$.attribute(answer, "channel"), $.attribute(answer, "command"), $.attribute(answer, "data")], {padding: $.attribute(answer, "padding")});
 return null;
@@ -2848,40 +2839,94 @@ return $.call(rules, "Seen", [section, expected, came, partial, request, cancell
 return null;
 }
 seen.$names = ["transaction", "expected", "came", "own", "partial"];
-function in_order(recording) {
+function walked(log) {
 let $t1;
-return (() => { const $r = []; for (const $t1 of $.iter($.attribute($.attribute(recording, "walk"), "entries"))) { let it; it = $t1; if (!$.isTrue($.attribute(it, "packet"))) { continue; } $r.push(it); } return $r; })();
+if ((!$.has(log, $.hex("232063757420746f20")))) {
+return log;
+}
+return $.call($.hex("0a"), "join", [(() => { const $r = []; for (const $t1 of $.iter($.call(log, "split", [$.hex("0a")]))) { let line; line = $t1; $r.push($.apply(whole_line, [line])); } return $r; })()]);
 return null;
 }
-in_order.$names = ["recording"];
-function judge(log) {
-let entry, host, key, recording, $t1, $t2, $t3;
+walked.$names = ["log"];
+function whole_line(line) {
+let digits, found;
+found = $.call(_CUT, "fullmatch", [line]); 
+if (!$.isTrue(found)) {
+return line;
+}
+digits = $.call($.call($.apply(padded, [$.item(found, 3)]), "hex", []), "encode", []); 
+return (($.eq($.item(found, 1), $.hex("3e"))) ? $.add($.add($.add($.hex("3e20"), $.item(found, 2)), $.hex("20")), digits) : $.add($.hex("3c20"), digits));
+return null;
+}
+whole_line.$names = ["line"];
+function judge(log, walk) {
+let block, host, key, line, lines, number, owners, part, recording, $t1, $t2, $t3, $t4, $t5, $t6;
 HostJudge = $.module("judged_host").HostJudge;
 KeyJudge = $.module("judged_key").KeyJudge;
-recording = $.apply(Recording, [log]); 
+recording = $.apply(Recording, []); 
 $t1 = $.Tuple.of($.apply(HostJudge, [recording]), $.apply(KeyJudge, [recording])); $t2 = $.unpacked($t1, 2); host = $t2[0]; key = $t2[1]; 
-for (const $t3$ of $.iter($.apply(in_order, [recording]))) {
-entry = $t3$; 
-$.call(host, "take", [entry]);
-$.call(key, "take", [entry]);
+number = 0; 
+for (const $t3$ of $.iter($.apply(powered, [log]))) {
+part = $t3$; 
+$t4 = $.Tuple.of($.apply(Owners, [$.apply(walk, [$.apply(walked, [part])]), number]), $.apply(Lines, [part])); $t5 = $.unpacked($t4, 2); owners = $t5[0]; lines = $t5[1]; 
+block = $.call(lines, "block", []); 
+while ($.isTrue(block)) {
+for (const $t6$ of $.iter(block)) {
+line = $t6$; 
+number = $.add(number, 1); 
+$.call(recording, "take", [number, line, owners]);
+if ((($.eq($.slice(line, null, 1), $.hex("3c"))) && $.isTrue($.attribute($.attribute(recording, "walk"), "is_quiet")))) {
+$.apply(judge_taken, [recording, host, key]);
 }
+}
+block = $.call(lines, "block", []); 
+}
+}
+$.apply(judge_taken, [recording, host, key]);
 $.call(key, "finish", []);
-$.call($.attribute(recording, "findings"), "sort", [], {key: ((it) => $.Tuple.of($.attribute(it, "line"), $.attribute(it, "side"), $.attribute(it, "section")))});
+$.call($.attribute(recording, "findings"), "sort", [], {key: ((found) => $.Tuple.of($.attribute(found, "line"), $.attribute(found, "side"), $.attribute(found, "section")))});
 return recording;
 return null;
 }
-judge.$names = ["log"];
+judge.$names = ["log", "walk"];
+function judge_taken(recording, host, key) {
+let entry, $t1;
+for (const $t1$ of $.iter($.call($.attribute(recording, "walk"), "taken", []))) {
+entry = $t1$; 
+$.call(host, "take", [entry]);
+$.call(key, "take", [entry]);
+}
+return null;
+}
+judge_taken.$names = ["recording", "host", "key"];
+function powered(log) {
+let line, parts, $t1, $t2;
+if ((!$.has(log, POWER_CYCLE))) {
+return [log];
+}
+parts = [[]]; 
+for (const $t1$ of $.iter($.call(log, "split", [$.hex("0a")]))) {
+line = $t1$; 
+if (($.eq(line, POWER_CYCLE))) {
+$.call(parts, "append", [[]]);
+}
+$.call($.item(parts, $.sub(0, 1)), "append", [line]);
+}
+return (() => { const $r = []; for (const $t2 of $.iter(parts)) { let part; part = $t2; $r.push($.call($.hex("0a"), "join", [part])); } return $r; })();
+return null;
+}
+powered.$names = ["log"];
 function counts(findings) {
 let $t1, $t2;
 return (() => { const $r = []; for (const $t2 of $.iter($.Tuple.of(MUST, SHOULD))) { let level; level = $t2; $r.push([level, $.apply(sum, [(function* () { for (const $t1 of $.iter(findings)) { let it; it = $t1; yield $.eq($.attribute(it, "level"), level); } })()])]); } return $.dictOf($r); })();
 return null;
 }
 counts.$names = ["findings"];
-return { Finding, HOST, KEY, MUST, NoLog, Recording, SHOULD, SILENCE, TITLES, _CUT, _LINE, counts, in_order, judge, message_of, section_of, seen };
+return { Finding, HOST, KEY, LOST, MUST, POWER_CYCLE, Recording, SHOULD, SILENCE, TITLES, _CUT, counts, judge, judge_taken, message_of, padded, powered, section_of, seen, walked, whole_line };
 };
 
 $.modules["judged_parts"] = () => {
-let BLOB, CHANGE_PIN, Credential, Differs, ED, GET_AGREEMENT, GET_RETRIES, GET_TOKEN, GET_USER_RETRIES, MAKE, MOST_RETRIES, PROTECT, SECRET, SET_PIN, TOKENS, USER_INVALID, USER_TOKEN, WRONG_IN_A_ROW, answers, ctap_cbor, hold, parameters_of, $t1, $t2, $t3, $t4, $t5, $t6;
+let BLOB, CHANGE_PIN, Credential, Differs, ED, GET_AGREEMENT, GET_RETRIES, GET_TOKEN, GET_USER_RETRIES, MAKE, MOST_RETRIES, OTHERWISE, PROTECT, SECRET, SET_PIN, TOKENS, USER_INVALID, USER_TOKEN, WRONG_IN_A_ROW, answers, ctap_cbor, hold, parameters_of, $t1, $t2, $t3, $t4, $t5, $t6;
 answers = $.module("answers");
 ctap_cbor = $.module("ctap_cbor");
 ED = $.module("answers").ED;
@@ -2896,6 +2941,7 @@ $t3 = $.Tuple.of(1, 2, 3, 4, 5, $.Tuple.of(5, 6, 9)); $t4 = $.unpacked($t3, 6); 
 $t5 = $.Tuple.of(6, 7); $t6 = $.unpacked($t5, 2); USER_TOKEN = $t6[0]; GET_USER_RETRIES = $t6[1]; 
 WRONG_IN_A_ROW = 3; 
 USER_INVALID = 63; 
+OTHERWISE = "unless it was deleted on the key"; 
 class Pending extends $.Object {
 __init__(request, left, at, channel = 0, is_sure = true, signed = $.apply(list, []), flags = 0) {
 this.request = request;
@@ -2910,15 +2956,91 @@ this.flags = flags;
 Pending.$names = {"__init__": ["request", "left", "at", "channel", "is_sure", "signed", "flags"]};
 Pending.$fields = ["request", "left", "at", "channel", "is_sure", "signed", "flags"];
 class Kept extends $.Object {
-__init__(credential, discoverable, extensions = $.apply(dict, []), name = null) {
+__init__(credential, discoverable, extensions = $.apply(dict, []), name = null, shown = 0) {
 this.credential = credential;
 this.discoverable = discoverable;
 this.extensions = extensions;
 this.name = name;
+this.shown = shown;
 }
 }
-Kept.$names = {"__init__": ["credential", "discoverable", "extensions", "name"]};
-Kept.$fields = ["credential", "discoverable", "extensions", "name"];
+Kept.$names = {"__init__": ["credential", "discoverable", "extensions", "name", "shown"]};
+Kept.$fields = ["credential", "discoverable", "extensions", "name", "shown"];
+class KeptCredentials extends $.Object {
+__init__() {
+const self = this;
+self.by_id = $.dictOf([]); 
+self.discoverable = $.dictOf([]); 
+self.extended = $.dictOf([]); 
+self.by_front = $.dictOf([]); 
+self.by_key = $.dictOf([]); 
+return null;
+}
+add(kept) {
+const self = this;
+let credential, $t1, $t2, $t3, $t4, $t5;
+credential = $.attribute(kept, "credential"); 
+$t1 = kept; $.put($.own(self, "by_id"), $.attribute(credential, "id"), $t1); 
+$t2 = kept; $.put($.own(self, "by_key"), $.call(ctap_cbor, "encode", [$.attribute(credential, "cose")]), $t2); 
+$t3 = kept; $.put($.call($.own(self, "by_front"), "setdefault", [$.apply(front_of, [$.attribute(credential, "id")]), $.dictOf([])]), $.attribute(credential, "id"), $t3); 
+if ($.isTrue($.attribute(kept, "discoverable"))) {
+$t4 = kept; $.put($.call($.own(self, "discoverable"), "setdefault", [$.attribute(credential, "rp"), $.dictOf([])]), $.attribute(credential, "id"), $t4); 
+}
+if ($.isTrue($.attribute(kept, "extensions"))) {
+$t5 = kept; $.put($.call($.own(self, "extended"), "setdefault", [$.attribute(credential, "rp"), $.dictOf([])]), $.attribute(credential, "id"), $t5); 
+}
+return null;
+}
+remove(identity) {
+const self = this;
+let kept;
+kept = $.call($.own(self, "by_id"), "pop", [identity, null]); 
+if (((kept === null))) {
+return null;
+}
+$.call($.own(self, "by_key"), "pop", [$.call(ctap_cbor, "encode", [$.attribute($.attribute(kept, "credential"), "cose")]), null]);
+$.call($.item($.own(self, "by_front"), $.apply(front_of, [identity])), "pop", [identity, null]);
+$.call($.call($.own(self, "discoverable"), "get", [$.attribute($.attribute(kept, "credential"), "rp"), $.dictOf([])]), "pop", [identity, null]);
+$.call($.call($.own(self, "extended"), "get", [$.attribute($.attribute(kept, "credential"), "rp"), $.dictOf([])]), "pop", [identity, null]);
+return null;
+}
+get(identity) {
+const self = this;
+return $.call($.own(self, "by_id"), "get", [identity]);
+return null;
+}
+near(identity) {
+const self = this;
+let found, front, $t1;
+front = $.apply(front_of, [identity]); 
+found = [...$.iter($.call($.call($.own(self, "by_front"), "get", [$.sub(front, 1), $.dictOf([])]), "values", [])), ...$.iter($.call($.call($.own(self, "by_front"), "get", [front, $.dictOf([])]), "values", []))]; 
+found = $.add(found, $.call($.call($.own(self, "by_front"), "get", [$.add(front, 1), $.dictOf([])]), "values", [])); 
+return (() => { const $r = []; for (const $t1 of $.iter(found)) { let one; one = $t1; $r.push([$.attribute($.attribute(one, "credential"), "id"), $.attribute(one, "credential")]); } return $.dictOf($r); })();
+return null;
+}
+stored() {
+const self = this;
+let $t1, $t2;
+return (() => { const $r = []; for (const $t2 of $.iter($.call($.own(self, "discoverable"), "values", []))) { let of_rp; of_rp = $t2; for (const $t1 of $.iter($.call(of_rp, "values", []))) { let one; one = $t1; $r.push($.attribute(one, "credential")); }; } return $r; })();
+return null;
+}
+}
+KeptCredentials.$names = {"__init__": [], "add": ["kept"], "remove": ["identity"], "get": ["identity"], "near": ["identity"], "stored": []};
+function front_of(identity) {
+return $.call(int, "from_bytes", [$.slice(identity, null, $.apply(max, [0, $.sub($.apply(len, [identity]), 8)])), "big"]);
+return null;
+}
+front_of.$names = ["identity"];
+function made_id(data) {
+let auth, $t1;
+auth = $.call(($.isTrue($t1 = $.apply(parameters_of, [data])) ? $t1 : $.dictOf([])), "get", [2]); 
+if ((!$.isTrue($.apply(isinstance, [auth, bytes])) || ($.le($.apply(len, [auth]), 55)))) {
+return $.hex("");
+}
+return $.slice(auth, 55, $.add(55, $.call(int, "from_bytes", [$.slice(auth, 53, 55), "big"])));
+return null;
+}
+made_id.$names = ["data"];
 class ExtensionDiffers extends Differs {
 __init__(section, wanted, came) {
 const self = this;
@@ -2929,6 +3051,9 @@ return null;
 }
 }
 ExtensionDiffers.$names = {"__init__": ["section", "wanted", "came"]};
+class UnsureDiffers extends Differs {
+}
+UnsureDiffers.$names = {};
 function outputs_of(auth) {
 let _, found, rest, $t1, $t2, $t3;
 if ((($.lt($.apply(len, [auth]), 37)) || !$.isTrue($.and($.item(auth, 32), ED)))) {
@@ -3097,6 +3222,12 @@ $.apply(hold, [($.isTrue($t1 = !$.isTrue($.own(self, "is_stale"))) ? $t1 : !$.eq
 $t2 = $.Tuple.of($.call(found, "get", [1]), false); $t3 = $.unpacked($t2, 2); self.agreement = $t3[0]; self.is_stale = $t3[1]; 
 return null;
 }
+restart() {
+const self = this;
+let $t1;
+$t1 = 0; self.wrong = $t1; 
+return null;
+}
 judge_info(item) {
 const self = this;
 let said, $t1;
@@ -3118,7 +3249,7 @@ $.apply(hold, [($.isTrue($t1 = ($.own(self, "rp") === null)) ? $t1 : $.eq($.own(
 return null;
 }
 }
-Pins.$names = {"__init__": ["is_set", "retries", "user_retries", "wrong", "agreement", "is_stale", "permissions", "rp"], "judge": ["request", "data"], "take": ["kind", "asked", "data"], "take_agreement": ["asked", "data"], "judge_info": ["item"], "judge_use": ["needed", "rp"]};
+Pins.$names = {"__init__": ["is_set", "retries", "user_retries", "wrong", "agreement", "is_stale", "permissions", "rp"], "judge": ["request", "data"], "take": ["kind", "asked", "data"], "take_agreement": ["asked", "data"], "restart": [], "judge_info": ["item"], "judge_use": ["needed", "rp"]};
 Pins.$fields = ["is_set", "retries", "user_retries", "wrong", "agreement", "is_stale", "permissions", "rp"];
 function judge_u2f(request, data) {
 if (($.lt($.apply(len, [request]), 4))) {
@@ -3138,18 +3269,18 @@ $.apply(hold, [!$.eq($.slice(data, $.sub(0, 2), null), $.hex("9000")), "a refusa
 return null;
 }
 judge_u2f.$names = ["request", "data"];
-return { BLOB, CHANGE_PIN, ExtensionDiffers, GET_AGREEMENT, GET_RETRIES, GET_TOKEN, GET_USER_RETRIES, Kept, PROTECT, Pending, Pins, SECRET, SET_PIN, TOKENS, USER_INVALID, USER_TOKEN, WRONG_IN_A_ROW, hold_extension, judge_blob, judge_extension_answers, judge_secret, judge_u2f, outputs_of };
+return { BLOB, CHANGE_PIN, ExtensionDiffers, GET_AGREEMENT, GET_RETRIES, GET_TOKEN, GET_USER_RETRIES, Kept, KeptCredentials, OTHERWISE, PROTECT, Pending, Pins, SECRET, SET_PIN, TOKENS, USER_INVALID, USER_TOKEN, UnsureDiffers, WRONG_IN_A_ROW, front_of, hold_extension, judge_blob, judge_extension_answers, judge_secret, judge_u2f, made_id, outputs_of };
 };
 
 $.modules["judged_stored"] = () => {
-let BLOBS, BLOB_KEY, COUNT, CREDENTIALS, Credential, DELETE, Differs, EMPTY, ExtensionDiffers, Kept, LENGTH, LIST, LIST_RPS, Listing, MANAGE, MAY_MANAGE, MAY_WRITE, NEXT, NEXT_RP, OFFSET, PARAM, PROTECTION, Pins, READ, RPS, SET, SHORTEST, UPDATE, answers, hash_of, hashlib, hold, judge_piece, parameters_of, $t1, $t2, $t3, $t4, $t5, $t6, $t7, $t8;
+let BLOBS, BLOB_KEY, COUNT, CREDENTIALS, Credential, DELETE, Differs, EMPTY, ExtensionDiffers, KeptCredentials, LENGTH, LIST, LIST_RPS, Listing, MANAGE, MAY_MANAGE, MAY_WRITE, NEXT, NEXT_RP, OFFSET, PARAM, PREVIEW, PROTECTION, Pins, READ, RPS, SET, SHORTEST, UPDATE, answers, hash_of, hashlib, hold, judge_piece, parameters_of, $t1, $t2, $t3, $t4, $t5, $t6, $t7, $t8;
 hashlib = $.module("hashlib");
 answers = $.module("answers");
 Credential = $.module("answers").Credential;
 Differs = $.module("answers").Differs;
 hold = $.module("answers").hold;
 ExtensionDiffers = $.module("judged_parts").ExtensionDiffers;
-Kept = $.module("judged_parts").Kept;
+KeptCredentials = $.module("judged_parts").KeptCredentials;
 Pins = $.module("judged_parts").Pins;
 CREDENTIALS = $.module("managed").CREDENTIALS;
 PROTECTION = $.module("managed").PROTECTION;
@@ -3159,6 +3290,7 @@ hash_of = $.module("managed").hash_of;
 judge_piece = $.module("managed").judge_piece;
 parameters_of = $.module("requests").parameters_of;
 $t1 = $.Tuple.of(10, 12); $t2 = $.unpacked($t1, 2); MANAGE = $t2[0]; BLOBS = $t2[1]; 
+PREVIEW = 65; 
 $t3 = $.apply(range, [1, 8]); $t4 = $.unpacked($t3, 7); COUNT = $t4[0]; LIST_RPS = $t4[1]; NEXT_RP = $t4[2]; LIST = $t4[3]; NEXT = $t4[4]; DELETE = $t4[5]; UPDATE = $t4[6]; 
 $t5 = $.Tuple.of(1, 2, 3, 4, 5); $t6 = $.unpacked($t5, 5); READ = $t6[0]; SET = $t6[1]; OFFSET = $t6[2]; LENGTH = $t6[3]; PARAM = $t6[4]; 
 $t7 = $.Tuple.of(4, 16, 17); $t8 = $.unpacked($t7, 3); MAY_MANAGE = $t8[0]; MAY_WRITE = $t8[1]; SHORTEST = $t8[2]; 
@@ -3168,6 +3300,15 @@ return $.add(data, $.slice($.call($.call(hashlib, "sha256", [data]), "digest", [
 return null;
 }
 array_of.$names = ["data"];
+function named_in(asked) {
+let descriptor, identity, parameters;
+parameters = $.call(asked, "get", [2, $.dictOf([])]); 
+descriptor = ($.isTrue($.apply(isinstance, [parameters, dict])) ? $.call(parameters, "get", [2, $.dictOf([])]) : $.dictOf([])); 
+identity = ($.isTrue($.apply(isinstance, [descriptor, dict])) ? $.call(descriptor, "get", ["id"]) : null); 
+return ($.isTrue($.apply(isinstance, [identity, bytes])) ? identity : $.hex(""));
+return null;
+}
+named_in.$names = ["asked"];
 EMPTY = $.apply(array_of, [$.hex("80")]); 
 class StoredJudge extends $.Object {
 __init__() {
@@ -3220,21 +3361,20 @@ return null;
 }
 judge_managed(asked, data, kept, pins) {
 const self = this;
-let command, known, parameters, stored, total, $t1, $t2, $t3, $t4, $t5;
+let command, parameters, stored, total, $t1, $t2, $t3;
 $t1 = $.Tuple.of($.call(asked, "get", [1]), $.call(asked, "get", [2, $.dictOf([])])); $t2 = $.unpacked($t1, 2); command = $t2[0]; parameters = $t2[1]; 
 if ((!$.has($.Tuple.of(NEXT_RP, NEXT), command))) {
 $.call(self, "judge_token", [asked, 4, MAY_MANAGE, pins]);
 $.call(self, "judge_rp", [command, parameters, kept, pins]);
 }
-known = (() => { const $r = []; for (const $t3 of $.iter($.call(kept, "values", []))) { let one; one = $t3; $r.push($.attribute(one, "credential")); } return $r; })(); 
-stored = (() => { const $r = []; for (const $t4 of $.iter(known)) { let one; one = $t4; if (!$.isTrue($.attribute(one, "discoverable"))) { continue; } $r.push(one); } return $r; })(); 
+stored = $.call(kept, "stored", []); 
 if (($.eq(command, COUNT))) {
 $.call($.own(self, "listing"), "judge_count", [$.call(answers, "map_of", [data]), $.apply(len, [stored])]);
 } else {
 if (($.has($.Tuple.of(LIST_RPS, NEXT_RP), command))) {
 $.call(self, "judge_next", [$.eq(command, NEXT_RP), RPS]);
-total = (($.eq(command, LIST_RPS)) ? $.apply(len, [(() => { const $r = []; for (const $t5 of $.iter(stored)) { let one; one = $t5; $r.push($.attribute(one, "rp")); } return $.setOf($r); })()]) : null); 
-$.call($.own(self, "listing"), "judge_rp", [$.call(answers, "map_of", [data]), known, total]);
+total = (($.eq(command, LIST_RPS)) ? $.apply(len, [(() => { const $r = []; for (const $t3 of $.iter(stored)) { let one; one = $t3; $r.push($.attribute(one, "rp")); } return $.setOf($r); })()]) : null); 
+$.call($.own(self, "listing"), "judge_rp", [$.call(answers, "map_of", [data]), stored, total]);
 } else {
 if (($.has($.Tuple.of(LIST, NEXT), command))) {
 $.call(self, "judge_listed", [command, parameters, data, stored, kept]);
@@ -3276,20 +3416,20 @@ return null;
 }
 judge_listed(command, parameters, data, stored, kept) {
 const self = this;
-let item, known, level, mine, one, $t1, $t2, $t3, $t4;
+let item, level, mine, named, one, $t1, $t2, $t3;
 $.call(self, "judge_next", [$.eq(command, NEXT), CREDENTIALS]);
 $t1 = (($.eq(command, LIST)) ? $.call(parameters, "get", [1, $.hex("")]) : $.own(self, "rp")); self.rp = $t1; 
 item = $.call(answers, "map_of", [data]); 
 $.apply(hold, [!$.has($.own(self, "deleted"), $.call($.item(item, 7), "get", ["id"])), "no credential that was deleted", item]);
 mine = (() => { const $r = []; for (const $t2 of $.iter(stored)) { let one; one = $t2; if (!($.eq($.apply(hash_of, [$.attribute(one, "rp")]), $.own(self, "rp")))) { continue; } $r.push(one); } return $r; })(); 
-known = (() => { const $r = []; for (const $t3 of $.iter($.call(kept, "values", []))) { let one; one = $t3; $r.push($.attribute(one, "credential")); } return $r; })(); 
-$.call($.own(self, "listing"), "judge_credential", [item, known, $.own(self, "rp"), (($.eq(command, LIST)) ? $.apply(len, [mine]) : null)]);
 one = $.call(kept, "get", [$.call($.item(item, 7), "get", ["id"])]); 
+named = (((one !== null)) ? [$.attribute(one, "credential")] : []); 
+$.call($.own(self, "listing"), "judge_credential", [item, named, $.own(self, "rp"), (($.eq(command, LIST)) ? $.apply(len, [mine]) : null)]);
 if (((one === null))) {
 return null;
 }
 level = $.call($.attribute(one, "extensions"), "get", ["credProtect"]); 
-$.apply(hold, [($.isTrue($t4 = (level === null)) ? $t4 : $.eq($.call(item, "get", [PROTECTION]), level)), ("" + "a protection of " + $.format(level, "")), item]);
+$.apply(hold, [($.isTrue($t3 = (level === null)) ? $t3 : $.eq($.call(item, "get", [PROTECTION]), level)), ("" + "a protection of " + $.format(level, "")), item]);
 if ((($.attribute(one, "name") !== null))) {
 $.apply(hold, [$.eq($.call($.item(item, 6), "get", ["name"]), $.attribute(one, "name")), ("" + "the user's name " + $.format($.attribute(one, "name"), "")), item]);
 }
@@ -3306,7 +3446,7 @@ one = $.call(kept, "get", [identity]);
 $.apply(hold, [($.isTrue($t1 = (one !== null)) ? $t1 : !$.isTrue($.attribute($.own(self, "listing"), "is_complete"))), "status 2e, since there is no such credential", "status 00"]);
 if (($.eq(command, DELETE))) {
 $.call($.own(self, "deleted"), "add", [identity]);
-$.call(kept, "pop", [identity, null]);
+$.call(kept, "remove", [identity]);
 } else {
 if (((one !== null))) {
 user = $.call(parameters, "get", [3, $.dictOf([])]); 
@@ -3400,15 +3540,12 @@ return null;
 }
 }
 StoredJudge.$names = {"__init__": [], "power_cycle": [], "reset": [], "judge": ["request", "data", "kept", "pins", "info"], "judge_managed": ["asked", "data", "kept", "pins"], "judge_next": ["follows", "key"], "judge_token": ["asked", "param", "permission", "pins"], "judge_rp": ["command", "parameters", "kept", "pins"], "judge_listed": ["command", "parameters", "data", "stored", "kept"], "judge_change": ["command", "parameters", "kept"], "judge_read": ["asked", "data", "info"], "judge_written": ["asked", "pins", "info"], "is_refused": ["asked", "status", "makes", "info"], "judge_key": ["data", "extensions", "identity", "key", "made"]};
-return { BLOBS, BLOB_KEY, COUNT, DELETE, EMPTY, LENGTH, LIST, LIST_RPS, MANAGE, MAY_MANAGE, MAY_WRITE, NEXT, NEXT_RP, OFFSET, PARAM, READ, SET, SHORTEST, StoredJudge, UPDATE, array_of };
+return { BLOBS, BLOB_KEY, COUNT, DELETE, EMPTY, LENGTH, LIST, LIST_RPS, MANAGE, MAY_MANAGE, MAY_WRITE, NEXT, NEXT_RP, OFFSET, PARAM, PREVIEW, READ, SET, SHORTEST, StoredJudge, UPDATE, array_of, named_in };
 };
 
-$.modules["judged_answers"] = () => {
-let ANY, BLOBS, BLOB_KEY, CANCELLED, Credential, DENIED, Differs, EXCLUDED, EXPECTED, Entry, ExtensionDiffers, FIT, FORM, Facts, GET, INFO, JITTER, KEY, Kept, MAKE, MANAGE, MISSING, MUST, NEXT, NOT_ALLOWED, NO_CREDENTIALS, NO_TIME_OUT, OF_FORM, OTHER, PENDING, PIN, Pending, Pins, RESET, RESET_WITHIN, Recording, SELECTION, SHOULD, StoredJudge, TIMED_OUT, Transaction, UNKNOWN, UNSUPPORTED, UP, USER_TOKEN, UV, answers, ctap_cbor, fault_of, hid, hold, judge_extension_answers, parameters_of, rules, seen, unknown_parts, $t1, $t2, $t3, $t4, $t5, $t6;
-answers = $.module("answers");
-ctap_cbor = $.module("ctap_cbor");
+$.modules["judged_statuses"] = () => {
+let ANY, AnswerJudge, CANCELLED, DENIED, Differs, EXCLUDED, Entry, ExtensionDiffers, FIT, FORM, Fault, GET, INFO, JITTER, KEY, Kept, LIMIT, MAKE, MISSING, NEXT, NOT_ALLOWED, NO_CREDENTIALS, NO_TIME_OUT, OF_FORM, OTHER, OTHERWISE, PENDING, PIN, RESET, RESET_WITHIN, SELECTION, SHOULD, TIMED_OUT, Transaction, UNKNOWN, UNSUPPORTED, UP, USER_TOKEN, UnsureDiffers, fault_of, hold, parameters_of, rules, unknown_parts, $t1, $t2, $t3, $t4, $t5, $t6;
 rules = $.module("rules");
-hid = $.module("hid_packets");
 GET = $.module("answers").GET;
 INFO = $.module("answers").INFO;
 MAKE = $.module("answers").MAKE;
@@ -3416,176 +3553,50 @@ NEXT = $.module("answers").NEXT;
 RESET = $.module("answers").RESET;
 SELECTION = $.module("answers").SELECTION;
 UP = $.module("answers").UP;
-UV = $.module("answers").UV;
-Credential = $.module("answers").Credential;
 Differs = $.module("answers").Differs;
-Facts = $.module("answers").Facts;
 hold = $.module("answers").hold;
 KEY = $.module("judged_log").KEY;
-MUST = $.module("judged_log").MUST;
 SHOULD = $.module("judged_log").SHOULD;
-Recording = $.module("judged_log").Recording;
-seen = $.module("judged_log").seen;
+OTHERWISE = $.module("judged_parts").OTHERWISE;
 USER_TOKEN = $.module("judged_parts").USER_TOKEN;
 ExtensionDiffers = $.module("judged_parts").ExtensionDiffers;
 Kept = $.module("judged_parts").Kept;
-Pending = $.module("judged_parts").Pending;
-Pins = $.module("judged_parts").Pins;
-judge_extension_answers = $.module("judged_parts").judge_extension_answers;
-BLOB_KEY = $.module("judged_stored").BLOB_KEY;
-BLOBS = $.module("judged_stored").BLOBS;
-MANAGE = $.module("judged_stored").MANAGE;
-StoredJudge = $.module("judged_stored").StoredJudge;
+UnsureDiffers = $.module("judged_parts").UnsureDiffers;
 FORM = $.module("requests").FORM;
 MISSING = $.module("requests").MISSING;
 PIN = $.module("requests").PIN;
 UNKNOWN = $.module("requests").UNKNOWN;
+Fault = $.module("requests").Fault;
 fault_of = $.module("requests").fault_of;
 parameters_of = $.module("requests").parameters_of;
 unknown_parts = $.module("requests").unknown_parts;
-NO_TIME_OUT = $.module("walk").NO_TIME_OUT;
-Entry = $.module("walk").Entry;
-Transaction = $.module("walk").Transaction;
+NO_TIME_OUT = $.module("transactions").NO_TIME_OUT;
+Entry = $.module("transactions").Entry;
+Transaction = $.module("transactions").Transaction;
 $t1 = $.Tuple.of(10000, 30000); $t2 = $.unpacked($t1, 2); RESET_WITHIN = $t2[0]; PENDING = $t2[1]; 
 JITTER = 100; 
+LIMIT = 21; 
 $t3 = $.Tuple.of(39, 47, 45, 127); $t4 = $.unpacked($t3, 4); DENIED = $t4[0]; TIMED_OUT = $t4[1]; CANCELLED = $t4[2]; OTHER = $t4[3]; 
 $t5 = $.Tuple.of(25, 46, 48, 38); $t6 = $.unpacked($t5, 4); EXCLUDED = $t6[0]; NO_CREDENTIALS = $t6[1]; NOT_ALLOWED = $t6[2]; UNSUPPORTED = $t6[3]; 
 OF_FORM = $.Tuple.of(1, 2, 3, 17, 18, 20, 21, 43, 44, 57); 
 ANY = $.Tuple.of(DENIED, CANCELLED, 58, OTHER, 6, 5, ...$.iter($.apply(range, [224, 256]))); 
 FIT = $.dictOf([[INFO, $.Tuple.of(0)], [RESET, $.Tuple.of(0, NOT_ALLOWED, TIMED_OUT, 1)], [SELECTION, $.Tuple.of(0, TIMED_OUT, 1)], [NEXT, $.Tuple.of(0, NOT_ALLOWED, 1)]]); 
-EXPECTED = $.dictOf([[MAKE, "made"], [GET, "asserted"], [NEXT, "asserted"], [INFO, "info"]]); 
-function said_of(fault) {
-return ($.isTrue($.apply(isinstance, [fault, KeyError])) ? ("" + "none that has " + $.format($.call(ctap_cbor, "shown", [$.item($.attribute(fault, "args"), 0)]), "")) : "another one");
-return null;
-}
-said_of.$names = ["fault"];
-class AnswerJudge extends $.Object {
-__init__(recording) {
+class StatusJudge extends $.Object {
+__init__(answers) {
 const self = this;
-let $t1, $t2, $t3, $t4, $t5, $t6, $t7, $t8;
-$t1 = recording; self.recording = $t1; 
-$t2 = $.apply(Facts, []); self.facts = $t2; 
-self.info = $.dictOf([]); 
-self.known = $.dictOf([]); 
-self.kept = $.dictOf([]); 
-self.forgotten = $.dictOf([]); 
-self.replaced = $.apply(set, []); 
-self.strangers = $.dictOf([]); 
-self.pending = null; 
-$t3 = $.apply(Pins, []); self.pins = $t3; 
-$t4 = $.apply(StoredJudge, []); self.stored = $t4; 
-$t5 = false; self.is_complete = $t5; 
-$t7 = ($.isTrue($t6 = $.attribute(recording, "start")) ? $t6 : 0); self.started = $t7; 
-$t8 = ""; self.passed_over = $t8; 
-return null;
-}
-power_cycle(at) {
-const self = this;
-let $t1, $t2, $t3, $t4;
-$t1 = $.apply(Pending, [$.hex(""), 0, 0]); self.pending = $t1; 
-$t2 = $.Tuple.of(null, 0); $t3 = $.unpacked($t2, 2); $.own(self, "pins").retries = $t3[0]; $.own(self, "pins").wrong = $t3[1]; 
-$.call($.own(self, "stored"), "power_cycle", []);
-$t4 = at; self.started = $t4; 
-return null;
-}
-passed(it) {
-const self = this;
-let $t1, $t2, $t3, $t4;
-$t1 = $.Tuple.of(null, false); $t2 = $.unpacked($t1, 2); self.pending = $t2[0]; self.is_complete = $t2[1]; 
-$t3 = $.Tuple.of($.apply(Pins, []), $.apply(StoredJudge, [])); $t4 = $.unpacked($t3, 2); self.pins = $t4[0]; self.stored = $t4[1]; 
-return null;
-}
-user_needed(entry, it) {
-const self = this;
-let asked, came, due, fault, level, options, own, section, wrong, $t1, $t2;
-if (!$.isTrue($.attribute(it, "data"))) {
-return null;
-}
-fault = $.apply(fault_of, [$.attribute(it, "data")]); 
-section = $.call($.attribute(rules, "COMMANDS"), "get", [$.item($.attribute(it, "data"), 0), $.attribute(rules, "COMMANDS_OTHER")]); 
-came = "the user is asked"; 
-if ((((fault !== null)) && !$.isTrue($.attribute(fault, "should")))) {
-level = (($.eq($.attribute(fault, "section"), "8")) ? SHOULD : MUST); 
-due = ("" + "a refusal, since " + $.format($.attribute(fault, "due"), "") + " is due"); 
-$.call($.own(self, "recording"), "find", [$.attribute(entry, "line"), KEY, ($.isTrue($t1 = $.attribute(fault, "section")) ? $t1 : section), due, came, level]);
-return null;
-}
-asked = ($.isTrue($t2 = $.apply(parameters_of, [$.attribute(it, "data")])) ? $t2 : $.dictOf([])); 
-options = $.call(asked, "get", [(($.eq($.item($.attribute(it, "data"), 0), MAKE)) ? 7 : 5), $.dictOf([])]); 
-wrong = (($.has($.Tuple.of(MAKE, GET), $.item($.attribute(it, "data"), 0))) ? $.call(self, "wrong_option", [$.item($.attribute(it, "data"), 0), asked, options]) : ""); 
-own = $.call($.own(self, "info"), "get", [4, $.dictOf([])]); 
-if ($.isTrue(wrong)) {
-$.call($.own(self, "recording"), "find", [$.attribute(entry, "line"), KEY, section, ("" + "a refusal (2b or 2c) of the option " + $.format(wrong, "")), came]);
-} else {
-if ((($.eq($.item($.attribute(it, "data"), 0), GET)) && (($.call(options, "get", ["up"]) === false)) && $.isTrue($.own(self, "info")) && !$.isTrue($.call(own, "get", ["alwaysUv"])))) {
-if (!$.isTrue($.call(options, "get", ["uv"]))) {
-$.call($.own(self, "recording"), "find", [$.attribute(entry, "line"), KEY, section, "an answer without the user, since up is false", came]);
-}
-} else {
-if ((($.eq($.item($.attribute(it, "data"), 0), MAKE)) && ($.has(asked, 10)) && $.isTrue($.own(self, "info")) && !$.isTrue($.call(own, "get", ["ep"])))) {
-$.call($.own(self, "recording"), "find", [$.attribute(entry, "line"), KEY, section, "a refusal, since there is no enterprise attestation", came]);
-}
-}
-}
-return null;
-}
-judge(entry, transaction, message) {
-const self = this;
-let command, data, differs, expected, fault, level, request, shape, $t1, $t2, $t3, $t4, $t5, $t6;
-$t1 = $.Tuple.of($.attribute(transaction, "data"), $.attribute(message, "data")); $t2 = $.unpacked($t1, 2); request = $t2[0]; data = $t2[1]; 
-command = $.item(request, 0); 
-expected = (($.eq($.item(data, 0), 0)) ? $.call(EXPECTED, "get", [command, "status"]) : "status"); 
-try {
-$.call(self, "judge_status", [entry, transaction, data]);
-if ((($.has(EXPECTED, command)) && ($.eq($.item(data, 0), 0)))) {
-$.apply($.apply(getattr, [self, $.add("judge_", $.item(EXPECTED, command))]), [transaction, data]);
-}
-if (($.eq(command, PIN))) {
-$.call($.own(self, "pins"), "judge", [request, data]);
-} else {
-if (($.has($.Tuple.of(MANAGE, BLOBS), command))) {
-$.call($.own(self, "stored"), "judge", [request, data, $.own(self, "kept"), $.own(self, "pins"), $.own(self, "info")]);
-$t6 = (() => { const $r = []; for (const $t4 of $.iter($.call($.own(self, "known"), "items", []))) { let name, one; $t5 = $.unpacked($t4, 2); name = $t5[0]; one = $t5[1]; if (!($.has($.own(self, "kept"), name))) { continue; } $r.push([name, one]); } return $.dictOf($r); })(); self.known = $t6; 
-}
-}
-} catch ($t3e) {
-if ($.isinstance($t3e, ExtensionDiffers)) {
-differs = $t3e;
-$.call($.own(self, "recording"), "find", [$.attribute(entry, "line"), KEY, $.attribute(differs, "section"), $.attribute(differs, "wanted"), $.attribute(differs, "came")]);
-} else if ($.isinstance($t3e, Differs)) {
-differs = $t3e;
-fault = $.apply(fault_of, [request]); 
-level = ((((fault !== null)) && ($.eq($.attribute(fault, "section"), "8"))) ? SHOULD : MUST); 
-$.call($.own(self, "recording"), "judged", [$.call(self, "seen", [transaction, expected, message]), $.attribute(entry, "line"), differs, level]);
-} else if ($.isinstance($t3e, $.Tuple.of(KeyError, TypeError, ValueError, IndexError, AttributeError))) {
-fault = $t3e;
-shape = $.apply(Differs, ["an answer of the standard's shape", $.apply(said_of, [fault])]); 
-$.call($.own(self, "recording"), "judged", [$.call(self, "seen", [transaction, expected, message]), $.attribute(entry, "line"), shape]);
-} else { throw $t3e; }
-}
-$.call(self, "follow", [entry, transaction, data]);
-return null;
-}
-seen(transaction, expected, message) {
-const self = this;
-let fault, own, $t1, $t2;
-fault = $.apply(fault_of, [$.attribute(transaction, "data")]); 
-own = ((((fault !== null)) && $.isTrue($.attribute(fault, "section"))) ? $.attribute(fault, "section") : ""); 
-if ($.isTrue($.own(self, "passed_over"))) {
-$t1 = $.Tuple.of("8", ""); $t2 = $.unpacked($t1, 2); own = $t2[0]; self.passed_over = $t2[1]; 
-}
-return $.apply(seen, [transaction, expected, message, own]);
+let $t1;
+$t1 = answers; self.answers = $t1; 
 return null;
 }
 judge_status(entry, it, data) {
 const self = this;
-let command, elapsed, fault, status, wanted, $t1, $t2, $t3, $t4, $t5;
+let came, command, elapsed, fault, status, wanted, $t1, $t2, $t3, $t4, $t5;
 $t1 = $.Tuple.of($.item($.attribute(it, "data"), 0), $.item(data, 0)); $t2 = $.unpacked($t1, 2); command = $t2[0]; status = $t2[1]; 
 $.apply(hold, [($.isTrue($t3 = $.eq(status, 0)) ? $t3 : $.eq($.apply(len, [data]), 1)), "a status alone", ("" + $.format($.apply(len, [data]), "") + " bytes with status " + $.format(status, "02x"))]);
 fault = $.apply(fault_of, [$.attribute(it, "data")]); 
 if (((fault !== null))) {
 if (!$.isTrue($.attribute(fault, "should"))) {
-$.call(self, "judge_refusal", [$.attribute(fault, "kind"), $.attribute(fault, "due"), status]);
+$.call(self, "judge_refusal", [command, fault, status]);
 }
 return null;
 }
@@ -3607,8 +3618,12 @@ if (($.eq(command, NEXT))) {
 $.call(self, "judge_next_status", [entry, it, status]);
 } else {
 if (($.eq(command, RESET))) {
-elapsed = $.sub($.attribute(it, "last"), $.own(self, "started")); 
-$.apply(hold, [($.isTrue($t5 = !$.eq(status, 0)) ? $t5 : $.le(elapsed, $.add(RESET_WITHIN, JITTER))), "status 30, 10 s after power came", ("" + "status 00 after " + $.format(elapsed, "") + " ms")]);
+elapsed = $.sub($.attribute(it, "last"), ((($.attribute($.own(self, "answers"), "powered") !== null)) ? $.attribute($.own(self, "answers"), "powered") : ($.isTrue($t5 = $.attribute($.attribute($.own(self, "answers"), "recording"), "start")) ? $t5 : 0))); 
+if ((($.eq(status, 0)) && ($.lt($.add(RESET_WITHIN, JITTER), elapsed)) && !$.isTrue($.attribute($.attribute($.own(self, "answers"), "recording"), "is_timeless")))) {
+came = ("" + "status 00 after " + $.format(elapsed, "") + " ms"); 
+$.apply(hold, [!$.isTrue($.attribute($.own(self, "answers"), "no_display")), "status 30, 10 s after power came", came]);
+throw $.apply(UnsureDiffers, ["status 30, 10 s after power came, unless the key has a display", came]);
+}
 }
 }
 }
@@ -3631,27 +3646,27 @@ has_token = $.has(asked, (($.eq(command, MAKE)) ? 8 : 6));
 was_asked = $.apply(any, [(function* () { for (const $t13 of $.iter($.attribute(it, "keepalives"))) { let one; one = $t13; yield $.eq($.item($.attribute(one, "packet"), 7), 2); } })()]); 
 if (($.isTrue(needs) && $.isTrue($.attribute(it, "keepalives")) && !$.isTrue(was_asked) && !$.isTrue(has_token))) {
 said = "a KEEPALIVE with 02 while the user is asked"; 
-$.call($.own(self, "recording"), "find", [$.attribute($.item($.attribute(it, "keepalives"), 0), "line"), KEY, $.attribute(rules, "KEEPALIVE"), said, "KEEPALIVEs with 01 alone", SHOULD]);
+$.call($.attribute($.own(self, "answers"), "recording"), "find", [$.attribute($.item($.attribute(it, "keepalives"), 0), "line"), KEY, $.attribute(rules, "KEEPALIVE"), said, "KEEPALIVEs with 01 alone", SHOULD]);
 }
-if ((!$.isTrue(needs) || $.isTrue(was_asked) || $.isTrue(has_token) || $.isTrue($.attribute($.own(self, "recording"), "is_timeless")) || ($.le(NO_TIME_OUT, $.sub($.attribute(entry, "at"), $.attribute(it, "last")))))) {
+if ((!$.isTrue(needs) || $.isTrue(was_asked) || $.isTrue(has_token) || $.isTrue($.attribute($.attribute($.own(self, "answers"), "recording"), "is_timeless")) || ($.le(NO_TIME_OUT, $.sub($.attribute(entry, "at"), $.attribute(it, "last")))))) {
 return null;
 }
 section = $.call($.attribute(rules, "COMMANDS"), "get", [command, $.attribute(rules, "COMMANDS_OTHER")]); 
 said = "a test of the user's presence before it, as a KEEPALIVE with 02 shows it"; 
-$.call($.own(self, "recording"), "find", [$.attribute(entry, "line"), KEY, section, said, ("" + "status " + $.format(status, "02x") + " at once"), SHOULD]);
+$.call($.attribute($.own(self, "answers"), "recording"), "find", [$.attribute(entry, "line"), KEY, section, said, ("" + "status " + $.format(status, "02x") + " at once"), SHOULD]);
 return null;
 }
-judge_refusal(kind, due, status) {
+judge_refusal(command, fault, status) {
 const self = this;
-let wanted, $t1;
-wanted = $.call($.dictOf([[UNKNOWN, $.Tuple.of(1)], [MISSING, $.Tuple.of(20)]]), "get", [kind, $.Tuple.of()]); 
-if ((($.eq(kind, MISSING)) && (!$.has($.Tuple.of(0, ...$.iter(wanted), ...$.iter(ANY)), status)))) {
-throw $.apply(Differs, [("" + "status 14, since it lacks " + $.format(due, "")), ("" + "status " + $.format(status, "02x"))]);
+let unknown, $t1;
+unknown = (($.has($.Tuple.of(MAKE, GET, INFO), command)) ? $.Tuple.of() : $.Tuple.of(1)); 
+if ((($.eq($.attribute(fault, "kind"), MISSING)) && (!$.has($.Tuple.of(0, 20, ...$.iter(unknown), ...$.iter(ANY)), status)))) {
+throw $.apply(Differs, [("" + "status 14, since it lacks " + $.format($.attribute(fault, "due"), "")), ("" + "status " + $.format(status, "02x"))]);
 }
-if ((($.eq(kind, UNKNOWN)) && (!$.has($.Tuple.of(...$.iter(wanted), ...$.iter(ANY)), status)))) {
+if ((($.eq($.attribute(fault, "kind"), UNKNOWN)) && (!$.has($.Tuple.of(1, ...$.iter(ANY)), status)))) {
 throw $.apply(Differs, ["status 01", ("" + "status " + $.format(status, "02x"))]);
 }
-$.apply(hold, [($.isTrue($t1 = !$.eq(status, 0)) ? $t1 : !$.has($.Tuple.of(FORM, MISSING), kind)), ("" + "a refusal, since " + $.format(due, "") + " is due"), "status 00"]);
+$.apply(hold, [($.isTrue($t1 = !$.eq(status, 0)) ? $t1 : !$.has($.Tuple.of(FORM, MISSING), $.attribute(fault, "kind"))), ("" + "a refusal, since " + $.format($.attribute(fault, "due"), "") + " is due"), "status 00"]);
 return null;
 }
 judge_form(it, status) {
@@ -3665,21 +3680,31 @@ taken = $.has($.Tuple.of(0, NO_CREDENTIALS, EXCLUDED), status);
 $.apply(hold, [!$.isTrue(taken), ("" + "a refusal (2b or 2c) of the option " + $.format(wrong, "")), ("" + "status " + $.format(status, "02x"))]);
 return null;
 }
-if ($.isTrue($.call($.own(self, "stored"), "is_refused", [asked, status, $.eq($.item($.attribute(it, "data"), 0), MAKE), $.own(self, "info")]))) {
+if ($.isTrue($.call($.attribute($.own(self, "answers"), "stored"), "is_refused", [asked, status, $.eq($.item($.attribute(it, "data"), 0), MAKE), $.attribute($.own(self, "answers"), "info")]))) {
+return null;
+}
+if ((($.eq(status, LIMIT)) && $.isTrue($.call(self, "has_long_list", [$.call(asked, "get", [(($.eq($.item($.attribute(it, "data"), 0), MAKE)) ? 5 : 3), []])])))) {
 return null;
 }
 strange = $.apply(unknown_parts, [$.item($.attribute(it, "data"), 0), asked]); 
 own = (($.eq($.item($.attribute(it, "data"), 0), MAKE)) ? $.setOf([8, 9, 10]) : $.setOf([6, 7])); 
-rk_is_open = ($.isTrue($t2 = $.call(options, "get", ["rk"])) ? !$.isTrue($.call($.call($.own(self, "info"), "get", [4, $.dictOf([])]), "get", ["rk"])) : $t2); 
+rk_is_open = ($.isTrue($t2 = $.call(options, "get", ["rk"])) ? !$.isTrue($.call($.call($.attribute($.own(self, "answers"), "info"), "get", [4, $.dictOf([])]), "get", ["rk"])) : $t2); 
 if (($.isTrue($.and(own, $.apply(set, [asked]))) || $.isTrue(rk_is_open) || $.isTrue($.call(options, "get", ["uv"])))) {
 return null;
 }
-if ((($.lt($.call($.own(self, "info"), "get", [5, 1024]), $.attribute(it, "length"))) || (!$.has(OF_FORM, status)))) {
+if ((($.lt($.call($.attribute($.own(self, "answers"), "info"), "get", [5, 1024]), $.attribute(it, "length"))) || (!$.has(OF_FORM, status)))) {
 return null;
 }
-$t3 = ((!$.isTrue(strange) || $.isTrue($.call($.item(strange, 0), "startswith", ["the option"]))) ? "" : $.item(strange, 0)); self.passed_over = $t3; 
+$t3 = ((!$.isTrue(strange) || $.isTrue($.call($.item(strange, 0), "startswith", ["the option"]))) ? "" : $.item(strange, 0)); $.own(self, "answers").passed_over = $t3; 
 said = ($.isTrue(strange) ? ("" + " passes over " + $.format($.item(strange, 0), "")) : " takes a request that lacks nothing"); 
 throw $.apply(Differs, [("" + "a key that" + $.format(said, "")), ("" + "status " + $.format(status, "02x"))]);
+return null;
+}
+has_long_list(listed) {
+const self = this;
+let count, length, $t1, $t2, $t3, $t4, $t5;
+$t1 = $.Tuple.of($.call($.attribute($.own(self, "answers"), "info"), "get", [7, 1]), $.call($.attribute($.own(self, "answers"), "info"), "get", [8])); $t2 = $.unpacked($t1, 2); count = $t2[0]; length = $t2[1]; 
+return ($.isTrue($t5 = $.lt(count, $.apply(len, [listed]))) ? $t5 : $.apply(any, [(function* () { for (const $t4 of $.iter(listed)) { let entry; entry = $t4; yield ($.isTrue($t3 = (length === null)) ? $t3 : $.lt(length, $.apply(len, [$.item(entry, "id")]))); } })()]));
 return null;
 }
 wrong_option(command, asked, options) {
@@ -3691,8 +3716,8 @@ return "rk";
 if ((($.eq(command, MAKE)) && (($.call(options, "get", ["up"]) === false)))) {
 return "up";
 }
-own = $.call($.own(self, "info"), "get", [4, $.dictOf([])]); 
-if (($.isTrue($.call(options, "get", ["uv"])) && $.isTrue($.own(self, "info")) && !$.isTrue($.call(own, "get", ["uv"])) && (!$.has(asked, (($.eq(command, MAKE)) ? 8 : 6))))) {
+own = $.call($.attribute($.own(self, "answers"), "info"), "get", [4, $.dictOf([])]); 
+if (($.isTrue($.call(options, "get", ["uv"])) && $.isTrue($.attribute($.own(self, "answers"), "info")) && !$.isTrue($.call(own, "get", ["uv"])) && (!$.has(asked, (($.eq(command, MAKE)) ? 8 : 6))))) {
 return "uv";
 }
 return "";
@@ -3701,7 +3726,7 @@ return null;
 listed(asked, key, rp) {
 const self = this;
 let found, $t1, $t2;
-found = (() => { const $r = []; for (const $t1 of $.iter($.call(asked, "get", [key, []]))) { let entry; entry = $t1; if (!($.eq($.item(entry, "type"), "public-key"))) { continue; } $r.push($.call($.own(self, "kept"), "get", [$.item(entry, "id")])); } return $r; })(); 
+found = (() => { const $r = []; for (const $t1 of $.iter($.call(asked, "get", [key, []]))) { let entry; entry = $t1; if (!($.eq($.item(entry, "type"), "public-key"))) { continue; } $r.push($.call($.attribute($.own(self, "answers"), "kept"), "get", [$.item(entry, "id")])); } return $r; })(); 
 return (() => { const $r = []; for (const $t2 of $.iter(found)) { let one; one = $t2; if (!(((one !== null)) && ($.eq($.attribute($.attribute(one, "credential"), "rp"), rp)) && (!$.has($.attribute(one, "extensions"), "credProtect")))) { continue; } $r.push(one); } return $r; })();
 return null;
 }
@@ -3710,16 +3735,20 @@ const self = this;
 let asked, excluded, listed, names, open_question, said, served, wanted, $t1, $t2, $t3, $t4, $t5, $t6, $t7, $t8, $t9;
 asked = ($.isTrue($t1 = $.apply(parameters_of, [$.attribute(it, "data")])) ? $t1 : $.dictOf([])); 
 excluded = $.call(self, "listed", [asked, 5, $.item($.item(asked, 2), "id")]); 
-$.apply(hold, [($.isTrue($t2 = !$.eq(status, 0)) ? $t2 : !$.isTrue(excluded)), "status 19, since the list has a credential of this key", "status 00"]);
+if ((($.eq(status, 0)) && $.isTrue(excluded))) {
+said = "status 19, since the list has a credential of this key"; 
+$.apply(hold, [!$.isTrue($.apply(any, [(function* () { for (const $t2 of $.iter(excluded)) { let one; one = $t2; yield $.call($.own(self, "answers"), "is_fresh", [one, it]); } })()])), said, "status 00"]);
+throw $.apply(UnsureDiffers, [("" + $.format(said, "") + ", " + $.format(OTHERWISE, "")), "status 00"]);
+}
 $.apply(hold, [($.isTrue($t3 = !$.eq(status, EXCLUDED)) ? $t3 : $.apply(bool, [$.call(asked, "get", [5])])), "no status 19, since there is no list", "status 19"]);
 if ((($.eq(status, EXCLUDED)) && !$.isTrue(excluded))) {
 names = (() => { const $r = []; for (const $t4 of $.iter($.item(asked, 5))) { let one; one = $t4; if (!($.eq($.item(one, "type"), "public-key"))) { continue; } $r.push($.item(one, "id")); } return $r; })(); 
-open_question = ($.isTrue($t6 = !$.isTrue($.own(self, "is_complete"))) ? $.apply(any, [(function* () { for (const $t5 of $.iter(names)) { let name; name = $t5; yield !$.has($.own(self, "kept"), name); } })()]) : $t6); 
+open_question = ($.isTrue($t6 = !$.isTrue($.attribute($.own(self, "answers"), "is_complete"))) ? $.apply(any, [(function* () { for (const $t5 of $.iter(names)) { let name; name = $t5; yield !$.has($.attribute($.attribute($.own(self, "answers"), "kept"), "by_id"), name); } })()]) : $t6); 
 said = "no status 19, since the list has no credential of this key and RP"; 
 $.apply(hold, [($.isTrue($t7 = open_question) ? $t7 : $.call(self, "has_hidden", [asked, 5])), said, "status 19"]);
 }
 listed = (() => { const $r = []; for (const $t8 of $.iter($.item(asked, 4))) { let entry; entry = $t8; if (!($.eq($.item(entry, "type"), "public-key"))) { continue; } $r.push($.item(entry, "alg")); } return $r; })(); 
-served = $.attribute($.own(self, "facts"), "algorithms"); 
+served = $.attribute($.attribute($.own(self, "answers"), "facts"), "algorithms"); 
 $.call(self, "judge_capabilities", [asked, status]);
 if (($.isTrue(served) && !$.isTrue($.and($.apply(set, [served]), $.apply(set, [listed]))))) {
 wanted = $.Tuple.of(UNSUPPORTED, ...$.iter(ANY), ...$.iter(($.isTrue($.call(asked, "get", [5])) ? $.Tuple.of(EXCLUDED) : $.Tuple.of()))); 
@@ -3734,80 +3763,81 @@ return null;
 has_hidden(asked, key) {
 const self = this;
 let found, $t1, $t2, $t3;
-found = (() => { const $r = []; for (const $t1 of $.iter($.call(asked, "get", [key, []]))) { let entry; entry = $t1; $r.push($.call($.own(self, "kept"), "get", [$.item(entry, "id")])); } return $r; })(); 
+found = (() => { const $r = []; for (const $t1 of $.iter($.call(asked, "get", [key, []]))) { let entry; entry = $t1; $r.push($.call($.attribute($.own(self, "answers"), "kept"), "get", [$.item(entry, "id")])); } return $r; })(); 
 return $.apply(any, [(function* () { for (const $t3 of $.iter(found)) { let one; one = $t3; yield ($.isTrue($t2 = (one !== null)) ? $.has($.attribute(one, "extensions"), "credProtect") : $t2); } })()]);
+return null;
+}
+lacks_enterprise() {
+const self = this;
+let $t1, $t2;
+return ($.isTrue($t2 = $.apply(bool, [$.attribute($.own(self, "answers"), "info")])) ? ($.isTrue($t1 = !$.isTrue($.attribute($.attribute($.own(self, "answers"), "facts"), "old"))) ? !$.isTrue($.call($.call($.attribute($.own(self, "answers"), "info"), "get", [4, $.dictOf([])]), "get", ["ep"])) : $t1) : $t2);
 return null;
 }
 judge_capabilities(asked, status) {
 const self = this;
 let alone, options, own, $t1, $t2, $t3, $t4;
-$t1 = $.Tuple.of($.call(asked, "get", [7, $.dictOf([])]), $.call($.own(self, "info"), "get", [4, $.dictOf([])])); $t2 = $.unpacked($t1, 2); options = $t2[0]; own = $t2[1]; 
+$t1 = $.Tuple.of($.call(asked, "get", [7, $.dictOf([])]), $.call($.attribute($.own(self, "answers"), "info"), "get", [4, $.dictOf([])])); $t2 = $.unpacked($t1, 2); options = $t2[0]; own = $t2[1]; 
 if (($.isTrue($.call(options, "get", ["rk"])) && $.isTrue($.call(own, "get", ["rk"])))) {
 $.apply(hold, [!$.eq(status, 43), "a discoverable credential, since getInfo names rk", "status 2b"]);
 }
-if ((($.has(asked, 10)) && $.isTrue($.own(self, "info")) && !$.isTrue($.call(own, "get", ["ep"])))) {
+if ((($.has(asked, 10)) && $.isTrue($.call(self, "lacks_enterprise", [])))) {
 $.apply(hold, [!$.eq(status, 0), "a refusal, since there is no enterprise attestation", "status 00"]);
 }
-if (($.isTrue($.call(options, "get", ["rk"])) && (!$.has(asked, 8)) && !$.isTrue($.call(options, "get", ["uv"])) && $.isTrue($.attribute($.own(self, "pins"), "is_set")) && !$.isTrue($.call(own, "get", ["alwaysUv"])))) {
+if (($.isTrue($.call(options, "get", ["rk"])) && (!$.has(asked, 8)) && !$.isTrue($.call(options, "get", ["uv"])) && $.isTrue($.attribute($.attribute($.own(self, "answers"), "pins"), "is_set")) && !$.isTrue($.call(own, "get", ["alwaysUv"])))) {
 $.apply(hold, [!$.eq(status, 0), "status 36, since a PIN is set", "status 00"]);
 }
 alone = ($.isTrue($t4 = !$.has(asked, 8)) ? ($.isTrue($t3 = !$.isTrue($.call(options, "get", ["uv"]))) ? !$.isTrue($.call(own, "get", ["makeCredUvNotRqd"])) : $t3) : $t4); 
-if (($.isTrue($.call(own, "get", ["uv"])) && $.isTrue(alone) && !$.isTrue($.attribute($.own(self, "facts"), "old")))) {
+if (($.isTrue($.call(own, "get", ["uv"])) && $.isTrue(alone) && !$.isTrue($.attribute($.attribute($.own(self, "answers"), "facts"), "old")))) {
 $.apply(hold, [!$.eq(status, 0), "status 36, since the key verifies users", "status 00"]);
 }
 if ((($.has(asked, 8)) && ($.eq(status, 0)))) {
-$.call($.own(self, "pins"), "judge_use", [1, $.item($.item(asked, 2), "id")]);
+$.call($.attribute($.own(self, "answers"), "pins"), "judge_use", [1, $.item($.item(asked, 2), "id")]);
 }
 return null;
 }
 judge_get_status(it, data) {
 const self = this;
-let asked, mine, status, used, $t1, $t2;
+let asked, mine, said, status, used, $t1, $t2, $t3;
 status = $.item(data, 0); 
 asked = ($.isTrue($t1 = $.apply(parameters_of, [$.attribute(it, "data")])) ? $t1 : $.dictOf([])); 
 mine = $.call(self, "candidates", [asked]); 
-used = (($.eq(status, 0)) ? $.call(self, "identity", [asked, ($.isTrue($t2 = $.apply(parameters_of, [data])) ? $t2 : $.dictOf([]))]) : $.hex("")); 
-if (($.has($.own(self, "forgotten"), used))) {
+used = (($.eq(status, 0)) ? $.call($.own(self, "answers"), "identity", [asked, ($.isTrue($t2 = $.apply(parameters_of, [data])) ? $t2 : $.dictOf([]))]) : $.hex("")); 
+if (($.has($.attribute($.own(self, "answers"), "forgotten"), used))) {
 throw $.apply(ExtensionDiffers, ["6.6", "no credential from before the reset", $.call(used, "hex", [])]);
 }
-if (($.isTrue(mine) && ($.lt($.attribute($.own(self, "facts"), "protection"), 2)))) {
-$.apply(hold, [!$.eq(status, NO_CREDENTIALS), "an assertion, since the key made a credential for it", "status 2e"]);
+if (($.isTrue(mine) && ($.lt($.attribute($.attribute($.own(self, "answers"), "facts"), "protection"), 2)) && ($.eq(status, NO_CREDENTIALS)))) {
+said = "an assertion, since the key made a credential for it"; 
+$.apply(hold, [!$.isTrue($.apply(any, [(function* () { for (const $t3 of $.iter(mine)) { let one; one = $t3; yield $.call($.own(self, "answers"), "is_fresh", [one, it]); } })()])), said, "status 2e"]);
+throw $.apply(UnsureDiffers, [("" + $.format(said, "") + ", " + $.format(OTHERWISE, "")), "status 2e"]);
 }
-if ((($.eq(status, 0)) && $.isTrue($.own(self, "is_complete")) && !$.isTrue(mine) && !$.isTrue($.call(self, "is_protected", [asked])))) {
+if ((($.eq(status, 0)) && $.isTrue($.attribute($.own(self, "answers"), "is_complete")) && !$.isTrue(mine) && !$.isTrue($.call(self, "is_protected", [asked])))) {
 throw $.apply(Differs, ["status 2e, since the key has no credential for it", "status 00"]);
 }
-if ((!$.isTrue(mine) && $.isTrue($.own(self, "is_complete")) && (!$.has($.Tuple.of(0, NO_CREDENTIALS, ...$.iter(ANY), TIMED_OUT), status)) && ($.lt(status, 49)))) {
+if ((!$.isTrue(mine) && $.isTrue($.attribute($.own(self, "answers"), "is_complete")) && (!$.has($.Tuple.of(0, NO_CREDENTIALS, ...$.iter(ANY), TIMED_OUT), status)) && ($.lt(status, 49)))) {
 throw $.apply(Differs, ["status 2e, since the key has no credential for it", ("" + "status " + $.format(status, "02x"))]);
 }
 return null;
 }
 is_protected(asked) {
 const self = this;
-let $t1, $t2;
-return $.apply(any, [(function* () { for (const $t2 of $.iter($.call($.own(self, "kept"), "values", []))) { let one; one = $t2; yield ($.isTrue($t1 = $.eq($.attribute($.attribute(one, "credential"), "rp"), $.item(asked, 1))) ? $.attribute(one, "extensions") : $t1); } })()]);
+return $.apply(bool, [$.call($.attribute($.attribute($.own(self, "answers"), "kept"), "extended"), "get", [$.item(asked, 1)])]);
 return null;
 }
 candidates(asked) {
 const self = this;
-let of_rp, verified, $t1, $t2, $t3;
+let of_rp, verified, $t1, $t2;
 if ($.isTrue($.call(asked, "get", [3]))) {
 return $.call(self, "listed", [asked, 3, $.item(asked, 1)]);
 }
-of_rp = (() => { const $r = []; for (const $t1 of $.iter($.call($.own(self, "kept"), "values", []))) { let one; one = $t1; if (!(($.eq($.attribute($.attribute(one, "credential"), "rp"), $.item(asked, 1))) && $.isTrue($.attribute(one, "discoverable")))) { continue; } $r.push(one); } return $r; })(); 
-verified = ($.isTrue($t2 = $.has(asked, 6)) ? $t2 : $.apply(bool, [$.call($.call(asked, "get", [5, $.dictOf([])]), "get", ["uv"])])); 
-return (() => { const $r = []; for (const $t3 of $.iter(of_rp)) { let one; one = $t3; if (!($.isTrue(verified) || (!$.has($.attribute(one, "extensions"), "credProtect")))) { continue; } $r.push(one); } return $r; })();
-return null;
-}
-has_hidden_of(asked) {
-const self = this;
-let $t1, $t2;
-return $.apply(any, [(function* () { for (const $t2 of $.iter($.call($.own(self, "kept"), "values", []))) { let one; one = $t2; yield ($.isTrue($t1 = $.eq($.attribute($.attribute(one, "credential"), "rp"), $.item(asked, 1))) ? $.attribute(one, "extensions") : $t1); } })()]);
+of_rp = $.call($.call($.attribute($.attribute($.own(self, "answers"), "kept"), "discoverable"), "get", [$.item(asked, 1), $.dictOf([])]), "values", []); 
+verified = ($.isTrue($t1 = $.has(asked, 6)) ? $t1 : $.apply(bool, [$.call($.call(asked, "get", [5, $.dictOf([])]), "get", ["uv"])])); 
+return (() => { const $r = []; for (const $t2 of $.iter(of_rp)) { let one; one = $t2; if (!($.isTrue(verified) || (!$.has($.attribute(one, "extensions"), "credProtect")))) { continue; } $r.push(one); } return $r; })();
 return null;
 }
 judge_next_status(entry, it, status) {
 const self = this;
 let late, sure, waiting, $t1, $t2;
-waiting = $.own(self, "pending"); 
+waiting = $.attribute($.own(self, "answers"), "pending"); 
 if ((((waiting === null)) || (($.eq(status, 0)) && ($.lt(0, $.attribute(waiting, "left"))) && !$.isTrue($.attribute(waiting, "is_sure"))))) {
 return null;
 }
@@ -3827,32 +3857,316 @@ $.apply(hold, [($.isTrue($t2 = late) ? $t2 : !$.isTrue(sure)), "the next asserti
 }
 return null;
 }
+}
+StatusJudge.$names = {"__init__": ["answers"], "judge_status": ["entry", "it", "data"], "judge_user": ["entry", "it", "data"], "judge_refusal": ["command", "fault", "status"], "judge_form": ["it", "status"], "has_long_list": ["listed"], "wrong_option": ["command", "asked", "options"], "listed": ["asked", "key", "rp"], "judge_make_status": ["it", "status"], "has_hidden": ["asked", "key"], "lacks_enterprise": [], "judge_capabilities": ["asked", "status"], "judge_get_status": ["it", "data"], "is_protected": ["asked"], "candidates": ["asked"], "judge_next_status": ["entry", "it", "status"]};
+return { ANY, CANCELLED, DENIED, EXCLUDED, FIT, JITTER, LIMIT, NOT_ALLOWED, NO_CREDENTIALS, OF_FORM, OTHER, PENDING, RESET_WITHIN, StatusJudge, TIMED_OUT, UNSUPPORTED };
+};
+
+$.modules["judged_answers"] = () => {
+let BLOBS, BLOB_KEY, Credential, DELETE, DELETED_WITHIN, Differs, EXPECTED, Entry, ExtensionDiffers, Facts, GET, INFO, KEY, Kept, KeptCredentials, MAKE, MANAGE, MUST, NEXT, NOT_ALLOWED, OTHERWISE, PIN, PREVIEW, Pending, Pins, RESET, Recording, SHOULD, StatusJudge, StoredJudge, Transaction, UP, UPDATE, UV, UnsureDiffers, answers, ctap_cbor, fault_of, hid, hold, judge_extension_answers, made_id, named_in, parameters_of, rules, seen;
+answers = $.module("answers");
+ctap_cbor = $.module("ctap_cbor");
+rules = $.module("rules");
+hid = $.module("hid_packets");
+GET = $.module("answers").GET;
+INFO = $.module("answers").INFO;
+MAKE = $.module("answers").MAKE;
+NEXT = $.module("answers").NEXT;
+RESET = $.module("answers").RESET;
+UP = $.module("answers").UP;
+UV = $.module("answers").UV;
+Credential = $.module("answers").Credential;
+Differs = $.module("answers").Differs;
+Facts = $.module("answers").Facts;
+hold = $.module("answers").hold;
+KEY = $.module("judged_log").KEY;
+MUST = $.module("judged_log").MUST;
+SHOULD = $.module("judged_log").SHOULD;
+Recording = $.module("judged_log").Recording;
+seen = $.module("judged_log").seen;
+OTHERWISE = $.module("judged_parts").OTHERWISE;
+ExtensionDiffers = $.module("judged_parts").ExtensionDiffers;
+Kept = $.module("judged_parts").Kept;
+KeptCredentials = $.module("judged_parts").KeptCredentials;
+Pending = $.module("judged_parts").Pending;
+Pins = $.module("judged_parts").Pins;
+UnsureDiffers = $.module("judged_parts").UnsureDiffers;
+judge_extension_answers = $.module("judged_parts").judge_extension_answers;
+made_id = $.module("judged_parts").made_id;
+NOT_ALLOWED = $.module("judged_statuses").NOT_ALLOWED;
+StatusJudge = $.module("judged_statuses").StatusJudge;
+BLOB_KEY = $.module("judged_stored").BLOB_KEY;
+BLOBS = $.module("judged_stored").BLOBS;
+DELETE = $.module("judged_stored").DELETE;
+MANAGE = $.module("judged_stored").MANAGE;
+PREVIEW = $.module("judged_stored").PREVIEW;
+UPDATE = $.module("judged_stored").UPDATE;
+StoredJudge = $.module("judged_stored").StoredJudge;
+named_in = $.module("judged_stored").named_in;
+PIN = $.module("requests").PIN;
+fault_of = $.module("requests").fault_of;
+parameters_of = $.module("requests").parameters_of;
+Entry = $.module("transactions").Entry;
+Transaction = $.module("transactions").Transaction;
+DELETED_WITHIN = 1000; 
+EXPECTED = $.dictOf([[MAKE, "made"], [GET, "asserted"], [NEXT, "asserted"], [INFO, "info"]]); 
+function said_of(fault) {
+return ($.isTrue($.apply(isinstance, [fault, KeyError])) ? ("" + "none that has " + $.format($.call(ctap_cbor, "shown", [$.item($.attribute(fault, "args"), 0)]), "")) : "another one");
+return null;
+}
+said_of.$names = ["fault"];
+class AnswerJudge extends $.Object {
+__init__(recording) {
+const self = this;
+let $t1, $t2, $t3, $t4, $t5, $t6, $t7, $t8, $t9;
+$t1 = recording; self.recording = $t1; 
+$t2 = $.apply(Facts, [], {old: true}); self.facts = $t2; 
+self.info = $.dictOf([]); 
+$t3 = $.apply(KeptCredentials, []); self.kept = $t3; 
+self.forgotten = $.apply(set, []); 
+self.replaced = $.apply(set, []); 
+self.strangers = $.dictOf([]); 
+self.pending = null; 
+$t4 = $.apply(Pins, []); self.pins = $t4; 
+$t5 = $.apply(StoredJudge, []); self.stored = $t5; 
+$t6 = $.apply(StatusJudge, [self]); self.statuses = $t6; 
+$t7 = false; self.is_complete = $t7; 
+$t8 = false; self.no_display = $t8; 
+self.powered = null; 
+$t9 = ""; self.passed_over = $t9; 
+return null;
+}
+power_cycle(at) {
+const self = this;
+let $t1, $t2, $t3, $t4;
+$t1 = $.apply(Pending, [$.hex(""), 0, 0]); self.pending = $t1; 
+$t2 = $.Tuple.of(null, 0); $t3 = $.unpacked($t2, 2); $.own(self, "pins").retries = $t3[0]; $.own(self, "pins").wrong = $t3[1]; 
+$.call($.own(self, "stored"), "power_cycle", []);
+$t4 = at; self.powered = $t4; 
+return null;
+}
+restart(at, is_likely) {
+const self = this;
+let $t1, $t2, $t3, $t4;
+$t1 = at; self.powered = $t1; 
+$.call($.own(self, "pins"), "restart", []);
+if ($.isTrue(is_likely)) {
+$t2 = $.Tuple.of(null, null); $t3 = $.unpacked($t2, 2); self.pending = $t3[0]; $.own(self, "pins").retries = $t3[1]; 
+$t4 = null; $.own(self, "stored").coming = $t4; 
+}
+return null;
+}
+passed(it) {
+const self = this;
+let $t1, $t2, $t3, $t4;
+$t1 = $.Tuple.of(null, false); $t2 = $.unpacked($t1, 2); self.pending = $t2[0]; self.is_complete = $t2[1]; 
+$t3 = $.Tuple.of($.apply(Pins, []), $.apply(StoredJudge, [])); $t4 = $.unpacked($t3, 2); self.pins = $t4[0]; self.stored = $t4[1]; 
+return null;
+}
+unanswered(transaction) {
+const self = this;
+let asked, request, $t1, $t2, $t3, $t4, $t5;
+if (($.eq($.attribute(transaction, "command"), $.attribute(hid, "MSG")))) {
+$t1 = false; self.is_complete = $t1; 
+}
+if (((!$.eq($.attribute(transaction, "command"), $.attribute(hid, "CBOR"))) || !$.isTrue($.attribute(transaction, "data")) || $.isTrue($.call($.own(self, "recording"), "is_cut", [transaction])))) {
+return null;
+}
+request = $.attribute(transaction, "data"); 
+asked = ($.isTrue($t2 = $.apply(parameters_of, [request])) ? $t2 : $.dictOf([])); 
+if (($.eq($.item(request, 0), RESET))) {
+$t3 = $.Tuple.of($.apply(KeptCredentials, []), $.dictOf([])); $t4 = $.unpacked($t3, 2); self.kept = $t4[0]; self.strangers = $t4[1]; 
+$.call(self, "passed", [transaction]);
+} else {
+if (($.has($.Tuple.of(MAKE, PIN, MANAGE, PREVIEW, BLOBS), $.item(request, 0)))) {
+$.call(self, "passed", [transaction]);
+if ((($.eq($.item(request, 0), MAKE)) && (($.apply(fault_of, [request]) === null)))) {
+$.call(self, "forget_account", [$.item($.item(asked, 2), "id"), $.item($.item(asked, 3), "id")]);
+} else {
+if ((($.has($.Tuple.of(MANAGE, PREVIEW), $.item(request, 0))) && ($.has($.Tuple.of(DELETE, UPDATE), $.call(asked, "get", [1]))))) {
+$.call($.own(self, "kept"), "remove", [$.apply(named_in, [asked])]);
+}
+}
+} else {
+if (($.has($.Tuple.of(GET, NEXT), $.item(request, 0)))) {
+$t5 = null; self.pending = $t5; 
+}
+}
+}
+return null;
+}
+forget_account(rp, user) {
+const self = this;
+let name, one, $t1, $t2;
+for (const $t1$ of $.iter($.apply(list, [$.call($.call($.attribute($.own(self, "kept"), "discoverable"), "get", [rp, $.dictOf([])]), "items", [])]))) {
+$t2 = $.unpacked($t1$, 2); name = $t2[0]; one = $t2[1]; 
+if (($.eq($.attribute($.attribute(one, "credential"), "user"), user))) {
+$.call($.own(self, "kept"), "remove", [name]);
+}
+}
+return null;
+}
+take_u2f(request, data) {
+const self = this;
+let $t1;
+if ((($.eq($.slice(request, 1, 2), $.hex("01"))) && ($.eq($.slice(data, $.sub(0, 2), null), $.hex("9000"))))) {
+$t1 = false; self.is_complete = $t1; 
+}
+return null;
+}
+is_fresh(kept, transaction) {
+const self = this;
+let $t1;
+return ($.isTrue($t1 = !$.isTrue($.attribute($.own(self, "recording"), "is_timeless"))) ? $.lt($.sub($.attribute(transaction, "last"), $.attribute(kept, "shown")), DELETED_WITHIN) : $t1);
+return null;
+}
+user_needed(entry, it) {
+const self = this;
+let asked, came, due, fault, level, options, own, section, wrong, $t1, $t2;
+if (!$.isTrue($.attribute(it, "data"))) {
+return null;
+}
+fault = $.apply(fault_of, [$.attribute(it, "data")]); 
+section = $.call($.attribute(rules, "COMMANDS"), "get", [$.item($.attribute(it, "data"), 0), $.attribute(rules, "COMMANDS_OTHER")]); 
+came = "the user is asked"; 
+if ((((fault !== null)) && !$.isTrue($.attribute(fault, "should")))) {
+level = (($.eq($.attribute(fault, "section"), "8")) ? SHOULD : MUST); 
+due = ("" + "a refusal, since " + $.format($.attribute(fault, "due"), "") + " is due"); 
+$.call($.own(self, "recording"), "find", [$.attribute(entry, "line"), KEY, ($.isTrue($t1 = $.attribute(fault, "section")) ? $t1 : section), due, came, level]);
+return null;
+}
+asked = ($.isTrue($t2 = $.apply(parameters_of, [$.attribute(it, "data")])) ? $t2 : $.dictOf([])); 
+options = $.call(asked, "get", [(($.eq($.item($.attribute(it, "data"), 0), MAKE)) ? 7 : 5), $.dictOf([])]); 
+wrong = (($.has($.Tuple.of(MAKE, GET), $.item($.attribute(it, "data"), 0))) ? $.call($.own(self, "statuses"), "wrong_option", [$.item($.attribute(it, "data"), 0), asked, options]) : ""); 
+own = $.call($.own(self, "info"), "get", [4, $.dictOf([])]); 
+if ($.isTrue(wrong)) {
+$.call($.own(self, "recording"), "find", [$.attribute(entry, "line"), KEY, section, ("" + "a refusal (2b or 2c) of the option " + $.format(wrong, "")), came]);
+} else {
+if ((($.eq($.item($.attribute(it, "data"), 0), GET)) && (($.call(options, "get", ["up"]) === false)) && $.isTrue($.own(self, "info")) && !$.isTrue($.call(own, "get", ["alwaysUv"])))) {
+if (!$.isTrue($.call(options, "get", ["uv"]))) {
+$.call($.own(self, "recording"), "find", [$.attribute(entry, "line"), KEY, section, "an answer without the user, since up is false", came]);
+}
+} else {
+if ((($.eq($.item($.attribute(it, "data"), 0), MAKE)) && ($.has(asked, 10)) && $.isTrue($.call($.own(self, "statuses"), "lacks_enterprise", [])))) {
+$.call($.own(self, "recording"), "find", [$.attribute(entry, "line"), KEY, section, "a refusal, since there is no enterprise attestation", came]);
+}
+}
+}
+return null;
+}
+judge(entry, transaction, message) {
+const self = this;
+let command, data, differs, expected, fault, is_should, level, request, shape, $t1, $t2, $t3, $t4, $t5;
+$t1 = $.Tuple.of($.attribute(transaction, "data"), $.attribute(message, "data")); $t2 = $.unpacked($t1, 2); request = $t2[0]; data = $t2[1]; 
+command = $.item(request, 0); 
+expected = (($.eq($.item(data, 0), 0)) ? $.call(EXPECTED, "get", [command, "status"]) : "status"); 
+try {
+$.call($.own(self, "statuses"), "judge_status", [entry, transaction, data]);
+if ((($.has(EXPECTED, command)) && ($.eq($.item(data, 0), 0)))) {
+$.apply($.apply(getattr, [self, $.add("judge_", $.item(EXPECTED, command))]), [transaction, data]);
+}
+if (($.eq(command, PIN))) {
+$.call($.own(self, "pins"), "judge", [request, data]);
+} else {
+if (($.has($.Tuple.of(MANAGE, BLOBS), command))) {
+$.call(self, "judge_stored", [transaction, data]);
+} else {
+if (($.eq(command, PREVIEW))) {
+$.call(self, "take_preview", [request, data]);
+}
+}
+}
+} catch ($t3e) {
+if ($.isinstance($t3e, ExtensionDiffers)) {
+differs = $t3e;
+$.call($.own(self, "recording"), "find", [$.attribute(entry, "line"), KEY, $.attribute(differs, "section"), $.attribute(differs, "wanted"), $.attribute(differs, "came")]);
+} else if ($.isinstance($t3e, Differs)) {
+differs = $t3e;
+fault = $.apply(fault_of, [request]); 
+is_should = ($.isTrue($t5 = $.apply(isinstance, [differs, UnsureDiffers])) ? $t5 : ($.isTrue($t4 = (fault !== null)) ? $.eq($.attribute(fault, "section"), "8") : $t4)); 
+level = ($.isTrue(is_should) ? SHOULD : MUST); 
+$.call($.own(self, "recording"), "judged", [$.call(self, "seen", [transaction, expected, message]), $.attribute(entry, "line"), differs, level]);
+} else if ($.isinstance($t3e, $.Tuple.of(KeyError, TypeError, ValueError, IndexError, AttributeError))) {
+fault = $t3e;
+shape = $.apply(Differs, ["an answer of the standard's shape", $.apply(said_of, [fault])]); 
+$.call($.own(self, "recording"), "judged", [$.call(self, "seen", [transaction, expected, message]), $.attribute(entry, "line"), shape]);
+} else { throw $t3e; }
+}
+$.call(self, "follow", [entry, transaction, data]);
+return null;
+}
+judge_stored(transaction, data) {
+const self = this;
+let differs, stored, $t1, $t2, $t3, $t4;
+stored = (() => { const $r = []; for (const $t2 of $.iter($.call($.attribute($.own(self, "kept"), "discoverable"), "values", []))) { let of_rp; of_rp = $t2; for (const $t1 of $.iter($.call(of_rp, "values", []))) { let one; one = $t1; $r.push(one); }; } return $r; })(); 
+try {
+$.call($.own(self, "stored"), "judge", [$.attribute(transaction, "data"), data, $.own(self, "kept"), $.own(self, "pins"), $.own(self, "info")]);
+} catch ($t3e) {
+if ($.isinstance($t3e, Differs)) {
+differs = $t3e;
+if (((!$.eq($.item($.attribute(transaction, "data"), 0), MANAGE)) || $.isTrue($.apply(all, [(function* () { for (const $t4 of $.iter(stored)) { let one; one = $t4; yield $.call(self, "is_fresh", [one, transaction]); } })()])))) {
+throw $t3e;
+}
+throw $.apply(UnsureDiffers, [$.attribute(differs, "wanted"), $.attribute(differs, "came")]);
+} else { throw $t3e; }
+}
+return null;
+}
+take_preview(request, data) {
+const self = this;
+let asked;
+asked = $.apply(parameters_of, [request]); 
+if ((((asked === null)) || (!$.eq($.item(data, 0), 0)) || (!$.has($.Tuple.of(DELETE, UPDATE), $.call(asked, "get", [1]))))) {
+return null;
+}
+if (($.eq($.item(asked, 1), DELETE))) {
+$.call($.attribute($.own(self, "stored"), "deleted"), "add", [$.apply(named_in, [asked])]);
+$.call($.own(self, "kept"), "remove", [$.apply(named_in, [asked])]);
+}
+return null;
+}
+seen(transaction, expected, message) {
+const self = this;
+let fault, own, $t1, $t2;
+fault = $.apply(fault_of, [$.attribute(transaction, "data")]); 
+own = ((((fault !== null)) && $.isTrue($.attribute(fault, "section"))) ? $.attribute(fault, "section") : ""); 
+if ($.isTrue($.own(self, "passed_over"))) {
+$t1 = $.Tuple.of("8", ""); $t2 = $.unpacked($t1, 2); own = $t2[0]; self.passed_over = $t2[1]; 
+}
+return $.apply(seen, [transaction, expected, message, own]);
+return null;
+}
 judge_info(transaction, data) {
 const self = this;
-let item, $t1, $t2, $t3, $t4, $t5, $t6;
+let item, $t1, $t2, $t3, $t4, $t5;
 item = $.call(answers, "judge_info", [data]); 
 $t1 = item; self.info = $t1; 
 $t2 = $.item(item, 3); $.own(self, "facts").aaguid = $t2; 
 $t4 = (() => { const $r = []; for (const $t3 of $.iter($.call(item, "get", [10, []]))) { let one; one = $t3; $r.push($.item(one, "alg")); } return $r; })(); $.own(self, "facts").algorithms = $t4; 
 $.call($.own(self, "pins"), "judge_info", [item]);
-$t6 = !$.isTrue($.apply(any, [(function* () { for (const $t5 of $.iter($.item(item, 1))) { let name; name = $t5; yield $.call(name, "startswith", ["FIDO_2_1"]); } })()])); $.own(self, "facts").old = $t6; 
+$t5 = $.call(answers, "is_old", [$.item(item, 1)]); $.own(self, "facts").old = $t5; 
 return null;
 }
 judge_made(transaction, data) {
 const self = this;
-let asked, extensions, made, request, words, $t1, $t2, $t3, $t4;
+let asked, extensions, kept, made, request, words, $t1, $t2, $t3, $t4;
 request = $.attribute(transaction, "data"); 
 words = $.add(["up"], ($.isTrue($.call(self, "has_no_verification", [request])) ? ["no-uv"] : [])); 
 if ($.isTrue($.call($.call(answers, "parameters", [request]), "get", [8]))) {
 $.call(words, "append", ["uv"]);
 }
-made = $.call(answers, "judge_made", [data, request, words, $.own(self, "known"), $.own(self, "facts")]); 
+made = $.call(answers, "judge_made", [data, request, words, $.call($.own(self, "kept"), "near", [$.apply(made_id, [data])]), $.own(self, "facts")]); 
+$.apply(hold, [!$.has($.attribute($.own(self, "kept"), "by_key"), $.call(ctap_cbor, "encode", [$.attribute(made, "cose")])), "a new pair of keys", $.attribute(made, "cose")]);
 asked = $.call(answers, "parameters", [request]); 
 $.apply(judge_extension_answers, [MAKE, data, asked, $.own(self, "info"), $.dictOf([])]);
 $.call(self, "replace", [made, asked]);
-$t1 = made; $.put($.own(self, "known"), $.attribute(made, "id"), $t1); 
+if ($.isTrue($.attribute($.own(self, "recording"), "has_lost"))) {
+$t1 = false; self.is_complete = $t1; 
+}
 extensions = (() => { const $r = []; for (const $t2 of $.iter($.call($.call(asked, "get", [6, $.dictOf([])]), "items", []))) { let name, value; $t3 = $.unpacked($t2, 2); name = $t3[0]; value = $t3[1]; $r.push([name, value]); } return $.dictOf($r); })(); 
-$t4 = $.apply(Kept, [made, $.apply(bool, [$.call($.call(asked, "get", [7, $.dictOf([])]), "get", ["rk"])]), extensions]); $.put($.own(self, "kept"), $.attribute(made, "id"), $t4); 
+kept = $.apply(Kept, [made, $.apply(bool, [$.call($.call(asked, "get", [7, $.dictOf([])]), "get", ["rk"])]), extensions]); 
+$t4 = $.attribute(transaction, "last"); kept.shown = $t4; 
+$.call($.own(self, "kept"), "add", [kept]);
 $.call($.own(self, "stored"), "judge_key", [data, $.call(self, "served", [extensions]), $.attribute(made, "id"), 5, true]);
 return null;
 }
@@ -3868,12 +4182,11 @@ let name, one, $t1, $t2;
 if (!$.isTrue($.call($.call(asked, "get", [7, $.dictOf([])]), "get", ["rk"]))) {
 return null;
 }
-for (const $t1$ of $.iter($.apply(list, [$.call($.own(self, "kept"), "items", [])]))) {
+for (const $t1$ of $.iter($.apply(list, [$.call($.call($.attribute($.own(self, "kept"), "discoverable"), "get", [$.attribute(made, "rp"), $.dictOf([])]), "items", [])]))) {
 $t2 = $.unpacked($t1$, 2); name = $t2[0]; one = $t2[1]; 
-if (($.isTrue($.attribute(one, "discoverable")) && ($.eq($.Tuple.of($.attribute($.attribute(one, "credential"), "rp"), $.attribute($.attribute(one, "credential"), "user")), $.Tuple.of($.attribute(made, "rp"), $.attribute(made, "user")))))) {
+if (($.eq($.attribute($.attribute(one, "credential"), "user"), $.attribute(made, "user")))) {
 $.call($.own(self, "replaced"), "add", [name]);
-$.remove($.own(self, "kept"), name);
-$.remove($.own(self, "known"), name);
+$.call($.own(self, "kept"), "remove", [name]);
 }
 }
 return null;
@@ -3887,7 +4200,7 @@ return null;
 }
 judge_asserted(transaction, data) {
 const self = this;
-let asked, extensions, follows, identity, item, known, listed, request, stranger, words, $t1, $t2, $t3, $t4, $t5, $t6, $t7;
+let asked, extensions, follows, identity, item, kept, known, listed, request, stranger, words, $t1, $t2, $t3, $t4, $t5;
 follows = $.eq($.item($.attribute(transaction, "data"), 0), NEXT); 
 request = (($.isTrue(follows) && $.isTrue($.own(self, "pending"))) ? $.attribute($.own(self, "pending"), "request") : $.attribute(transaction, "data")); 
 if ((!$.isTrue(request) || (!$.eq($.item(request, 0), GET)))) {
@@ -3896,29 +4209,33 @@ return null;
 asked = $.call(answers, "parameters", [request]); 
 item = $.call(answers, "map_of", [data]); 
 words = $.call(self, "words_of", [asked, item, follows]); 
-$t1 = $.Tuple.of($.apply(dict, [$.own(self, "known")]), $.call(self, "identity", [asked, item])); $t2 = $.unpacked($t1, 2); known = $t2[0]; identity = $t2[1]; 
+identity = $.call(self, "identity", [asked, item]); 
+kept = $.call($.own(self, "kept"), "get", [identity]); 
 if (($.has($.own(self, "forgotten"), identity))) {
-$.call($.own(self, "recording"), "find", [($.isTrue($t3 = $.attribute(transaction, "by")) ? $t3 : $.attribute(transaction, "line")), KEY, "6.6", "no credential from before the reset", $.call(identity, "hex", [])]);
+$.call($.own(self, "recording"), "find", [($.isTrue($t1 = $.attribute(transaction, "by")) ? $t1 : $.attribute(transaction, "line")), KEY, "6.6", "no credential from before the reset", $.call(identity, "hex", [])]);
 }
 $.apply(hold, [!$.has($.own(self, "replaced"), identity), "no credential that another one took the place of", identity]);
 $.apply(hold, [!$.has($.attribute($.own(self, "stored"), "deleted"), identity), "no credential that was deleted", identity]);
 $.call(self, "judge_series", [item, follows, identity]);
-listed = (() => { const $r = []; for (const $t4 of $.iter($.call(asked, "get", [3, []]))) { let one; one = $t4; if (!($.eq($.item(one, "type"), "public-key"))) { continue; } $r.push($.item(one, "id")); } return $r; })(); 
-$.apply(hold, [($.isTrue($t5 = !$.isTrue($.call(asked, "get", [3]))) ? $t5 : $.has(listed, identity)), "a credential of the allow list", identity]);
+listed = (() => { const $r = []; for (const $t2 of $.iter($.call(asked, "get", [3, []]))) { let one; one = $t2; if (!($.eq($.item(one, "type"), "public-key"))) { continue; } $r.push($.item(one, "id")); } return $r; })(); 
+$.apply(hold, [($.isTrue($t3 = !$.isTrue($.call(asked, "get", [3]))) ? $t3 : $.has(listed, identity)), "a credential of the allow list", identity]);
 $.call(self, "judge_protection", [item, asked, identity]);
-if ((!$.has(known, identity))) {
-$.apply(hold, [($.isTrue($t6 = !$.isTrue($.own(self, "is_complete"))) ? $t6 : $.has($.own(self, "forgotten"), identity)), "a credential that this key made", identity]);
+if (((kept === null))) {
+$.apply(hold, [($.isTrue($t4 = !$.isTrue($.own(self, "is_complete"))) ? $t4 : $.has($.own(self, "forgotten"), identity)), "a credential that this key made", identity]);
 stranger = $.apply(Credential, [identity, $.dictOf([[3, 0]]), $.item(asked, 1), $.hex(""), $.sub(0, 1)]); 
-$t7 = $.call($.own(self, "strangers"), "setdefault", [$.Tuple.of($.item(asked, 1), identity), stranger]); $.put(known, identity, $t7); 
+known = $.dictOf([[identity, $.call($.own(self, "strangers"), "setdefault", [$.Tuple.of($.item(asked, 1), identity), stranger])]]); 
+} else {
+known = $.dictOf([[identity, $.attribute(kept, "credential")]]); 
 }
 words = $.add(words, ["counter-rises"]); 
 $.call(answers, "judge_asserted", [data, request, words, known, null, $.own(self, "facts")]);
-extensions = (($.has($.own(self, "kept"), identity)) ? $.attribute($.item($.own(self, "kept"), identity), "extensions") : $.dictOf([])); 
+extensions = (((kept !== null)) ? $.attribute(kept, "extensions") : $.dictOf([])); 
 $.apply(judge_extension_answers, [GET, data, asked, $.own(self, "info"), extensions]);
-if (($.has($.own(self, "kept"), identity))) {
+$.call(self, "judge_account", [transaction, item, follows, identity]);
+if (((kept !== null))) {
+$t5 = $.attribute(transaction, "last"); kept.shown = $t5; 
 $.call($.own(self, "stored"), "judge_key", [data, $.call(self, "served", [$.call(asked, "get", [4, $.dictOf([])])]), identity, 7, $.has(extensions, BLOB_KEY)]);
 }
-$.call(self, "judge_account", [asked, item, follows, identity]);
 return null;
 }
 judge_series(item, follows, identity) {
@@ -3936,8 +4253,9 @@ return null;
 }
 judge_protection(item, asked, identity) {
 const self = this;
-let level;
-level = (($.has($.own(self, "kept"), identity)) ? $.call($.attribute($.item($.own(self, "kept"), identity), "extensions"), "get", ["credProtect"]) : null); 
+let kept, level;
+kept = $.call($.own(self, "kept"), "get", [identity]); 
+level = (((kept !== null)) ? $.call($.attribute(kept, "extensions"), "get", ["credProtect"]) : null); 
 if ((((level === null)) || $.isTrue($.and($.item($.item(item, 2), 32), UV)) || (!$.has($.call($.own(self, "info"), "get", [2, []]), "credProtect")))) {
 return null;
 }
@@ -3971,63 +4289,85 @@ $.call(words, "append", ["no-number"]);
 return words;
 return null;
 }
-judge_account(asked, item, follows, identity) {
+judge_account(transaction, item, follows, identity) {
 const self = this;
-let mine, names, number, words, $t1, $t2, $t3;
-$.apply(hold, [!$.eq($.call(item, "get", [5]), 1), "no numberOfCredentials of one", item]);
-if ($.isTrue($.call(asked, "get", [3]))) {
+let asked, differs, is_sure, kept, kind, mine, words, $t1, $t2, $t3, $t4, $t5, $t6;
+asked = ($.isTrue($t1 = $.apply(parameters_of, [$.attribute(transaction, "data")])) ? $t1 : $.dictOf([])); 
+if (($.eq($.call(item, "get", [5]), 1))) {
+kind = ($.isTrue($.attribute($.own(self, "facts"), "old")) ? UnsureDiffers : Differs); 
+throw $.apply(kind, ["no numberOfCredentials of one", $.call(ctap_cbor, "shown", [item])]);
+}
+if (($.isTrue(follows) || $.isTrue($.call(asked, "get", [3])))) {
 return null;
 }
-mine = $.call(self, "candidates", [asked]); 
-if ((($.has($.own(self, "kept"), identity)) && !$.isTrue(follows))) {
-words = ["user", $.call($.attribute($.attribute($.item($.own(self, "kept"), identity), "credential"), "user"), "hex", [])]; 
+$t2 = $.Tuple.of($.call($.own(self, "statuses"), "candidates", [asked]), $.call($.own(self, "kept"), "get", [identity])); $t3 = $.unpacked($t2, 2); mine = $t3[0]; kept = $t3[1]; 
+if (((kept !== null))) {
+words = ["user", $.call($.attribute($.attribute(kept, "credential"), "user"), "hex", [])]; 
 $.call(answers, "judge_user", [item, words, $.own(self, "facts")]);
+if (!$.isTrue($.attribute(kept, "discoverable"))) {
+$.call($.own(self, "recording"), "find", [0, KEY, "6.2.2", "a discoverable credential", $.call(identity, "hex", []), SHOULD]);
 }
-names = (() => { const $r = []; for (const $t1 of $.iter(mine)) { let one; one = $t1; $r.push($.attribute($.attribute(one, "credential"), "id")); } return $r; })(); 
-if ((!$.isTrue(follows) && $.isTrue(names) && ($.has(names, identity)) && !$.isTrue($.call(self, "has_hidden_of", [asked])))) {
+}
+is_sure = $.apply(all, [(function* () { for (const $t4 of $.iter(mine)) { let one; one = $t4; yield $.call(self, "is_fresh", [one, transaction]); } })()]); 
+try {
+$.call(self, "judge_newest", [asked, item, (() => { const $r = []; for (const $t6 of $.iter(mine)) { let one; one = $t6; $r.push($.attribute($.attribute(one, "credential"), "id")); } return $r; })(), identity]);
+} catch ($t5e) {
+if ($.isinstance($t5e, Differs)) {
+differs = $t5e;
+if ($.isTrue(is_sure)) {
+throw $t5e;
+}
+throw $.apply(UnsureDiffers, [("" + $.format($.attribute(differs, "wanted"), "") + ", " + $.format(OTHERWISE, "")), $.attribute(differs, "came")]);
+} else { throw $t5e; }
+}
+return null;
+}
+judge_newest(asked, item, names, identity) {
+const self = this;
+let least, number, $t1, $t2;
+if ((($.has(names, identity)) && !$.isTrue($.call($.own(self, "statuses"), "is_protected", [asked])))) {
 $.apply(hold, [$.eq(identity, $.item(names, $.sub(0, 1))), ("" + "the newest credential, " + $.format($.call($.item(names, $.sub(0, 1)), "hex", []), "")), identity]);
 }
-if ((!$.isTrue(follows) && ($.lt(1, $.apply(len, [mine]))) && ($.lt($.attribute($.own(self, "facts"), "protection"), 2)) && (($.call(item, "get", [6]) !== true)))) {
+if ((($.lt(1, $.apply(len, [names]))) && ($.lt($.attribute($.own(self, "facts"), "protection"), 2)) && (($.call(item, "get", [6]) !== true)))) {
 number = $.call(item, "get", [5]); 
-$.apply(hold, [$.apply(isinstance, [number, int]), ("" + "numberOfCredentials of at least " + $.format($.apply(len, [mine]), "")), item]);
-$.apply(hold, [($.isTrue($t2 = $.apply(isinstance, [number, int])) ? $.le($.apply(len, [mine]), number) : $t2), ("" + "numberOfCredentials of at least " + $.format($.apply(len, [mine]), "")), item]);
-$.apply(hold, [($.isTrue($t3 = !$.isTrue($.own(self, "is_complete"))) ? $t3 : $.eq(number, $.apply(len, [mine]))), ("" + "numberOfCredentials " + $.format($.apply(len, [mine]), "")), item]);
-}
-if ((($.has($.own(self, "kept"), identity)) && !$.isTrue($.attribute($.item($.own(self, "kept"), identity), "discoverable")))) {
-$.call($.own(self, "recording"), "find", [0, KEY, "6.2.2", "a discoverable credential", $.call(identity, "hex", []), SHOULD]);
+$.apply(hold, [$.apply(isinstance, [number, int]), ("" + "numberOfCredentials of at least " + $.format($.apply(len, [names]), "")), item]);
+least = ($.isTrue($t1 = $.apply(isinstance, [number, int])) ? $.le($.apply(len, [names]), number) : $t1); 
+$.apply(hold, [least, ("" + "numberOfCredentials of at least " + $.format($.apply(len, [names]), "")), item]);
+$.apply(hold, [($.isTrue($t2 = !$.isTrue($.own(self, "is_complete"))) ? $t2 : $.eq(number, $.apply(len, [names]))), ("" + "numberOfCredentials " + $.format($.apply(len, [names]), "")), item]);
 }
 return null;
 }
 follow(entry, it, data) {
 const self = this;
-let auth, command, flags, item, left, number, signed, status, $t1, $t2, $t3, $t4, $t5, $t6, $t7, $t8, $t9, $t10, $t11, $t12, $t13, $t14, $t15, $t16, $t17, $t18;
+let auth, command, flags, item, left, number, signed, status, $t1, $t2, $t3, $t4, $t5, $t6, $t7, $t8, $t9, $t10, $t11, $t12, $t13, $t14, $t15, $t16, $t17, $t18, $t19, $t20;
 $t1 = $.Tuple.of($.item($.attribute(it, "data"), 0), $.item(data, 0)); $t2 = $.unpacked($t1, 2); command = $t2[0]; status = $t2[1]; 
 if ((($.eq(command, RESET)) && ($.eq(status, 0)))) {
-$.call($.own(self, "forgotten"), "update", [(() => { const $r = []; for (const $t3 of $.iter($.call($.own(self, "kept"), "items", []))) { let name, one; $t4 = $.unpacked($t3, 2); name = $t4[0]; one = $t4[1]; $r.push([name, $.attribute($.attribute(one, "credential"), "rp")]); } return $.dictOf($r); })()]);
-$t5 = $.Tuple.of($.dictOf([]), $.dictOf([]), true); $t6 = $.unpacked($t5, 3); self.kept = $t6[0]; self.known = $t6[1]; self.is_complete = $t6[2]; 
-$t7 = $.Tuple.of($.apply(Pins, [], {is_set: false}), $.apply(Pending, [$.hex(""), 0, $.attribute(entry, "at")])); $t8 = $.unpacked($t7, 2); self.pins = $t8[0]; self.pending = $t8[1]; 
+$.call($.own(self, "forgotten"), "update", [$.apply(list, [$.attribute($.own(self, "kept"), "by_id")])]);
+$t4 = $.Tuple.of($.apply(KeptCredentials, []), ($.isTrue($t3 = !$.isTrue($.attribute($.own(self, "facts"), "old"))) ? !$.isTrue($.attribute($.own(self, "recording"), "has_lost")) : $t3)); $t5 = $.unpacked($t4, 2); self.kept = $t5[0]; self.is_complete = $t5[1]; 
+$t6 = $.Tuple.of($.apply(Pins, [], {is_set: false}), $.apply(Pending, [$.hex(""), 0, $.attribute(entry, "at")])); $t7 = $.unpacked($t6, 2); self.pins = $t7[0]; self.pending = $t7[1]; 
 $.call($.own(self, "stored"), "reset", []);
 } else {
 if ((($.eq(command, GET)) && ($.eq(status, 0)))) {
-item = ($.isTrue($t9 = $.apply(parameters_of, [data])) ? $t9 : $.dictOf([])); 
-$t10 = $.Tuple.of($.call(item, "get", [5]), $.call(item, "get", [2])); $t11 = $.unpacked($t10, 2); number = $t11[0]; auth = $t11[1]; 
+item = ($.isTrue($t8 = $.apply(parameters_of, [data])) ? $t8 : $.dictOf([])); 
+$t9 = $.Tuple.of($.call(item, "get", [5]), $.call(item, "get", [2])); $t10 = $.unpacked($t9, 2); number = $t10[0]; auth = $t10[1]; 
+$t13 = ($.isTrue($t12 = $.own(self, "no_display")) ? $t12 : ($.isTrue($t11 = $.apply(isinstance, [number, int])) ? $.lt(1, number) : $t11)); self.no_display = $t13; 
 left = ($.isTrue($.apply(isinstance, [number, int])) ? $.sub(number, 1) : 0); 
 flags = (($.isTrue($.apply(isinstance, [auth, bytes])) && ($.lt(32, $.apply(len, [auth])))) ? $.item(auth, 32) : 0); 
-signed = [$.call(self, "identity", [($.isTrue($t12 = $.apply(parameters_of, [$.attribute(it, "data")])) ? $t12 : $.dictOf([])), item])]; 
-$t13 = $.apply(Pending, [$.attribute(it, "data"), left, $.attribute(entry, "at"), $.attribute(it, "channel"), true, signed, flags]); self.pending = $t13; 
+signed = [$.call(self, "identity", [($.isTrue($t14 = $.apply(parameters_of, [$.attribute(it, "data")])) ? $t14 : $.dictOf([])), item])]; 
+$t15 = $.apply(Pending, [$.attribute(it, "data"), left, $.attribute(entry, "at"), $.attribute(it, "channel"), true, signed, flags]); self.pending = $t15; 
 } else {
 if ((($.eq(command, NEXT)) && ($.eq(status, 0)) && (($.own(self, "pending") !== null)))) {
-$t14 = $.Tuple.of($.sub($.attribute($.own(self, "pending"), "left"), 1), $.attribute(entry, "at")); $t15 = $.unpacked($t14, 2); $.own(self, "pending").left = $t15[0]; $.own(self, "pending").at = $t15[1]; 
+$t16 = $.Tuple.of($.sub($.attribute($.own(self, "pending"), "left"), 1), $.attribute(entry, "at")); $t17 = $.unpacked($t16, 2); $.own(self, "pending").left = $t17[0]; $.own(self, "pending").at = $t17[1]; 
 } else {
-if (((!$.eq(command, NEXT)) && (($.own(self, "pending") !== null)))) {
+if (((($.own(self, "pending") !== null)) && ((!$.eq(command, NEXT)) || (!$.eq(status, NOT_ALLOWED))))) {
 if (($.eq(command, GET))) {
-$t16 = $.apply(Pending, [$.hex(""), 0, $.attribute(entry, "at")]); self.pending = $t16; 
+$t18 = $.apply(Pending, [$.hex(""), 0, $.attribute(entry, "at")]); self.pending = $t18; 
 } else {
 if ((($.eq(command, MAKE)) && ($.eq(status, 0)))) {
-$t17 = null; self.pending = $t17; 
+$t19 = null; self.pending = $t19; 
 } else {
 if ((($.own(self, "pending") !== null))) {
-$t18 = false; $.own(self, "pending").is_sure = $t18; 
+$t20 = false; $.own(self, "pending").is_sure = $t20; 
 }
 }
 }
@@ -4038,8 +4378,8 @@ $t18 = false; $.own(self, "pending").is_sure = $t18;
 return null;
 }
 }
-AnswerJudge.$names = {"__init__": ["recording"], "power_cycle": ["at"], "passed": ["it"], "user_needed": ["entry", "it"], "judge": ["entry", "transaction", "message"], "seen": ["transaction", "expected", "message"], "judge_status": ["entry", "it", "data"], "judge_user": ["entry", "it", "data"], "judge_refusal": ["kind", "due", "status"], "judge_form": ["it", "status"], "wrong_option": ["command", "asked", "options"], "listed": ["asked", "key", "rp"], "judge_make_status": ["it", "status"], "has_hidden": ["asked", "key"], "judge_capabilities": ["asked", "status"], "judge_get_status": ["it", "data"], "is_protected": ["asked"], "candidates": ["asked"], "has_hidden_of": ["asked"], "judge_next_status": ["entry", "it", "status"], "judge_info": ["transaction", "data"], "judge_made": ["transaction", "data"], "served": ["extensions"], "replace": ["made", "asked"], "has_no_verification": ["request"], "judge_asserted": ["transaction", "data"], "judge_series": ["item", "follows", "identity"], "judge_protection": ["item", "asked", "identity"], "identity": ["asked", "item"], "words_of": ["asked", "item", "follows"], "judge_account": ["asked", "item", "follows", "identity"], "follow": ["entry", "it", "data"]};
-return { ANY, AnswerJudge, CANCELLED, DENIED, EXCLUDED, EXPECTED, FIT, JITTER, NOT_ALLOWED, NO_CREDENTIALS, OF_FORM, OTHER, PENDING, RESET_WITHIN, TIMED_OUT, UNSUPPORTED, said_of };
+AnswerJudge.$names = {"__init__": ["recording"], "power_cycle": ["at"], "restart": ["at", "is_likely"], "passed": ["it"], "unanswered": ["transaction"], "forget_account": ["rp", "user"], "take_u2f": ["request", "data"], "is_fresh": ["kept", "transaction"], "user_needed": ["entry", "it"], "judge": ["entry", "transaction", "message"], "judge_stored": ["transaction", "data"], "take_preview": ["request", "data"], "seen": ["transaction", "expected", "message"], "judge_info": ["transaction", "data"], "judge_made": ["transaction", "data"], "served": ["extensions"], "replace": ["made", "asked"], "has_no_verification": ["request"], "judge_asserted": ["transaction", "data"], "judge_series": ["item", "follows", "identity"], "judge_protection": ["item", "asked", "identity"], "identity": ["asked", "item"], "words_of": ["asked", "item", "follows"], "judge_account": ["transaction", "item", "follows", "identity"], "judge_newest": ["asked", "item", "names", "identity"], "follow": ["entry", "it", "data"]};
+return { AnswerJudge, DELETED_WITHIN, EXPECTED, said_of };
 };
 
 $.modules["judged_host"] = () => {
@@ -4052,8 +4392,8 @@ SHOULD = $.module("judged_log").SHOULD;
 Recording = $.module("judged_log").Recording;
 section_of = $.module("judged_log").section_of;
 fault_of = $.module("requests").fault_of;
-Entry = $.module("walk").Entry;
-Transaction = $.module("walk").Transaction;
+Entry = $.module("transactions").Entry;
+Transaction = $.module("transactions").Transaction;
 INVALID_CHANNEL = 11; 
 LENGTHS = $.dictOf([[$.attribute(hid, "INIT"), $.Tuple.of(8, 8)], [$.attribute(hid, "CANCEL"), $.Tuple.of(0, 0)], [$.attribute(hid, "WINK"), $.Tuple.of(0, 0)], [$.attribute(hid, "CBOR"), $.Tuple.of(1, $.attribute(hid, "LONGEST"))], [$.attribute(hid, "MSG"), $.Tuple.of(1, $.attribute(hid, "LONGEST"))]]); 
 SERVED = $.Tuple.of($.attribute(hid, "PING"), $.attribute(hid, "MSG"), $.attribute(hid, "LOCK"), $.attribute(hid, "INIT"), $.attribute(hid, "WINK"), $.attribute(hid, "CBOR"), $.attribute(hid, "CANCEL")); 
@@ -4061,9 +4401,9 @@ VENDOR = $.apply(range, [64, 128]);
 class HostJudge extends $.Object {
 __init__(recording) {
 const self = this;
-let $t1, $t2, $t3;
+let $t1;
 $t1 = recording; self.recording = $t1; 
-$t3 = (() => { const $r = []; for (const $t2 of $.iter($.attribute($.attribute(recording, "walk"), "transactions"))) { let it; it = $t2; $r.push([$.attribute(it, "line"), it]); } return $.dictOf($r); })(); self.starts = $t3; 
+self.begun = $.dictOf([]); 
 self.open = $.dictOf([]); 
 self.refused = $.dictOf([]); 
 self.given = $.apply(set, []); 
@@ -4074,11 +4414,16 @@ const self = this;
 $.call($.own(self, "recording"), "find", [line, HOST, section, due, came, level]);
 return null;
 }
+find_gap(line, section, due, came) {
+const self = this;
+$.call($.own(self, "recording"), "find_gap", [line, HOST, section, due, came]);
+return null;
+}
 take(entry) {
 const self = this;
 let channel;
 channel = $.slice($.attribute(entry, "packet"), null, 4); 
-if (($.eq($.attribute(entry, "kind"), "device"))) {
+if (!$.isTrue($.attribute(entry, "is_host"))) {
 $.call(self, "take_answer", [entry, channel]);
 } else {
 if ($.isTrue($.and($.item($.attribute(entry, "packet"), 4), 128))) {
@@ -4115,7 +4460,7 @@ return null;
 }
 take_start(entry, channel) {
 const self = this;
-let before, command, length, transaction, $t1, $t2, $t3;
+let before, command, length, transaction, $t1, $t2, $t3, $t4;
 $t1 = $.Tuple.of($.and($.item($.attribute(entry, "packet"), 4), 127), $.call(int, "from_bytes", [$.slice($.attribute(entry, "packet"), 5, 7), "big"])); $t2 = $.unpacked($t1, 2); command = $t2[0]; length = $t2[1]; 
 if (($.eq(command, $.attribute(hid, "CANCEL")))) {
 if ($.isTrue(length)) {
@@ -4123,17 +4468,18 @@ $.call(self, "find", [$.attribute(entry, "line"), $.attribute(rules, "CANCEL"), 
 }
 return null;
 }
-transaction = $.call($.own(self, "starts"), "get", [$.attribute(entry, "line")]); 
+transaction = $.attribute(entry, "transaction"); 
 if (((transaction === null))) {
 return null;
 }
+$t3 = transaction; $.put($.own(self, "begun"), channel, $t3); 
 $.call(self, "judge_length", [$.attribute(entry, "line"), command, length]);
 $.call(self, "judge_channel", [$.attribute(entry, "line"), command, channel]);
 before = $.call($.own(self, "open"), "get", [channel]); 
 if ((((before !== null)) && (!$.eq(command, $.attribute(hid, "INIT"))))) {
 $.call(self, "judge_order", [before, entry]);
 }
-$t3 = transaction; $.put($.own(self, "open"), channel, $t3); 
+$t4 = transaction; $.put($.own(self, "open"), channel, $t4); 
 $.call(self, "whole", [transaction, entry]);
 return null;
 }
@@ -4167,10 +4513,10 @@ const self = this;
 let came;
 came = ("" + "a new message while that of line " + $.format($.attribute(before, "line"), "") + " is under way"); 
 if (!$.isTrue($.attribute(before, "whole"))) {
-$.call(self, "find", [$.attribute(entry, "line"), $.attribute(rules, "SEQUENCE"), ("" + "the other packets of the message of line " + $.format($.attribute(before, "line"), "")), came]);
+$.call(self, "find_gap", [$.attribute(entry, "line"), $.attribute(rules, "SEQUENCE"), ("" + "the other packets of the message of line " + $.format($.attribute(before, "line"), "")), came]);
 } else {
 if (($.lt($.sub($.attribute(entry, "at"), $.attribute(before, "last")), 60000))) {
-$.call(self, "find", [$.attribute(entry, "line"), $.attribute(rules, "BUSY"), "the answer first, or CANCEL or INIT", came]);
+$.call(self, "find_gap", [$.attribute(entry, "line"), $.attribute(rules, "BUSY"), "the answer first, or CANCEL or INIT", came]);
 }
 }
 return null;
@@ -4181,24 +4527,24 @@ let number, refused, wanted;
 number = $.item($.attribute(entry, "packet"), 4); 
 refused = $.call($.own(self, "refused"), "get", [channel]); 
 if ((((refused !== null)) && !$.isTrue($.attribute(refused, "whole")) && ($.eq(number, $.attribute(refused, "next"))))) {
-$.call($.attribute(refused, "parts"), "append", [$.slice($.attribute(entry, "packet"), 5, null)]);
+$.call(refused, "add", [$.slice($.attribute(entry, "packet"), 5, null), $.attribute(entry, "line")]);
 return null;
 }
-if ((($.eq($.attribute(entry, "part"), "stray")) && !$.isTrue($.call(self, "timed_out", [channel, number, $.attribute(entry, "line")])))) {
-$.call(self, "find", [$.attribute(entry, "line"), $.attribute(rules, "SEQUENCE"), "a message that is open", ("" + "continuation packet " + $.format(number, ""))]);
+if ((($.eq($.attribute(entry, "part"), "stray")) && !$.isTrue($.call(self, "timed_out", [channel, number])))) {
+$.call(self, "find_gap", [$.attribute(entry, "line"), $.attribute(rules, "SEQUENCE"), "a message that is open", ("" + "continuation packet " + $.format(number, ""))]);
 } else {
 if ((($.attribute(entry, "transaction") !== null))) {
 wanted = ("" + "continuation packet " + $.format($.sub($.apply(len, [$.call(self, "numbered", [entry])]), 1), "")); 
-$.call(self, "find", [$.attribute(entry, "line"), $.attribute(rules, "SEQUENCE"), wanted, ("" + "continuation packet " + $.format(number, ""))]);
+$.call(self, "find_gap", [$.attribute(entry, "line"), $.attribute(rules, "SEQUENCE"), wanted, ("" + "continuation packet " + $.format(number, ""))]);
 }
 }
 return null;
 }
-timed_out(channel, number, line) {
+timed_out(channel, number) {
 const self = this;
-let of_channel, $t1, $t2, $t3;
-of_channel = (() => { const $r = []; for (const $t1 of $.iter($.call($.own(self, "starts"), "values", []))) { let it; it = $t1; if (!(($.eq($.call($.attribute(it, "channel"), "to_bytes", [4, "big"]), channel)) && ($.lt($.attribute(it, "line"), line)))) { continue; } $r.push(it); } return $r; })(); 
-return ($.isTrue($t3 = $.apply(bool, [of_channel])) ? ($.isTrue($t2 = $.eq($.attribute($.item(of_channel, $.sub(0, 1)), "end"), "timed out")) ? $.le($.attribute($.item(of_channel, $.sub(0, 1)), "next"), number) : $t2) : $t3);
+let last, $t1, $t2;
+last = $.call($.own(self, "begun"), "get", [channel]); 
+return ($.isTrue($t2 = (last !== null)) ? ($.isTrue($t1 = $.eq($.attribute(last, "end"), "timed out")) ? $.le($.attribute(last, "next"), number) : $t1) : $t2);
 return null;
 }
 numbered(entry) {
@@ -4230,21 +4576,201 @@ $.call(self, "find", [$.attribute(transaction, "line"), section, $.attribute(fau
 return null;
 }
 }
-HostJudge.$names = {"__init__": ["recording"], "find": ["line", "section", "due", "came", "level"], "take": ["entry"], "take_answer": ["entry", "channel"], "take_start": ["entry", "channel"], "judge_length": ["line", "command", "length"], "judge_channel": ["line", "command", "channel"], "judge_order": ["before", "entry"], "judge_continuation": ["entry", "channel"], "timed_out": ["channel", "number", "line"], "numbered": ["entry"], "whole": ["transaction", "entry"]};
+HostJudge.$names = {"__init__": ["recording"], "find": ["line", "section", "due", "came", "level"], "find_gap": ["line", "section", "due", "came"], "take": ["entry"], "take_answer": ["entry", "channel"], "take_start": ["entry", "channel"], "judge_length": ["line", "command", "length"], "judge_channel": ["line", "command", "channel"], "judge_order": ["before", "entry"], "judge_continuation": ["entry", "channel"], "timed_out": ["channel", "number"], "numbered": ["entry"], "whole": ["transaction", "entry"]};
 return { HostJudge, INVALID_CHANNEL, LENGTHS, SERVED, VENDOR };
 };
 
+$.modules["judged_errors"] = () => {
+let BUSY, Entry, INVALID_COMMAND, KeyJudge, NMSG, NO_TIME_OUT, OPTIONAL, OTHER_ERROR, SERVED, TIMED_OUT, Transaction, WINK, hid, rules, seen;
+hid = $.module("hid_packets");
+rules = $.module("rules");
+NMSG = $.module("greeting").NMSG;
+WINK = $.module("greeting").WINK;
+seen = $.module("judged_log").seen;
+BUSY = $.module("transactions").BUSY;
+INVALID_COMMAND = $.module("transactions").INVALID_COMMAND;
+NO_TIME_OUT = $.module("transactions").NO_TIME_OUT;
+TIMED_OUT = $.module("transactions").TIMED_OUT;
+Entry = $.module("transactions").Entry;
+Transaction = $.module("transactions").Transaction;
+OTHER_ERROR = 127; 
+SERVED = $.Tuple.of($.attribute(hid, "PING"), $.attribute(hid, "MSG"), $.attribute(hid, "LOCK"), $.attribute(hid, "INIT"), $.attribute(hid, "WINK"), $.attribute(hid, "CBOR")); 
+OPTIONAL = $.Tuple.of($.attribute(hid, "MSG"), $.attribute(hid, "LOCK"), $.attribute(hid, "WINK")); 
+class ErrorJudge extends $.Object {
+__init__(key) {
+const self = this;
+let $t1;
+$t1 = key; self.key = $t1; 
+return null;
+}
+judge_error(entry, message) {
+const self = this;
+let code, due, section, transaction, words, $t1, $t2, $t3;
+$t1 = $.Tuple.of($.item($.attribute(entry, "packet"), 7), $.attribute(entry, "transaction")); $t2 = $.unpacked($t1, 2); code = $t2[0]; transaction = $t2[1]; 
+if ((((message !== null)) && !$.isTrue($.attribute(message, "problem")) && (!$.eq($.apply(len, [$.attribute(message, "data")]), 1)))) {
+$.call($.own(self, "key"), "find", [$.attribute(entry, "line"), $.attribute(rules, "ERROR"), "an ERROR of one byte", ("" + $.format($.apply(len, [$.attribute(message, "data")]), "") + " bytes")]);
+}
+if (((transaction === null))) {
+$.call(self, "judge_stray_error", [entry]);
+return null;
+}
+if (((($.attribute(transaction, "cancelled") !== null)) && $.isTrue($.attribute(transaction, "whole")) && ($.eq($.attribute(transaction, "command"), $.attribute(hid, "CBOR"))))) {
+$.call($.own(self, "key"), "find", [$.attribute(entry, "line"), $.attribute(rules, "CANCEL"), "the answer 2d of a cancelled request", ("" + "ERROR " + $.format(code, "02x"))]);
+return null;
+}
+due = $.call(self, "due_codes", [transaction, entry]); 
+if (($.isTrue(due) && (!$.has(due, code)))) {
+words = $.call("|", "join", [(function* () { for (const $t3 of $.iter(due)) { let it; it = $t3; yield ("" + $.format(it, "02x")); } })()]); 
+section = $.call($.attribute(rules, "CODES"), "get", [("" + $.format($.item(due, 0), "02x")), $.attribute(rules, "ERROR")]); 
+if ((($.eq(due, $.Tuple.of(3))) && ($.eq($.attribute(transaction, "command"), $.attribute(hid, "CBOR"))) && ($.eq($.attribute(transaction, "length"), 0)))) {
+section = $.attribute(rules, "CBOR"); 
+}
+$.call($.own(self, "key"), "find", [$.attribute(entry, "line"), section, ("" + "error " + $.format(words, "")), ("" + "ERROR " + $.format(code, "02x"))]);
+} else {
+if (!$.isTrue(due)) {
+$.call(self, "judge_refusal", [entry, transaction]);
+}
+}
+return null;
+}
+judge_stray_error(entry) {
+const self = this;
+let came, last, section;
+last = $.call($.attribute($.own(self, "key"), "last"), "get", [$.slice($.attribute(entry, "packet"), null, 4)]); 
+if (((((last === null)) && $.isTrue($.attribute($.attribute($.own(self, "key"), "recording"), "is_of_one_client"))) || ($.has($.attribute($.own(self, "key"), "unsure"), $.slice($.attribute(entry, "packet"), null, 4))))) {
+return null;
+}
+came = ("" + "ERROR " + $.format($.item($.attribute(entry, "packet"), 7), "02x")); 
+if (((last === null))) {
+if ((!$.isTrue($.attribute($.own(self, "key"), "is_first")) && !$.isTrue($.call($.own(self, "key"), "is_late_start", [entry])))) {
+$.call($.own(self, "key"), "find_gap", [$.attribute(entry, "line"), $.attribute(rules, "ERROR"), "an ERROR for something", came]);
+} else {
+if (($.isTrue($.attribute($.own(self, "key"), "open")) && !$.isTrue($.attribute($.own(self, "key"), "is_first")))) {
+$.call($.own(self, "key"), "find_gap", [$.attribute(entry, "line"), $.attribute(rules, "BUSY"), "an ERROR on the channel of the message that is refused", came]);
+}
+}
+} else {
+if (($.eq($.item($.attribute(last, "packet"), 4), $.or(128, $.attribute(hid, "CANCEL"))))) {
+$.call($.own(self, "key"), "find_gap", [$.attribute(entry, "line"), $.attribute(rules, "CANCEL"), "no answer to CANCEL", came]);
+} else {
+if (($.eq($.attribute(last, "part"), "stray"))) {
+$.call($.own(self, "key"), "find_gap", [$.attribute(entry, "line"), $.attribute(rules, "SEQUENCE"), "no answer to a continuation packet of no message", came]);
+} else {
+section = ($.isTrue($.call($.own(self, "key"), "was_aborted", [entry])) ? $.attribute(rules, "ABORT") : $.attribute(rules, "ERROR")); 
+$.call($.own(self, "key"), "find_gap", [$.attribute(entry, "line"), section, "an ERROR for something", came]);
+}
+}
+}
+return null;
+}
+due_codes(owner, entry) {
+const self = this;
+let before, busy, first, optional, others, own, strange, wrong_length, $t1, $t2, $t3, $t4, $t5, $t6;
+if ((($.eq($.attribute(owner, "channel"), 0)) || (($.eq($.attribute(owner, "channel"), $.attribute(hid, "BROADCAST"))) && (!$.eq($.attribute(owner, "command"), $.attribute(hid, "INIT")))))) {
+return $.Tuple.of(11);
+}
+before = (() => { const $r = []; for (const $t1 of $.iter($.attribute($.own(self, "key"), "open"))) { let one; one = $t1; if (!(((one !== owner)) && ($.lt($.attribute(one, "line"), $.attribute(owner, "line"))))) { continue; } $r.push(one); } return $r; })(); 
+own = (() => { const $r = []; for (const $t2 of $.iter(before)) { let one; one = $t2; if (!(($.eq($.attribute(one, "channel"), $.attribute(owner, "channel"))) && (!$.eq($.attribute(one, "command"), $.attribute(hid, "INIT"))))) { continue; } $r.push(one); } return $r; })(); 
+others = (() => { const $r = []; for (const $t3 of $.iter(before)) { let one; one = $t3; if (!(!$.eq($.attribute(one, "channel"), $.attribute(owner, "channel")))) { continue; } $r.push(one); } return $r; })(); 
+busy = (($.isTrue(others) || $.isTrue(own) || $.isTrue($.call(self, "is_locked_out", [owner]))) ? $.Tuple.of(BUSY) : $.Tuple.of()); 
+busy = ($.isTrue(own) ? $.Tuple.of(...$.iter(busy), 4) : busy); 
+strange = (((!$.has($.attribute($.own(self, "key"), "given"), $.attribute(owner, "channel"))) && (!$.eq($.attribute(owner, "channel"), $.attribute(hid, "BROADCAST")))) ? $.Tuple.of(11) : $.Tuple.of()); 
+wrong_length = ($.isTrue($t5 = $.lt($.attribute(hid, "LONGEST"), $.attribute(owner, "length"))) ? $t5 : ($.isTrue($t4 = $.eq($.attribute(owner, "command"), $.attribute(hid, "INIT"))) ? !$.eq($.attribute(owner, "length"), 8) : $t4)); 
+if (($.isTrue(wrong_length) || (($.eq($.attribute(owner, "command"), $.attribute(hid, "CBOR"))) && ($.eq($.attribute(owner, "length"), 0))))) {
+first = ((!$.has(SERVED, $.attribute(owner, "command"))) ? $.Tuple.of(3, INVALID_COMMAND) : $.Tuple.of(3)); 
+return $.Tuple.of(...$.iter(first), ...$.iter(strange), ...$.iter(busy));
+}
+if ((!$.has(SERVED, $.attribute(owner, "command")))) {
+return $.Tuple.of(INVALID_COMMAND, ...$.iter(strange), ...$.iter(busy));
+}
+if (($.isTrue(busy) && (!$.eq($.attribute(owner, "command"), $.attribute(hid, "INIT"))))) {
+optional = (($.has(OPTIONAL, $.attribute(owner, "command"))) ? $.Tuple.of(INVALID_COMMAND) : $.Tuple.of()); 
+return $.Tuple.of(...$.iter(busy), ...$.iter(strange), ...$.iter(optional), ...$.iter($.call(self, "due_of_open", [owner, entry])));
+}
+if (($.isTrue(strange) && ($.has(OPTIONAL, $.attribute(owner, "command"))))) {
+return $.Tuple.of(...$.iter(strange), INVALID_COMMAND);
+}
+return ($.isTrue($t6 = strange) ? $t6 : $.call(self, "due_of_open", [owner, entry]));
+return null;
+}
+is_locked_out(transaction) {
+const self = this;
+let channel, has_time, until, $t1, $t2, $t3, $t4, $t5;
+$t1 = $.attribute($.own(self, "key"), "locked"); $t2 = $.unpacked($t1, 2); channel = $t2[0]; until = $t2[1]; 
+has_time = ($.isTrue($t3 = $.attribute($.attribute($.own(self, "key"), "recording"), "is_timeless")) ? $t3 : $.le($.attribute(transaction, "began"), until)); 
+return ($.isTrue($t5 = !$.eq(channel, 0)) ? ($.isTrue($t4 = !$.eq(channel, $.attribute(transaction, "channel"))) ? has_time : $t4) : $t5);
+return null;
+}
+due_of_open(it, entry) {
+const self = this;
+let last;
+last = $.call($.attribute($.own(self, "key"), "last"), "get", [$.slice($.attribute(entry, "packet"), null, 4)]); 
+if ($.isTrue($.attribute(it, "whole"))) {
+return $.Tuple.of();
+}
+if ((((last !== null)) && ($.eq($.attribute(last, "part"), "wrong number")) && (($.attribute(last, "transaction") === it)))) {
+return $.Tuple.of(4, TIMED_OUT);
+}
+if ((($.le(NO_TIME_OUT, $.sub($.attribute(entry, "at"), $.attribute(it, "last")))) || (($.attribute($.own(self, "key"), "input") === null)) || (($.attribute($.own(self, "key"), "input") !== last)))) {
+return $.Tuple.of(TIMED_OUT);
+}
+return $.Tuple.of();
+return null;
+}
+judge_refusal(entry, it) {
+const self = this;
+let came, code, expected, section;
+code = $.item($.attribute(entry, "packet"), 7); 
+if ((($.eq(code, OTHER_ERROR)) || (($.eq(code, BUSY)) && ($.isTrue($.attribute($.attribute($.own(self, "key"), "recording"), "is_of_one_client")) || $.isTrue($.call(self, "is_locked_out", [it])))))) {
+return null;
+}
+if (($.has($.Tuple.of($.attribute(hid, "MSG"), $.attribute(hid, "WINK"), $.attribute(hid, "LOCK")), $.attribute(it, "command")))) {
+$.call(self, "judge_capability", [it, code]);
+return null;
+}
+if ((($.has($.Tuple.of($.attribute(hid, "PING"), $.attribute(hid, "INIT"), $.attribute(hid, "CBOR")), $.attribute(it, "command"))) && !($.isTrue($.attribute($.own(self, "key"), "is_first")) && ($.eq(code, BUSY))))) {
+expected = $.item($.dictOf([[$.attribute(hid, "PING"), "echo"], [$.attribute(hid, "INIT"), "init"], [$.attribute(hid, "CBOR"), "status"]]), $.attribute(it, "command")); 
+came = $.call(hid, "Message", [$.attribute(it, "channel"), $.attribute(hid, "ERROR"), $.apply(bytes, [[code]])]); 
+section = $.call(rules, "broken", [$.apply(seen, [it, expected, came])]); 
+$.call($.own(self, "key"), "find", [$.attribute(entry, "line"), section, "an answer", ("" + "ERROR " + $.format(code, "02x"))]);
+}
+return null;
+}
+judge_capability(it, code) {
+const self = this;
+let due, has_it, name, said;
+said = $.call($.attribute($.own(self, "key"), "capabilities"), "get", [$.attribute(it, "channel")]); 
+if ((((said === null)) || ($.eq($.attribute(it, "command"), $.attribute(hid, "LOCK"))) || (((code !== null)) && (!$.eq(code, INVALID_COMMAND))))) {
+return null;
+}
+has_it = (($.eq($.attribute(it, "command"), $.attribute(hid, "WINK"))) ? $.apply(bool, [$.and(said, WINK)]) : !$.isTrue($.and(said, NMSG))); 
+name = $.item($.attribute(hid, "NAMES"), $.attribute(it, "command")); 
+if (($.isTrue(has_it) && ((code !== null)))) {
+due = ("" + $.format(name, "") + " served, as the capabilities " + $.format(said, "02x") + " say"); 
+$.call($.own(self, "key"), "find", [$.attribute(it, "line"), $.item($.attribute(rules, "OF_COMMAND"), $.attribute(it, "command")), due, ("" + "ERROR " + $.format(code, "02x"))]);
+} else {
+if ((!$.isTrue(has_it) && ((code === null)))) {
+$.call($.own(self, "key"), "find", [$.attribute(it, "line"), $.attribute(rules, "ERROR"), ("" + "ERROR 01, as the capabilities " + $.format(said, "02x") + " say"), ("" + $.format(name, "") + " is served")]);
+}
+}
+return null;
+}
+}
+ErrorJudge.$names = {"__init__": ["key"], "judge_error": ["entry", "message"], "judge_stray_error": ["entry"], "due_codes": ["owner", "entry"], "is_locked_out": ["transaction"], "due_of_open": ["it", "entry"], "judge_refusal": ["entry", "it"], "judge_capability": ["it", "code"]};
+return { ErrorJudge, OPTIONAL, OTHER_ERROR, SERVED };
+};
+
 $.modules["judged_key"] = () => {
-let AnswerJudge, BUSY, CANCELLED, CBOR, Differs, Entry, INVALID_COMMAND, KEY, MUST, NMSG, NO_TIME_OUT, OTHER_ERROR, PATIENCE, Recording, SERVED, SHOULD, SILENCE, TIMED_OUT, Transaction, WINK, hid, is_lawful_keepalive, judge_greeting, judge_u2f, message_of, rules, seen;
+let AWAY, AnswerJudge, CANCELLED, CBOR, Differs, Entry, ErrorJudge, JITTER, KEY, MOST_OPEN, MUST, NO_TIME_OUT, PATIENCE, Recording, SERVED, SHOULD, SILENCE, Transaction, hid, is_lawful_keepalive, judge_greeting, judge_u2f, message_of, rules, seen;
 hid = $.module("hid_packets");
 rules = $.module("rules");
 Differs = $.module("answers").Differs;
 CBOR = $.module("greeting").CBOR;
-NMSG = $.module("greeting").NMSG;
-WINK = $.module("greeting").WINK;
 is_lawful_keepalive = $.module("greeting").is_lawful_keepalive;
 judge_greeting = $.module("greeting").judge_greeting;
 AnswerJudge = $.module("judged_answers").AnswerJudge;
+SERVED = $.module("judged_errors").SERVED;
+ErrorJudge = $.module("judged_errors").ErrorJudge;
 judge_u2f = $.module("judged_parts").judge_u2f;
 KEY = $.module("judged_log").KEY;
 MUST = $.module("judged_log").MUST;
@@ -4253,33 +4779,39 @@ SILENCE = $.module("judged_log").SILENCE;
 Recording = $.module("judged_log").Recording;
 message_of = $.module("judged_log").message_of;
 seen = $.module("judged_log").seen;
-BUSY = $.module("walk").BUSY;
-CANCELLED = $.module("walk").CANCELLED;
-INVALID_COMMAND = $.module("walk").INVALID_COMMAND;
-NO_TIME_OUT = $.module("walk").NO_TIME_OUT;
-TIMED_OUT = $.module("walk").TIMED_OUT;
-Entry = $.module("walk").Entry;
-Transaction = $.module("walk").Transaction;
+JITTER = $.module("judged_statuses").JITTER;
+CANCELLED = $.module("transactions").CANCELLED;
+NO_TIME_OUT = $.module("transactions").NO_TIME_OUT;
+Entry = $.module("transactions").Entry;
+Transaction = $.module("transactions").Transaction;
 PATIENCE = 3000; 
-OTHER_ERROR = 127; 
-SERVED = $.Tuple.of($.attribute(hid, "PING"), $.attribute(hid, "MSG"), $.attribute(hid, "LOCK"), $.attribute(hid, "INIT"), $.attribute(hid, "WINK"), $.attribute(hid, "CBOR")); 
+AWAY = 100; 
+MOST_OPEN = 64; 
 class KeyJudge extends $.Object {
 __init__(recording) {
 const self = this;
-let $t1, $t2, $t3, $t4, $t5, $t6, $t7;
+let $t1, $t2, $t3, $t4, $t5, $t6;
 $t1 = recording; self.recording = $t1; 
 $t2 = $.apply(AnswerJudge, [recording]); self.answers = $t2; 
-$t4 = (() => { const $r = []; for (const $t3 of $.iter($.attribute($.attribute(recording, "walk"), "transactions"))) { let it; it = $t3; $r.push([$.attribute(it, "line"), it]); } return $.dictOf($r); })(); self.starts = $t4; 
-$t5 = $.call(hid, "Collector", []); self.guest = $t5; 
+$t3 = $.apply(ErrorJudge, [self]); self.errors = $t3; 
+$t4 = $.call(hid, "Collector", []); self.guest = $t4; 
 self.given = $.dictOf([]); 
 self.capabilities = $.dictOf([]); 
-$t6 = true; self.is_first = $t6; 
-$t7 = $.apply(list, [$.attribute(recording, "power_cycles")]); self.cycles = $t7; 
+$t5 = true; self.is_first = $t5; 
+$t6 = false; self.serves_cbor = $t6; 
+self.without_cbor = []; 
 self.open = []; 
 self.last = $.dictOf([]); 
 self.input = null; 
+self.wrong = []; 
+self.disturbed = $.apply(set, []); 
+self.cancelled_inside = $.apply(set, []); 
 self.parts = $.dictOf([]); 
 self.missed = $.apply(set, []); 
+self.unsure = $.apply(set, []); 
+self.sent_at = null; 
+self.locked = $.Tuple.of(0, 0); 
+self.heard = $.dictOf([]); 
 return null;
 }
 find(line, section, due, came, level = MUST) {
@@ -4287,48 +4819,106 @@ const self = this;
 $.call($.own(self, "recording"), "find", [line, KEY, section, due, came, level]);
 return null;
 }
+find_gap(line, section, due, came, level = MUST, also = "") {
+const self = this;
+$.call($.own(self, "recording"), "find_gap", [line, KEY, section, due, came, level, also]);
+return null;
+}
 take(entry) {
 const self = this;
-while (($.isTrue($.own(self, "cycles")) && ($.lt($.item($.item($.own(self, "cycles"), 0), 0), $.attribute(entry, "line"))))) {
-$.call(self, "power_cycle", [$.item($.call($.own(self, "cycles"), "pop", [0]), 1)]);
+let cycles;
+cycles = $.attribute($.own(self, "recording"), "power_cycles"); 
+while (($.isTrue(cycles) && ($.lt($.item($.item(cycles, 0), 0), $.attribute(entry, "line"))))) {
+$.call(self, "power_cycle", [$.item($.call(cycles, "pop", [0]), 1)]);
 }
 $.call(self, "judge_silence", [$.attribute(entry, "at"), $.attribute(entry, "line")]);
-if (($.eq($.attribute(entry, "kind"), "device"))) {
-$.call(self, "take_sent", [entry]);
-} else {
+if ($.isTrue($.attribute(entry, "is_host"))) {
 $.call(self, "take_input", [entry]);
+} else {
+$.call(self, "take_sent", [entry]);
 }
 return null;
 }
 power_cycle(at) {
 const self = this;
-let $t1, $t2;
-$t1 = $.Tuple.of($.call(hid, "Collector", []), [], $.dictOf([]), $.dictOf([])); $t2 = $.unpacked($t1, 4); self.guest = $t2[0]; self.open = $t2[1]; self.given = $t2[2]; self.parts = $t2[3]; 
+$.call(self, "forget", []);
 $.call($.own(self, "answers"), "power_cycle", [at]);
+return null;
+}
+forget() {
+const self = this;
+let $t1, $t2, $t3, $t4;
+$t1 = $.Tuple.of($.call(hid, "Collector", []), [], $.dictOf([]), $.dictOf([])); $t2 = $.unpacked($t1, 4); self.guest = $t2[0]; self.open = $t2[1]; self.given = $t2[2]; self.parts = $t2[3]; 
+$t3 = $.Tuple.of($.apply(set, []), $.Tuple.of(0, 0)); $t4 = $.unpacked($t3, 2); self.unsure = $t4[0]; self.locked = $t4[1]; 
 return null;
 }
 take_input(entry) {
 const self = this;
-let transaction, $t1;
+let channel, inside, $t1, $t2, $t3;
 $t1 = entry; $.put($.own(self, "last"), $.slice($.attribute(entry, "packet"), null, 4), $t1); self.input = $t1; 
-transaction = $.call($.own(self, "starts"), "get", [$.attribute(entry, "line")]); 
-if (((transaction !== null))) {
-$.call($.own(self, "open"), "append", [transaction]);
+if ((($.eq($.attribute(entry, "part"), "start")) && (($.attribute(entry, "transaction") !== null)))) {
+$.call($.own(self, "open"), "append", [$.attribute(entry, "transaction")]);
+if (($.lt(MOST_OPEN, $.apply(len, [$.own(self, "open")])))) {
+$.call($.own(self, "open"), "pop", [0]);
+}
+if ($.isTrue($.attribute($.attribute(entry, "transaction"), "is_unknown"))) {
+$.call($.own(self, "unsure"), "add", [$.slice($.attribute(entry, "packet"), null, 4)]);
+}
+if ((!$.has($.Tuple.of("answered", "refused", "timed out"), $.attribute($.attribute(entry, "transaction"), "end")))) {
+$.call($.own(self, "answers"), "unanswered", [$.attribute(entry, "transaction")]);
+}
+} else {
+if ((($.eq($.attribute(entry, "part"), "wrong number")) && (($.attribute(entry, "transaction") !== null)))) {
+if ((!$.has($.own(self, "disturbed"), $.attribute($.attribute(entry, "transaction"), "line")))) {
+$.call($.own(self, "disturbed"), "add", [$.attribute($.attribute(entry, "transaction"), "line")]);
+$.call($.own(self, "wrong"), "append", [entry]);
+}
+} else {
+if (($.eq($.attribute(entry, "part"), "cancel"))) {
+channel = $.call(int, "from_bytes", [$.slice($.attribute(entry, "packet"), null, 4), "big"]); 
+inside = (() => { const $r = []; for (const $t2 of $.iter($.own(self, "open"))) { let one; one = $t2; if (!(($.eq($.attribute(one, "channel"), channel)) && ($.lt($.attribute(entry, "line"), $.item($.attribute(one, "lines"), $.sub(0, 1)))))) { continue; } $r.push(one); } return $r; })(); 
+$.call($.own(self, "cancelled_inside"), "update", [(() => { const $r = []; for (const $t3 of $.iter(inside)) { let one; one = $t3; $r.push($.attribute(one, "line")); } return $r; })()]);
+}
+}
 }
 return null;
 }
 take_sent(entry) {
 const self = this;
-let came, channel, ended, message, said, $t1, $t2, $t3, $t4, $t5, $t6, $t7, $t8, $t9, $t10;
+let $t1, $t2, $t3, $t4;
+$.call(self, "judge_unfinished", [entry]);
+if (((($.attribute(entry, "transaction") !== null)) && !$.isTrue($.attribute($.attribute(entry, "transaction"), "is_unknown")) && ($.eq($.attribute(entry, "part"), "answer")))) {
+$t2 = (() => { const $r = []; for (const $t1 of $.iter($.own(self, "unsure"))) { let channel; channel = $t1; if (!(!$.eq(channel, $.slice($.attribute(entry, "packet"), null, 4)))) { continue; } $r.push(channel); } return $.setOf($r); })(); self.unsure = $t2; 
+}
+$.call(self, "judge_packet", [entry]);
+if (((($.attribute(entry, "message") !== null)) && ($.eq($.item($.attribute($.attribute(entry, "message"), "lines"), $.sub(0, 1)), $.attribute(entry, "line"))))) {
+if ($.isTrue($.attribute($.attribute(entry, "message"), "whole"))) {
+$.call(self, "judge_whole", [entry]);
+} else {
+if ((($.attribute(entry, "transaction") !== null))) {
+$.call($.own(self, "answers"), "unanswered", [$.attribute(entry, "transaction")]);
+}
+}
+}
+$.call(self, "close", [entry]);
+$t3 = $.Tuple.of(false, $.attribute(entry, "at")); $t4 = $.unpacked($t3, 2); self.is_first = $t4[0]; self.sent_at = $t4[1]; 
+return null;
+}
+judge_packet(entry) {
+const self = this;
+let came, channel, message, said, $t1, $t2, $t3;
 channel = $.call(int, "from_bytes", [$.slice($.attribute(entry, "packet"), null, 4), "big"]); 
 message = $.call($.own(self, "guest"), "feed", [$.attribute(entry, "packet")]); 
 $.call($.own(self, "parts"), "pop", [channel, null]);
 if (((message === null))) {
 $t1 = entry; $.put($.own(self, "parts"), channel, $t1); 
+if (($.lt(MOST_OPEN, $.apply(len, [$.own(self, "parts")])))) {
+$.remove($.own(self, "parts"), $.item($.apply(list, [$.own(self, "parts")]), 0));
+}
 } else {
 if ($.isTrue($.attribute(message, "problem"))) {
 $t2 = $.Tuple.of("the packets of a message in their order", $.attribute(message, "problem")); $t3 = $.unpacked($t2, 2); said = $t3[0]; came = $t3[1]; 
-$.call($.own(self, "recording"), "find", [$.attribute(entry, "line"), KEY, $.attribute(rules, "PACKETS"), said, came, MUST, $.attribute(rules, "SEQUENCE")]);
+$.call(self, "find_gap", [$.attribute(entry, "line"), $.attribute(rules, "PACKETS"), said, came, MUST, $.attribute(rules, "SEQUENCE")]);
 } else {
 if ($.isTrue($.apply(any, [$.attribute(message, "padding")]))) {
 $.call(self, "find", [$.attribute(entry, "line"), $.attribute(rules, "PACKETS"), "zeros behind the message", $.call($.attribute(message, "padding"), "hex", []), SHOULD]);
@@ -4339,40 +4929,64 @@ if (($.eq($.attribute(entry, "part"), "keepalive"))) {
 $.call(self, "judge_keepalive", [entry, message]);
 } else {
 if (($.eq($.attribute(entry, "part"), "error"))) {
-$.call(self, "judge_error", [entry, message]);
+$.call($.own(self, "errors"), "judge_error", [entry, message]);
 } else {
 if ($.isTrue($.and($.item($.attribute(entry, "packet"), 4), 128))) {
 $.call(self, "judge_start", [entry]);
 }
 }
 }
-if (((($.attribute(entry, "message") !== null)) && ($.eq($.item($.attribute($.attribute(entry, "message"), "lines"), $.sub(0, 1)), $.attribute(entry, "line"))) && $.isTrue($.attribute($.attribute(entry, "message"), "whole")))) {
-$.call(self, "judge_whole", [entry]);
+return null;
 }
-$t5 = (() => { const $r = []; for (const $t4 of $.iter($.own(self, "open"))) { let it; it = $t4; if (!((($.attribute(it, "by") === null)) || ($.lt($.attribute(entry, "line"), $.attribute(it, "by"))) || $.isTrue($.call($.own(self, "starts"), "get", [$.attribute(it, "by")])))) { continue; } $r.push(it); } return $r; })(); self.open = $t5; 
+close(entry) {
+const self = this;
+let ended, $t1, $t2, $t3, $t4;
+$t2 = (() => { const $r = []; for (const $t1 of $.iter($.own(self, "open"))) { let one; one = $t1; if (!((($.attribute(one, "by") === null)) || ($.lt($.attribute(entry, "line"), $.attribute(one, "by"))) || $.isTrue($.call(self, "is_ousted", [one])))) { continue; } $r.push(one); } return $r; })(); self.open = $t2; 
 ended = $.attribute(entry, "transaction"); 
 if ((((ended !== null)) && ($.eq($.attribute(ended, "by"), $.attribute(entry, "line"))))) {
-$t7 = (() => { const $r = []; for (const $t6 of $.iter($.own(self, "open"))) { let it; it = $t6; if (!((it !== ended))) { continue; } $r.push(it); } return $r; })(); self.open = $t7; 
+$.call($.own(self, "heard"), "pop", [$.attribute(ended, "line"), null]);
+$t4 = (() => { const $r = []; for (const $t3 of $.iter($.own(self, "open"))) { let one; one = $t3; if (!((one !== ended))) { continue; } $r.push(one); } return $r; })(); self.open = $t4; 
 if ((($.eq($.attribute(ended, "command"), $.attribute(hid, "INIT"))) && (!$.eq($.attribute(ended, "channel"), $.attribute(hid, "BROADCAST"))))) {
-$t9 = (() => { const $r = []; for (const $t8 of $.iter($.own(self, "open"))) { let it; it = $t8; if (!(!$.eq($.attribute(it, "channel"), $.attribute(ended, "channel")))) { continue; } $r.push(it); } return $r; })(); self.open = $t9; 
+$.call(self, "close_channel", [ended]);
 }
 }
-$t10 = false; self.is_first = $t10; 
+return null;
+}
+close_channel(init) {
+const self = this;
+let $t1, $t2;
+if (($.eq($.attribute(init, "end"), "answered"))) {
+$t2 = (() => { const $r = []; for (const $t1 of $.iter($.own(self, "open"))) { let one; one = $t1; if (!(!$.eq($.attribute(one, "channel"), $.attribute(init, "channel")))) { continue; } $r.push(one); } return $r; })(); self.open = $t2; 
+} else {
+$.call($.own(self, "unsure"), "add", [$.call($.attribute(init, "channel"), "to_bytes", [4, "big"])]);
+}
+return null;
+}
+is_ousted(transaction) {
+const self = this;
+let $t1, $t2;
+return ($.isTrue($t2 = $.eq($.attribute(transaction, "end"), "replaced")) ? $t2 : ($.isTrue($t1 = $.eq($.attribute(transaction, "end"), "dropped")) ? !$.eq($.attribute(transaction, "by"), $.attribute(transaction, "cancelled")) : $t1));
 return null;
 }
 judge_keepalive(entry, message) {
 const self = this;
-let data, said, section;
+let data, said, section, $t1;
 data = (((message !== null)) ? $.attribute(message, "data") : $.slice($.attribute(entry, "packet"), 7, null)); 
+if ((($.attribute(entry, "transaction") !== null))) {
+$t1 = $.attribute(entry, "at"); $.put($.own(self, "heard"), $.attribute($.attribute(entry, "transaction"), "line"), $t1); 
+}
 if (!$.isTrue($.apply(is_lawful_keepalive, [data]))) {
 said = "a KEEPALIVE of one byte, 01 or 02, for a request"; 
 $.call(self, "find", [$.attribute(entry, "line"), $.attribute(rules, "KEEPALIVE"), said, ("" + "KEEPALIVE " + $.format($.call($.slice(data, null, 8), "hex", []), ""))]);
 } else {
-if (((($.attribute(entry, "transaction") === null)) && !$.isTrue($.call(self, "is_late_start", [entry])))) {
+if ((($.attribute(entry, "transaction") === null))) {
+if ((!$.isTrue($.call(self, "is_late_start", [entry])) && (!$.has($.own(self, "unsure"), $.slice($.attribute(entry, "packet"), null, 4))))) {
 section = ($.isTrue($.call(self, "was_aborted", [entry])) ? $.attribute(rules, "ABORT") : $.attribute(rules, "KEEPALIVE")); 
-$.call(self, "find", [$.attribute(entry, "line"), section, "a KEEPALIVE of a request that waits", "nothing waits on this channel"]);
+said = "a KEEPALIVE of a request that waits"; 
+$.call(self, "find_gap", [$.attribute(entry, "line"), section, said, "nothing waits on this channel"]);
+}
 } else {
-if (((($.attribute(entry, "transaction") !== null)) && ($.eq($.attribute($.attribute(entry, "transaction"), "command"), $.attribute(hid, "CBOR"))))) {
+if (($.eq($.attribute($.attribute(entry, "transaction"), "command"), $.attribute(hid, "CBOR")))) {
 $.call(self, "judge_cancelled_on", [entry, $.attribute(entry, "transaction")]);
 if ((($.eq(data, $.hex("02"))) && !$.isTrue($.call($.own(self, "recording"), "is_cut", [$.attribute(entry, "transaction")])))) {
 $.call($.own(self, "answers"), "user_needed", [entry, $.attribute(entry, "transaction")]);
@@ -4391,12 +5005,10 @@ return null;
 }
 judge_cancelled_on(entry, transaction) {
 const self = this;
-let cancel, $t1;
 if (((($.attribute(transaction, "cancelled") === null)) || $.isTrue($.call($.own(self, "recording"), "was_unread", [$.attribute(entry, "line")])))) {
 return null;
 }
-cancel = $.apply(next, [(function* () { for (const $t1 of $.iter($.attribute($.attribute($.own(self, "recording"), "walk"), "entries"))) { let it; it = $t1; if (!($.eq($.attribute(it, "line"), $.attribute(transaction, "cancelled")))) { continue; } yield it; } })()]); 
-if ((($.le(SILENCE, $.sub($.attribute(entry, "at"), $.attribute(cancel, "at")))) && ($.lt($.attribute(cancel, "line"), $.attribute(entry, "line"))))) {
+if ((($.le(SILENCE, $.sub($.attribute(entry, "at"), $.attribute(transaction, "cancelled_at")))) && ($.lt($.attribute(transaction, "cancelled"), $.attribute(entry, "line"))))) {
 $.call(self, "find", [$.attribute(entry, "line"), $.attribute(rules, "CANCEL"), "the answer 2d, since CANCEL came", "KEEPALIVEs go on"]);
 }
 return null;
@@ -4404,149 +5016,6 @@ return null;
 is_late_start(entry) {
 const self = this;
 return !$.has($.own(self, "last"), $.slice($.attribute(entry, "packet"), null, 4));
-return null;
-}
-judge_error(entry, message) {
-const self = this;
-let code, due, section, transaction, words, $t1, $t2, $t3;
-$t1 = $.Tuple.of($.item($.attribute(entry, "packet"), 7), $.attribute(entry, "transaction")); $t2 = $.unpacked($t1, 2); code = $t2[0]; transaction = $t2[1]; 
-if ((((message !== null)) && !$.isTrue($.attribute(message, "problem")) && (!$.eq($.apply(len, [$.attribute(message, "data")]), 1)))) {
-$.call(self, "find", [$.attribute(entry, "line"), $.attribute(rules, "ERROR"), "an ERROR of one byte", ("" + $.format($.apply(len, [$.attribute(message, "data")]), "") + " bytes")]);
-}
-if (((transaction === null))) {
-$.call(self, "judge_stray_error", [entry]);
-return null;
-}
-if (((($.attribute(transaction, "cancelled") !== null)) && $.isTrue($.attribute(transaction, "whole")) && ($.eq($.attribute(transaction, "command"), $.attribute(hid, "CBOR"))))) {
-$.call(self, "find", [$.attribute(entry, "line"), $.attribute(rules, "CANCEL"), "the answer 2d of a cancelled request", ("" + "ERROR " + $.format(code, "02x"))]);
-return null;
-}
-due = $.call(self, "due_codes", [transaction, entry]); 
-if (($.isTrue(due) && (!$.has(due, code)))) {
-words = $.call("|", "join", [(function* () { for (const $t3 of $.iter(due)) { let it; it = $t3; yield ("" + $.format(it, "02x")); } })()]); 
-section = $.call($.attribute(rules, "CODES"), "get", [("" + $.format($.item(due, 0), "02x")), $.attribute(rules, "ERROR")]); 
-if ((($.eq(due, $.Tuple.of(3))) && ($.eq($.attribute(transaction, "command"), $.attribute(hid, "CBOR"))) && ($.eq($.attribute(transaction, "length"), 0)))) {
-section = $.attribute(rules, "CBOR"); 
-}
-$.call(self, "find", [$.attribute(entry, "line"), section, ("" + "error " + $.format(words, "")), ("" + "ERROR " + $.format(code, "02x"))]);
-} else {
-if (!$.isTrue(due)) {
-$.call(self, "judge_refusal", [entry, transaction]);
-}
-}
-return null;
-}
-judge_stray_error(entry) {
-const self = this;
-let came, last, section;
-last = $.call($.own(self, "last"), "get", [$.slice($.attribute(entry, "packet"), null, 4)]); 
-if ((((last === null)) && $.isTrue($.attribute($.own(self, "recording"), "is_of_one_client")))) {
-return null;
-}
-came = ("" + "ERROR " + $.format($.item($.attribute(entry, "packet"), 7), "02x")); 
-if (((last === null))) {
-if ((!$.isTrue($.own(self, "is_first")) && !$.isTrue($.call(self, "is_late_start", [entry])))) {
-$.call(self, "find", [$.attribute(entry, "line"), $.attribute(rules, "ERROR"), "an ERROR for something", came]);
-} else {
-if (($.isTrue($.own(self, "open")) && !$.isTrue($.own(self, "is_first")))) {
-$.call(self, "find", [$.attribute(entry, "line"), $.attribute(rules, "BUSY"), "an ERROR on the channel of the message that is refused", came]);
-}
-}
-} else {
-if (($.eq($.item($.attribute(last, "packet"), 4), $.or(128, $.attribute(hid, "CANCEL"))))) {
-$.call(self, "find", [$.attribute(entry, "line"), $.attribute(rules, "CANCEL"), "no answer to CANCEL", came]);
-} else {
-if (($.eq($.attribute(last, "part"), "stray"))) {
-$.call(self, "find", [$.attribute(entry, "line"), $.attribute(rules, "SEQUENCE"), "no answer to a continuation packet of no message", came]);
-} else {
-section = ($.isTrue($.call(self, "was_aborted", [entry])) ? $.attribute(rules, "ABORT") : $.attribute(rules, "ERROR")); 
-$.call(self, "find", [$.attribute(entry, "line"), section, "an ERROR for something", came]);
-}
-}
-}
-return null;
-}
-due_codes(it, entry) {
-const self = this;
-let first, others, own, strange, while_other, wrong_length, $t1, $t2, $t3, $t4, $t5, $t6, $t7, $t8;
-if ((($.eq($.attribute(it, "channel"), 0)) || (($.eq($.attribute(it, "channel"), $.attribute(hid, "BROADCAST"))) && (!$.eq($.attribute(it, "command"), $.attribute(hid, "INIT")))))) {
-return $.Tuple.of(11);
-}
-wrong_length = ($.isTrue($t2 = $.lt($.attribute(hid, "LONGEST"), $.attribute(it, "length"))) ? $t2 : ($.isTrue($t1 = $.eq($.attribute(it, "command"), $.attribute(hid, "INIT"))) ? !$.eq($.attribute(it, "length"), 8) : $t1)); 
-wrong_length = ($.isTrue($t4 = wrong_length) ? $t4 : ($.isTrue($t3 = $.eq($.attribute(it, "command"), $.attribute(hid, "CBOR"))) ? $.eq($.attribute(it, "length"), 0) : $t3)); 
-others = (() => { const $r = []; for (const $t5 of $.iter($.own(self, "open"))) { let one; one = $t5; if (!(((one !== it)) && ($.lt($.attribute(one, "line"), $.attribute(it, "line"))) && (!$.eq($.attribute(one, "channel"), $.attribute(it, "channel"))))) { continue; } $r.push(one); } return $r; })(); 
-own = (() => { const $r = []; for (const $t6 of $.iter($.own(self, "open"))) { let one; one = $t6; if (!(((one !== it)) && ($.lt($.attribute(one, "line"), $.attribute(it, "line"))) && ($.eq($.attribute(one, "channel"), $.attribute(it, "channel"))))) { continue; } $r.push(one); } return $r; })(); 
-own = (() => { const $r = []; for (const $t7 of $.iter(own)) { let one; one = $t7; if (!(!$.eq($.attribute(one, "command"), $.attribute(hid, "INIT")))) { continue; } $r.push(one); } return $r; })(); 
-strange = (((!$.has($.own(self, "given"), $.attribute(it, "channel"))) && (!$.eq($.attribute(it, "channel"), $.attribute(hid, "BROADCAST")))) ? $.Tuple.of(11) : $.Tuple.of()); 
-while_other = ($.isTrue(others) ? $.Tuple.of(BUSY) : ($.isTrue(own) ? $.Tuple.of(BUSY, 4) : $.Tuple.of())); 
-if ($.isTrue(wrong_length)) {
-first = ((!$.has(SERVED, $.attribute(it, "command"))) ? $.Tuple.of(3, INVALID_COMMAND) : $.Tuple.of(3)); 
-return $.Tuple.of(...$.iter(first), ...$.iter(strange), ...$.iter(while_other));
-}
-if ((!$.has(SERVED, $.attribute(it, "command")))) {
-return $.Tuple.of(INVALID_COMMAND, ...$.iter(strange), ...$.iter(while_other));
-}
-if (($.isTrue(others) && (!$.eq($.attribute(it, "command"), $.attribute(hid, "INIT"))))) {
-return $.Tuple.of(BUSY, ...$.iter(strange));
-}
-if (($.isTrue(own) && (!$.eq($.attribute(it, "command"), $.attribute(hid, "INIT"))))) {
-return $.Tuple.of(BUSY, 4, ...$.iter(strange));
-}
-return ($.isTrue($t8 = strange) ? $t8 : $.call(self, "due_of_open", [it, entry]));
-return null;
-}
-due_of_open(it, entry) {
-const self = this;
-let last;
-last = $.call($.own(self, "last"), "get", [$.slice($.attribute(entry, "packet"), null, 4)]); 
-if ($.isTrue($.attribute(it, "whole"))) {
-return $.Tuple.of();
-}
-if ((((last !== null)) && ($.eq($.attribute(last, "part"), "wrong number")) && (($.attribute(last, "transaction") === it)))) {
-return $.Tuple.of(4, TIMED_OUT);
-}
-if ((($.le(NO_TIME_OUT, $.sub($.attribute(entry, "at"), $.attribute(it, "last")))) || (($.own(self, "input") === null)) || (($.own(self, "input") !== last)))) {
-return $.Tuple.of(TIMED_OUT);
-}
-return $.Tuple.of();
-return null;
-}
-judge_refusal(entry, it) {
-const self = this;
-let came, code, expected, section;
-code = $.item($.attribute(entry, "packet"), 7); 
-if ((($.eq(code, OTHER_ERROR)) || (($.eq(code, BUSY)) && $.isTrue($.attribute($.own(self, "recording"), "is_of_one_client"))))) {
-return null;
-}
-if (($.has($.Tuple.of($.attribute(hid, "MSG"), $.attribute(hid, "WINK"), $.attribute(hid, "LOCK")), $.attribute(it, "command")))) {
-$.call(self, "judge_capability", [it, code]);
-return null;
-}
-if ((($.has($.Tuple.of($.attribute(hid, "PING"), $.attribute(hid, "INIT"), $.attribute(hid, "CBOR")), $.attribute(it, "command"))) && !($.isTrue($.own(self, "is_first")) && ($.eq(code, BUSY))))) {
-expected = $.item($.dictOf([[$.attribute(hid, "PING"), "echo"], [$.attribute(hid, "INIT"), "init"], [$.attribute(hid, "CBOR"), "status"]]), $.attribute(it, "command")); 
-came = $.call(hid, "Message", [$.attribute(it, "channel"), $.attribute(hid, "ERROR"), $.apply(bytes, [[code]])]); 
-section = $.call(rules, "broken", [$.apply(seen, [it, expected, came])]); 
-$.call(self, "find", [$.attribute(entry, "line"), section, "an answer", ("" + "ERROR " + $.format(code, "02x"))]);
-}
-return null;
-}
-judge_capability(it, code) {
-const self = this;
-let due, has_it, name, said;
-said = $.call($.own(self, "capabilities"), "get", [$.attribute(it, "channel")]); 
-if ((((said === null)) || ($.eq($.attribute(it, "command"), $.attribute(hid, "LOCK"))) || (((code !== null)) && (!$.eq(code, INVALID_COMMAND))))) {
-return null;
-}
-has_it = (($.eq($.attribute(it, "command"), $.attribute(hid, "WINK"))) ? $.apply(bool, [$.and(said, WINK)]) : !$.isTrue($.and(said, NMSG))); 
-name = $.item($.attribute(hid, "NAMES"), $.attribute(it, "command")); 
-if (($.isTrue(has_it) && ((code !== null)))) {
-due = ("" + $.format(name, "") + " served, as the capabilities " + $.format(said, "02x") + " say"); 
-$.call(self, "find", [$.attribute(it, "line"), $.item($.attribute(rules, "OF_COMMAND"), $.attribute(it, "command")), due, ("" + "ERROR " + $.format(code, "02x"))]);
-} else {
-if ((!$.isTrue(has_it) && ((code === null)))) {
-$.call(self, "find", [$.attribute(it, "line"), $.attribute(rules, "ERROR"), ("" + "ERROR 01, as the capabilities " + $.format(said, "02x") + " say"), ("" + $.format(name, "") + " is served")]);
-}
-}
 return null;
 }
 judge_start(entry) {
@@ -4574,9 +5043,8 @@ return null;
 }
 judge_gap(entry, transaction) {
 const self = this;
-let gaps, moments, $t1, $t2, $t3;
-moments = (() => { const $r = []; for (const $t1 of $.iter($.attribute($.attribute($.own(self, "recording"), "walk"), "entries"))) { let one; one = $t1; if (!($.has($.attribute(transaction, "lines"), $.attribute(one, "line")))) { continue; } $r.push($.attribute(one, "at")); } return $r; })(); 
-gaps = (() => { const $r = []; for (const $t2 of $.iter($.apply(zip, [moments, $.slice(moments, 1, null)]))) { let after, before; $t3 = $.unpacked($t2, 2); before = $t3[0]; after = $t3[1]; $r.push($.sub(after, before)); } return $r; })(); 
+let gaps, $t1, $t2;
+gaps = (() => { const $r = []; for (const $t1 of $.iter($.apply(zip, [$.attribute(transaction, "moments"), $.slice($.attribute(transaction, "moments"), 1, null)]))) { let after, before; $t2 = $.unpacked($t1, 2); before = $t2[0]; after = $t2[1]; $r.push($.sub(after, before)); } return $r; })(); 
 if (($.isTrue(gaps) && ($.le(PATIENCE, $.apply(max, [gaps]))))) {
 $.call(self, "find", [$.attribute(entry, "line"), $.attribute(rules, "TIMEOUT"), "error 05, since the message wasn't finished in time", "an answer", SHOULD]);
 }
@@ -4584,22 +5052,22 @@ return null;
 }
 is_waiting(it, other, entry) {
 const self = this;
-let before, $t1, $t2;
+let before, $t1, $t2, $t3;
 if (((($.attribute(it, "by") !== null)) && ($.lt($.attribute(it, "by"), $.attribute(entry, "line"))))) {
 return false;
 }
 if (($.isTrue($.attribute(it, "whole")) && ($.lt($.item($.attribute(it, "lines"), $.sub(0, 1)), $.attribute(other, "line"))))) {
 return $.has($.Tuple.of("answered", "timed out"), $.attribute(it, "end"));
 }
-before = (() => { const $r = []; for (const $t1 of $.iter($.attribute($.attribute($.own(self, "recording"), "walk"), "entries"))) { let one; one = $t1; if (!(($.has($.attribute(it, "lines"), $.attribute(one, "line"))) && ($.lt($.attribute(one, "line"), $.attribute(other, "line"))))) { continue; } $r.push(one); } return $r; })(); 
-return ($.isTrue($t2 = $.apply(bool, [before])) ? $.lt($.sub($.attribute(other, "began"), $.attribute($.item(before, $.sub(0, 1)), "at")), NO_TIME_OUT) : $t2);
+before = (() => { const $r = []; for (const $t1 of $.iter($.apply(zip, [$.attribute(it, "lines"), $.attribute(it, "moments")]))) { let at, line; $t2 = $.unpacked($t1, 2); line = $t2[0]; at = $t2[1]; if (!($.lt(line, $.attribute(other, "line")))) { continue; } $r.push(at); } return $r; })(); 
+return ($.isTrue($t3 = $.apply(bool, [before])) ? $.lt($.sub($.attribute(other, "began"), $.item(before, $.sub(0, 1))), NO_TIME_OUT) : $t3);
 return null;
 }
 judge_unasked(entry, command, name) {
 const self = this;
 let came, held, last, on_channel, waiting, $t1, $t2, $t3, $t4;
 last = $.call($.own(self, "last"), "get", [$.slice($.attribute(entry, "packet"), null, 4)]); 
-if (((((last === null)) && $.isTrue($.own(self, "is_first"))) || ($.has($.attribute($.own(self, "recording"), "cut"), $.attribute(entry, "line"))))) {
+if (((((last === null)) && $.isTrue($.own(self, "is_first"))) || ($.has($.attribute($.own(self, "recording"), "cut"), $.attribute(entry, "line"))) || ($.has($.own(self, "unsure"), $.slice($.attribute(entry, "packet"), null, 4))))) {
 return null;
 }
 if ((($.eq($.slice($.attribute(entry, "packet"), null, 4), $.mul($.hex("ff"), 4))) && (!$.eq(command, $.attribute(hid, "INIT"))))) {
@@ -4612,32 +5080,32 @@ return null;
 if (($.eq(command, $.attribute(hid, "INIT")))) {
 waiting = (() => { const $r = []; for (const $t1 of $.iter($.own(self, "open"))) { let it; it = $t1; if (!($.eq($.attribute(it, "command"), $.attribute(hid, "INIT")))) { continue; } $r.push(it); } return $r; })(); 
 came = ("" + "nonce " + $.format($.call($.slice($.attribute(entry, "packet"), 7, 15), "hex", []), "") + " on " + $.format($.call($.slice($.attribute(entry, "packet"), null, 4), "hex", []), "")); 
-$.call(self, "find", [$.attribute(entry, "line"), $.attribute(rules, "INIT"), $.call(self, "due_greeting", [waiting]), came]);
+$.call(self, "find_gap", [$.attribute(entry, "line"), $.attribute(rules, "INIT"), $.call(self, "due_greeting", [waiting]), came]);
 return null;
 }
 on_channel = (() => { const $r = []; for (const $t2 of $.iter($.own(self, "open"))) { let it; it = $t2; if (!($.eq($.call($.attribute(it, "channel"), "to_bytes", [4, "big"]), $.slice($.attribute(entry, "packet"), null, 4)))) { continue; } $r.push(it); } return $r; })(); 
 if (($.isTrue(on_channel) && $.isTrue($.attribute($.item(on_channel, $.sub(0, 1)), "whole")))) {
 held = $.item(on_channel, $.sub(0, 1)); 
-$.call(self, "find", [$.attribute(entry, "line"), $.call($.attribute(rules, "OF_COMMAND"), "get", [$.attribute(held, "command"), $.attribute(rules, "ERROR")]), "an answer of the same command", name]);
+$.call(self, "find_gap", [$.attribute(entry, "line"), $.call($.attribute(rules, "OF_COMMAND"), "get", [$.attribute(held, "command"), $.attribute(rules, "ERROR")]), "an answer of the same command", name]);
 } else {
 if ($.isTrue(on_channel)) {
-$.call(self, "find", [$.attribute(entry, "line"), $.attribute(rules, "SEQUENCE"), "no answer before the message is whole", name]);
+$.call(self, "find_gap", [$.attribute(entry, "line"), $.attribute(rules, "SEQUENCE"), "no answer before the message is whole", name]);
 } else {
 if ($.isTrue($.call(self, "was_aborted", [entry]))) {
-$.call(self, "find", [$.attribute(entry, "line"), $.attribute(rules, "ABORT"), "no answer of what INIT ended", name]);
+$.call(self, "find_gap", [$.attribute(entry, "line"), $.attribute(rules, "ABORT"), "no answer of what INIT ended", name]);
 } else {
 if ((((last !== null)) && ($.eq($.item($.attribute(last, "packet"), 4), $.or(128, $.attribute(hid, "CANCEL")))))) {
-$.call(self, "find", [$.attribute(entry, "line"), $.attribute(rules, "CANCEL"), "no answer to CANCEL", name]);
+$.call(self, "find_gap", [$.attribute(entry, "line"), $.attribute(rules, "CANCEL"), "no answer to CANCEL", name]);
 } else {
 if ((((last !== null)) && ($.eq($.attribute(last, "part"), "stray")))) {
-$.call(self, "find", [$.attribute(entry, "line"), $.attribute(rules, "SEQUENCE"), "no answer to a continuation packet of no message", name]);
+$.call(self, "find_gap", [$.attribute(entry, "line"), $.attribute(rules, "SEQUENCE"), "no answer to a continuation packet of no message", name]);
 } else {
 if ((((last === null)) && $.isTrue($.apply(any, [(function* () { for (const $t4 of $.iter($.own(self, "open"))) { let it; it = $t4; yield ($.isTrue($t3 = $.eq($.attribute(it, "command"), command)) ? $.attribute(it, "whole") : $t3); } })()])))) {
 came = ("" + $.format(name, "") + " on " + $.format($.call($.slice($.attribute(entry, "packet"), null, 4), "hex", []), "")); 
-$.call(self, "find", [$.attribute(entry, "line"), $.attribute(rules, "CHANNELS"), "an answer on the channel that asked", came]);
+$.call(self, "find_gap", [$.attribute(entry, "line"), $.attribute(rules, "CHANNELS"), "an answer on the channel that asked", came]);
 } else {
 if (((last !== null))) {
-$.call(self, "find", [$.attribute(entry, "line"), $.call($.attribute(rules, "OF_COMMAND"), "get", [command, $.attribute(rules, "ERROR")]), "an answer of something", name]);
+$.call(self, "find_gap", [$.attribute(entry, "line"), $.call($.attribute(rules, "OF_COMMAND"), "get", [command, $.attribute(rules, "ERROR")]), "an answer of something", name]);
 }
 }
 }
@@ -4657,11 +5125,15 @@ return null;
 }
 judge_whole(entry) {
 const self = this;
-let channel, data, differs, expected, message, nonce, transaction, $t1, $t2, $t3, $t4, $t5;
+let differs, expected, message, seconds, transaction, $t1, $t2, $t3, $t4, $t5;
 $.hold((($.attribute(entry, "message") !== null)));
 $t1 = $.Tuple.of($.attribute(entry, "transaction"), $.apply(message_of, [$.attribute(entry, "message")])); $t2 = $.unpacked($t1, 2); transaction = $t2[0]; message = $t2[1]; 
 if (((transaction === null))) {
 return null;
+}
+if ((($.eq($.attribute(message, "command"), $.attribute(hid, "CBOR"))) && !$.isTrue($.own(self, "serves_cbor")))) {
+$t3 = true; self.serves_cbor = $t3; 
+$.call(self, "judge_without_cbor", []);
 }
 if ($.isTrue($.call($.own(self, "recording"), "is_cut", [$.attribute(entry, "message"), transaction]))) {
 $.call($.own(self, "answers"), "passed", [transaction]);
@@ -4669,14 +5141,7 @@ return null;
 }
 try {
 if (($.eq($.attribute(message, "command"), $.attribute(hid, "INIT")))) {
-nonce = $.attribute(transaction, "data"); 
-data = $.attribute(message, "data"); 
-if ((($.eq($.apply(len, [data]), 17)) && !$.isTrue($.call(self, "serves_cbor", [])))) {
-data = $.add($.slice(data, null, 16), $.apply(bytes, [[$.or($.item(data, 16), CBOR)]])); 
-}
-channel = $.apply(judge_greeting, [data, nonce, $.attribute(transaction, "channel"), $.own(self, "given")]); 
-$t4 = $.attribute(entry, "line"); $.put($.own(self, "given"), channel, $t4); 
-$t5 = $.item($.attribute(message, "data"), 16); $.put($.own(self, "capabilities"), channel, $t5); 
+$.call(self, "judge_greeting", [entry, transaction, message]);
 } else {
 if (($.eq($.attribute(message, "command"), $.attribute(hid, "PING")))) {
 $.call(self, "judge_echo", [transaction, message]);
@@ -4685,27 +5150,71 @@ if (($.eq($.attribute(message, "command"), $.attribute(hid, "CBOR")))) {
 $.call(self, "judge_status", [entry, transaction, message]);
 } else {
 if (($.has($.Tuple.of($.attribute(hid, "MSG"), $.attribute(hid, "WINK")), $.attribute(message, "command")))) {
-$.call(self, "judge_capability", [transaction, null]);
+$.call($.own(self, "errors"), "judge_capability", [transaction, null]);
 if (($.eq($.attribute(message, "command"), $.attribute(hid, "MSG")))) {
 $.apply(judge_u2f, [$.attribute(transaction, "data"), $.attribute(message, "data")]);
+$.call($.own(self, "answers"), "take_u2f", [$.attribute(transaction, "data"), $.attribute(message, "data")]);
+}
+} else {
+if ((($.eq($.attribute(message, "command"), $.attribute(hid, "LOCK"))) && ($.eq($.apply(len, [$.attribute(transaction, "data")]), 1)))) {
+seconds = $.item($.attribute(transaction, "data"), 0); 
+$t5 = $.Tuple.of(($.isTrue(seconds) ? $.attribute(transaction, "channel") : 0), $.add($.add($.attribute(entry, "at"), $.mul(1000, seconds)), JITTER)); self.locked = $t5; 
 }
 }
 }
 }
 }
-} catch ($t3e) {
-if ($.isinstance($t3e, Differs)) {
-differs = $t3e;
+} catch ($t4e) {
+if ($.isinstance($t4e, Differs)) {
+differs = $t4e;
 expected = $.call($.dictOf([[$.attribute(hid, "INIT"), "init"], [$.attribute(hid, "MSG"), "message"]]), "get", [$.attribute(message, "command"), "echo"]); 
 $.call($.own(self, "recording"), "judged", [$.apply(seen, [transaction, expected, message]), $.attribute(entry, "line"), differs]);
-} else { throw $t3e; }
+} else { throw $t4e; }
 }
 return null;
 }
-serves_cbor() {
+judge_greeting(entry, transaction, message) {
 const self = this;
-let $t1, $t2;
-return $.apply(any, [(function* () { for (const $t2 of $.iter($.attribute($.attribute($.own(self, "recording"), "walk"), "transactions"))) { let it; it = $t2; yield ($.isTrue($t1 = $.eq($.attribute(it, "command"), $.attribute(hid, "CBOR"))) ? ($.attribute(it, "answer") !== null) : $t1); } })()]);
+let channel, data, $t1, $t2;
+data = $.attribute(message, "data"); 
+if (($.eq($.apply(len, [data]), 17))) {
+data = $.add($.slice(data, null, 16), $.apply(bytes, [[$.or($.item(data, 16), CBOR)]])); 
+if (($.eq($.attribute(transaction, "channel"), $.attribute(hid, "BROADCAST")))) {
+$.call(self, "judge_restart", [entry, $.call(int, "from_bytes", [$.slice(data, 8, 12), "big"])]);
+}
+}
+channel = $.apply(judge_greeting, [data, $.attribute(transaction, "data"), $.attribute(transaction, "channel"), $.own(self, "given")]); 
+$t1 = $.attribute(entry, "line"); $.put($.own(self, "given"), channel, $t1); 
+$t2 = $.item($.attribute(message, "data"), 16); $.put($.own(self, "capabilities"), channel, $t2); 
+if (!$.isTrue($.and($.item($.attribute(message, "data"), 16), CBOR))) {
+$.call($.own(self, "without_cbor"), "append", [$.Tuple.of($.attribute(entry, "line"), transaction, message)]);
+$.call(self, "judge_without_cbor", []);
+}
+return null;
+}
+judge_restart(entry, channel) {
+const self = this;
+let away, $t1, $t2;
+away = ($.isTrue($t2 = $.attribute($.own(self, "recording"), "is_timeless")) ? $t2 : ($.isTrue($t1 = ($.own(self, "sent_at") === null)) ? $t1 : $.le(AWAY, $.sub($.attribute(entry, "at"), $.own(self, "sent_at"))))); 
+if (($.isTrue(away) && ($.has($.own(self, "given"), channel)))) {
+$.call(self, "forget", []);
+$.call($.own(self, "answers"), "restart", [$.attribute(entry, "at"), true]);
+} else {
+if ($.isTrue(away)) {
+$.call($.own(self, "answers"), "restart", [$.attribute(entry, "at"), false]);
+}
+}
+return null;
+}
+judge_without_cbor() {
+const self = this;
+let came, line, message, transaction, $t1, $t2, $t3;
+for (const $t1$ of $.iter(($.isTrue($.own(self, "serves_cbor")) ? $.own(self, "without_cbor") : []))) {
+$t2 = $.unpacked($t1$, 3); line = $t2[0]; transaction = $t2[1]; message = $t2[2]; 
+came = $.apply(Differs, ["the capability CBOR", ("" + "capabilities " + $.format($.item($.attribute(message, "data"), 16), "02x"))]); 
+$.call($.own(self, "recording"), "judged", [$.apply(seen, [transaction, "init", message]), line, came]);
+}
+$t3 = ($.isTrue($.own(self, "serves_cbor")) ? [] : $.own(self, "without_cbor")); self.without_cbor = $t3; 
 return null;
 }
 judge_echo(transaction, message) {
@@ -4742,119 +5251,131 @@ return null;
 }
 judge_silence(now, line) {
 const self = this;
-let channel, due, entry, is_due, it, left, part, $t1, $t2, $t3, $t4;
+let is_due, owner, $t1, $t2;
+if ($.isTrue($.own(self, "parts"))) {
+$.call(self, "judge_parts", [now, line]);
+}
+for (const $t1$ of $.iter($.own(self, "open"))) {
+owner = $t1$; 
+is_due = ($.isTrue($t2 = $.attribute(owner, "whole")) ? $t2 : $.lt($.attribute(hid, "LONGEST"), $.attribute(owner, "length"))); 
+if (($.has($.own(self, "missed"), $.attribute(owner, "line")))) {
+continue;
+}
+if (($.isTrue(is_due) && $.isTrue($.call(self, "is_silent", [owner, now, line])))) {
+$.call($.own(self, "missed"), "add", [$.attribute(owner, "line")]);
+$.call(self, "missing", [owner]);
+} else {
+if ((!$.isTrue(is_due) && (($.attribute(owner, "by") === null)) && ($.le(PATIENCE, $.sub(now, $.attribute(owner, "last")))))) {
+$.call($.own(self, "missed"), "add", [$.attribute(owner, "line")]);
+$.call(self, "find", [$.item($.attribute(owner, "lines"), $.sub(0, 1)), $.attribute(rules, "TIMEOUT"), "error 05, since the message isn't finished", "nothing", SHOULD]);
+}
+}
+}
+return null;
+}
+judge_parts(now, line) {
+const self = this;
+let channel, due, entry, left, part, $t1, $t2;
 for (const $t1$ of $.iter($.apply(list, [$.call($.own(self, "parts"), "items", [])]))) {
 $t2 = $.unpacked($t1$, 2); channel = $t2[0]; entry = $t2[1]; 
 if ((($.le(SILENCE, $.sub(now, $.attribute(entry, "at")))) && !$.isTrue($.call($.own(self, "recording"), "was_unread", [line])))) {
 part = $.call($.attribute($.own(self, "guest"), "open"), "get", [channel]); 
 left = (((part !== null)) ? $.sub($.attribute(part, "length"), $.apply(len, [$.attribute(part, "data")])) : 0); 
 due = ("" + "the other " + $.format(left, "") + " bytes of the message"); 
-$.call($.own(self, "recording"), "find", [$.attribute(entry, "line"), KEY, $.attribute(rules, "PACKETS"), due, "nothing", MUST, $.attribute(rules, "SEQUENCE")]);
+if (((($.attribute(entry, "message") === null)) || ($.le($.item($.attribute($.attribute(entry, "message"), "lines"), $.sub(0, 1)), $.attribute(entry, "line"))))) {
+$.call(self, "find_gap", [$.attribute(entry, "line"), $.attribute(rules, "PACKETS"), due, "nothing", MUST, $.attribute(rules, "SEQUENCE")]);
+}
 $.remove($.own(self, "parts"), channel);
 }
 }
-for (const $t3$ of $.iter($.own(self, "open"))) {
-it = $t3$; 
-is_due = ($.isTrue($t4 = $.attribute(it, "whole")) ? $t4 : $.lt($.attribute(hid, "LONGEST"), $.attribute(it, "length"))); 
-if (((!$.has($.own(self, "missed"), $.attribute(it, "line"))) && $.isTrue(is_due) && $.isTrue($.call(self, "is_silent", [it, now, line])))) {
-$.call($.own(self, "missed"), "add", [$.attribute(it, "line")]);
-$.call(self, "missing", [it]);
-} else {
-if (((!$.has($.own(self, "missed"), $.attribute(it, "line"))) && !$.isTrue(is_due) && (($.attribute(it, "by") === null)) && ($.le(PATIENCE, $.sub(now, $.attribute(it, "last")))))) {
-$.call($.own(self, "missed"), "add", [$.attribute(it, "line")]);
-$.call(self, "find", [$.item($.attribute(it, "lines"), $.sub(0, 1)), $.attribute(rules, "TIMEOUT"), "error 05, since the message isn't finished", "nothing", SHOULD]);
-}
-}
-}
 return null;
 }
-is_silent(it, now, line) {
+is_silent(owner, now, line) {
 const self = this;
-let heard, $t1;
-if ((($.eq($.attribute(it, "end"), "replaced")) || ((($.attribute(it, "by") !== null)) && ($.lt($.attribute(it, "by"), line))) || $.isTrue($.call($.own(self, "recording"), "was_unread", [line])))) {
+let heard;
+if ((($.lt($.sub(now, $.attribute(owner, "last")), SILENCE)) || ($.eq($.attribute(owner, "end"), "replaced")) || $.isTrue($.attribute(owner, "is_unknown")))) {
 return false;
 }
-heard = (() => { const $r = []; for (const $t1 of $.iter($.attribute(it, "keepalives"))) { let one; one = $t1; if (!($.lt($.attribute(one, "line"), line))) { continue; } $r.push($.attribute(one, "at")); } return $r; })(); 
-return $.le(SILENCE, $.sub(now, $.apply(max, [[$.attribute(it, "last"), ...$.iter(heard)]])));
+if ((((($.attribute(owner, "by") !== null)) && ($.lt($.attribute(owner, "by"), line))) || $.isTrue($.call($.own(self, "recording"), "was_unread", [line])))) {
+return false;
+}
+heard = $.call($.own(self, "heard"), "get", [$.attribute(owner, "line"), $.attribute(owner, "last")]); 
+return $.le(SILENCE, $.sub(now, heard));
 return null;
 }
-missing(it) {
+missing(owner) {
 const self = this;
-let line, others, $t1, $t2, $t3, $t4;
-$t2 = $.Tuple.of($.item($.attribute(it, "lines"), $.sub(0, 1)), (() => { const $r = []; for (const $t1 of $.iter($.own(self, "open"))) { let one; one = $t1; if (!(((one !== it)) && ($.lt($.attribute(one, "line"), $.attribute(it, "line"))))) { continue; } $r.push(one); } return $r; })()); $t3 = $.unpacked($t2, 2); line = $t3[0]; others = $t3[1]; 
-others = (() => { const $r = []; for (const $t4 of $.iter(others)) { let one; one = $t4; if (!((!$.eq($.attribute(one, "channel"), $.attribute(it, "channel"))) && (!$.eq($.attribute(one, "command"), $.attribute(hid, "INIT"))))) { continue; } $r.push(one); } return $r; })(); 
-if ((($.has($.Tuple.of(0, $.attribute(hid, "BROADCAST")), $.attribute(it, "channel"))) && (!$.eq($.attribute(it, "command"), $.attribute(hid, "INIT"))))) {
-$.call(self, "find", [line, $.attribute(rules, "CHANNELS"), "error 0b", "nothing"]);
-} else {
-if (($.lt($.attribute(hid, "LONGEST"), $.attribute(it, "length")))) {
-$.call(self, "find", [line, $.attribute(rules, "PACKETS"), "error 03", "nothing"]);
-} else {
-if ($.isTrue($.call(self, "was_cancelled_inside", [it]))) {
-$.call(self, "find", [line, $.attribute(rules, "CANCEL"), "an answer, since CANCEL drops no message that comes in", "nothing"]);
-} else {
-if (($.eq($.attribute(it, "command"), $.attribute(hid, "INIT")))) {
-$.call(self, "find", [line, (($.eq($.attribute(it, "length"), 8)) ? $.attribute(rules, "INIT") : $.attribute(rules, "PACKETS")), "an answer of INIT", "nothing"]);
-} else {
-if ((!$.has(SERVED, $.attribute(it, "command")))) {
-$.call(self, "find", [line, $.attribute(rules, "ERROR"), "error 01", "nothing"]);
-} else {
+let due, level, section, $t1, $t2;
+$t1 = $.call(self, "due_answer", [owner]); $t2 = $.unpacked($t1, 3); section = $t2[0]; due = $t2[1]; level = $t2[2]; 
+level = (($.has($.Tuple.of("answered", "refused", "timed out"), $.attribute(owner, "end"))) ? SHOULD : level); 
+$.call(self, "find_gap", [$.item($.attribute(owner, "lines"), $.sub(0, 1)), section, due, "nothing", level]);
+return null;
+}
+due_answer(owner) {
+const self = this;
+let others, $t1, $t2;
+others = (() => { const $r = []; for (const $t1 of $.iter($.own(self, "open"))) { let one; one = $t1; if (!(((one !== owner)) && ($.lt($.attribute(one, "line"), $.attribute(owner, "line"))))) { continue; } $r.push(one); } return $r; })(); 
+others = (() => { const $r = []; for (const $t2 of $.iter(others)) { let one; one = $t2; if (!((!$.eq($.attribute(one, "channel"), $.attribute(owner, "channel"))) && (!$.eq($.attribute(one, "command"), $.attribute(hid, "INIT"))))) { continue; } $r.push(one); } return $r; })(); 
+if ((($.has($.Tuple.of(0, $.attribute(hid, "BROADCAST")), $.attribute(owner, "channel"))) && (!$.eq($.attribute(owner, "command"), $.attribute(hid, "INIT"))))) {
+return $.Tuple.of($.attribute(rules, "CHANNELS"), "error 0b", MUST);
+}
+if (($.lt($.attribute(hid, "LONGEST"), $.attribute(owner, "length")))) {
+return $.Tuple.of($.attribute(rules, "PACKETS"), "error 03", MUST);
+}
+if ($.isTrue($.call(self, "was_cancelled_inside", [owner]))) {
+return $.Tuple.of($.attribute(rules, "CANCEL"), "an answer, since CANCEL drops no message that comes in", MUST);
+}
+if (($.eq($.attribute(owner, "command"), $.attribute(hid, "INIT")))) {
+return $.Tuple.of((($.eq($.attribute(owner, "length"), 8)) ? $.attribute(rules, "INIT") : $.attribute(rules, "PACKETS")), "an answer of INIT", MUST);
+}
+if ((!$.has(SERVED, $.attribute(owner, "command")))) {
+return $.Tuple.of($.attribute(rules, "ERROR"), "error 01", MUST);
+}
 if ($.isTrue(others)) {
-$.call(self, "find", [line, $.attribute(rules, "BUSY"), ("" + "error 06, since line " + $.format($.attribute($.item(others, 0), "line"), "") + " has the device"), "nothing"]);
-} else {
-if (($.isTrue($.own(self, "given")) && (!$.has($.own(self, "given"), $.attribute(it, "channel"))))) {
-$.call(self, "find", [line, $.attribute(rules, "CHANNELS"), "error 0b, or an answer", "nothing"]);
-} else {
-if ((($.attribute(it, "cancelled") !== null))) {
-$.call(self, "find", [line, $.attribute(rules, "CANCEL"), "the answer 2d, since CANCEL came", "nothing"]);
-} else {
-if ((($.eq($.attribute(it, "command"), $.attribute(hid, "CBOR"))) && $.isTrue($.attribute(it, "length")))) {
-$.call(self, "find", [line, $.attribute(rules, "KEEPALIVE"), "an answer, or KEEPALIVEs each 100 ms", "nothing", ($.isTrue($.attribute(it, "keepalives")) ? SHOULD : MUST)]);
-} else {
-$.call(self, "find", [line, $.call($.attribute(rules, "OF_COMMAND"), "get", [$.attribute(it, "command"), $.attribute(rules, "ERROR")]), "an answer", "nothing"]);
+return $.Tuple.of($.attribute(rules, "BUSY"), ("" + "error 06, since line " + $.format($.attribute($.item(others, 0), "line"), "") + " has the device"), MUST);
 }
+if (($.isTrue($.own(self, "given")) && (!$.has($.own(self, "given"), $.attribute(owner, "channel"))))) {
+return $.Tuple.of($.attribute(rules, "CHANNELS"), "error 0b, or an answer", MUST);
 }
+if ((($.attribute(owner, "cancelled") !== null))) {
+return $.Tuple.of($.attribute(rules, "CANCEL"), "the answer 2d, since CANCEL came", MUST);
 }
+if ((($.has($.Tuple.of($.attribute(hid, "CBOR"), $.attribute(hid, "MSG")), $.attribute(owner, "command"))) && $.isTrue($.attribute(owner, "length")))) {
+return $.Tuple.of($.attribute(rules, "KEEPALIVE"), "an answer, or KEEPALIVEs each 100 ms", SHOULD);
 }
-}
-}
-}
-}
-}
+return $.Tuple.of($.call($.attribute(rules, "OF_COMMAND"), "get", [$.attribute(owner, "command"), $.attribute(rules, "ERROR")]), "an answer", MUST);
 return null;
 }
-was_cancelled_inside(it) {
+was_cancelled_inside(owner) {
 const self = this;
-let inside, $t1, $t2, $t3, $t4, $t5;
-inside = (() => { const $r = []; for (const $t3 of $.iter($.attribute($.attribute($.own(self, "recording"), "walk"), "entries"))) { let one; one = $t3; if (!((($t1 = $.attribute(one, "line"), $.lt($.attribute(it, "line"), $t1)) && ($t2 = $.item($.attribute(it, "lines"), $.sub(0, 1)), $.lt($t1, $t2))))) { continue; } $r.push(one); } return $r; })(); 
-return $.apply(any, [(function* () { for (const $t5 of $.iter(inside)) { let one; one = $t5; yield ($.isTrue($t4 = $.eq($.attribute(one, "part"), "cancel")) ? $.eq($.slice($.attribute(one, "packet"), null, 4), $.call($.attribute(it, "channel"), "to_bytes", [4, "big"])) : $t4); } })()]);
+return $.has($.own(self, "cancelled_inside"), $.attribute(owner, "line"));
 return null;
 }
 finish() {
 const self = this;
-let it, $t1;
 $.call(self, "judge_silence", [$.attribute($.attribute($.own(self, "recording"), "walk"), "now"), $.add($.attribute($.own(self, "recording"), "lines"), 1)]);
-for (const $t1$ of $.iter($.attribute($.attribute($.own(self, "recording"), "walk"), "transactions"))) {
-it = $t1$; 
-$.call(self, "judge_unfinished", [it]);
-}
+$.call(self, "judge_unfinished", [null]);
 return null;
 }
-judge_unfinished(it) {
+judge_unfinished(entry) {
 const self = this;
-let after, wrong, $t1, $t2;
-wrong = (() => { const $r = []; for (const $t1 of $.iter($.attribute($.attribute($.own(self, "recording"), "walk"), "entries"))) { let one; one = $t1; if (!((($.attribute(one, "transaction") === it)) && ($.eq($.attribute(one, "part"), "wrong number")))) { continue; } $r.push(one); } return $r; })(); 
-if ((!$.isTrue(wrong) || ($.eq($.attribute(it, "code"), 4)) || ($.has($.Tuple.of("refused", "timed out"), $.attribute(it, "end"))))) {
+let late, owner, wrong, $t1, $t2, $t3, $t4;
+for (const $t1$ of $.iter($.own(self, "wrong"))) {
+wrong = $t1$; 
+$t2 = $.Tuple.of($.attribute(wrong, "transaction"), $.le(SILENCE, $.sub($.attribute($.attribute($.own(self, "recording"), "walk"), "now"), $.attribute(wrong, "at")))); $t3 = $.unpacked($t2, 2); owner = $t3[0]; late = $t3[1]; 
+if ((((owner === null)) || (((entry === null)) && !$.isTrue(late)))) {
+continue;
+}
+if (((!$.eq($.attribute(owner, "code"), 4)) && (!$.has($.Tuple.of("refused", "timed out"), $.attribute(owner, "end"))) && !$.isTrue($.attribute(owner, "is_unknown")))) {
+$.call(self, "find_gap", [$.attribute(wrong, "line"), $.attribute(rules, "SEQUENCE"), "error 04", "nothing"]);
+}
+}
+$t4 = []; self.wrong = $t4; 
 return null;
 }
-after = (() => { const $r = []; for (const $t2 of $.iter($.attribute($.attribute($.own(self, "recording"), "walk"), "entries"))) { let one; one = $t2; if (!(($.eq($.attribute(one, "kind"), "device")) && ($.lt($.attribute($.item(wrong, 0), "line"), $.attribute(one, "line"))))) { continue; } $r.push(one); } return $r; })(); 
-if ((($.le(SILENCE, $.sub($.attribute($.attribute($.own(self, "recording"), "walk"), "now"), $.attribute($.item(wrong, 0), "at")))) || $.isTrue(after))) {
-$.call(self, "find", [$.attribute($.item(wrong, 0), "line"), $.attribute(rules, "SEQUENCE"), "error 04", "nothing"]);
 }
-return null;
-}
-}
-KeyJudge.$names = {"__init__": ["recording"], "find": ["line", "section", "due", "came", "level"], "take": ["entry"], "power_cycle": ["at"], "take_input": ["entry"], "take_sent": ["entry"], "judge_keepalive": ["entry", "message"], "was_aborted": ["entry"], "judge_cancelled_on": ["entry", "transaction"], "is_late_start": ["entry"], "judge_error": ["entry", "message"], "judge_stray_error": ["entry"], "due_codes": ["it", "entry"], "due_of_open": ["it", "entry"], "judge_refusal": ["entry", "it"], "judge_capability": ["it", "code"], "judge_start": ["entry"], "judge_gap": ["entry", "transaction"], "is_waiting": ["it", "other", "entry"], "judge_unasked": ["entry", "command", "name"], "due_greeting": ["waiting"], "judge_whole": ["entry"], "serves_cbor": [], "judge_echo": ["transaction", "message"], "judge_status": ["entry", "transaction", "message"], "judge_silence": ["now", "line"], "is_silent": ["it", "now", "line"], "missing": ["it"], "was_cancelled_inside": ["it"], "finish": [], "judge_unfinished": ["it"]};
-return { KeyJudge, OTHER_ERROR, PATIENCE, SERVED };
+KeyJudge.$names = {"__init__": ["recording"], "find": ["line", "section", "due", "came", "level"], "find_gap": ["line", "section", "due", "came", "level", "also"], "take": ["entry"], "power_cycle": ["at"], "forget": [], "take_input": ["entry"], "take_sent": ["entry"], "judge_packet": ["entry"], "close": ["entry"], "close_channel": ["init"], "is_ousted": ["transaction"], "judge_keepalive": ["entry", "message"], "was_aborted": ["entry"], "judge_cancelled_on": ["entry", "transaction"], "is_late_start": ["entry"], "judge_start": ["entry"], "judge_gap": ["entry", "transaction"], "is_waiting": ["it", "other", "entry"], "judge_unasked": ["entry", "command", "name"], "due_greeting": ["waiting"], "judge_whole": ["entry"], "judge_greeting": ["entry", "transaction", "message"], "judge_restart": ["entry", "channel"], "judge_without_cbor": [], "judge_echo": ["transaction", "message"], "judge_status": ["entry", "transaction", "message"], "judge_silence": ["now", "line"], "judge_parts": ["now", "line"], "is_silent": ["owner", "now", "line"], "missing": ["owner"], "due_answer": ["owner"], "was_cancelled_inside": ["owner"], "finish": [], "judge_unfinished": ["entry"]};
+return { AWAY, KeyJudge, MOST_OPEN, PATIENCE };
 };
 
 $.modules["judged_report"] = () => {
@@ -4871,8 +5392,7 @@ THERE = $.module("keys").THERE;
 clean = $.module("plain").clean;
 SIDES = $.dictOf([[KEY, "the key"], ["host", "the host"]]); 
 function packets_of(recording) {
-let $t1;
-return $.apply(sum, [(function* () { for (const $t1 of $.iter($.attribute($.attribute(recording, "walk"), "entries"))) { let it; it = $t1; yield $.apply(bool, [$.attribute(it, "packet")]); } })()]);
+return $.attribute($.attribute(recording, "walk"), "packets");
 return null;
 }
 packets_of.$names = ["recording"];
@@ -4880,13 +5400,21 @@ function total(recording) {
 let counts, packets, $t1, $t2;
 counts = (() => { const $r = []; for (const $t2 of $.iter($.Tuple.of(MUST, SHOULD))) { let level; level = $t2; $r.push([level, $.apply(sum, [(function* () { for (const $t1 of $.iter($.attribute(recording, "findings"))) { let it; it = $t1; yield $.eq($.attribute(it, "level"), level); } })()])]); } return $.dictOf($r); })(); 
 packets = $.apply(packets_of, [recording]); 
-return ("" + $.format(packets, "") + " packets, " + $.format($.apply(len, [$.attribute($.attribute(recording, "walk"), "transactions")]), "") + " transactions: " + $.format($.item(counts, MUST), "") + " broken musts, " + $.format($.item(counts, SHOULD), "") + " broken shoulds");
+return ("" + $.format(packets, "") + " packets, " + $.format($.attribute($.attribute(recording, "walk"), "count"), "") + " transactions: " + $.format($.item(counts, MUST), "") + " broken musts, " + $.format($.item(counts, SHOULD), "") + " broken shoulds");
 return null;
 }
 total.$names = ["recording"];
 function notes_of(recording) {
-let found, $t1;
+let found, said;
 found = []; 
+if ($.isTrue($.attribute(recording, "has_lost"))) {
+$.call(found, "append", ["the recorder lost packets: what is missing or out of order counts as a should"]);
+} else {
+if (($.isTrue($.attribute(recording, "is_imported")) && (($.attribute(recording, "gap") !== null)))) {
+said = ("" + "line " + $.format($.attribute(recording, "gap"), "") + " doesn't follow what is before it"); 
+$.call(found, "append", [("" + "the capture may have lost packets, since " + $.format(said, "") + ": what comes behind may not be the key's fault")]);
+}
+}
 if ($.isTrue($.attribute(recording, "is_timeless"))) {
 $.call(found, "append", ["the log has no moments: nothing that depends on time was judged"]);
 }
@@ -4899,7 +5427,7 @@ $.call(found, "append", ["the log has the packets of one client alone: refusals 
 if ($.isTrue($.attribute(recording, "unread"))) {
 $.call(found, "append", ["nobody read from the key for a while: silence wasn't judged behind it"]);
 }
-if (!$.isTrue($.apply(any, [(function* () { for (const $t1 of $.iter($.attribute($.attribute(recording, "walk"), "entries"))) { let it; it = $t1; yield $.eq($.attribute(it, "kind"), "device"); } })()]))) {
+if (!$.isTrue($.attribute($.attribute(recording, "walk"), "answers"))) {
 $.call(found, "append", ["the log has no packet of a key: hidlog replay writes those of this project's key"]);
 }
 if (!$.isTrue(THERE)) {
@@ -4914,48 +5442,73 @@ return [("" + "line " + $.format($.attribute(it, "line"), "") + ": " + $.format(
 return null;
 }
 lines_of.$names = ["it"];
-function as_text(name, recording) {
+function text_of(recording) {
 let lines, $t1, $t2, $t3, $t4;
-lines = (() => { const $r = []; for (const $t2 of $.iter($.attribute(recording, "findings"))) { let it; it = $t2; for (const $t1 of $.iter($.apply(lines_of, [it]))) { let line; line = $t1; $r.push(line); }; } return $r; })(); 
-lines = $.add(lines, (() => { const $r = []; for (const $t3 of $.iter($.apply(notes_of, [recording]))) { let note; note = $t3; $r.push(("" + "note: " + $.format(note, ""))); } return $r; })()); 
+lines = (() => { const $r = []; for (const $t1 of $.iter($.apply(notes_of, [recording]))) { let note; note = $t1; $r.push(("" + "note: " + $.format(note, ""))); } return $r; })(); 
+lines = $.add(lines, (() => { const $r = []; for (const $t3 of $.iter($.attribute(recording, "findings"))) { let finding; finding = $t3; for (const $t2 of $.iter($.apply(lines_of, [finding]))) { let line; line = $t2; $r.push(line); }; } return $r; })()); 
 return $.call("", "join", [(function* () { for (const $t4 of $.iter([...$.iter(lines), $.apply(total, [recording])])) { let line; line = $t4; yield ("" + $.format(line, "") + "\n"); } })()]);
 return null;
 }
-as_text.$names = ["name", "recording"];
+text_of.$names = ["recording"];
+function as_text(judged) {
+let $t1, $t2;
+if (($.eq($.apply(len, [judged]), 1))) {
+return $.apply(text_of, [$.item($.item(judged, 0), 1)]);
+}
+return $.call("\n", "join", [(function* () { for (const $t1 of $.iter(judged)) { let name, recording; $t2 = $.unpacked($t1, 2); name = $t2[0]; recording = $t2[1]; yield ("" + $.format($.apply(clean, [name]), "") + "\n" + $.format($.apply(text_of, [recording]), "")); } })()]);
+return null;
+}
+as_text.$names = ["judged"];
 function object_of(it) {
 return $.dictOf([["line", $.attribute(it, "line")], ["side", $.attribute(it, "side")], ["level", $.attribute(it, "level")], ["section", $.attribute(it, "section")], ["also", $.attribute(it, "also")], ["rule", $.attribute(it, "rule")], ["due", $.attribute(it, "due")], ["came", $.attribute(it, "came")]]);
 return null;
 }
 object_of.$names = ["it"];
-function as_json(name, recording) {
-let whole, $t1;
-whole = $.dictOf([["log", name], ["packets", $.apply(packets_of, [recording])], ["transactions", $.apply(len, [$.attribute($.attribute(recording, "walk"), "transactions")])], ["findings", (() => { const $r = []; for (const $t1 of $.iter($.attribute(recording, "findings"))) { let it; it = $t1; $r.push($.apply(object_of, [it])); } return $r; })()], ["notes", $.apply(notes_of, [recording])]]); 
-return $.add($.call(json, "dumps", [whole], {indent: 1}), "\n");
+function whole_of(name, recording) {
+let $t1;
+return $.dictOf([["log", name], ["packets", $.apply(packets_of, [recording])], ["transactions", $.attribute($.attribute(recording, "walk"), "count")], ["findings", (() => { const $r = []; for (const $t1 of $.iter($.attribute(recording, "findings"))) { let finding; finding = $t1; $r.push($.apply(object_of, [finding])); } return $r; })()], ["notes", $.apply(notes_of, [recording])]]);
 return null;
 }
-as_json.$names = ["name", "recording"];
-function as_junit(name, recording) {
-let cases, failures, head, it, kind, opened, text, title, $t1, $t2;
+whole_of.$names = ["name", "recording"];
+function as_json(judged) {
+let found, $t1, $t2;
+found = (() => { const $r = []; for (const $t1 of $.iter(judged)) { let name, recording; $t2 = $.unpacked($t1, 2); name = $t2[0]; recording = $t2[1]; $r.push($.apply(whole_of, [name, recording])); } return $r; })(); 
+return $.add($.call(json, "dumps", [(($.eq($.apply(len, [found]), 1)) ? $.item(found, 0) : found)], {indent: 1}), "\n");
+return null;
+}
+as_json.$names = ["judged"];
+function suite_of(name, recording) {
+let cases, failures, finding, head, kind, opened, text, title, $t1, $t2;
 cases = []; 
 for (const $t1$ of $.iter($.attribute(recording, "findings"))) {
-it = $t1$; 
-text = $.apply(escape, [$.call("\n", "join", [$.apply(lines_of, [it])])]); 
-title = $.apply(quoteattr, [("" + "line " + $.format($.attribute(it, "line"), "") + ": " + $.format($.attribute(it, "side"), "") + ": " + $.format($.attribute(it, "rule"), ""))]); 
-kind = (($.eq($.attribute(it, "level"), MUST)) ? "failure" : "system-out"); 
-opened = (($.eq($.attribute(it, "level"), MUST)) ? ("" + "<failure message=" + $.format($.apply(quoteattr, [$.apply(clean, [$.attribute(it, "due")])]), "") + ">") : "<system-out>"); 
+finding = $t1$; 
+text = $.apply(escape, [$.call("\n", "join", [$.apply(lines_of, [finding])])]); 
+title = $.apply(quoteattr, [("" + "line " + $.format($.attribute(finding, "line"), "") + ": " + $.format($.attribute(finding, "side"), "") + ": " + $.format($.attribute(finding, "rule"), ""))]); 
+kind = (($.eq($.attribute(finding, "level"), MUST)) ? "failure" : "system-out"); 
+opened = (($.eq($.attribute(finding, "level"), MUST)) ? ("" + "<failure message=" + $.format($.apply(quoteattr, [$.apply(clean, [$.attribute(finding, "due")])]), "") + ">") : "<system-out>"); 
 $.call(cases, "append", [("" + "  <testcase classname=" + $.format($.apply(quoteattr, [name]), "") + " name=" + $.format(title, "") + ">" + $.format(opened, "") + $.format(text, "") + "</" + $.format(kind, "") + "></testcase>")]);
 }
 if (!$.isTrue(cases)) {
 $.call(cases, "append", [("" + "  <testcase classname=" + $.format($.apply(quoteattr, [name]), "") + " name=\"no rule is broken\"/>")]);
 }
-failures = $.apply(sum, [(function* () { for (const $t2 of $.iter($.attribute(recording, "findings"))) { let it; it = $t2; yield $.eq($.attribute(it, "level"), MUST); } })()]); 
+failures = $.apply(sum, [(function* () { for (const $t2 of $.iter($.attribute(recording, "findings"))) { let finding; finding = $t2; yield $.eq($.attribute(finding, "level"), MUST); } })()]); 
 head = ("" + "<testsuite name=\"hidlog judge\" tests=\"" + $.format($.apply(len, [cases]), "") + "\" failures=\"" + $.format(failures, "") + "\">"); 
-return $.call("\n", "join", [["<?xml version=\"1.0\" encoding=\"UTF-8\"?>", head, ...$.iter(cases), "</testsuite>", ""]]);
+return [head, ...$.iter(cases), "</testsuite>"];
 return null;
 }
-as_junit.$names = ["name", "recording"];
+suite_of.$names = ["name", "recording"];
+function as_junit(judged) {
+let suites, $t1, $t2, $t3;
+suites = (() => { const $r = []; for (const $t2 of $.iter(judged)) { let name, recording; $t3 = $.unpacked($t2, 2); name = $t3[0]; recording = $t3[1]; for (const $t1 of $.iter($.apply(suite_of, [name, recording]))) { let line; line = $t1; $r.push(line); }; } return $r; })(); 
+if (($.lt(1, $.apply(len, [judged])))) {
+suites = ["<testsuites>", ...$.iter(suites), "</testsuites>"]; 
+}
+return $.call("\n", "join", [["<?xml version=\"1.0\" encoding=\"UTF-8\"?>", ...$.iter(suites), ""]]);
+return null;
+}
+as_junit.$names = ["judged"];
 WRITERS = $.dictOf([["text", as_text], ["json", as_json], ["junit", as_junit]]); 
-return { SIDES, WRITERS, as_json, as_junit, as_text, lines_of, notes_of, object_of, packets_of, total };
+return { SIDES, WRITERS, as_json, as_junit, as_text, lines_of, notes_of, object_of, packets_of, suite_of, text_of, total, whole_of };
 };
 
 })();
