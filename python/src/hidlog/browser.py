@@ -178,8 +178,6 @@ class Browser:
             status = response[0] if response else 0x7F
             refused = CtapError(status, self._key.cause(status))
             raise ending.reason(refused, begun.call) from refused
-        if self._key.faults.cut_short:
-            _check_whole(response)
         return response
 
     def _transact(self, message: bytes, ending: _Ending) -> bytes:
@@ -287,14 +285,6 @@ def _without_timeout(options: Any) -> Any:
     if not isinstance(inner, Mapping) or "timeout" not in inner:
         return options
     return {"publicKey": {name: value for name, value in inner.items() if name != "timeout"}}
-
-
-def _check_whole(response: bytes) -> None:
-    """Refuses a response of which the last member was cut, which the library's client may not miss."""
-    try:
-        cbor.decode(response[1:])
-    except cbor.CborError as error:
-        raise NotAllowedError(f"the key's answer can't be read: {error}") from error
 
 
 def _number_of_credentials(response: bytes) -> int:
