@@ -90,6 +90,13 @@ def needs_in(live: list[bytes]) -> list[bytes]:
     return needs
 
 
+def signs_in(asked: Transaction) -> bool:
+    """Whether a user signs in by a request: not by authenticatorGetAssertion with `up: false` (CTAP 2.1, section 6.2)."""
+    if asked.request != 0x02:
+        return asked.request == 0x08
+    return ctap_cbor.decode(asked.data[1 : asked.length]).get(5, {}).get("up", True) is True
+
+
 class Machine:
     """The transport, stepped by the lines of a log that the key wrote itself."""
 
@@ -336,7 +343,9 @@ class Machine:
         ends = [(transaction.request, transaction.end) for transaction in self.transactions.values()]
         return {
             "credentials made": sum(end == ("status", 0) and request == 0x01 for request, end in ends),
-            "credentials used": sum(end == ("status", 0) and request in (0x02, 0x08) for request, end in ends),
+            "credentials used": sum(
+                signs_in(asked) for asked in self.transactions.values() if asked.end == ("status", 0)
+            ),
             "credentials excluded": sum(end == ("status", 0x19) for _, end in ends),
             "requests refused": sum(end[0] == "status" and end[1] != 0 for _, end in ends),
             "messages refused by ERROR": sum(end[0] == "error" for _, end in ends),
