@@ -1,28 +1,42 @@
 """Why a key refuses, as errors say it. The sentences are those that hidlog.h's codes stand for, written by hand."""
 
+from __future__ import annotations
+
 import pickle
+from typing import Any
 
 import pytest
 
 import hidlog
 from hidlog import Browser, Client, SecurityKey
 
-RP = {"rp": {"id": "example.com", "name": "x"}, "user": {"id": "AQ", "name": "ann", "displayName": "Ann"}}
-CREATION = {**RP, "challenge": "AAAA", "pubKeyCredParams": [{"type": "public-key", "alg": -7}]}
+CREATION: dict[str, Any] = {
+    "rp": {"id": "example.com", "name": "x"},
+    "user": {"id": "AQ", "name": "ann", "displayName": "Ann"},
+    "challenge": "AAAA",
+    "pubKeyCredParams": [{"type": "public-key", "alg": -7}],
+}
 CBOR = 0x10
 
 
-def browser(**options):
+def browser(**options: Any) -> tuple[SecurityKey, Browser]:
     """A browser at https://example.com with a key."""
     key = SecurityKey(**options)
     return key, Browser(key, "https://example.com")
 
 
-def test_what_the_user_does():
+def _cause_in(caught: pytest.ExceptionInfo[hidlog.NotAllowedError]) -> str:
+    """The cause of the status that the DOM's error comes from."""
+    refused = caught.value.__cause__
+    assert isinstance(refused, hidlog.CtapError)
+    return refused.cause
+
+
+def test_what_the_user_does() -> None:
     key, page = browser(presence="denied")
     with pytest.raises(hidlog.NotAllowedError, match="OPERATION_DENIED.*: the user refused$") as caught:
         page.create(CREATION)
-    assert caught.value.__cause__.cause == "the user refused" == key.cause() == key.cause(0x27)
+    assert _cause_in(caught) == "the user refused" == key.cause() == key.cause(0x27)
     assert key.cause(0x2E) == ""
     key.presence = "timeout"
     with pytest.raises(hidlog.NotAllowedError, match=": the user did not respond in time$"):
@@ -32,7 +46,7 @@ def test_what_the_user_does():
     assert key.cause() == ""
 
 
-def test_credentials_that_there_are_not():
+def test_credentials_that_there_are_not() -> None:
     _, page = browser()
     with pytest.raises(hidlog.NotAllowedError, match=": no discoverable credential of this RP on this key$"):
         page.get({"challenge": "AAAA", "rpId": "example.com"})
@@ -55,13 +69,13 @@ def test_credentials_that_there_are_not():
         (b"\x08", 0x30, "no assertion is pending"),
     ],
 )
-def test_requests_that_fail_a_check(request_bytes, status, cause):
+def test_requests_that_fail_a_check(request_bytes: bytes, status: int, cause: str) -> None:
     key = SecurityKey()
     assert Client(key).transact(CBOR, request_bytes) == bytes([status])
     assert key.cause() == key.cause(status) == cause
 
 
-def test_errors_of_the_transport():
+def test_errors_of_the_transport() -> None:
     key = SecurityKey()
     client = Client(key)
     with pytest.raises(hidlog.CtapError, match="^CtapError 0x01 .*: CTAPHID command 0x30 is not supported$") as caught:
@@ -70,15 +84,15 @@ def test_errors_of_the_transport():
     assert (copied.status, copied.cause, str(copied)) == (1, caught.value.cause, str(caught.value))
 
 
-def test_a_fault_has_no_cause():
+def test_a_fault_has_no_cause() -> None:
     key, page = browser()
     key.faults.status = "KEY_STORE_FULL"
     with pytest.raises(hidlog.NotAllowedError) as caught:
         page.create(CREATION)
-    assert caught.value.__cause__.cause == "" and not str(caught.value).endswith(":")
+    assert _cause_in(caught) == "" and not str(caught.value).endswith(":")
 
 
-def test_a_key_in_a_process_has_none():
+def test_a_key_in_a_process_has_none() -> None:
     key, page = browser(process=True, presence="denied")
     with pytest.raises(hidlog.NotAllowedError, match="OPERATION_DENIED"):
         page.create(CREATION)
