@@ -27,7 +27,7 @@ LINE = b'{"id": 1, "log": 0}\n'
 WRITING = b"hidlog: writing failed\n"
 # Commands of the program, each with something to write.
 OF_PROGRAM = ["check same.log", "replay same.log", "quiet same.log", "live same.log", "show same.log", "live", "replay"]
-NATIVE_ALONE = ["--help", "--version", "show --json same.log", "show --summary same.log", "check --all broken.log"]
+NATIVE_ALONE = ["--version", "show --json same.log", "show --summary same.log", "check --all broken.log"]
 # Commands of the package.
 OWN = [
     "import capture",
@@ -124,6 +124,12 @@ def test_what_the_program_serves_alone(folder: Path, words: str, kind: str) -> N
     assert ended(WITH, words, folder, kind) == theirs
     status, _, said = ended(THROUGH, words, folder, kind)
     assert (status, said.count(b"\n")) == (2, 1) and b"the program is missing" in said
+
+
+@pytest.mark.parametrize("kind", ["full", "closed", "broken"])
+def test_help_is_written_without_the_program_too(folder: Path, kind: str) -> None:
+    assert ended(WITH, "--help", folder, kind) == ended([program()], "--help", folder, kind)
+    assert ended(THROUGH, "--help", folder, kind)[::2] == (2, b"hidlog: writing failed\n")
 
 
 @pytest.mark.parametrize("words", OF_PROGRAM)
