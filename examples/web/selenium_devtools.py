@@ -11,7 +11,7 @@ import threading
 
 from http.server import ThreadingHTTPServer
 
-from selenium_sign_in import Service, click, start_browser
+from selenium_sign_in import PageHandler, click, start_browser
 
 OPTIONS = {
     "protocol": "ctap2",
@@ -82,7 +82,7 @@ def run_suite(driver, session):
 
 
 def main():
-    server = ThreadingHTTPServer(("127.0.0.1", 0), Service)
+    server = ThreadingHTTPServer(("127.0.0.1", 0), PageHandler)
     threading.Thread(target=server.serve_forever, daemon=True).start()
     driver = start_browser()
     try:

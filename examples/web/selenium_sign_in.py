@@ -42,7 +42,7 @@ document.getElementById("sign-in").onclick = () => say(signIn());
 </script>"""
 
 
-class Page(BaseHTTPRequestHandler):
+class PageHandler(BaseHTTPRequestHandler):
     """Serves the page."""
 
     def do_GET(self):
@@ -106,7 +106,7 @@ def test_service_is_full(driver, url):
 
 
 def main():
-    server = ThreadingHTTPServer(("127.0.0.1", 0), Page)
+    server = ThreadingHTTPServer(("127.0.0.1", 0), PageHandler)
     threading.Thread(target=server.serve_forever, daemon=True).start()
     driver = start_browser()
     try:
