@@ -17,22 +17,25 @@ struct step {
 
 static const struct step steps[] = {
     {"ffffffff86000800010203040506", 1, {0}, ""},
-    {"0000000981000101", 2, {9, 0x0b, 1, 0}, "only channels 1 to 1 have been allocated"},
-    {"0000000184000101", 3, {1, 0x01, 0x04, 0}, "CTAPHID command 0x04 is not supported"},
-    {"00000001811dba", 4, {3, 0x03, 0x01, 7610},
+    {"0000000981000101", 2, {HIDLOG_CAUSE_NO_SUCH_CHANNEL, 0x0b, 1, 0}, "only channels 1 to 1 have been allocated"},
+    {"0000000184000101", 3, {HIDLOG_CAUSE_NO_SUCH_COMMAND, 0x01, 0x04, 0}, "CTAPHID command 0x04 is not supported"},
+    {"00000001811dba", 4, {HIDLOG_CAUSE_MESSAGE_LENGTH, 0x03, 0x01, 7610},
      "a message of command 0x01 cannot have 7610 bytes: CBOR has 1 to 7609, PING 0 to 7609"},
-    {"ffffffff860007", 5, {2, 0x03, 7, 0}, "INIT must have 8 data bytes, not 7"},
+    {"ffffffff860007", 5, {HIDLOG_CAUSE_INIT_LENGTH, 0x03, 7, 0}, "INIT must have 8 data bytes, not 7"},
     {"00000001810064", 6, {0}, ""},
-    {"0000000101", 7, {4, 0x04, 1, 0}, "expected continuation packet +0, got +1"},
-    {"0000000190000105", 8, {21, 0x01, 0x05, 0}, "the authenticator command 0x05 is not supported"},
-    {"000000019000020400", 9, {22, 0x03, 1, 0}, "this command takes no parameters; bytes after the command byte: 1"},
-    {"0000000190000201a0", 10, {25, 0x14, 0x01, 0x01}, "the required parameter clientDataHash is missing"},
-    {"0000000190000202a0", 11, {25, 0x14, 0x02, 0x01}, "the required parameter rpId is missing"},
-    {"000000019000030100ff", 12, {23, 0x12, 1, 9},
+    {"0000000101", 7, {HIDLOG_CAUSE_WRONG_NUMBER, 0x04, 1, 0}, "expected continuation packet +0, got +1"},
+    {"0000000190000105", 8, {HIDLOG_CAUSE_COMMAND, 0x01, 0x05, 0}, "the authenticator command 0x05 is not supported"},
+    {"000000019000020400", 9, {HIDLOG_CAUSE_TRAILING, 0x03, 1, 0},
+     "this command takes no parameters; bytes after the command byte: 1"},
+    {"0000000190000201a0", 10, {HIDLOG_CAUSE_MISSING, 0x14, 0x01, 0x01},
+     "the required parameter clientDataHash is missing"},
+    {"0000000190000202a0", 11, {HIDLOG_CAUSE_MISSING, 0x14, 0x02, 0x01}, "the required parameter rpId is missing"},
+    {"000000019000030100ff", 12, {HIDLOG_CAUSE_NOT_CANONICAL, 0x12, 1, 9},
      "the parameters are not canonical CBOR at byte 1: Trailing: bytes after the item"},
-    {"00000001900002020f", 13, {24, 0x11, 0, 0}, "a parameter, or a member in one, has the wrong CBOR type"},
-    {"0000000190000108", 14, {61, 0x30, 0, 0}, "no assertion is pending"},
-    {"0000000190000107", 10001, {64, 0x30, 0, 10001},
+    {"00000001900002020f", 13, {HIDLOG_CAUSE_WRONG_TYPE, 0x11, 0, 0},
+     "a parameter, or a member in one, has the wrong CBOR type"},
+    {"0000000190000108", 14, {HIDLOG_CAUSE_NOTHING_PENDING, 0x30, 0, 0}, "no assertion is pending"},
+    {"0000000190000107", 10001, {HIDLOG_CAUSE_RESET_TOO_LATE, 0x30, 0, 10001},
      "more than 10 s have passed since power-up: it was at 0, this is at 10001"},
     {"0000000190000104", 10002, {0}, ""},
 };
@@ -76,7 +79,7 @@ static void check(struct hidlog_key *key, uint32_t which, const struct hidlog_ca
 
 // What time drops is told apart from what the input is refused for.
 static void time_out(struct hidlog_key *key) {
-    static const struct hidlog_cause none, late = {6, 0x05, 20000, 20500};
+    static const struct hidlog_cause none, late = {HIDLOG_CAUSE_TIMED_OUT, 0x05, 20000, 20500};
     uint8_t packet[64];
     packet_of("00000001810064", packet);
     want(hidlog_key_packet(key, 20000, packet) == 0, "the first packet of a PING");
@@ -96,7 +99,7 @@ static void wrong_calls(struct hidlog_key *key) {
     want(hidlog_key_cause(key, 2, &cause, text, sizeof text) == HIDLOG_KEY_BAD_ARGUMENT && cause.code == 1,
          "a cause of neither");
     want(hidlog_key_cause(key, 1, &cause, text, sizeof text) == 5 && memcmp(text, "no as", 5) == 0, "a short buffer");
-    want(hidlog_key_cause(key, 1, &cause, text, 0) == 0 && cause.code == 61, "no buffer");
+    want(hidlog_key_cause(key, 1, &cause, text, 0) == 0 && cause.code == HIDLOG_CAUSE_NOTHING_PENDING, "no buffer");
     want(hidlog_key_clear(key, 20700) == 0, "a start");
     check(key, 1, &none, "");
     want(hidlog_key_free(key) == 0, "free");
