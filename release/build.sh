@@ -89,7 +89,7 @@ object_sum() {
 
 # Links the shared library of a static one, which has its name: build_shared NAME
 build_shared() {
-    "$kit/toolchain/bin/ld.lld" -shared -soname "$1.so.0" -z relro -z now --strip-all -o "$made/$1.so.0" \
+    "$kit/toolchain/bin/ld.lld" -shared -soname "$1.so.1" -z relro -z now --strip-all -o "$made/$1.so.1" \
         --whole-archive "$made/$1.a"
 }
 
@@ -147,7 +147,7 @@ linker_for_aarch64() {
 # Writes what the files are made from and with, a word and its value a line.
 write_build() {
     {
-        echo "version: $(sed -n 's/^const VERSION: &str = "\(.*\)";/\1/p' crates/hidlog/src/grammar.rt)"
+        echo "version: $(sed -n 's/^const VERSION: &str = "\(.*\)";/\1/p' crates/hidlog/src/cli.rt)"
         echo "kit: $(rt version)"
         echo "sources: $(release/sources.sh --hash)"
         echo "processor: x86-64-v2"
@@ -206,7 +206,7 @@ write_pkg_config() {
         echo "Description: a FIDO2 security key as software, for tests"
         echo "Version: $(sed -n 's/^version: //p' "$made/BUILD")"
         echo "Cflags: -I\${prefix}${2:+ $2}"
-        echo "Libs: -L\${prefix} -l:lib$1.so.0"
+        echo "Libs: -L\${prefix} -l:lib$1.so.1"
     } >"$made/$1.pc"
 }
 
@@ -217,8 +217,8 @@ make_slow() {
 }
 
 names=(BUILD hidlog hidlog.h hidlog_recording.h hidlog_standard.h hidlog.pc hidlog-256.pc hidlog.wasm libhidlog.a
-    libhidlog.so.0 aarch64/libhidlog.a)
-slow=(aarch64/hidlog libhidlog-256.a libhidlog-256.so.0)
+    libhidlog.so.1 aarch64/libhidlog.a)
+slow=(aarch64/hidlog libhidlog-256.a libhidlog-256.so.1)
 case "$*" in
 "" | --check | "--check all") ;;
 *) stop "usage: release/build.sh [--check [all]]" ;;

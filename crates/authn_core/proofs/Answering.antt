@@ -4,23 +4,23 @@ use Rattle.std.proofs.Common.{◌||◌, Bool, true, false, cond, is_some, refl, 
 use Rattle.std.proofs.lemmas.{Slice.Eq.bytes_eq-Decides, Grind.flat_map-append}
 use Rattle.std.specs.{List.find, List.list_any, Str.bytes_eq}
 use Rattle.cred_table.specs.{declared.row.Row.Row, Rows.is_named, Rows.is_user}
-use Rattle.authn_core.specs.{State.Making, Assertions.signers, Answers.is_excluded, Answers.is_full}
-use Rattle.authn_core.specs.MakeCredential.{fits, names_one}
-use Rattle.authn_core.specs.GetAssertion.{applicable, find_named}
-use Rattle.authn_core.specs.Marks.{Mark, takes_place, left, marked, rows_among, rows_of}
+use Rattle.authn_core.specs.{State.MakeState, Assertions.applicable_ids, Answers.is_excluded, Answers.is_full}
+use Rattle.authn_core.specs.MakeCredential.{has_capacity, names_one}
+use Rattle.authn_core.specs.GetAssertion.{applicable_rows, find_allowed}
+use Rattle.authn_core.specs.Marks.{CredentialChange, takes_place, row_if_kept, apply_change, rows_among, rows_after_changes}
 use Rattle.authn_core.proofs.Histories.{all_left, none_later}
 
 -- ---- rows
 
 -- the rows with later marks, and with one mark more
-rows_later : (start : List Row) (later h : List Mark) →
-    rows_among start later h ≡ flat_map (left later) (rows_of start h)
+rows_later : (start : List Row) (later h : List CredentialChange) →
+    rows_among start later h ≡ flat_map (row_if_kept later) (rows_after_changes start h)
 unfolding rows_among
-rows_later start later [] = ap (flat_map (left later)) (sym (none_later start))
+rows_later start later [] = ap (flat_map (row_if_kept later)) (sym (none_later start))
 rows_later start later (m ∷ past) = rw (rows_later start (m ∷ []) past, rows_later start (m ∷ later) past)
     (grind (arith, flat_map-append, all_left, none_later))
 
-pub rows_marked : (start : List Row) (m : Mark) (h : List Mark) → rows_of start (m ∷ h) ≡ marked m (rows_of start h)
+pub rows_marked : (start : List Row) (m : CredentialChange) (h : List CredentialChange) → rows_after_changes start (m ∷ h) ≡ apply_change m (rows_after_changes start h)
 unfolding rows_among
 rows_marked start m h = rw (rows_later start (m ∷ []) h) (grind arith)
 
@@ -56,8 +56,8 @@ replaced_found rp user false rows = any_false rows
 replaced_found rp user true [] = refl
 replaced_found rp user true (r ∷ rows) = grind (arith, replaced_found rp user true rows)
 
-pub full_fits : (capacity : ℕ) (m : Making) (rows : List Row)
-    → fits capacity m rows ≡ not (is_full capacity rows m.rp m.user m.discoverable)
+pub full_fits : (capacity : ℕ) (m : MakeState) (rows : List Row)
+    → has_capacity capacity m rows ≡ not (is_full capacity rows m.rp m.user m.discoverable)
 full_fits capacity m rows = rw (replaced_found m.rp m.user m.discoverable rows) (grind arith)
 
 -- ---- who signs
@@ -69,11 +69,11 @@ named_one rp id [] = refl
 named_one rp id (r ∷ rows) = grind (arith, bytes_eq-Decides, named_one rp id rows)
 
 first_named : (rp : List ℕ) (rows : List Row) (ids : List (List ℕ))
-    → map (λ (r : Row). r.id) (option_to_list (find_named rp rows ids))
+    → map (λ (r : Row). r.id) (option_to_list (find_allowed rp rows ids))
     ≡ take 1 (filter (λ id. list_any (λ r. bytes_eq r.rp rp && bytes_eq r.id id) rows) ids)
 first_named rp rows [] = refl
 first_named rp rows (id ∷ ids) = grind (arith, named_one rp id rows, first_named rp rows ids)
 
 pub signers_apply : (rows : List Row) (rp : List ℕ) (given : Bool) (allow : List (List ℕ))
-    → map (λ (r : Row). r.id) (applicable rows rp given allow) ≡ signers rows rp given allow
+    → map (λ (r : Row). r.id) (applicable_rows rows rp given allow) ≡ applicable_ids rows rp given allow
 signers_apply rows rp given allow = search (rules, arith, first_named)

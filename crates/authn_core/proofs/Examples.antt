@@ -1,12 +1,12 @@
 -- Turns by computation.
 use Rattle.std.proofs.Common.{◌≡◌, ℕ, List, [], ◌∷◌, Bool, true, false, Option, Some, None, replicate, refl}
-use Rattle.cred_table.specs.{declared.row.Row.Row, Rows.ids, Waiting.Waiting}
+use Rattle.cred_table.specs.{declared.row.Row.Row, Rows.ids, Waiting.PendingAssertions}
 use Rattle.ctap_message.specs.Requests.{read_of}
 use Rattle.authn_core.specs.declared.replies.Presence.TheVariants.{Granted, Denied, TimedOut}
-use Rattle.authn_core.specs.State.{Setup, Making, Asserting, Task, Resets, Selects, AsksMake, WantsKey, AsksAssert}
-use Rattle.authn_core.specs.State.{SignsAssert, State, Request, PresenceIs, KeyIs, SignatureIs, Cancel, Answer}
+use Rattle.authn_core.specs.State.{Setup, MakeState, AssertState, Task, AwaitResetPresence, AwaitSelectionPresence, AwaitMakePresence, AwaitKeyPair, AwaitAssertPresence}
+use Rattle.authn_core.specs.State.{AwaitAssertSignature, State, Request, PresenceIs, KeyIs, SignatureIs, Cancel, Answer}
 use Rattle.authn_core.specs.{State.Answered, State.Waits, State.Ignored, Turn.turn}
-use Rattle.authn_core.specs.GetAssertion.{applicable, begins, told}
+use Rattle.authn_core.specs.GetAssertion.{applicable_rows, assertion_turn, number_of_credentials}
 
 abbrev pub setup : Setup
 setup = record { aaguid = replicate 16 0; began = 0; capacity = 2 }
@@ -14,7 +14,7 @@ setup = record { aaguid = replicate 16 0; began = 0; capacity = 2 }
 abbrev pub row : (id : ℕ) → (counter : ℕ) → Row
 row id counter = record { rp = replicate 32 7; id = replicate 32 id; x = []; y = []; user = record { items = id ∷ [] }; discoverable = true; counter = counter; name = [] }
 
-abbrev pub waiting : List (List ℕ) → Option Waiting
+abbrev pub waiting : List (List ℕ) → Option PendingAssertions
 waiting ids = Some (record { cid = 1; hash = replicate 32 34; presence = true; moment = 1000; ids = ids })
 
 abbrev idle : State
@@ -34,13 +34,13 @@ selects = unfold turn read_of in refl
 selects_empties : (turn setup asked 1100 (Request 1 (0x0b ∷ []))).state.pending ≡ None
 selects_empties = unfold turn read_of in refl
 
-granted : (turn setup (at Selects) 150 (PresenceIs Granted)).answer ≡ Answered (0x00 ∷ [])
+granted : (turn setup (at AwaitSelectionPresence) 150 (PresenceIs Granted)).answer ≡ Answered (0x00 ∷ [])
 granted = unfold turn in refl
 
-denied : (turn setup (at Selects) 150 (PresenceIs Denied)).answer ≡ Answered (0x27 ∷ [])
+denied : (turn setup (at AwaitSelectionPresence) 150 (PresenceIs Denied)).answer ≡ Answered (0x27 ∷ [])
 denied = unfold turn in refl
 
-timed_out : (turn setup (at Selects) 150 (PresenceIs TimedOut)).answer ≡ Answered (0x2f ∷ [])
+timed_out : (turn setup (at AwaitSelectionPresence) 150 (PresenceIs TimedOut)).answer ≡ Answered (0x2f ∷ [])
 timed_out = unfold turn in refl
 
 long_selection : (turn setup idle 160 (Request 1 (0x0b ∷ 0x00 ∷ []))).answer ≡ Answered (0x03 ∷ [])
@@ -53,10 +53,10 @@ resets = unfold turn read_of in refl
 late_reset : (turn setup idle 10001 (Request 1 (0x07 ∷ []))).answer ≡ Answered (0x30 ∷ [])
 late_reset = unfold turn read_of in refl
 
-reset_granted : (turn setup (at Resets) 20000 (PresenceIs Granted)).state.rows ≡ []
+reset_granted : (turn setup (at AwaitResetPresence) 20000 (PresenceIs Granted)).state.rows ≡ []
 reset_granted = unfold turn in refl
 
-reset_late : (turn setup (at Resets) 50 (PresenceIs TimedOut)).answer ≡ Answered (0x2f ∷ [])
+reset_late : (turn setup (at AwaitResetPresence) 50 (PresenceIs TimedOut)).answer ≡ Answered (0x2f ∷ [])
 reset_late = unfold turn in refl
 
 -- a getNextAssertion within thirty seconds on the channel that asked, else not
@@ -83,60 +83,60 @@ next_spent : (turn setup spent 1200 (Request 1 (0x08 ∷ []))).answer ≡ Answer
 next_spent = unfold turn read_of in refl
 
 -- a full table: a new user finds no room, a known one does
-abbrev making_of : (user : ℕ) → Making
+abbrev making_of : (user : ℕ) → MakeState
 making_of user = record
     { hash = replicate 32 17; rp = replicate 32 7; user = user ∷ []; name = []; discoverable = true }
 
-full : (turn setup (at (AsksMake (making_of 3) false)) 50 (PresenceIs Granted)).answer ≡ Answered (0x28 ∷ [])
+full : (turn setup (at (AwaitMakePresence (making_of 3) false)) 50 (PresenceIs Granted)).answer ≡ Answered (0x28 ∷ [])
 full = unfold turn in refl
 
-replacing : (turn setup (at (AsksMake (making_of 0xaa) false)) 50 (PresenceIs Granted)).answer ≡ Waits 1
+replacing : (turn setup (at (AwaitMakePresence (making_of 0xaa) false)) 50 (PresenceIs Granted)).answer ≡ Waits 1
 replacing = unfold turn in refl
 
-excluded_first : (turn setup (at (AsksMake (making_of 3) true)) 50 (PresenceIs TimedOut)).answer ≡ Answered (0x19 ∷ [])
+excluded_first : (turn setup (at (AwaitMakePresence (making_of 3) true)) 50 (PresenceIs TimedOut)).answer ≡ Answered (0x19 ∷ [])
 excluded_first = unfold turn in refl
 
 -- a key whose id is there already, also that of the row that would be replaced
-known_id : (turn setup (at (WantsKey (making_of 0xaa))) 60 (KeyIs
+known_id : (turn setup (at (AwaitKeyPair (making_of 0xaa))) 60 (KeyIs
     (Some (record { id = replicate 32 0xaa; x = []; y = [] })))).answer
     ≡ Answered (0x7f ∷ [])
 known_id = unfold turn in refl
 
 -- a signature where a key is needed
-not_needed : (turn setup (at (WantsKey (making_of 0xaa))) 60 (SignatureIs None)).answer ≡ Ignored
+not_needed : (turn setup (at (AwaitKeyPair (making_of 0xaa))) 60 (SignatureIs None)).answer ≡ Ignored
 not_needed = unfold turn in refl
 
-cancelled : (turn setup (at (WantsKey (making_of 0xaa))) 60 Cancel).answer ≡ Answered (0x2d ∷ [])
+cancelled : (turn setup (at (AwaitKeyPair (making_of 0xaa))) 60 Cancel).answer ≡ Answered (0x2d ∷ [])
 cancelled = unfold turn in refl
 
 -- a registration and a sign-in that the user denies, or doesn't answer in time
-make_denied : (turn setup (at (AsksMake (making_of 3) false)) 50 (PresenceIs Denied)).answer ≡ Answered (0x27 ∷ [])
+make_denied : (turn setup (at (AwaitMakePresence (making_of 3) false)) 50 (PresenceIs Denied)).answer ≡ Answered (0x27 ∷ [])
 make_denied = unfold turn in refl
 
-make_late : (turn setup (at (AsksMake (making_of 3) false)) 50 (PresenceIs TimedOut)).answer ≡ Answered (0x27 ∷ [])
+make_late : (turn setup (at (AwaitMakePresence (making_of 3) false)) 50 (PresenceIs TimedOut)).answer ≡ Answered (0x27 ∷ [])
 make_late = unfold turn in refl
 
-abbrev asserting : Asserting
+abbrev asserting : AssertState
 asserting =
     record { hash = replicate 32 34; rp = replicate 32 7; id = replicate 32 0xaa; presence = true; number = None }
 
-assert_denied : (turn setup (at (AsksAssert asserting)) 50 (PresenceIs Denied)).answer ≡ Answered (0x27 ∷ [])
+assert_denied : (turn setup (at (AwaitAssertPresence asserting)) 50 (PresenceIs Denied)).answer ≡ Answered (0x27 ∷ [])
 assert_denied = unfold turn in refl
 
-assert_late : (turn setup (at (AsksAssert asserting)) 50 (PresenceIs TimedOut)).answer ≡ Answered (0x27 ∷ [])
+assert_late : (turn setup (at (AwaitAssertPresence asserting)) 50 (PresenceIs TimedOut)).answer ≡ Answered (0x27 ∷ [])
 assert_late = unfold turn in refl
 
 -- no key for a registration, and no signature for a sign-in
-no_key : (turn setup (at (WantsKey (making_of 0xaa))) 60 (KeyIs None)).answer ≡ Answered (0x7f ∷ [])
+no_key : (turn setup (at (AwaitKeyPair (making_of 0xaa))) 60 (KeyIs None)).answer ≡ Answered (0x7f ∷ [])
 no_key = unfold turn in refl
 
-no_signature : (turn setup (at (SignsAssert asserting 5 [])) 60 (SignatureIs None)).answer ≡ Answered (0x7f ∷ [])
+no_signature : (turn setup (at (AwaitAssertSignature asserting 5 [])) 60 (SignatureIs None)).answer ≡ Answered (0x7f ∷ [])
 no_signature = unfold turn in refl
 
 -- an RP without a credential, and an allow list that names none of the RP's
 abbrev asks_for : (rp : ℕ) → Bool → List (List ℕ) → Answer
-asks_for rp given allow = (begins idle.rows 1000 1 (replicate 32 34) (replicate 32 rp) true given
-    (ids (applicable idle.rows (replicate 32 rp) given allow))).answer
+asks_for rp given allow = (assertion_turn idle.rows 1000 1 (replicate 32 34) (replicate 32 rp) true given
+    (ids (applicable_rows idle.rows (replicate 32 rp) given allow))).answer
 
 none_found : asks_for 8 false [] ≡ Answered (0x2e ∷ [])
 none_found = refl
@@ -145,5 +145,5 @@ none_allowed : asks_for 7 true (replicate 32 0xac ∷ []) ≡ Answered (0x2e ∷
 none_allowed = refl
 
 -- the number of credentials: of one it is left out, and with an allow list too
-number_told : (told false 1 ≡ None) × (told false 2 ≡ Some 2) × (told true 2 ≡ None)
+number_told : (number_of_credentials false 1 ≡ None) × (number_of_credentials false 2 ≡ Some 2) × (number_of_credentials true 2 ≡ None)
 number_told = (refl, refl, refl)

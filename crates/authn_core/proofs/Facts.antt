@@ -4,21 +4,21 @@ use Rattle.std.proofs.Math.Seq.{take-append_seam}
 use Rattle.ctap_message.specs.{Asked.GetInfo, Requests.read_of, Answers.info_answer}
 use Rattle.authn_core.specs.declared.replies.{Presence.Presence, NewKey.NewKey}
 use Rattle.authn_core.specs.State.{Setup, State, Event, Request, PresenceIs, KeyIs, SignatureIs, Drop, Answered}
-use Rattle.authn_core.specs.{State.Nothing, State.ignores, Ready.Joins}
-use Rattle.authn_core.specs.Turn.{CoreState, working, core_after, core_answer, turn}
+use Rattle.authn_core.specs.{State.Nothing, State.ignore_event, Ready.IsConcatenation}
+use Rattle.authn_core.specs.Turn.{CoreState, working_channel, core_after, core_answer, turn}
 use Rattle.authn_core.specs.Views.{wants_presence, wants_key, wants_signature}
 
 -- A reply that the waiting work doesn't need leaves the state, and is answered by nothing.
 pub presence_ignored : (u : Setup) (s : State) (t : ℕ) (p : Presence) → wants_presence s.work ≡ false
-    → turn u s t (PresenceIs p) ≡ ignores s
+    → turn u s t (PresenceIs p) ≡ ignore_event s
 presence_ignored u s t p h = unfold turn in grind arith
 
 pub key_ignored : (u : Setup) (s : State) (t : ℕ) (key : Option NewKey) → wants_key s.work ≡ false
-    → turn u s t (KeyIs key) ≡ ignores s
+    → turn u s t (KeyIs key) ≡ ignore_event s
 key_ignored u s t key h = unfold turn in grind arith
 
 pub signature_ignored : (u : Setup) (s : State) (t : ℕ) (sig : Option (List ℕ)) → wants_signature s.work ≡ false
-    → turn u s t (SignatureIs sig) ≡ ignores s
+    → turn u s t (SignatureIs sig) ≡ ignore_event s
 signature_ignored u s t sig h = unfold turn in grind arith
 
 -- ---- with channels that were given out
@@ -34,9 +34,9 @@ EventIsGiven given (Request cid bytes) = (1 ≤ cid) × (cid ≤ given)
 EventIsGiven given e = Unit {0}
 
 -- Work is on the channel that it was on, or on the request's.
-pub work_stays_given : (given : ℕ) (core : CoreState) (at : ℕ) (e : Event) → IsGiven given (working core)
+pub work_stays_given : (given : ℕ) (core : CoreState) (at : ℕ) (e : Event) → IsGiven given (working_channel core)
     → EventIsGiven given e
-    → IsGiven given (working (core_after core at e))
+    → IsGiven given (working_channel (core_after core at e))
 work_stays_given given core at e w h = unfold turn in grind arith
 
 -- A drop of an authenticator answers nothing.
@@ -49,6 +49,6 @@ pub info_answered : (core : CoreState) (at cid : ℕ) (bytes : List ℕ) → rea
 info_answered core at cid bytes asks = unfold turn in cc
 
 -- The authenticator data are the front of what is signed.
-pub data_signed : {signed front hash : List ℕ} {n : ℕ} (bytes : List ℕ) → bytes ≡ signed → Joins signed front hash n
+pub data_signed : {signed front hash : List ℕ} {n : ℕ} (bytes : List ℕ) → bytes ≡ signed → IsConcatenation signed front hash n
     → take n bytes ≡ front
 data_signed {front = front} {hash = hash} bytes same j = rw (same, j.bytes, ← j.len) (take-append_seam front hash)

@@ -7,110 +7,110 @@ use Rattle.std.proofs.Common.{Option, Some, None, option_to_list, is_some, Resul
 use Rattle.std.proofs.lemmas.{Grind.flat_map-append, Slice.Eq.bytes_eq-Decides}
 use Rattle.std.specs.List.{AllByRecursion, find, list_any}
 use Rattle.cred_table.{specs.declared.row.Row.Row, proofs.Basics.same_bytes}
-use Rattle.cred_table.specs.Rows.{Lawful, has_id, same_id, no_two, raised, stored, counter_of}
-use Rattle.ctap_message.specs.Asked.{Asked}
-use Rattle.authn_core.specs.State.{Setup, SignsAssert, ChannelTask, State, Event}
-use Rattle.authn_core.specs.Turn.{CoreState, core_after, requested, turn}
+use Rattle.cred_table.specs.Rows.{ValidRows, has_id, same_id, no_two, rows_incremented, rows_with, counter_of}
+use Rattle.ctap_message.specs.Asked.{RequestParameters}
+use Rattle.authn_core.specs.State.{Setup, AwaitAssertSignature, PendingTask, State, Event}
+use Rattle.authn_core.specs.Turn.{CoreState, core_after, request_turn, turn}
 use Rattle.authn_core.specs.{Ready.Ready, Ready.PendingReady, Views.needs, Views.sign}
-use Rattle.authn_core.specs.Marks.{Mark, mark, marked, made_replaces, is_raised, stays, left, rows_among, Step, Comes}
-use Rattle.authn_core.specs.Marks.{Orderly, Text, core_at, marks, makes_id, makings, raised_by, signs_by, text_of}
+use Rattle.authn_core.specs.Marks.{CredentialChange, change_by, apply_change, is_replaced_by, is_incremented, is_kept, row_if_kept, rows_among, TimedEvent, MayComeNow}
+use Rattle.authn_core.specs.Marks.{Orderly, SignedText, core_at, changes, creates_id, creation_count, incremented_by, signs_by, text_of}
 use Rattle.authn_core.specs.Marks.{texts, same_text, all_differ}
 use Rattle.authn_core.specs.Rising.{above_all, all_rise, IsTextOf, IsNewest}
 use Rattle.authn_core.proofs.Readiness.{all_along, all_found, applicable_there, core_sound, find_raised, found}
 
 -- ---- what a mark does
 
-pub mark_keeps : (rows : List Row) → marked (record { made = None; raises = None; resets = false }) rows ≡ rows
+pub mark_keeps : (rows : List Row) → apply_change (record { made = None; raises = None; resets = false }) rows ≡ rows
 mark_keeps [] = refl
 mark_keeps (r ∷ rows) = grind (arith, mark_keeps rows)
 
-pub mark_resets : (rows : List Row) → marked (record { made = None; raises = None; resets = true }) rows ≡ []
+pub mark_resets : (rows : List Row) → apply_change (record { made = None; raises = None; resets = true }) rows ≡ []
 mark_resets [] = refl
 mark_resets (r ∷ rows) = mark_resets rows
 
 pub mark_raises : (id : List ℕ) (rows : List Row)
-    → marked (record { made = None; raises = Some id; resets = false }) rows ≡ raised id rows
+    → apply_change (record { made = None; raises = Some id; resets = false }) rows ≡ rows_incremented id rows
 mark_raises id [] = refl
 mark_raises id (r ∷ rows) = grind (arith, mark_raises id rows)
 
 pub mark_makes : (new : Row) (rows : List Row)
-    → marked (record { made = Some new; raises = None; resets = false }) rows ≡ stored new rows
+    → apply_change (record { made = Some new; raises = None; resets = false }) rows ≡ rows_with new rows
 mark_makes new [] = refl
 mark_makes new (r ∷ rows) = grind (arith, mark_makes new rows)
 
 -- what is ignored leaves the work
-pub raises_none : (w : Option ChannelTask) → raised_by w w ≡ None
+pub raises_none : (w : Option PendingTask) → incremented_by w w ≡ None
 raises_none w = grind (arith, same_bytes)
 
 -- Every turn does to the rows what its mark says.
-pub turn_marked : (u : Setup) (s : State) (t : ℕ) (e : Event) → Comes s.work e
-    → (turn u s t e).state.rows ≡ marked (mark s.work e (turn u s t e).state.work) s.rows
+pub turn_marked : (u : Setup) (s : State) (t : ℕ) (e : Event) → MayComeNow s.work e
+    → (turn u s t e).state.rows ≡ apply_change (change_by s.work e (turn u s t e).state.work) s.rows
 unfolding turn
 turn_marked u s t e c = grind (arith, mark_keeps, mark_resets, mark_raises, mark_makes, raises_none)
 
 -- ---- what marks leave
 
 -- What is asked of a row doesn't depend on its counter.
-replaced_same : (n : ℕ) (r : Row) (o : Option Row) → made_replaces o (record r { counter = n }) ≡ made_replaces o r
+replaced_same : (n : ℕ) (r : Row) (o : Option Row) → is_replaced_by o (record r { counter = n }) ≡ is_replaced_by o r
 replaced_same n r o = grind arith
 
-raised_same : (n : ℕ) (r : Row) (o : Option (List ℕ)) → is_raised o (record r { counter = n }) ≡ is_raised o r
+raised_same : (n : ℕ) (r : Row) (o : Option (List ℕ)) → is_incremented o (record r { counter = n }) ≡ is_incremented o r
 raised_same n r o = grind arith
 
-left_counted : (n : ℕ) (r : Row) (ms : List Mark) → left ms (record r { counter = n })
-    ≡ cond (stays ms r) ((record r { counter = n + length (filter (λ m. is_raised m.raises r) ms) }) ∷ []) []
+left_counted : (n : ℕ) (r : Row) (ms : List CredentialChange) → row_if_kept ms (record r { counter = n })
+    ≡ cond (is_kept ms r) ((record r { counter = n + length (filter (λ m. is_incremented m.raises r) ms) }) ∷ []) []
 left_counted n r ms = simp (replaced_same n r, raised_same n r)
 
 -- the marks of one step and then later ones
-one_left : (m : Mark) (later : List Mark) (r : Row) → left (m ∷ later) r ≡ flat_map (left later) (left (m ∷ []) r)
+one_left : (m : CredentialChange) (later : List CredentialChange) (r : Row) → row_if_kept (m ∷ later) r ≡ flat_map (row_if_kept later) (row_if_kept (m ∷ []) r)
 one_left m later r = grind (arith, left_counted)
 
-pub all_left : (m : Mark) (later : List Mark) (rows : List Row)
-    → flat_map (left (m ∷ later)) rows ≡ flat_map (left later) (flat_map (left (m ∷ [])) rows)
+pub all_left : (m : CredentialChange) (later : List CredentialChange) (rows : List Row)
+    → flat_map (row_if_kept (m ∷ later)) rows ≡ flat_map (row_if_kept later) (flat_map (row_if_kept (m ∷ [])) rows)
 all_left m later [] = refl
 all_left m later (r ∷ rows) = grind (arith, one_left, all_left m later rows)
 
 -- no later marks leave all
-pub none_later : (rows : List Row) → flat_map (left []) rows ≡ rows
+pub none_later : (rows : List Row) → flat_map (row_if_kept []) rows ≡ rows
 none_later [] = refl
 none_later (r ∷ rows) = grind (arith, none_later rows)
 
 -- ---- the rows after a history
 
 -- the rows after a history, with later marks, are those that the filters name
-pub rows_left : (start : CoreState) (h : List Step) (later : List Mark) → Orderly start h
-    → flat_map (left later) (core_at start h).state.rows ≡ rows_among start.state.rows later (marks start h)
-unfolding core_at marks Orderly rows_among
+pub rows_left : (start : CoreState) (h : List TimedEvent) (later : List CredentialChange) → Orderly start h
+    → flat_map (row_if_kept later) (core_at start h).state.rows ≡ rows_among start.state.rows later (changes start h)
+unfolding core_at changes Orderly rows_among
 rows_left start [] later o = refl
 rows_left start (x ∷ past) later o = grind (arith, all_left, flat_map-append, turn_marked, rows_left start past)
 
 -- ---- what text a turn adds
 
-abbrev pub signed_of : Option ChannelTask → List ℕ
+abbrev pub signed_of : Option PendingTask → List ℕ
 signed_of None = []
-signed_of (Some w) = elim w.task as (λ k. List ℕ) [ SignsAssert a n d ↦ d | k ↦ [] ]
+signed_of (Some w) = elim w.task as (λ k. List ℕ) [ AwaitAssertSignature a n d ↦ d | k ↦ [] ]
 
 -- A text that a turn adds is of the row that it raises, with the raised counter.
-pub record IsAdded (h : List Mark) (rows : List Row) (s : State) (t : Text) : Type 0 where
-  pub making : t.making ≡ makings t.id h
+pub record IsAdded (h : List CredentialChange) (rows : List Row) (s : State) (t : SignedText) : Type 0 where
+  pub making : t.making ≡ creation_count t.id h
   pub there : is_some (find (has_id t.id) rows) ≡ true
   pub counter : t.counter ≡ counter_of t.id rows + 1
-  pub raises : s.rows ≡ raised t.id rows
+  pub raises : s.rows ≡ rows_incremented t.id rows
   pub needed : needs s.work ≡ sign t.id (signed_of s.work)
 
 -- Where it adds none, a state that waits for an assertion's signature is the one before.
-abbrev pub Adds : (h : List Mark) (before now : State) → Option Text → Type 0
+abbrev pub Adds : (h : List CredentialChange) (before now : State) → Option SignedText → Type 0
 Adds h before now None = (id : List ℕ) → signs_by id now.work ≡ true → now ≡ before
 Adds h before now (Some t) = IsAdded h before.rows now t
 
-requested_adds : (h : List Mark) (u : Setup) (s : State) (t cid : ℕ) (read : Result Asked ℕ)
+requested_adds : (h : List CredentialChange) (u : Setup) (s : State) (t cid : ℕ) (read : Result RequestParameters ℕ)
     → PendingReady s.rows s.pending
-    → let x = (requested u s.rows s.pending t cid read).state in
-    Adds h (record s { work = None }) x (text_of h (raised_by None x.work) x.work)
+    → let x = (request_turn u s.rows s.pending t cid read).state in
+    Adds h (record s { work = None }) x (text_of h (incremented_by None x.work) x.work)
 requested_adds h u s t cid read p = search (rules, arith, applicable_there)
 
-pub turn_adds : (h : List Mark) (u : Setup) (s : State) (t : ℕ) (e : Event) → Comes s.work e → Ready u.capacity s
-    → let x = (turn u s t e).state in Adds h s x (text_of h (raised_by s.work x.work) x.work)
+pub turn_adds : (h : List CredentialChange) (u : Setup) (s : State) (t : ℕ) (e : Event) → MayComeNow s.work e → Ready u.capacity s
+    → let x = (turn u s t e).state in Adds h s x (text_of h (incremented_by s.work x.work) x.work)
 unfolding turn
 turn_adds h u s t e c r = grind (arith, raises_none, requested_adds)
 
@@ -121,23 +121,23 @@ abbrev pub AllAbove : List ℕ → ℕ → List Row → Type 0
 AllAbove id n rows = AllByRecursion (λ r. has_id id r ≡ true → n ≤ r.counter) rows
 
 -- a mark that makes no row of the id lowers none of its counters
-above_marked : (id : List ℕ) (n : ℕ) (m : Mark) (rows : List Row) → makes_id id m ≡ false → AllAbove id n rows
-    → AllAbove id n (marked m rows)
+above_marked : (id : List ℕ) (n : ℕ) (m : CredentialChange) (rows : List Row) → creates_id id m ≡ false → AllAbove id n rows
+    → AllAbove id n (apply_change m rows)
 above_marked id n m [] e h = grind arith
 above_marked id n m (r ∷ rows) e h = grind (arith, above_marked id n m rows e h.1)
 
 -- A text is of an earlier making, or the rows with its id are above it.
-pub record Bounded (h : List Mark) (rows : List Row) (t : Text) : Type 0 where
-  pub earlier : t.making ≤ makings t.id h
-  pub above : t.making ≡ makings t.id h → AllAbove t.id t.counter rows
+pub record Bounded (h : List CredentialChange) (rows : List Row) (t : SignedText) : Type 0 where
+  pub earlier : t.making ≤ creation_count t.id h
+  pub above : t.making ≡ creation_count t.id h → AllAbove t.id t.counter rows
 
-bounded_more : (h : List Mark) (rows : List Row) (m : Mark) (t : Text) → Bounded h rows t
-    → Bounded (m ∷ h) (marked m rows) t
+bounded_more : (h : List CredentialChange) (rows : List Row) (m : CredentialChange) (t : SignedText) → Bounded h rows t
+    → Bounded (m ∷ h) (apply_change m rows) t
 bounded_more h rows m t b = grind (arith, above_marked)
 
-new_above : (h : List Mark) (rows : List Row) (id : List ℕ) (ts : List Text) → is_some (find (has_id id) rows) ≡ true
+new_above : (h : List CredentialChange) (rows : List Row) (id : List ℕ) (ts : List SignedText) → is_some (find (has_id id) rows) ≡ true
     → AllByRecursion (Bounded h rows) ts →
-    above_all (record { id = id; making = makings id h; counter = counter_of id rows + 1 }) ts ≡ true
+    above_all (record { id = id; making = creation_count id h; counter = counter_of id rows + 1 }) ts ≡ true
 new_above h rows id [] e b = refl
 new_above h rows id (t ∷ ts) e b =
     let counters = found (λ r. has_id t.id r ≡ true → t.counter ≤ r.counter) (has_id id) rows in
@@ -146,16 +146,16 @@ new_above h rows id (t ∷ ts) e b =
 -- ---- what holds of the texts of every history
 
 -- `work` is that of the start.
-pub record Tells (work : Option ChannelTask) (h : List Mark) (s : State) (ts : List Text) : Type 0 where
+pub record Tells (work : Option PendingTask) (h : List CredentialChange) (s : State) (ts : List SignedText) : Type 0 where
   pub bounded : AllByRecursion (Bounded h s.rows) ts
   pub rise : all_rise ts ≡ true
   pub newest : work ≡ None → (id : List ℕ) → signs_by id s.work ≡ true → IsNewest ts s
 
-text_is : (h : List Mark) (rows : List Row) (s : State) (t : Text) → IsAdded h rows s t → IsTextOf t s
+text_is : (h : List CredentialChange) (rows : List Row) (s : State) (t : SignedText) → IsAdded h rows s t → IsTextOf t s
 text_is h rows s t a = grind (arith, find_raised, same_bytes)
 
-tells_more : (work : Option ChannelTask) (h : List Mark) (s x : State) (m : Mark) (o : Option Text) (ts : List Text)
-    → x.rows ≡ marked m s.rows → no_two same_id x.rows ≡ true → Adds h s x o → Tells work h s ts
+tells_more : (work : Option PendingTask) (h : List CredentialChange) (s x : State) (m : CredentialChange) (o : Option SignedText) (ts : List SignedText)
+    → x.rows ≡ apply_change m s.rows → no_two same_id x.rows ≡ true → Adds h s x o → Tells work h s ts
     → Tells work (m ∷ h) x (option_to_list o ++ ts)
 tells_more work h s x m None ts e d a b = grind (arith, all_along, bounded_more)
 tells_more work h s x m (Some t) ts e d a b = record {
@@ -166,28 +166,28 @@ tells_more work h s x m (Some t) ts e d a b = record {
   newest = λ _ _ _. record { text = t; past = ts; first = refl; told = text_is h s.rows x t a };
 }
 
-pub history_tells : (start : CoreState) (h : List Step) → Ready start.setup.capacity start.state
-    → Lawful start.setup.capacity start.state.rows
-    → Orderly start h → Tells start.state.work (marks start h) (core_at start h).state (texts start h)
-unfolding core_at marks texts Orderly
+pub history_tells : (start : CoreState) (h : List TimedEvent) → Ready start.setup.capacity start.state
+    → ValidRows start.setup.capacity start.state.rows
+    → Orderly start h → Tells start.state.work (changes start h) (core_at start h).state (texts start h)
+unfolding core_at changes texts Orderly
 history_tells start [] r l o = record { bounded = tt; rise = refl; newest = λ n id w. grind arith }
 history_tells start (x ∷ past) r l o =
     let k = core_at start past in
-    tells_more start.state.work (marks start past) k.state (core_after k x.at x.event).state _ _ (texts start past)
+    tells_more start.state.work (changes start past) k.state (core_after k x.at x.event).state _ _ (texts start past)
     (turn_marked k.setup k.state x.at x.event o.0) (core_sound start (x ∷ past) r l).lawful.distinct
-    (turn_adds (marks start past) k.setup k.state x.at x.event o.0 (core_sound start past r l).ready)
+    (turn_adds (changes start past) k.setup k.state x.at x.event o.0 (core_sound start past r l).ready)
     (history_tells start past r l o.1)
 
 -- texts that rise differ
-none_same : (t : Text) (ts : List Text) → above_all t ts ≡ true → list_any (same_text t) ts ≡ false
+none_same : (t : SignedText) (ts : List SignedText) → above_all t ts ≡ true → list_any (same_text t) ts ≡ false
 none_same t [] h = refl
 none_same t (x ∷ ts) h = grind (arith, none_same t ts)
 
-pub rise_differ : (ts : List Text) → all_rise ts ≡ true → all_differ ts ≡ true
+pub rise_differ : (ts : List SignedText) → all_rise ts ≡ true → all_differ ts ≡ true
 rise_differ [] h = refl
 rise_differ (t ∷ ts) h = grind (arith, none_same, rise_differ ts)
 
-pub told : (h : List Mark) (before now : State) (o : Option Text) (ts : List Text) (t : Text) → Adds h before now o
+pub told : (h : List CredentialChange) (before now : State) (o : Option SignedText) (ts : List SignedText) (t : SignedText) → Adds h before now o
     → option_to_list o ++ ts ≡ t ∷ ts → IsTextOf t now
 told h before now None ts t a e = absurd (let n : length ts ≡ length (t ∷ ts) = ap length e in omega arith)
 told h before now (Some x) ts t a e = subst (λ v. IsTextOf v now) (cc) (text_is h before.rows now x a)

@@ -1,17 +1,17 @@
 -- Each turn, over every history, answers what happened names.
 use Rattle.std.proofs.Common.{rules, ◌≡◌, ℕ, List, [], ◌∷◌, true, false, Option, None, option_map, Result, refl, sym}
 use Rattle.std.{proofs.Common.arith, specs.Option.option_or}
-use Rattle.cred_table.specs.{declared.row.Row.Row, Rows.Lawful, Rows.same_id, Rows.no_two}
-use Rattle.ctap_message.specs.{Asked.Asked, Requests.read_of}
-use Rattle.authn_core.specs.State.{ChannelTask, State, Event, Request, PresenceIs, KeyIs, SignatureIs, Cancel, Drop}
-use Rattle.authn_core.specs.State.{Answer, Answered, Waits, Turned, status, waits}
-use Rattle.authn_core.specs.Turn.{Start, first_state, requested, reply_turn, turn}
-use Rattle.authn_core.specs.Marks.{Mark, marked, rows_among, Step, Comes, Orderly, core_at}
+use Rattle.cred_table.specs.{declared.row.Row.Row, Rows.ValidRows, Rows.same_id, Rows.no_two}
+use Rattle.ctap_message.specs.{Asked.RequestParameters, Requests.read_of}
+use Rattle.authn_core.specs.State.{PendingTask, State, Event, Request, PresenceIs, KeyIs, SignatureIs, Cancel, Drop}
+use Rattle.authn_core.specs.State.{Answer, Answered, Waits, TurnResult, status, await_reply}
+use Rattle.authn_core.specs.Turn.{Start, first_state, request_turn, reply_turn, turn}
+use Rattle.authn_core.specs.Marks.{CredentialChange, apply_change, rows_among, TimedEvent, MayComeNow, Orderly, core_at}
 use Rattle.authn_core.specs.{Ready.WorkReady, Views.as_work}
-use Rattle.authn_core.specs.Exchanges.{waiting_in, Exchange, Unanswered, asked_on, rows_after, unanswered, waits_after}
-use Rattle.authn_core.specs.Assertions.{Series, continues, series, begins_series}
-use Rattle.authn_core.specs.Answers.{to_request, asked_assertion, made_in, resets_in, to_any_reply, raised_for}
-use Rattle.authn_core.specs.Answers.{answer_to, did, exchange, exchanges}
+use Rattle.authn_core.specs.Exchanges.{work_of_request, Exchange, PendingRequest, begin_pending_request, rows_after, pending_request, pending_after}
+use Rattle.authn_core.specs.Assertions.{AssertionSeries, continues_series, latest_series, begins_series}
+use Rattle.authn_core.specs.Answers.{request_answer, requested_assertion, created_credential, resets_credentials, pending_reply_answer, incremented_credential}
+use Rattle.authn_core.specs.Answers.{answer_to, credential_change, exchange, exchanges}
 use Rattle.authn_core.proofs.{Answering.rows_marked, Readiness.core_sound, Served.request_served}
 use Rattle.authn_core.proofs.Histories.{none_later, mark_keeps}
 use Rattle.authn_core.proofs.Told.{WorkTold, reply_answers, made_same, reply_rows, reply_waits, PendingTold, reply_goes}
@@ -19,19 +19,19 @@ use Rattle.authn_core.proofs.Served.{assertion_of_read, asked_read, BeginsTold, 
 
 -- ---- replies, where there is work or none
 
-abbrev pub reply_did : Start → Option Unanswered → Event → Answer → Mark
+abbrev pub reply_did : Start → Option PendingRequest → Event → Answer → CredentialChange
 reply_did start o e answer =
-    record { made = made_in o e; raises = raised_for (asked_assertion start o) answer; resets = resets_in o e }
+    record { made = created_credential o e; raises = incremented_credential (requested_assertion start o) answer; resets = resets_credentials o e }
 
-pub any_reply_answers : (start : Start) (past : List Exchange) (s : State) (at : ℕ) (w : Option ChannelTask)
-    (o : Option Unanswered) (e : Event)
+pub any_reply_answers : (start : Start) (past : List Exchange) (s : State) (at : ℕ) (w : Option PendingTask)
+    (o : Option PendingRequest) (e : Event)
     → s.rows ≡ rows_after start past → WorkTold start s.rows w o
-    → (reply_turn (first_state start).setup s at w e).answer ≡ to_any_reply start past o e
+    → (reply_turn (first_state start).setup s at w e).answer ≡ pending_reply_answer start past o e
 any_reply_answers start past s at w o e r h = search (rules, arith, reply_answers)
 
-pub any_reply_rows : (start : Start) (s : State) (at : ℕ) (w : Option ChannelTask) (o : Option Unanswered) (e : Event)
+pub any_reply_rows : (start : Start) (s : State) (at : ℕ) (w : Option PendingTask) (o : Option PendingRequest) (e : Event)
     → WorkTold start s.rows w o → let t = reply_turn (first_state start).setup s at w e in
-    t.state.rows ≡ marked (reply_did start o e t.answer) s.rows
+    t.state.rows ≡ apply_change (reply_did start o e t.answer) s.rows
 any_reply_rows start s at w o e h = grind (arith, made_same, mark_keeps, reply_rows)
 
 -- a reply is not a request
@@ -41,23 +41,23 @@ IsReply (KeyIs key) = Unit {0}
 IsReply (SignatureIs sig) = Unit {0}
 IsReply e = ⊥
 
-pub any_reply_waits : (start : Start) (past : List Exchange) (s : State) (at : ℕ) (w : Option ChannelTask)
-    (o : Option Unanswered) (e : Event)
+pub any_reply_waits : (start : Start) (past : List Exchange) (s : State) (at : ℕ) (w : Option PendingTask)
+    (o : Option PendingRequest) (e : Event)
     → IsReply e → s.work ≡ w → WorkReady start.capacity s.rows w → WorkTold start s.rows w o
     → let t = reply_turn (first_state start).setup s at w e in
-    WorkTold start t.state.rows t.state.work (waits_after e t.answer past o)
+    WorkTold start t.state.rows t.state.work (pending_after e t.answer past o)
 any_reply_waits start past s at w o e i k r h = grind (arith, reply_waits)
 
-pub reply_since : (start : Start) (s : State) (at : ℕ) (w : Option ChannelTask) (o : Option Series) (e : Event)
-    (m : Mark)
+pub reply_since : (start : Start) (s : State) (at : ℕ) (w : Option PendingTask) (o : Option AssertionSeries) (e : Event)
+    (m : CredentialChange)
     → IsReply e → s.work ≡ w → PendingTold start s o
     → let t = reply_turn (first_state start).setup s at w e in
     PendingTold start t.state (since_too (record { at = at; event = e; answer = t.answer; did = m }) o)
 reply_since start s at w o e m i k p = grind (arith, reply_goes)
 
-pub any_reply_goes : (start : Start) (past : List Exchange) (s : State) (at : ℕ) (w : Option ChannelTask)
-    (o : Option Series)
-    (e : Event) (m : Mark)
+pub any_reply_goes : (start : Start) (past : List Exchange) (s : State) (at : ℕ) (w : Option PendingTask)
+    (o : Option AssertionSeries)
+    (e : Event) (m : CredentialChange)
     → IsReply e → s.work ≡ w → PendingTold start s o
     → let t = reply_turn (first_state start).setup s at w e in
     PendingTold start t.state (option_or (begins_series e t.answer past)
@@ -67,16 +67,16 @@ any_reply_goes start past s at w o e m i k p = grind (arith, reply_since)
 -- ---- turns
 
 -- A turn was taken: its answer, its rows, what waits and what is pending.
-pub record Kept (start : Start) (past : List Exchange) (at : ℕ) (e : Event) (t : Turned) : Type 0 where
+pub record Kept (start : Start) (past : List Exchange) (at : ℕ) (e : Event) (t : TurnResult) : Type 0 where
   pub answer : t.answer ≡ answer_to start past at e
-  pub rows : t.state.rows ≡ marked (did start past e t.answer) (rows_after start past)
-  pub work : WorkTold start t.state.rows t.state.work (waits_after e t.answer past (unanswered past))
+  pub rows : t.state.rows ≡ apply_change (credential_change start past e t.answer) (rows_after start past)
+  pub work : WorkTold start t.state.rows t.state.work (pending_after e t.answer past (pending_request past))
   pub pending : PendingTold start t.state (option_or (begins_series e t.answer past)
-      (since_too (record { at = at; event = e; answer = t.answer; did = did start past e t.answer }) (series past)))
+      (since_too (record { at = at; event = e; answer = t.answer; did = credential_change start past e t.answer }) (latest_series past)))
 
 pub reply_kept : (start : Start) (past : List Exchange) (s : State) (at : ℕ) (e : Event) → IsReply e
-    → s.rows ≡ rows_after start past → WorkTold start s.rows s.work (unanswered past) →
-    PendingTold start s (series past)
+    → s.rows ≡ rows_after start past → WorkTold start s.rows s.work (pending_request past) →
+    PendingTold start s (latest_series past)
     → WorkReady start.capacity s.rows s.work → Kept start past at e (reply_turn (first_state start).setup s at s.work e)
 unfolding answer_to
 reply_kept start past s at e i r w p k =
@@ -88,25 +88,25 @@ IsTaken (Answered bytes) = Unit {0}
 IsTaken (Waits status) = Unit {0}
 IsTaken answer = ⊥
 
-pub request_taken : (start : Start) (past : List Exchange) (at cid : ℕ) (read : Result Asked ℕ) →
-    IsTaken (to_request start past at cid read)
+pub request_taken : (start : Start) (past : List Exchange) (at cid : ℕ) (read : Result RequestParameters ℕ) →
+    IsTaken (request_answer start past at cid read)
 request_taken start past at cid read = grind arith
 
-pub made_none : (o : Option Unanswered) (cid : ℕ) (bytes : List ℕ) → made_in o (Request cid bytes) ≡ None
+pub made_none : (o : Option PendingRequest) (cid : ℕ) (bytes : List ℕ) → created_credential o (Request cid bytes) ≡ None
 made_none o cid bytes = grind arith
 
-pub resets_none : (o : Option Unanswered) (cid : ℕ) (bytes : List ℕ) → resets_in o (Request cid bytes) ≡ false
+pub resets_none : (o : Option PendingRequest) (cid : ℕ) (bytes : List ℕ) → resets_credentials o (Request cid bytes) ≡ false
 resets_none o cid bytes = grind arith
 
-pub begins_so : (start : Start) (past : List Exchange) (rows : List Row) (w : Option ChannelTask) (cid : ℕ)
+pub begins_so : (start : Start) (past : List Exchange) (rows : List Row) (w : Option PendingTask) (cid : ℕ)
     (bytes : List ℕ)
-    (o : Option Unanswered) (answer : Answer)
+    (o : Option PendingRequest) (answer : Answer)
     → IsTaken answer → BeginsTold rows w cid (read_of bytes) (assertion_of_read start past (read_of bytes)) answer
-    → WorkTold start rows w (waits_after (Request cid bytes) answer past o)
+    → WorkTold start rows w (pending_after (Request cid bytes) answer past o)
 begins_so start past rows w cid bytes o answer i h = grind arith
 
 pub goes_so : (cid : ℕ) (bytes : List ℕ) (answer : Answer) → IsTaken answer
-    → continues (Request cid bytes) answer ≡ next_goes_on (read_of bytes) answer
+    → continues_series (Request cid bytes) answer ≡ next_goes_on (read_of bytes) answer
 goes_so cid bytes answer i = grind arith
 
 pub begun_so : (cid : ℕ) (bytes : List ℕ) (answer : Answer) (past : List Exchange)
@@ -114,31 +114,31 @@ pub begun_so : (cid : ℕ) (bytes : List ℕ) (answer : Answer) (past : List Exc
 begun_so cid bytes answer past = grind arith
 
 pub request_kept : (start : Start) (past : List Exchange) (s : State) (at cid : ℕ) (bytes : List ℕ) → s.work ≡ None
-    → s.rows ≡ rows_after start past → PendingTold start s (series past) → no_two same_id s.rows ≡ true
-    → Kept start past at (Request cid bytes) (requested (first_state start).setup s.rows s.pending at cid
+    → s.rows ≡ rows_after start past → PendingTold start s (latest_series past) → no_two same_id s.rows ≡ true
+    → Kept start past at (Request cid bytes) (request_turn (first_state start).setup s.rows s.pending at cid
     (read_of bytes))
 unfolding answer_to
 request_kept start past s at cid bytes w r p d =
-    let t = requested (first_state start).setup s.rows s.pending at cid (read_of bytes) in
+    let t = request_turn (first_state start).setup s.rows s.pending at cid (read_of bytes) in
     let v = request_served start past s at cid (read_of bytes) w r p d in
     let i : IsTaken t.answer = rw v.answer (request_taken start past at cid (read_of bytes)) in
     record {
       answer = v.answer;
       rows = rw (
-        made_none (asked_on cid 0 past (read_of bytes)) cid bytes,
-        resets_none (asked_on cid 0 past (read_of bytes)) cid bytes,
+        made_none (begin_pending_request cid 0 past (read_of bytes)) cid bytes,
+        resets_none (begin_pending_request cid 0 past (read_of bytes)) cid bytes,
         asked_read start past cid 0 (read_of bytes),
         ← r,
       ) v.rows;
-      work = begins_so start past t.state.rows t.state.work cid bytes (unanswered past) t.answer i v.work;
+      work = begins_so start past t.state.rows t.state.work cid bytes (pending_request past) t.answer i v.work;
       pending = rw (begun_so cid bytes t.answer past)
-          (v.pending (record { at = at; event = Request cid bytes; answer = t.answer; did = did start past (Request cid bytes) t.answer }) refl
+          (v.pending (record { at = at; event = Request cid bytes; answer = t.answer; did = credential_change start past (Request cid bytes) t.answer }) refl
           (goes_so cid bytes t.answer i));
     }
 
-pub turn_kept : (start : Start) (past : List Exchange) (s : State) (at : ℕ) (e : Event) → Comes s.work e
-    → s.rows ≡ rows_after start past → WorkTold start s.rows s.work (unanswered past) →
-    PendingTold start s (series past)
+pub turn_kept : (start : Start) (past : List Exchange) (s : State) (at : ℕ) (e : Event) → MayComeNow s.work e
+    → s.rows ≡ rows_after start past → WorkTold start s.rows s.work (pending_request past) →
+    PendingTold start s (latest_series past)
     → WorkReady start.capacity s.rows s.work → no_two same_id s.rows ≡ true →
     Kept start past at e (turn (first_state start).setup s at e)
 unfolding turn answer_to
@@ -154,19 +154,19 @@ turn_kept start past s at (SignatureIs sig) c r w p k d = reply_kept start past 
 -- what holds of an authenticator after what happened
 pub record Told (start : Start) (s : State) (past : List Exchange) : Type 0 where
   pub rows : s.rows ≡ rows_after start past
-  pub work : WorkTold start s.rows s.work (unanswered past)
-  pub pending : PendingTold start s (series past)
+  pub work : WorkTold start s.rows s.work (pending_request past)
+  pub pending : PendingTold start s (latest_series past)
 
 pub no_rows : (start : Start) → start.rows ≡ rows_after start []
 unfolding rows_among
 no_rows start = sym (none_later start.rows)
 
-pub one_told : (start : Start) (past : List Exchange) (at : ℕ) (e : Event) (t : Turned) → Kept start past at e t
+pub one_told : (start : Start) (past : List Exchange) (at : ℕ) (e : Event) (t : TurnResult) → Kept start past at e t
     → Told start t.state (exchange start past at e ∷ past)
-unfolding unanswered series
+unfolding pending_request latest_series
 one_told start past at e t k = search (rules, arith, rows_marked)
 
-pub turn_at : (start : Start) (h : List Step) (x : Step) → Lawful start.capacity start.rows →
+pub turn_at : (start : Start) (h : List TimedEvent) (x : TimedEvent) → ValidRows start.capacity start.rows →
     Orderly (first_state start) (x ∷ h)
     → Told start (core_at (first_state start) h).state (exchanges start h)
     → Kept start (exchanges start h) x.at x.event (turn (core_at (first_state start) h).setup
@@ -178,14 +178,14 @@ turn_at start h x l o g =
     rw s.setup (turn_kept start (exchanges start h) c.state x.at x.event o.0 g.rows g.work g.pending
     (rw s.setup at s.ready.work) s.lawful.distinct)
 
-pub told_at : (start : Start) (h : List Step) → Lawful start.capacity start.rows → Orderly (first_state start) h
+pub told_at : (start : Start) (h : List TimedEvent) → ValidRows start.capacity start.rows → Orderly (first_state start) h
     → Told start (core_at (first_state start) h).state (exchanges start h)
-unfolding core_at exchanges Orderly unanswered series
+unfolding core_at exchanges Orderly pending_request latest_series
 told_at start [] l o = record { rows = no_rows start; work = refl; pending = refl }
 told_at start (x ∷ past) l o = grind (arith, one_told, turn_at, told_at start past l)
 
 -- what waits, to the transport
-pub waits_told : (start : Start) (past : List Exchange) (s : State) (o : Option Unanswered) →
+pub waits_told : (start : Start) (past : List Exchange) (s : State) (o : Option PendingRequest) →
     WorkTold start s.rows s.work o
-    → option_map as_work s.work ≡ waiting_in o
+    → option_map as_work s.work ≡ work_of_request o
 waits_told start past s o h = search (rules, arith)

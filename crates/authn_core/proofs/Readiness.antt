@@ -4,17 +4,17 @@ use Rattle.std.proofs.Common.{true, false, cond, Option, Some, None, IfSome, opt
 use Rattle.std.{proofs.Common.arith, specs.Str.bytes_eq}
 use Rattle.std.proofs.lemmas.{Grind.common_steps, Slice.Eq.bytes_eq-Decides, List.length-map, List.length-reverse}
 use Rattle.std.specs.List.{AllByRecursion, find, list_any}
-use Rattle.cred_table.specs.{declared.row.Row.Row, Waiting.Waiting, Waiting.pending_count}
-use Rattle.cred_table.specs.Rows.{Lawful, has_id, is_named, same_id, no_two, raised, stored, is_listed, ids}
+use Rattle.cred_table.specs.{declared.row.Row.Row, Waiting.PendingAssertions, Waiting.pending_count}
+use Rattle.cred_table.specs.Rows.{ValidRows, has_id, is_named, same_id, no_two, rows_incremented, rows_with, is_listed, ids}
 use Rattle.cred_table.proofs.{Basics.same_bytes, Raised.Lawful-raised}
 use Rattle.cred_table.proofs.Stored.{Lawful-stored, length-filter, one_replaced}
-use Rattle.ctap_message.specs.Asked.{Asked, GetAssertion}
+use Rattle.ctap_message.specs.Asked.{RequestParameters, GetAssertion}
 use Rattle.ctap_message.specs.{Members.has_entries, Descriptors.ids_of, Requests.read_of}
-use Rattle.authn_core.specs.{declared.replies.NewKey.NewKey, GetAssertion.applicable, Marks.Step, Marks.core_at}
+use Rattle.authn_core.specs.{declared.replies.NewKey.NewKey, GetAssertion.applicable_rows, Marks.TimedEvent, Marks.core_at}
 use Rattle.sha2.specs.Sha256.{sha256}
-use Rattle.authn_core.specs.State.{Setup, Making, State, Event, Request}
-use Rattle.authn_core.specs.{MakeCredential.fits, MakeCredential.new_row, Turn.CoreState, Turn.requested, Turn.turn}
-use Rattle.authn_core.specs.Ready.{AllThere, Ready, PendingReady, WorkReady}
+use Rattle.authn_core.specs.State.{Setup, MakeState, State, Event, Request}
+use Rattle.authn_core.specs.{MakeCredential.has_capacity, MakeCredential.new_row, Turn.CoreState, Turn.request_turn, Turn.turn}
+use Rattle.authn_core.specs.Ready.{AllHaveRows, Ready, PendingReady, WorkReady}
 
 -- ---- rows
 
@@ -39,7 +39,7 @@ listed_all P rp (r ∷ rows) past h a =
 -- What holds of each row of the RP holds of those that may sign.
 pub applicable_all : (P : List ℕ → Type 0) (rows : List Row) (rp : List ℕ) (given : Bool) (allow : List (List ℕ))
     → AllByRecursion (λ r. bytes_eq r.rp rp ≡ true → P r.id) rows
-    → AllByRecursion P (ids (applicable rows rp given allow))
+    → AllByRecursion P (ids (applicable_rows rows rp given allow))
 applicable_all P rows rp false l h = rw append-nil at (listed_all P rp rows [] h tt)
 applicable_all P rows rp true [] h = tt
 applicable_all P rows rp true (id ∷ l) h =
@@ -51,7 +51,7 @@ all_there [] = tt
 all_there (r ∷ rows) = (grind (arith, same_bytes), all_along _ _ rows (λ x e. grind arith) (all_there rows))
 
 pub applicable_there : (rows : List Row) (rp : List ℕ) (given : Bool) (allow : List (List ℕ))
-    → AllThere rows (ids (applicable rows rp given allow))
+    → AllHaveRows rows (ids (applicable_rows rows rp given allow))
 applicable_there rows rp given allow = applicable_all _ rows rp given allow
     (all_along _ _ rows (λ r h _. h) (all_there rows))
 
@@ -69,48 +69,48 @@ all_found (x ∷ rows) d = grind (arith, all_along, apart, same_bytes, all_found
 
 -- Raising raises the one counter, and changes nothing else.
 pub find_raised : (q id : List ℕ) (rows : List Row)
-    → find (has_id q) (raised id rows) ≡ option_map (λ r. cond (bytes_eq q id) (record r { counter = r.counter + 1 }) r)
+    → find (has_id q) (rows_incremented id rows) ≡ option_map (λ r. cond (bytes_eq q id) (record r { counter = r.counter + 1 }) r)
     (find (has_id q) rows)
 find_raised q id [] = refl
 find_raised q id (r ∷ rows) = grind (arith, bytes_eq-Decides, find_raised q id rows)
 
 -- ---- turns
 
-pub pending_raised : (id : List ℕ) (rows : List Row) (p : Option Waiting) → PendingReady rows p
-    → PendingReady (raised id rows) p
+pub pending_raised : (id : List ℕ) (rows : List Row) (p : Option PendingAssertions) → PendingReady rows p
+    → PendingReady (rows_incremented id rows) p
 pending_raised id rows p h = grind (arith, all_along, find_raised)
 
 -- What holds of the rows after each change of them holds after a turn.
 rows_case : (P : List Row → Type 0) (u : Setup) (s : State) (t : ℕ) (e : Event) → WorkReady u.capacity s.rows s.work
     → P s.rows → P []
-    → ((id : List ℕ) → P (raised id s.rows)) → ((m : Making) (key : NewKey) → (fits u.capacity m s.rows ≡ true)
-    × (is_some (find (has_id key.id) s.rows) ≡ false) → P (stored (new_row m key) s.rows)) → P (turn u s t e).state.rows
+    → ((id : List ℕ) → P (rows_incremented id s.rows)) → ((m : MakeState) (key : NewKey) → (has_capacity u.capacity m s.rows ≡ true)
+    × (is_some (find (has_id key.id) s.rows) ≡ false) → P (rows_with (new_row m key) s.rows)) → P (turn u s t e).state.rows
 unfolding turn
 rows_case P u s t e w h none raise make = grind arith
 
-turn_lawful : (u : Setup) (s : State) (t : ℕ) (e : Event) → Ready u.capacity s → Lawful u.capacity s.rows
-    → Lawful u.capacity (turn u s t e).state.rows
+turn_lawful : (u : Setup) (s : State) (t : ℕ) (e : Event) → Ready u.capacity s → ValidRows u.capacity s.rows
+    → ValidRows u.capacity (turn u s t e).state.rows
 turn_lawful u s t e r h =
-    rows_case (Lawful u.capacity) u s t e r.work h (record { distinct = refl; one_each = refl; few = omega arith })
+    rows_case (ValidRows u.capacity) u s t e r.work h (record { distinct = refl; one_each = refl; few = omega arith })
     (λ id. Lawful-raised u.capacity id _ h)
     (λ m key f. Lawful-stored u.capacity (new_row m key) s.rows h (grind arith) (grind (arith, one_replaced)))
 
-requested_keeps : (u : Setup) (rows : List Row) (p : Option Waiting) (t cid : ℕ) (read : Result Asked ℕ)
+requested_keeps : (u : Setup) (rows : List Row) (p : Option PendingAssertions) (t cid : ℕ) (read : Result RequestParameters ℕ)
     → PendingReady rows p
-    → let x = (requested u rows p t cid read).state in
+    → let x = (request_turn u rows p t cid read).state in
     Ready u.capacity x × (length rows ≤ u.capacity → pending_count p ≤ u.capacity →
     pending_count x.pending ≤ u.capacity)
 requested_keeps u rows p t cid (Ok (GetAssertion hash rp_id allow up)) h =
     let all = applicable_there rows (sha256 rp_id) (has_entries allow) (ids_of allow) in
     let few : length rows ≤ u.capacity →
-    length (ids (applicable rows (sha256 rp_id) (has_entries allow) (ids_of allow))) ≤ u.capacity + 1
+    length (ids (applicable_rows rows (sha256 rp_id) (has_entries allow) (ids_of allow))) ≤ u.capacity + 1
     = λ l. grind (arith, length-map, length-reverse, length-filter) in
     (grind (arith, find_raised, pending_raised), λ l _. grind arith)
 requested_keeps u rows p t cid read h = (grind (arith, find_raised, pending_raised), λ l f. grind arith)
 
 pub turn_keeps : (u : Setup) (s : State) (t : ℕ) (e : Event) → Ready u.capacity s
     → let x = (turn u s t e).state in Ready u.capacity x
-    × (Lawful u.capacity s.rows → Lawful u.capacity x.rows × (pending_count s.pending ≤ u.capacity →
+    × (ValidRows u.capacity s.rows → ValidRows u.capacity x.rows × (pending_count s.pending ≤ u.capacity →
     pending_count x.pending ≤ u.capacity))
 unfolding turn
 turn_keeps u s t (Request cid bytes) h =
@@ -125,11 +125,11 @@ turn_keeps u s t reply h =
 pub record Sound (start k : CoreState) : Type 0 where
   pub setup : k.setup ≡ start.setup
   pub ready : Ready k.setup.capacity k.state
-  pub lawful : Lawful k.setup.capacity k.state.rows
+  pub lawful : ValidRows k.setup.capacity k.state.rows
   pub few : pending_count start.state.pending ≤ start.setup.capacity → pending_count k.state.pending ≤ k.setup.capacity
 
-pub core_sound : (start : CoreState) (h : List Step) → Ready start.setup.capacity start.state
-    → Lawful start.setup.capacity start.state.rows
+pub core_sound : (start : CoreState) (h : List TimedEvent) → Ready start.setup.capacity start.state
+    → ValidRows start.setup.capacity start.state.rows
     → Sound start (core_at start h)
 unfolding core_at
 core_sound start [] r l = record { setup = refl; ready = r; lawful = l; few = λ f. f }

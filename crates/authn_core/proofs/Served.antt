@@ -5,80 +5,80 @@ use Rattle.std.proofs.Common.{Ok, Err, refl, sym, ap, ◌∙◌, arith}
 use Rattle.std.{proofs.lemmas.Slice.Eq.bytes_eq-Decides, specs.List.find, specs.Option.option_or}
 use Rattle.cred_table.specs.{declared.row.Row.Row, Waiting.pending_of, Rows.has_id, Rows.same_id, Rows.no_two}
 use Rattle.cred_table.proofs.Basics.{same_bytes}
-use Rattle.ctap_message.specs.Asked.{Asked, MakeCredential, GetAssertion, GetInfo, Reset, GetNextAssertion, Selection}
+use Rattle.ctap_message.specs.Asked.{RequestParameters, MakeCredential, GetAssertion, GetInfo, Reset, GetNextAssertion, Selection}
 use Rattle.ctap_message.specs.{Members.has_entries, Descriptors.ids_of}
-use Rattle.authn_core.specs.State.{Asserting, AsksAssert, ChannelTask, State, Answer, Waits, Turned, status, waits}
+use Rattle.authn_core.specs.State.{AssertState, AwaitAssertPresence, PendingTask, State, Answer, Waits, TurnResult, status, await_reply}
 use Rattle.authn_core.specs.declared.refusal.Refusal.{Refusal}
-use Rattle.authn_core.specs.{State.signs, State.refuses, Marks.marked, Ready.AllThere, Signed.AllOf, Signed.rp_of}
-use Rattle.authn_core.specs.GetAssertion.{begins, row_signs, next_begins}
+use Rattle.authn_core.specs.{State.await_signature, State.respond_refusal, Marks.apply_change, Ready.AllHaveRows, Signed.AreRpCredentials, Signed.rp_of}
+use Rattle.authn_core.specs.GetAssertion.{assertion_turn, sign_pending_row, next_assertion_turn}
 use Rattle.sha2.specs.Sha256.{sha256}
-use Rattle.authn_core.specs.{Turn.Start, Turn.first_state, Turn.requested, Answers.asked_assertion, Answers.raised_for}
-use Rattle.authn_core.specs.Exchanges.{Exchange, asked_on, rows_after}
-use Rattle.authn_core.specs.Assertions.{Series, series_of, asks_next, number_of, first_signs, next_signs_in, is_in_time}
-use Rattle.authn_core.specs.Assertions.{may_go_on, signers, continues, is_signed, signed_in, series, assertion_for}
-use Rattle.authn_core.specs.Answers.{status_alone, waits_for_user, is_processed, to_assertion, to_request}
+use Rattle.authn_core.specs.{Turn.Start, Turn.first_state, Turn.request_turn, Answers.requested_assertion, Answers.incremented_credential}
+use Rattle.authn_core.specs.Exchanges.{Exchange, begin_pending_request, rows_after}
+use Rattle.authn_core.specs.Assertions.{AssertionSeries, new_series, is_get_next_assertion, number_of_applicable, assertion_by, next_assertion, is_in_time}
+use Rattle.authn_core.specs.Assertions.{may_continue_series, applicable_ids, continues_series, answers_assertion, answered_assertions, latest_series, assertion_for}
+use Rattle.authn_core.specs.Answers.{status_response, presence_needed, still_processing, begin_assertion_answer, request_answer}
 use Rattle.authn_core.proofs.{Answering.signers_apply, Told.Going, Histories.mark_keeps, Histories.mark_raises}
 use Rattle.authn_core.proofs.Readiness.{all_along, all_found, applicable_all, applicable_there, find_raised}
 use Rattle.authn_core.proofs.Told.{JobTold, busy, IsLatest, is_assertion, Asserts, GoingOrNot, PendingTold, all_raised}
 
 -- ---- requests
 
-abbrev pub assertion_of_read : Start → List Exchange → Result Asked ℕ → Option Asserting
+abbrev pub assertion_of_read : Start → List Exchange → Result RequestParameters ℕ → Option AssertState
 assertion_of_read start past (Ok asked) = assertion_for start past asked
 assertion_of_read start past (Err code) = None
 
-pub asked_read : (start : Start) (past : List Exchange) (cid status : ℕ) (read : Result Asked ℕ)
-    → asked_assertion start (asked_on cid status past read) ≡ assertion_of_read start past read
+pub asked_read : (start : Start) (past : List Exchange) (cid status : ℕ) (read : Result RequestParameters ℕ)
+    → requested_assertion start (begin_pending_request cid status past read) ≡ assertion_of_read start past read
 asked_read start past cid status read = search (rules, arith)
 
 -- what waits after a request with this answer
-abbrev pub BeginsTold : List Row → Option ChannelTask → (cid : ℕ) → Result Asked ℕ → Option Asserting → Answer → Type 0
+abbrev pub BeginsTold : List Row → Option PendingTask → (cid : ℕ) → Result RequestParameters ℕ → Option AssertState → Answer → Type 0
 BeginsTold rows work cid (Ok asked) a (Waits now) = JobTold rows work cid now asked [] a
 BeginsTold rows work cid read a answer = work ≡ None
 
 pub begins_answers : (rows : List Row) (at cid : ℕ) (hash rp : List ℕ) (presence given : Bool) (ids : List (List ℕ))
-    → (begins rows at cid hash rp presence given ids).answer
-    ≡ to_assertion rows (status_alone 0x2e) (cond presence waits_for_user is_processed)
-    (first_signs hash rp presence (number_of given (length ids)) (slice_get ids 0))
+    → (assertion_turn rows at cid hash rp presence given ids).answer
+    ≡ begin_assertion_answer rows (status_response 0x2e) (cond presence presence_needed still_processing)
+    (assertion_by hash rp presence (number_of_applicable given (length ids)) (slice_get ids 0))
 begins_answers rows at cid hash rp presence given ids = grind arith
 
 pub begins_rows : (rows : List Row) (at cid : ℕ) (hash rp : List ℕ) (presence given : Bool) (ids : List (List ℕ))
-    → let t = begins rows at cid hash rp presence given ids in
-    t.state.rows ≡ marked
-    (record { made = None; raises = raised_for (first_signs hash rp presence (number_of given (length ids)) (slice_get ids 0)) t.answer; resets = false }) rows
+    → let t = assertion_turn rows at cid hash rp presence given ids in
+    t.state.rows ≡ apply_change
+    (record { made = None; raises = incremented_credential (assertion_by hash rp presence (number_of_applicable given (length ids)) (slice_get ids 0)) t.answer; resets = false }) rows
 begins_rows rows at cid hash rp presence given ids = grind (arith, mark_keeps, mark_raises)
 
 -- what is asked is an assertion, with presence or without
-abbrev pub AsksWith : Bool → Asked → Type 0
+abbrev pub AsksWith : Bool → RequestParameters → Type 0
 AsksWith presence (GetAssertion hash rp_id allow up) = up ≡ presence
 AsksWith presence asked = ⊥
 
-pub begins_waits : (rows : List Row) (at cid : ℕ) (asked : Asked) (hash rp : List ℕ) (presence given : Bool)
+pub begins_waits : (rows : List Row) (at cid : ℕ) (asked : RequestParameters) (hash rp : List ℕ) (presence given : Bool)
     (ids : List (List ℕ))
-    → AsksWith presence asked → AllThere rows ids → let t = begins rows at cid hash rp presence given ids in
-    BeginsTold t.state.rows t.state.work cid (Ok asked) (first_signs hash rp presence (number_of given (length ids))
+    → AsksWith presence asked → AllHaveRows rows ids → let t = assertion_turn rows at cid hash rp presence given ids in
+    BeginsTold t.state.rows t.state.work cid (Ok asked) (assertion_by hash rp presence (number_of_applicable given (length ids))
     (slice_get ids 0)) t.answer
 begins_waits rows at cid asked hash rp presence given ids k h = grind (arith, find_raised, same_bytes)
 
 -- ---- getNextAssertion
 
 pub next_answers : (rows : List Row) (at on cid moment : ℕ) (hash rp : List ℕ) (presence : Bool) (ids : List (List ℕ)) →
-    AllOf rp rows ids
-    → (next_begins rows (pending_of on hash presence moment ids) at cid).answer
-    ≡ cond (on == cid && nat_le at (moment + 30000)) (to_assertion rows (status_alone 0x30) is_processed
-    (first_signs hash rp presence None (slice_get ids 0))) (status_alone 0x30)
+    AreRpCredentials rp rows ids
+    → (next_assertion_turn rows (pending_of on hash presence moment ids) at cid).answer
+    ≡ cond (on == cid && nat_le at (moment + 30000)) (begin_assertion_answer rows (status_response 0x30) still_processing
+    (assertion_by hash rp presence None (slice_get ids 0))) (status_response 0x30)
 next_answers rows at on cid moment hash rp presence ids h = grind arith
 
 pub next_rows : (rows : List Row) (at on cid moment : ℕ) (hash rp : List ℕ) (presence : Bool) (ids : List (List ℕ))
-    → let t = next_begins rows (pending_of on hash presence moment ids) at cid in
-    t.state.rows ≡ marked
-    (record { made = None; raises = raised_for (first_signs hash rp presence None (slice_get ids 0)) t.answer; resets = false }) rows
+    → let t = next_assertion_turn rows (pending_of on hash presence moment ids) at cid in
+    t.state.rows ≡ apply_change
+    (record { made = None; raises = incremented_credential (assertion_by hash rp presence None (slice_get ids 0)) t.answer; resets = false }) rows
 next_rows rows at on cid moment hash rp presence ids = grind (arith, mark_keeps, mark_raises)
 
 pub next_waits : (rows : List Row) (at on cid moment : ℕ) (hash rp : List ℕ) (presence : Bool) (ids : List (List ℕ)) →
-    AllOf rp rows ids
-    → let t = next_begins rows (pending_of on hash presence moment ids) at cid in
-    BeginsTold t.state.rows t.state.work cid (Ok GetNextAssertion) (first_signs hash rp presence None (slice_get ids 0))
+    AreRpCredentials rp rows ids
+    → let t = next_assertion_turn rows (pending_of on hash presence moment ids) at cid in
+    BeginsTold t.state.rows t.state.work cid (Ok GetNextAssertion) (assertion_by hash rp presence None (slice_get ids 0))
     t.answer
 next_waits rows at on cid moment hash rp presence ids h = grind (arith, find_raised, same_bytes)
 
@@ -93,39 +93,39 @@ drop_one (suc n) [] = refl
 drop_one (suc n) (x ∷ xs) = drop_one n xs
 
 -- a request with this answer begins a series, or goes on with one
-abbrev pub where_taken : Answer → Option Series → Option Series
+abbrev pub where_taken : Answer → Option AssertionSeries → Option AssertionSeries
 where_taken (Waits status) o = o
 where_taken answer o = None
 
-abbrev pub series_begun : (cid : ℕ) → List Exchange → Result Asked ℕ → Answer → Option Series
-series_begun cid past read answer = where_taken answer (series_of cid past read)
+abbrev pub series_begun : (cid : ℕ) → List Exchange → Result RequestParameters ℕ → Answer → Option AssertionSeries
+series_begun cid past read answer = where_taken answer (new_series cid past read)
 
-abbrev pub next_goes_on : Result Asked ℕ → Answer → Bool
-next_goes_on read (Waits status) = asks_next read
+abbrev pub next_goes_on : Result RequestParameters ℕ → Answer → Bool
+next_goes_on read (Waits status) = is_get_next_assertion read
 next_goes_on read answer = false
 
-abbrev pub since_too : Exchange → Option Series → Option Series
-since_too y o = option_map (λ (x : Series). record x { since = y ∷ x.since }) o
+abbrev pub since_too : Exchange → Option AssertionSeries → Option AssertionSeries
+since_too y o = option_map (λ (x : AssertionSeries). record x { since = y ∷ x.since }) o
 
 -- A request was served: its answer, what was done to the rows, what waits, and what is pending.
-pub record Served (start : Start) (past : List Exchange) (before : List Row) (at cid : ℕ) (read : Result Asked ℕ)
-    (t : Turned) : Type 0 where
-  pub answer : t.answer ≡ to_request start past at cid read
-  pub rows : t.state.rows ≡ marked
-      (record { made = None; raises = raised_for (assertion_of_read start past read) t.answer; resets = false }) before
+pub record Served (start : Start) (past : List Exchange) (before : List Row) (at cid : ℕ) (read : Result RequestParameters ℕ)
+    (t : TurnResult) : Type 0 where
+  pub answer : t.answer ≡ request_answer start past at cid read
+  pub rows : t.state.rows ≡ apply_change
+      (record { made = None; raises = incremented_credential (assertion_of_read start past read) t.answer; resets = false }) before
   pub work : BeginsTold t.state.rows t.state.work cid read (assertion_of_read start past read) t.answer
-  pub pending : (y : Exchange) → is_signed y.event y.answer ≡ false →
-      continues y.event y.answer ≡ next_goes_on read t.answer
-      → PendingTold start t.state (option_or (series_begun cid past read t.answer) (since_too y (series past)))
+  pub pending : (y : Exchange) → answers_assertion y.event y.answer ≡ false →
+      continues_series y.event y.answer ≡ next_goes_on read t.answer
+      → PendingTold start t.state (option_or (series_begun cid past read t.answer) (since_too y (latest_series past)))
 
 abbrev pub GoesIfBegun : (cid : ℕ) (hash rp : List ℕ) (presence : Bool) (ids : List (List ℕ)) → State → Answer → Type 0
 GoesIfBegun cid hash rp presence ids s (Waits status) = Going cid hash rp presence ids [] s
 GoesIfBegun cid hash rp presence ids s answer = s.pending ≡ None
 
-pub begins_if : (why : Refusal) (b up : Bool) (rows : List Row) (at cid : ℕ) (hash rp : List ℕ) (presence : Bool) (a : Asserting)
-    (id : List ℕ) (ids : List (List ℕ)) → AllOf rp rows ids
+pub begins_if : (why : Refusal) (b up : Bool) (rows : List Row) (at cid : ℕ) (hash rp : List ℕ) (presence : Bool) (a : AssertState)
+    (id : List ℕ) (ids : List (List ℕ)) → AreRpCredentials rp rows ids
     → let p = pending_of cid hash presence at ids in
-    let t = if b then (if up then waits rows p cid (AsksAssert a) else signs rows p cid a) else refuses rows None why
+    let t = if b then (if up then await_reply rows p cid (AwaitAssertPresence a) else await_signature rows p cid a) else respond_refusal rows None why
     in
     GoesIfBegun cid hash rp presence (id ∷ ids) t.state t.answer
 begins_if why false up rows at cid hash rp presence a id ids h = refl
@@ -134,8 +134,8 @@ begins_if why true false rows at cid hash rp presence a id ids h =
     record { moment = at; ids = refl; each = all_raised rp a.id rows ids h; latest = tt; work = refl }
 
 pub begins_goes : (rows : List Row) (at cid : ℕ) (hash rp : List ℕ) (presence given : Bool) (ids : List (List ℕ)) →
-    AllOf rp rows ids
-    → let t = begins rows at cid hash rp presence given ids in GoesIfBegun cid hash rp presence ids t.state t.answer
+    AreRpCredentials rp rows ids
+    → let t = assertion_turn rows at cid hash rp presence given ids in GoesIfBegun cid hash rp presence ids t.state t.answer
 begins_goes rows at cid hash rp presence given [] h = refl
 begins_goes rows at cid hash rp presence given (id ∷ ids) h = search (rules, arith, begins_if)
 
@@ -143,69 +143,69 @@ abbrev pub waits_on : Answer → Bool
 waits_on (Waits status) = true
 waits_on answer = false
 
-pub begun_pending : (start : Start) (s : State) (y : Exchange) (o : Option Series) (answer : Answer) (x : Series) →
+pub begun_pending : (start : Start) (s : State) (y : Exchange) (o : Option AssertionSeries) (answer : Answer) (x : AssertionSeries) →
     x.since ≡ []
-    → (waits_on answer ≡ false → continues y.event y.answer ≡ false)
-    → GoesIfBegun x.cid x.hash x.rp x.presence (signers (rows_after start x.before) x.rp x.given x.allow) s answer
+    → (waits_on answer ≡ false → continues_series y.event y.answer ≡ false)
+    → GoesIfBegun x.cid x.hash x.rp x.presence (applicable_ids (rows_after start x.before) x.rp x.given x.allow) s answer
     → PendingTold start s (option_or (where_taken answer (Some x)) (since_too y o))
 begun_pending start s y o answer x e g h = grind arith
 
-pub stops : (read : Result Asked ℕ) (answer : Answer) → waits_on answer ≡ false → next_goes_on read answer ≡ false
+pub stops : (read : Result RequestParameters ℕ) (answer : Answer) → waits_on answer ≡ false → next_goes_on read answer ≡ false
 stops read answer h = grind arith
 
 -- ---- what a getNextAssertion leaves pending
 
-abbrev pub IsAsserting : Option ChannelTask → Type 0
+abbrev pub IsAsserting : Option PendingTask → Type 0
 IsAsserting None = ⊥
 IsAsserting (Some work) = is_assertion work.task ≡ true
 
 -- the ids that follow, where one is signed for, else nothing
 abbrev pub NextLeft : Bool → (on : ℕ) (hash rp : List ℕ) (presence : Bool) (moment : ℕ) → List (List ℕ) → State → Type 0
 NextLeft true on hash rp presence moment ids s =
-    (s.pending ≡ pending_of on hash presence moment ids) × AllOf rp s.rows ids × IsAsserting s.work
+    (s.pending ≡ pending_of on hash presence moment ids) × AreRpCredentials rp s.rows ids × IsAsserting s.work
 NextLeft false on hash rp presence moment ids s = s.pending ≡ None
 
-pub row_if : (why : Refusal) (b : Bool) (rows : List Row) (on cid moment : ℕ) (hash rp : List ℕ) (presence : Bool) (a : Asserting)
-    (ids : List (List ℕ)) → AllOf rp rows ids
-    → let t = if b then signs rows (pending_of on hash presence moment ids) cid a else refuses rows None why in
+pub row_if : (why : Refusal) (b : Bool) (rows : List Row) (on cid moment : ℕ) (hash rp : List ℕ) (presence : Bool) (a : AssertState)
+    (ids : List (List ℕ)) → AreRpCredentials rp rows ids
+    → let t = if b then await_signature rows (pending_of on hash presence moment ids) cid a else respond_refusal rows None why in
     NextLeft (waits_on t.answer) on hash rp presence moment ids t.state
 row_if why true rows on cid moment hash rp presence a ids h = (refl, all_raised rp a.id rows ids h, refl)
 row_if why false rows on cid moment hash rp presence a ids h = refl
 
 pub row_left : (o : Option Row) (rows : List Row) (on cid moment : ℕ) (hash rp : List ℕ) (presence : Bool) (id : List ℕ)
-    (ids : List (List ℕ)) → AllOf rp rows ids
-    → let t = row_signs rows (pending_of on hash presence moment ids) cid hash presence id o in
+    (ids : List (List ℕ)) → AreRpCredentials rp rows ids
+    → let t = sign_pending_row rows (pending_of on hash presence moment ids) cid hash presence id o in
     NextLeft (waits_on t.answer) on hash rp presence moment ids t.state
 row_left None rows on cid moment hash rp presence id ids h = refl
 row_left (Some row) rows on cid moment hash rp presence id ids h = search (rules, arith, row_if)
 
 pub next_if : (why : Refusal) (b : Bool) (rows : List Row) (on cid moment : ℕ) (hash rp : List ℕ) (presence : Bool) (id : List ℕ)
-    (ids : List (List ℕ)) → AllOf rp rows ids
-    → let t = if b then row_signs rows (pending_of on hash presence moment ids) cid hash presence id
-    (find (has_id id) rows) else refuses rows None why in
+    (ids : List (List ℕ)) → AreRpCredentials rp rows ids
+    → let t = if b then sign_pending_row rows (pending_of on hash presence moment ids) cid hash presence id
+    (find (has_id id) rows) else respond_refusal rows None why in
     NextLeft (waits_on t.answer) on hash rp presence moment ids t.state
 next_if why b rows on cid moment hash rp presence id ids h = search (rules, arith, row_left)
 
 pub next_left : (rows : List Row) (at on cid moment : ℕ) (hash rp : List ℕ) (presence : Bool) (ids : List (List ℕ)) →
-    AllOf rp rows ids
-    → let t = next_begins rows (pending_of on hash presence moment ids) at cid in
+    AreRpCredentials rp rows ids
+    → let t = next_assertion_turn rows (pending_of on hash presence moment ids) at cid in
     NextLeft (waits_on t.answer) on hash rp presence moment (drop 1 ids) t.state
 next_left rows at on cid moment hash rp presence ids h = search (rules, arith, next_if)
 
 pub one_more : (n b w : ℕ) (all : List (List ℕ)) → b ≡ 1 → w ≡ 0 → drop (n + b) all ≡ drop 1 (drop (n + w) all)
 one_more n b w all e z = search (rules, arith, drop_one)
 
-pub busy_one : (w : Option ChannelTask) → IsAsserting w → busy w ≡ 1
+pub busy_one : (w : Option PendingTask) → IsAsserting w → busy w ≡ 1
 busy_one w h = search (rules, arith)
 
-pub asserts_so : (w : Option ChannelTask) → IsAsserting w → Asserts w
+pub asserts_so : (w : Option PendingTask) → IsAsserting w → Asserts w
 asserts_so w h = search (rules, arith)
 
-pub latest_so : (w : Option ChannelTask) (moment : ℕ) (done : List Exchange) → IsAsserting w → IsLatest w moment done
+pub latest_so : (w : Option PendingTask) (moment : ℕ) (done : List Exchange) → IsAsserting w → IsLatest w moment done
 latest_so w moment done h = search (rules, arith)
 
 pub left_goes : (b : Bool) (on : ℕ) (hash rp : List ℕ) (presence : Bool) (moment : ℕ) (all : List (List ℕ))
-    (done : List Exchange) (w : Option ChannelTask) (s : State)
+    (done : List Exchange) (w : Option PendingTask) (s : State)
     → w ≡ None → NextLeft b on hash rp presence moment (drop 1 (drop (length done + busy w) all)) s
     → GoingOrNot (b && true) on hash rp presence all done s
 left_goes true on hash rp presence moment all done w s e h =
@@ -222,22 +222,22 @@ left_goes false on hash rp presence moment all done w s e h = h
 pub going_next : (b : Bool) (s : State) (at on cid : ℕ) (hash rp : List ℕ) (presence : Bool) (all : List (List ℕ))
     (done : List Exchange)
     → s.work ≡ None → GoingOrNot b on hash rp presence all done s
-    → let t = next_begins s.rows s.pending at cid in
+    → let t = next_assertion_turn s.rows s.pending at cid in
     GoingOrNot (waits_on t.answer && b) on hash rp presence all done t.state
 going_next true s at on cid hash rp presence all done w g =
-    let t = next_begins s.rows s.pending at cid in
+    let t = next_assertion_turn s.rows s.pending at cid in
     left_goes (waits_on t.answer) on hash rp presence g.moment all done s.work t.state w
     (rw g.ids (next_left s.rows at on cid g.moment hash rp presence _ g.each))
 going_next false s at on cid hash rp presence all done w g = rw g refl
 
-pub next_pending : (start : Start) (s : State) (at cid : ℕ) (y : Exchange) (o : Option Series) → s.work ≡ None
-    → is_signed y.event y.answer ≡ false
-    → let t = next_begins s.rows s.pending at cid in continues y.event y.answer ≡ waits_on t.answer
+pub next_pending : (start : Start) (s : State) (at cid : ℕ) (y : Exchange) (o : Option AssertionSeries) → s.work ≡ None
+    → answers_assertion y.event y.answer ≡ false
+    → let t = next_assertion_turn s.rows s.pending at cid in continues_series y.event y.answer ≡ waits_on t.answer
     → PendingTold start s o → PendingTold start t.state (since_too y o)
 next_pending start s at cid y o w n g p = search (rules, arith, going_next)
 
 -- the next assertion of a series is the first of the ids that are left
-pub time_of : (w : Option ChannelTask) (moment : ℕ) (done : List Exchange) (at : ℕ) → w ≡ None → IsLatest w moment done
+pub time_of : (w : Option PendingTask) (moment : ℕ) (done : List Exchange) (at : ℕ) → w ≡ None → IsLatest w moment done
     → nat_le at (moment + 30000) ≡ is_in_time at done
 time_of w moment done at e h = search (rules, arith)
 
@@ -250,11 +250,11 @@ next_waits_on answer = grind arith
 pub next_of_going : (start : Start) (s : State) (at cid : ℕ) (b : Bool) (on : ℕ) (hash rp : List ℕ) (presence : Bool)
     (all : List (List ℕ)) (done : List Exchange)
     → s.work ≡ None → GoingOrNot b on hash rp presence all done s
-    → let t = next_begins s.rows s.pending at cid in
-    let a = first_signs hash rp presence None (slice_get all (length done)) in
-    (t.answer ≡ cond (b && ((on == cid) && is_in_time at done)) (to_assertion s.rows (status_alone 0x30) is_processed a)
-    (status_alone 0x30))
-    × (t.state.rows ≡ marked (record { made = None; raises = raised_for a t.answer; resets = false }) s.rows)
+    → let t = next_assertion_turn s.rows s.pending at cid in
+    let a = assertion_by hash rp presence None (slice_get all (length done)) in
+    (t.answer ≡ cond (b && ((on == cid) && is_in_time at done)) (begin_assertion_answer s.rows (status_response 0x30) still_processing a)
+    (status_response 0x30))
+    × (t.state.rows ≡ apply_change (record { made = None; raises = incremented_credential a t.answer; resets = false }) s.rows)
     × BeginsTold t.state.rows t.state.work cid (Ok GetNextAssertion) a t.answer
 next_of_going start s at cid false on hash rp presence all done w g = rw g (refl, sym (mark_keeps s.rows), refl)
 next_of_going start s at cid true on hash rp presence all done w g =
@@ -268,22 +268,22 @@ next_of_going start s at cid true on hash rp presence all done w g =
       next_waits s.rows at on cid g.moment hash rp presence _ g.each,
     )
 
-pub next_served : (start : Start) (past : List Exchange) (s : State) (at cid : ℕ) (o : Option Series) → s.work ≡ None →
+pub next_served : (start : Start) (past : List Exchange) (s : State) (at cid : ℕ) (o : Option AssertionSeries) → s.work ≡ None →
     PendingTold start s o
-    → let t = next_begins s.rows s.pending at cid in
-    (t.answer ≡ cond (may_go_on at cid o) (to_assertion s.rows (status_alone 0x30) is_processed (next_signs_in start o))
-    (status_alone 0x30))
-    × (t.state.rows ≡ marked
-    (record { made = None; raises = raised_for (next_signs_in start o) t.answer; resets = false }) s.rows)
-    × BeginsTold t.state.rows t.state.work cid (Ok GetNextAssertion) (next_signs_in start o) t.answer
+    → let t = next_assertion_turn s.rows s.pending at cid in
+    (t.answer ≡ cond (may_continue_series at cid o) (begin_assertion_answer s.rows (status_response 0x30) still_processing (next_assertion start o))
+    (status_response 0x30))
+    × (t.state.rows ≡ apply_change
+    (record { made = None; raises = incremented_credential (next_assertion start o) t.answer; resets = false }) s.rows)
+    × BeginsTold t.state.rows t.state.work cid (Ok GetNextAssertion) (next_assertion start o) t.answer
 next_served start past s at cid None w p = rw p (refl, sym (mark_keeps s.rows), refl)
 next_served start past s at cid (Some x) w p = next_of_going start s at cid _ x.cid x.hash x.rp x.presence _
-    (signed_in x) w p
+    (answered_assertions x) w p
 
-pub request_served : (start : Start) (past : List Exchange) (s : State) (at cid : ℕ) (read : Result Asked ℕ) →
+pub request_served : (start : Start) (past : List Exchange) (s : State) (at cid : ℕ) (read : Result RequestParameters ℕ) →
     s.work ≡ None
-    → s.rows ≡ rows_after start past → PendingTold start s (series past) → no_two same_id s.rows ≡ true
-    → Served start past s.rows at cid read (requested (first_state start).setup s.rows s.pending at cid read)
+    → s.rows ≡ rows_after start past → PendingTold start s (latest_series past) → no_two same_id s.rows ≡ true
+    → Served start past s.rows at cid read (request_turn (first_state start).setup s.rows s.pending at cid read)
 request_served start past s at cid (Err code) w r p d = grind (arith, mark_keeps)
 request_served start past s at cid (Ok GetInfo) w r p d = grind (arith, mark_keeps)
 request_served start past s at cid (Ok Selection) w r p d = grind (arith, mark_keeps)
@@ -302,9 +302,9 @@ request_served start past s at cid (Ok (GetAssertion hash rp_id allow presence))
       work = rw (← r, same) (begins_waits s.rows at cid (GetAssertion hash rp_id allow presence) hash rp presence given
           _ refl (rw same at there));
       pending = λ y n g.
-          let t = requested (first_state start).setup s.rows s.pending at cid
+          let t = request_turn (first_state start).setup s.rows s.pending at cid
           (Ok (GetAssertion hash rp_id allow presence)) in
-          let x : Series = record {
+          let x : AssertionSeries = record {
             cid = cid;
             hash = hash;
             rp = rp;
@@ -314,20 +314,20 @@ request_served start past s at cid (Ok (GetAssertion hash rp_id allow presence))
             before = past;
             since = [];
           } in
-          let goes : GoesIfBegun cid hash rp presence (signers (rows_after start past) rp given (ids_of allow)) t.state
+          let goes : GoesIfBegun cid hash rp presence (applicable_ids (rows_after start past) rp given (ids_of allow)) t.state
           t.answer
           = rw (← r, same) (begins_goes s.rows at cid hash rp presence given _ (rw same at all)) in
-          begun_pending start t.state y (series past) t.answer x refl (λ k. g
+          begun_pending start t.state y (latest_series past) t.answer x refl (λ k. g
           ∙ stops (Ok (GetAssertion hash rp_id allow presence)) t.answer k) goes;
     }
 request_served start past s at cid (Ok GetNextAssertion) w r p d =
-    let n = next_served start past s at cid (series past) w p in
+    let n = next_served start past s at cid (latest_series past) w p in
     record {
       answer = rw (← r) n.0;
       rows = n.1;
       work = n.2;
       pending = λ y k g.
-          rw (none_taken (next_begins s.rows s.pending at cid).answer)
-          (next_pending start s at cid y (series past) w k (g
-          ∙ next_waits_on (next_begins s.rows s.pending at cid).answer) p);
+          rw (none_taken (next_assertion_turn s.rows s.pending at cid).answer)
+          (next_pending start s at cid y (latest_series past) w k (g
+          ∙ next_waits_on (next_assertion_turn s.rows s.pending at cid).answer) p);
     }

@@ -1,21 +1,21 @@
 -- What came, what has to be signed and what is answered, by computation.
 use Rattle.std.proofs.Common.{◌≡◌, ℕ, List, [], ◌∷◌, ◌++◌, true, false, Some, None, replicate, refl}
 use Rattle.ctap_message.specs.{Asked.Selection, Answers.assertion_answer, Requests.read_of}
-use Rattle.authn_core.specs.{Marks.Step, Marks.Text, Rising.all_rise, Signed.heard, Turn.turn, Views.needs, Views.sign}
+use Rattle.authn_core.specs.{Marks.TimedEvent, Marks.SignedText, Rising.all_rise, Signed.requests_of, Turn.turn, Views.needs, Views.sign}
 use Rattle.authn_core.specs.State.{State, Event, Request, SignatureIs, Cancel, Answered}
 use Rattle.authn_core.proofs.Examples.{setup, row, waiting}
 
 -- The newest request is heard through a getNextAssertion, and what can't be read asks nothing.
-abbrev came : Event → Step
+abbrev came : Event → TimedEvent
 came e = record { at = 0; event = e }
 
-goes_on : (heard (came (Request 1 (0x08 ∷ [])) ∷ came Cancel ∷ came (Request 1 (0x0b ∷ [])) ∷ [])).asked
+goes_on : (requests_of (came (Request 1 (0x08 ∷ [])) ∷ came Cancel ∷ came (Request 1 (0x0b ∷ [])) ∷ [])).asked
     ≡ Some Selection
-goes_on = unfold heard read_of in refl
+goes_on = unfold requests_of read_of in refl
 
-unread : (heard (came (Request 1 (0x08 ∷ [])) ∷ came (Request 1 (0x0b ∷ 0x00 ∷ [])) ∷ came (Request 1 (0x0b ∷ []))
+unread : (requests_of (came (Request 1 (0x08 ∷ [])) ∷ came (Request 1 (0x0b ∷ 0x00 ∷ [])) ∷ came (Request 1 (0x0b ∷ []))
     ∷ [])).asked ≡ None
-unread = unfold heard read_of in refl
+unread = unfold requests_of read_of in refl
 
 -- the next assertion of a request with presence, by a row with the counter 4
 abbrev pending : State
@@ -35,7 +35,7 @@ answered_is : (turn setup (turn setup pending 1200 (Request 1 (0x08 ∷ []))).st
 answered_is = unfold turn read_of in refl
 
 -- counters that rise, stay or fall; another credential's, and one of an id that was made again
-abbrev text : (id making counter : ℕ) → Text
+abbrev text : (id making counter : ℕ) → SignedText
 text id making counter = record { id = id ∷ []; making = making; counter = counter }
 
 rising : all_rise (text 1 0 3 ∷ text 2 0 9 ∷ text 1 0 2 ∷ []) ≡ true

@@ -1,21 +1,22 @@
--- Presence alone: authenticatorReset and authenticatorSelection (CTAP 2.1, sections 6.6, 6.9 and 8.2).
+-- The commands that only ask for user presence: authenticatorReset and authenticatorSelection (CTAP 2.1, sections
+-- 6.6, 6.9 and 8.2).
 use Rattle.std.specs.Prelude.{ℕ, ◌+◌, nat_lt, List, Option, None, if◌then◌else◌}
-use Rattle.cred_table.specs.{declared.row.Row.Row, Waiting.Waiting}
-use Rattle.authn_core.specs.{declared.replies.Presence.Presence, State.Resets, State.Turned, State.refuses, State.waits}
+use Rattle.cred_table.specs.{declared.row.Row.Row, Waiting.PendingAssertions}
+use Rattle.authn_core.specs.{declared.replies.Presence.Presence, State.AwaitResetPresence, State.TurnResult, State.respond_refusal, State.await_reply}
 use Rattle.authn_core.specs.declared.refusal.Refusal.TheVariants as because
 use Rattle.authn_core.specs.declared.replies.Presence.TheVariants.{Granted, Denied, TimedOut}
 
--- milliseconds from the start in which a reset may be asked for
+-- The time for a reset after power-up, in milliseconds (CTAP 2.1, section 6.6).
 abbrev pub RESET_LIMIT : ℕ
 RESET_LIMIT = 10000
 
--- A reset asks for presence, or is too late.
-abbrev pub reset_begins : List Row → (began now cid : ℕ) → Turned
-reset_begins rows began now cid =
-    if nat_lt (began + RESET_LIMIT) now then refuses rows None (because.ResetTooLate began now) else waits rows None cid Resets
+-- Asks for user presence for a reset, or rejects it if more than 10 seconds have passed since power-up.
+abbrev pub reset_turn : List Row → (began now cid : ℕ) → TurnResult
+reset_turn rows began now cid =
+    if nat_lt (began + RESET_LIMIT) now then respond_refusal rows None (because.ResetTooLate began now) else await_reply rows None cid AwaitResetPresence
 
--- The user's answer decides.
-abbrev pub asked_alone : (granted : Turned) → List Row → Option Waiting → Presence → Turned
-asked_alone granted rows pending Granted = granted
-asked_alone granted rows pending Denied = refuses rows pending because.Denied
-asked_alone granted rows pending TimedOut = refuses rows pending because.TimedOut
+-- Responds to the user's reply: with `granted` if the user consents, or else with an error.
+abbrev pub presence_turn : (granted : TurnResult) → List Row → Option PendingAssertions → Presence → TurnResult
+presence_turn granted rows pending Granted = granted
+presence_turn granted rows pending Denied = respond_refusal rows pending because.Denied
+presence_turn granted rows pending TimedOut = respond_refusal rows pending because.TimedOut

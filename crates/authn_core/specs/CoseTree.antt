@@ -2,7 +2,7 @@
 use Rattle.std.specs.Prelude.{ℕ, List, pos, negsuc}
 use Rattle.ctap_cbor.specs.Tree.{Int, Bytes, Tree, Plain, Map, no_pairs, pair}
 
--- {1: 2, 3: -7, -1: 1, -2: x, -3: y}; negsuc n is the integer -1 - n
+-- The COSE key {1: 2, 3: -7, -1: 1, -2: x, -3: y}. `negsuc n` is the integer -1 - n.
 abbrev pub cose_key_tree : (x y : List ℕ) → Tree
 cose_key_tree x y =
     Map (pair (Plain (Int (pos 1))) (Plain (Int (pos 2)))

@@ -1,49 +1,51 @@
--- What happened at an authenticator, as a list of events with their answers, newest first. What later answers depend on
--- is found in it by search, by filters and by counts: the credentials, and the request that isn't answered yet.
+-- The history of an authenticator: its events with their answers, newest first. The state that later answers depend
+-- on, the credentials and the pending request, is computed from this list.
 use Rattle.std.specs.Prelude.{ℕ, List, [], ◌∷◌, map, Option, Some, None, option_map, Result, Ok, Err}
 use Rattle.cred_table.specs.declared.row.Row.{Row}
-use Rattle.ctap_message.specs.{Asked.Asked, Requests.read_of}
-use Rattle.authn_core.specs.{Marks.Mark, Marks.rows_of, Turn.Start, Turn.Work}
+use Rattle.ctap_message.specs.{Asked.RequestParameters, Requests.read_of}
+use Rattle.authn_core.specs.{Marks.CredentialChange, Marks.rows_after_changes, Turn.Start, Turn.Work}
 use Rattle.authn_core.specs.State.{Event, Request, Answer, Waits, Ignored}
 
--- An event at a moment, what was answered, and what it did to the credentials.
+-- An event with its time, its answer, and how it changed the credentials.
 pub record Exchange : Type 0 where
   pub at : ℕ
   pub event : Event
   pub answer : Answer
-  pub did : Mark
+  pub did : CredentialChange
 
--- The credentials of the start and those that were made, in order, without what was reset or replaced since.
+-- The credentials after a history: those of the start and the created ones in order, without those reset or replaced
+-- since.
 abbrev pub rows_after : Start → List Exchange → List Row
-rows_after start past = rows_of start.rows (map (λ x. x.did) past)
+rows_after start past = rows_after_changes start.rows (map (λ x. x.did) past)
 
--- A request that isn't answered yet: its channel, what it asks, the replies that it took, newest first, the status that
--- it waits with, and what was before it.
-pub record Unanswered : Type 0 where
+-- A pending request: its channel, parameters, replies, newest first, KEEPALIVE status, and the history before it.
+pub record PendingRequest : Type 0 where
   pub cid : ℕ
-  pub asked : Asked
+  pub asked : RequestParameters
   pub took : List Event
   pub status : ℕ
   pub before : List Exchange
 
-abbrev pub asked_on : (cid status : ℕ) → List Exchange → Result Asked ℕ → Option Unanswered
-asked_on cid status past (Ok asked) =
+-- A valid request.
+abbrev pub begin_pending_request : (cid status : ℕ) → List Exchange → Result RequestParameters ℕ → Option PendingRequest
+begin_pending_request cid status past (Ok asked) =
     Some (record { cid = cid; asked = asked; took = []; status = status; before = past })
-asked_on cid status past (Err code) = None
+begin_pending_request cid status past (Err code) = None
 
--- A request that isn't answered at once waits, and takes replies while it does; an ignored one changes nothing; an
--- answer or a drop ends it.
-abbrev pub waits_after : Event → Answer → List Exchange → Option Unanswered → Option Unanswered
-waits_after (Request cid bytes) (Waits status) past older = asked_on cid status past (read_of bytes)
-waits_after reply (Waits status) past older =
-    option_map (λ (u : Unanswered). record u { took = reply ∷ u.took; status = status }) older
-waits_after event Ignored past older = older
-waits_after event answer past older = None
+-- The pending request after an event. A request without an immediate response becomes pending, a needed reply is
+-- recorded with it, and a response or a drop ends it.
+abbrev pub pending_after : Event → Answer → List Exchange → Option PendingRequest → Option PendingRequest
+pending_after (Request cid bytes) (Waits status) past older = begin_pending_request cid status past (read_of bytes)
+pending_after reply (Waits status) past older =
+    option_map (λ (u : PendingRequest). record u { took = reply ∷ u.took; status = status }) older
+pending_after event Ignored past older = older
+pending_after event answer past older = None
 
-unfoldable pub unanswered : List Exchange → Option Unanswered
-unanswered [] = None
-unanswered (x ∷ past) = waits_after x.event x.answer past (unanswered past)
+-- The pending request.
+unfoldable pub pending_request : List Exchange → Option PendingRequest
+pending_request [] = None
+pending_request (x ∷ past) = pending_after x.event x.answer past (pending_request past)
 
--- the channel and the status of what waits
-abbrev pub waiting_in : Option Unanswered → Option Work
-waiting_in o = option_map (λ (u : Unanswered). record { cid = u.cid; status = u.status }) o
+-- The channel and the KEEPALIVE status of the pending request.
+abbrev pub work_of_request : Option PendingRequest → Option Work
+work_of_request o = option_map (λ (u : PendingRequest). record { cid = u.cid; status = u.status }) o

@@ -1,91 +1,90 @@
--- The turns of authenticatorGetAssertion and authenticatorGetNextAssertion (CTAP 2.1, sections 6.2.2, 6.3 and
--- 8.2). A refusal has its status, and beside it the status's name in section 8.2.
+-- The turns of authenticatorGetAssertion and authenticatorGetNextAssertion (CTAP 2.1, sections 6.2.2, 6.3 and 8.2).
 use Rattle.std.specs.Prelude.{ℕ, ◌+◌, ◌==◌, nat_lt, nat_le, List, [], ◌∷◌, length, Bool, ◌&&◌, Option, Some, None}
 use Rattle.std.specs.{Prelude.option_to_list, Prelude.if◌then◌else◌, List.find, Option.option_or}
-use Rattle.cred_table.specs.{declared.row.Row.Row, Rows.has_id, Rows.is_named, Rows.listed, Rows.counter_of}
-use Rattle.cred_table.specs.Waiting.{Waiting, pending_of, stamped}
+use Rattle.cred_table.specs.{declared.row.Row.Row, Rows.has_id, Rows.is_named, Rows.discoverable_rows, Rows.counter_of}
+use Rattle.cred_table.specs.Waiting.{PendingAssertions, pending_of, with_time}
 use Rattle.fido_authdata.specs.AuthData.{assertion_bytes}
 use Rattle.ctap_message.specs.Answers.{assertion_answer}
 use Rattle.authn_core.specs.declared.replies.Presence.{Presence, TheVariants.Granted}
 use Rattle.authn_core.specs.declared.refusal.Refusal.{Refusal}
 use Rattle.authn_core.specs.declared.refusal.Refusal.TheVariants as because
 use Rattle.authn_core.specs.Refusals.{not_granted}
-use Rattle.authn_core.specs.State.{Asserting, AsksAssert, Turned, answers, refuses, waits, signs}
+use Rattle.authn_core.specs.State.{AssertState, AwaitAssertPresence, TurnResult, respond, respond_refusal, await_reply, await_signature}
 
--- the RP's row of the first id that names one
-abbrev pub find_named : (rp : List ℕ) → List Row → List (List ℕ) → Option Row
-find_named rp rows [] = None
-find_named rp rows (id ∷ others) = option_or (find (is_named rp id) rows) (find_named rp rows others)
+-- The RP's credential with the first listed ID that exists.
+abbrev pub find_allowed : (rp : List ℕ) → List Row → List (List ℕ) → Option Row
+find_allowed rp rows [] = None
+find_allowed rp rows (id ∷ others) = option_or (find (is_named rp id) rows) (find_allowed rp rows others)
 
--- one row by an allow list, else the RP's discoverable ones
-abbrev pub applicable : List Row → (rp : List ℕ) → (given : Bool) → (allow : List (List ℕ)) → List Row
-applicable rows rp given allow = if given then option_to_list (find_named rp rows allow) else listed rp rows
+-- The applicable credentials: one of the allow list, or else the RP's discoverable ones.
+abbrev pub applicable_rows : List Row → (rp : List ℕ) → (given : Bool) → (allow : List (List ℕ)) → List Row
+applicable_rows rows rp given allow = if given then option_to_list (find_allowed rp rows allow) else discoverable_rows rp rows
 
--- none with an allow list, nor below two
-abbrev pub told : (given : Bool) → ℕ → Option ℕ
-told given n = if nat_lt 1 n then (if given then None else Some n) else None
+-- numberOfCredentials: none with an allow list, or for fewer than two credentials.
+abbrev pub number_of_credentials : (given : Bool) → ℕ → Option ℕ
+number_of_credentials given n = if nat_lt 1 n then (if given then None else Some n) else None
 
--- the greatest counter
-abbrev pub MOST : ℕ
-MOST = 4294967295
+-- The maximum signature counter.
+abbrev pub MAX_SIGN_COUNT : ℕ
+MAX_SIGN_COUNT = 4294967295
 
--- With `presence` the user is asked first.
-abbrev pub begun : List Row → Option Waiting → (cid : ℕ) → Asserting → Turned
-begun rows pending cid a = if a.presence then waits rows pending cid (AsksAssert a) else signs rows pending cid a
+-- Asks for user presence if the option `up` is set, or else for the signature.
+abbrev pub await_presence_or_sign : List Row → Option PendingAssertions → (cid : ℕ) → AssertState → TurnResult
+await_presence_or_sign rows pending cid a = if a.presence then await_reply rows pending cid (AwaitAssertPresence a) else await_signature rows pending cid a
 
--- The first signs, the others are pending.
-abbrev pub begins : List Row → (now cid : ℕ) (hash rp : List ℕ) (presence given : Bool) → List (List ℕ) → Turned
-begins rows now cid hash rp presence given [] = refuses rows None (because.NoCredential given)
-begins rows now cid hash rp presence given (id ∷ others) =
-    if nat_lt (counter_of id rows) MOST
-    then begun rows (pending_of cid hash presence now others) cid
-    (record { hash = hash; rp = rp; id = id; presence = presence; number = told given (length others + 1) })
-    else refuses rows None because.CounterSpent
+-- The first credential signs, and the others become pending assertions.
+abbrev pub assertion_turn : List Row → (now cid : ℕ) (hash rp : List ℕ) (presence given : Bool) → List (List ℕ) → TurnResult
+assertion_turn rows now cid hash rp presence given [] = respond_refusal rows None (because.NoCredential given)
+assertion_turn rows now cid hash rp presence given (id ∷ others) =
+    if nat_lt (counter_of id rows) MAX_SIGN_COUNT
+    then await_presence_or_sign rows (pending_of cid hash presence now others) cid
+    (record { hash = hash; rp = rp; id = id; presence = presence; number = number_of_credentials given (length others + 1) })
+    else respond_refusal rows None because.CounterSpent
 
--- Only consent goes on.
-abbrev pub assert_asked : List Row → Option Waiting → (cid : ℕ) → Asserting → Presence → Turned
-assert_asked rows pending cid a Granted = signs rows pending cid a
-assert_asked rows pending cid a reply = refuses rows None (not_granted reply)
+-- Continues only if the user consents.
+abbrev pub assertion_after_presence : List Row → Option PendingAssertions → (cid : ℕ) → AssertState → Presence → TurnResult
+assertion_after_presence rows pending cid a Granted = await_signature rows pending cid a
+assertion_after_presence rows pending cid a reply = respond_refusal rows None (not_granted reply)
 
--- the user handle of a discoverable row
-abbrev pub user_in : Option Row → Option (List ℕ)
-user_in None = None
-user_in (Some row) = if row.discoverable then Some row.user.items else None
+-- The user handle of a discoverable credential.
+abbrev pub user_handle_in : Option Row → Option (List ℕ)
+user_handle_in None = None
+user_handle_in (Some row) = if row.discoverable then Some row.user.items else None
 
--- The time of what is pending runs from now on.
-abbrev pub assert_signed : List Row → Option Waiting → (now : ℕ) → Asserting → (counter : ℕ) → Option (List ℕ) → Turned
-assert_signed rows pending now a counter None = refuses rows None because.SignatureRefused
-assert_signed rows pending now a counter (Some sig) =
-    answers rows (stamped now pending)
-    (assertion_answer a.id (assertion_bytes a.rp a.presence counter) sig (user_in (find (has_id a.id) rows)) a.number)
+-- Responds, and restarts the time for the pending assertions.
+abbrev pub assertion_after_signature : List Row → Option PendingAssertions → (now : ℕ) → AssertState → (counter : ℕ) → Option (List ℕ) → TurnResult
+assertion_after_signature rows pending now a counter None = respond_refusal rows None because.SignatureRefused
+assertion_after_signature rows pending now a counter (Some sig) =
+    respond rows (with_time now pending)
+    (assertion_answer a.id (assertion_bytes a.rp a.presence counter) sig (user_handle_in (find (has_id a.id) rows)) a.number)
 
 -- ---- the next one
 
--- milliseconds from the latest answer in which the next may be asked for
+-- The time for the next assertion after a response, in milliseconds (CTAP 2.1, section 6.3).
 abbrev pub NEXT_LIMIT : ℕ
 NEXT_LIMIT = 30000
 
--- The first request's hash and presence count. Every pending id has a row.
-abbrev pub row_signs : List Row → Option Waiting → (cid : ℕ) (hash : List ℕ) → Bool → List ℕ → Option Row → Turned
-row_signs rows pending cid hash presence id None = refuses rows None because.NothingPending
-row_signs rows pending cid hash presence id (Some row) =
-    if nat_lt (counter_of id rows) MOST
-    then signs rows pending cid (record { hash = hash; rp = row.rp; id = id; presence = presence; number = None })
-    else refuses rows None because.CounterSpent
+-- The credential signs with the first request's client data hash and presence. Each pending ID exists.
+abbrev pub sign_pending_row : List Row → Option PendingAssertions → (cid : ℕ) (hash : List ℕ) → Bool → List ℕ → Option Row → TurnResult
+sign_pending_row rows pending cid hash presence id None = respond_refusal rows None because.NothingPending
+sign_pending_row rows pending cid hash presence id (Some row) =
+    if nat_lt (counter_of id rows) MAX_SIGN_COUNT
+    then await_signature rows pending cid (record { hash = hash; rp = row.rp; id = id; presence = presence; number = None })
+    else respond_refusal rows None because.CounterSpent
 
--- The first pending one signs.
-abbrev pub next_signs : List Row → Waiting → (cid : ℕ) → List (List ℕ) → Turned
-next_signs rows w cid [] = refuses rows None because.NothingPending
-next_signs rows w cid (id ∷ others) = row_signs rows (pending_of w.cid w.hash w.presence w.moment others) cid
+-- The first pending credential signs.
+abbrev pub sign_next_pending : List Row → PendingAssertions → (cid : ℕ) → List (List ℕ) → TurnResult
+sign_next_pending rows w cid [] = respond_refusal rows None because.NothingPending
+sign_next_pending rows w cid (id ∷ others) = sign_pending_row rows (pending_of w.cid w.hash w.presence w.moment others) cid
     w.hash w.presence id (find (has_id id) rows)
 
--- why what is pending doesn't go on
-abbrev pub not_next : Waiting → (now cid : ℕ) → Refusal
-not_next w now cid = if w.cid == cid then because.NextTooLate w.moment now else because.PendingElsewhere w.cid
+-- Why a getNextAssertion isn't allowed.
+abbrev pub next_refusal : PendingAssertions → (now cid : ℕ) → Refusal
+next_refusal w now cid = if w.cid == cid then because.NextTooLate w.moment now else because.PendingElsewhere w.cid
 
--- on the channel that asked, in time
-abbrev pub next_begins : List Row → Option Waiting → (now cid : ℕ) → Turned
-next_begins rows None now cid = refuses rows None because.NothingPending
-next_begins rows (Some w) now cid =
-    if (w.cid == cid) && nat_le now (w.moment + NEXT_LIMIT) then next_signs rows w cid w.ids
-    else refuses rows None (not_next w now cid)
+-- A getNextAssertion is allowed on the channel of the request, in time.
+abbrev pub next_assertion_turn : List Row → Option PendingAssertions → (now cid : ℕ) → TurnResult
+next_assertion_turn rows None now cid = respond_refusal rows None because.NothingPending
+next_assertion_turn rows (Some w) now cid =
+    if (w.cid == cid) && nat_le now (w.moment + NEXT_LIMIT) then sign_next_pending rows w cid w.ids
+    else respond_refusal rows None (next_refusal w now cid)

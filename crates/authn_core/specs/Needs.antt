@@ -1,8 +1,8 @@
--- How much it is that the caller has to hand in.
+-- The lengths of the credential ID and the bytes to sign, when a signature is needed.
 use Rattle.std.specs.Prelude.{◌≡◌, ◌≤◌, length}
 use Rattle.authn_core.specs.Views.{Needed, nothing, presence, key, sign}
 
--- An id is 32 bytes. The bytes to sign are the authenticator data of a credential, 164 bytes, and a hash at most.
+-- The need is well-formed: for a signature, the credential ID has 32 bytes, and at most 196 bytes are to be signed.
 abbrev pub IsNeed : Needed → Type 0
 IsNeed nothing = Unit {0}
 IsNeed presence = Unit {0}

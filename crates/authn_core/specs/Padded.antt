@@ -1,9 +1,9 @@
--- The bytes of a signature: up to 72, kept with zeros after them.
+-- A signature of at most 72 bytes, stored in 72 bytes with zeros after it.
 use Rattle.std.specs.Prelude.{◌≡◌, ℕ, ◌-◌, ◌≤◌, List, ◌++◌, length, take, drop, replicate}
 use Rattle.std.proofs.Common.{ap, ◌∙◌, sym, arith}
 use Rattle.std.proofs.lemmas.List.{take-append-drop, length-take-le}
 
--- with zeros up to 72 places
+-- The bytes, padded with zeros to 72 bytes.
 abbrev pub padded : List ℕ → List ℕ
 padded v = v ++ replicate (72 - length v) 0
 

@@ -1,54 +1,60 @@
--- What work can count on between turns.
+-- Invariants of the pending request and the pending assertions between events.
 use Rattle.std.specs.Prelude.{ℕ, ◌≡◌, ◌<◌, ◌-◌, ◌^◌, List, ◌++◌, length, Bool, true, false, Option, Some, None, is_some}
 use Rattle.std.specs.List.{AllByRecursion, find}
-use Rattle.cred_table.specs.{declared.row.Row.Row, Rows.has_id, Rows.counter_of, Waiting.Waiting, Waiting.pending_of}
+use Rattle.cred_table.specs.{declared.row.Row.Row, Rows.has_id, Rows.counter_of, Waiting.PendingAssertions, Waiting.pending_of}
 use Rattle.fido_authdata.specs.AuthData.{assertion_bytes, created_bytes}
-use Rattle.authn_core.specs.State.{Task, WantsKey, SignsMake, AsksAssert, SignsAssert, ChannelTask, State}
-use Rattle.authn_core.specs.MakeCredential.{fits}
+use Rattle.authn_core.specs.State.{Task, AwaitKeyPair, AwaitMakeSignature, AwaitAssertPresence, AwaitAssertSignature, PendingTask, State}
+use Rattle.authn_core.specs.MakeCredential.{has_capacity}
 
+-- The task can be continued.
 abbrev pub TaskReady : (capacity : ℕ) → List Row → Task → Type 0
-TaskReady capacity rows (WantsKey m) = fits capacity m rows ≡ true
-TaskReady capacity rows (SignsMake m k signed) = (fits capacity m rows ≡ true)
+TaskReady capacity rows (AwaitKeyPair m) = has_capacity capacity m rows ≡ true
+TaskReady capacity rows (AwaitMakeSignature m k signed) = (has_capacity capacity m rows ≡ true)
     × (is_some (find (has_id k.id) rows) ≡ false)
-TaskReady capacity rows (AsksAssert a) = (is_some (find (has_id a.id) rows) ≡ true)
+TaskReady capacity rows (AwaitAssertPresence a) = (is_some (find (has_id a.id) rows) ≡ true)
     × (counter_of a.id rows < 2 ^ 32 - 1)
-TaskReady capacity rows (SignsAssert a counter signed) = is_some (find (has_id a.id) rows) ≡ true
+TaskReady capacity rows (AwaitAssertSignature a counter signed) = is_some (find (has_id a.id) rows) ≡ true
 TaskReady capacity rows task = Unit {0}
 
-abbrev pub WorkReady : (capacity : ℕ) → List Row → Option ChannelTask → Type 0
+-- The pending task, if any, can be continued.
+abbrev pub WorkReady : (capacity : ℕ) → List Row → Option PendingTask → Type 0
 WorkReady capacity rows None = Unit {0}
 WorkReady capacity rows (Some work) = TaskReady capacity rows work.task
 
--- What waits for a signature signs just the authenticator data that its answer will have, and the hash after it.
-pub record Joins (signed front hash : List ℕ) (n : ℕ) : Type 0 where
+-- The signed bytes are the authenticator data in the response followed by the client data hash.
+pub record IsConcatenation (signed front hash : List ℕ) (n : ℕ) : Type 0 where
   pub bytes : signed ≡ front ++ hash
   pub len : length front ≡ n
 
+-- The bytes that the task signs are the authenticator data in its response (164 or 37 bytes) followed by the client
+-- data hash.
 abbrev pub SignsItsAnswer : (aaguid : List ℕ) → Task → Type 0
-SignsItsAnswer aaguid (SignsMake m k signed) = Joins signed (created_bytes m.rp aaguid k.id k.x k.y) m.hash 164
-SignsItsAnswer aaguid (SignsAssert a counter signed) = Joins signed (assertion_bytes a.rp a.presence counter) a.hash 37
+SignsItsAnswer aaguid (AwaitMakeSignature m k signed) = IsConcatenation signed (created_bytes m.rp aaguid k.id k.x k.y) m.hash 164
+SignsItsAnswer aaguid (AwaitAssertSignature a counter signed) = IsConcatenation signed (assertion_bytes a.rp a.presence counter) a.hash 37
 SignsItsAnswer aaguid task = Unit {0}
 
-abbrev pub WorkSignsItsAnswer : (aaguid : List ℕ) → Option ChannelTask → Type 0
+-- The same for the pending task, if any.
+abbrev pub WorkSignsItsAnswer : (aaguid : List ℕ) → Option PendingTask → Type 0
 WorkSignsItsAnswer aaguid None = Unit {0}
 WorkSignsItsAnswer aaguid (Some work) = SignsItsAnswer aaguid work.task
 
--- all ids name rows
-abbrev pub AllThere : List Row → List (List ℕ) → Type 0
-AllThere rows ids = AllByRecursion (λ id. is_some (find (has_id id) rows) ≡ true) ids
+-- Each ID is that of a credential.
+abbrev pub AllHaveRows : List Row → List (List ℕ) → Type 0
+AllHaveRows rows ids = AllByRecursion (λ id. is_some (find (has_id id) rows) ≡ true) ids
 
-abbrev pub PendingReady : List Row → Option Waiting → Type 0
+-- Each pending ID is that of a credential.
+abbrev pub PendingReady : List Row → Option PendingAssertions → Type 0
 PendingReady rows None = Unit {0}
-PendingReady rows (Some w) = AllThere rows w.ids
+PendingReady rows (Some w) = AllHaveRows rows w.ids
 
--- These ids are pending, so many and no others, all that a request named.
-pub record IsPendingAlone (p : Option Waiting) (cid : ℕ) (hash : List ℕ) (presence : Bool) (now : ℕ)
+-- Exactly these IDs are pending.
+pub record IsPendingAlone (p : Option PendingAssertions) (cid : ℕ) (hash : List ℕ) (presence : Bool) (now : ℕ)
     (ids : List (List ℕ)) (count : ℕ) : Type 0 where
   pub are : p ≡ pending_of cid hash presence now ids
   pub counted : length ids ≡ count
   pub few : count < 2 ^ 16
 
--- a state that turns lead to: every pending id has a row, and the work can go on
+-- The invariant of the state: each pending ID is that of a credential, and the pending request can be continued.
 pub record Ready (capacity : ℕ) (s : State) : Type 0 where
   pub pending : PendingReady s.rows s.pending
   pub work : WorkReady capacity s.rows s.work

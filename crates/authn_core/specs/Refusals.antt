@@ -1,4 +1,4 @@
--- Why a command is refused, and the status that is answered (CTAP 2.1, section 8.2, "Status codes").
+-- Why a command is rejected, and the status of its response (CTAP 2.1, section 8.2, "Status codes").
 use Rattle.std.specs.Prelude.{ℕ}
 use Rattle.authn_core.specs.declared.replies.Presence.{Presence, TheVariants.Denied as UserDenied}
 use Rattle.authn_core.specs.declared.refusal.Refusal.{Refusal}
@@ -8,6 +8,7 @@ use Rattle.authn_core.specs.declared.refusal.Refusal.TheVariants.{SignatureRefus
 use Rattle.authn_core.specs.declared.refusal.Refusal.TheVariants.{NothingPending, PendingElsewhere, NextTooLate}
 use Rattle.authn_core.specs.declared.refusal.Refusal.TheVariants.{ResetTooLate}
 
+-- The status code of an error (CTAP 2.1, section 8.2).
 abbrev pub status_of : Refusal → ℕ
 status_of (BadRequest status) = status
 status_of Cancelled = 0x2d  -- KEEPALIVE_CANCEL
@@ -26,7 +27,7 @@ status_of (PendingElsewhere channel) = 0x30  -- NOT_ALLOWED
 status_of (NextTooLate since at) = 0x30  -- NOT_ALLOWED
 status_of (ResetTooLate since at) = 0x30  -- NOT_ALLOWED
 
--- why a credential isn't made or used after a reply that doesn't grant it
+-- The error if the user doesn't consent to creating or using a credential.
 abbrev pub not_granted : Presence → Refusal
 not_granted UserDenied = Denied
 not_granted reply = NoConsentInTime

@@ -1,4 +1,4 @@
--- What the code's values say, in the words of the turns.
+-- The values of the code, converted to those of the definitions.
 use Rattle.std.specs.Prelude.{◌≡◌, ℕ, max, min, List, Bool, true, false, Option, Some, None}
 use Rattle.authn_core.specs.declared.authenticator.Turn.{Turn}
 use Rattle.authn_core.specs.declared.authenticator.Turn.TheVariants as turns
@@ -11,48 +11,52 @@ use Rattle.authn_core.specs.declared.work.Work.{Work as WaitingWork}
 use Rattle.authn_core.specs.declared.event.Event.{Event as Happening}
 use Rattle.authn_core.specs.declared.event.Event.TheVariants as happening
 use Rattle.ctap_message.specs.Requests.{steps_of, LARGEST}
-use Rattle.authn_core.specs.Turn.{Work, Held, Start, core_after, core_answer, first_state}
-use Rattle.authn_core.specs.declared.task.Making.{Making as MakingKept}
-use Rattle.authn_core.specs.declared.task.Asserting.{Asserting as AssertingKept}
+use Rattle.authn_core.specs.Turn.{Work, CoreContents, Start, core_after, core_answer, first_state}
+use Rattle.authn_core.specs.declared.task.MakeState.{MakeState as MakingKept}
+use Rattle.authn_core.specs.declared.task.AssertState.{AssertState as AssertingKept}
 use Rattle.authn_core.specs.declared.task.Task.{Task as TaskKept}
 use Rattle.authn_core.specs.declared.task.Task.TheVariants as kept
-use Rattle.authn_core.specs.declared.task.ChannelTask.{ChannelTask as ChannelTaskKept}
-use Rattle.authn_core.specs.State.{Making, Asserting, Task, Resets, Selects, AsksMake, WantsKey, SignsMake, AsksAssert}
-use Rattle.authn_core.specs.State.{SignsAssert, ChannelTask, Event, Request, PresenceIs, KeyIs, SignatureIs, Cancel}
-use Rattle.authn_core.specs.State.{Drop, Answer, Answered, Waits, Ignored, Nothing, Turned, status}
+use Rattle.authn_core.specs.declared.task.PendingTask.{PendingTask as ChannelTaskKept}
+use Rattle.authn_core.specs.State.{MakeState, AssertState, Task, AwaitResetPresence, AwaitSelectionPresence, AwaitMakePresence, AwaitKeyPair, AwaitMakeSignature, AwaitAssertPresence}
+use Rattle.authn_core.specs.State.{AwaitAssertSignature, PendingTask, Event, Request, PresenceIs, KeyIs, SignatureIs, Cancel}
+use Rattle.authn_core.specs.State.{Drop, Answer, Answered, Waits, Ignored, Nothing, TurnResult, status}
 
--- the status of waiting work, as the byte that a KEEPALIVE carries
+-- The KEEPALIVE status as a byte.
 abbrev pub status_number : KeepaliveStatus → ℕ
 status_number Processing = 1
 status_number PresenceNeeded = 2
 
--- what waits, as the code keeps it
-abbrev pub making_of : MakingKept → Making
-making_of m = record { hash = m.hash; rp = m.rp; user = m.user.items; name = m.name; discoverable = m.discoverable }
+-- Converts the code's state of a registration to that of the definitions.
+abbrev pub make_state_of : MakingKept → MakeState
+make_state_of m = record { hash = m.hash; rp = m.rp; user = m.user.items; name = m.name; discoverable = m.discoverable }
 
-abbrev pub asserting_of : AssertingKept → Asserting
-asserting_of a = record { hash = a.hash; rp = a.rp; id = a.id; presence = a.presence; number = a.number }
+-- Converts the code's assertion to that of the definitions.
+abbrev pub assert_state_of : AssertingKept → AssertState
+assert_state_of a = record { hash = a.hash; rp = a.rp; id = a.id; presence = a.presence; number = a.number }
 
+-- Converts the code's task to that of the definitions.
 abbrev pub task_of : TaskKept → Task
-task_of kept.Resets = Resets
-task_of kept.Selects = Selects
-task_of (kept.AsksMake m excluded) = AsksMake (making_of m) excluded
-task_of (kept.WantsKey m) = WantsKey (making_of m)
-task_of (kept.SignsMake m k signed) = SignsMake (making_of m) k signed.items
-task_of (kept.AsksAssert a) = AsksAssert (asserting_of a)
-task_of (kept.SignsAssert a counter signed) = SignsAssert (asserting_of a) counter signed.items
+task_of kept.AwaitResetPresence = AwaitResetPresence
+task_of kept.AwaitSelectionPresence = AwaitSelectionPresence
+task_of (kept.AwaitMakePresence m excluded) = AwaitMakePresence (make_state_of m) excluded
+task_of (kept.AwaitKeyPair m) = AwaitKeyPair (make_state_of m)
+task_of (kept.AwaitMakeSignature m k signed) = AwaitMakeSignature (make_state_of m) k signed.items
+task_of (kept.AwaitAssertPresence a) = AwaitAssertPresence (assert_state_of a)
+task_of (kept.AwaitAssertSignature a counter signed) = AwaitAssertSignature (assert_state_of a) counter signed.items
 
-abbrev pub channel_task : ChannelTaskKept → ChannelTask
+-- Converts the code's pending task, with its channel, to that of the definitions.
+abbrev pub channel_task : ChannelTaskKept → PendingTask
 channel_task w = record { cid = w.cid; task = task_of w.task }
 
--- waiting work as the transport sees it
-abbrev pub as_work : ChannelTask → Work
+-- The channel and KEEPALIVE status of a pending task, which are all that the transport needs.
+abbrev pub as_work : PendingTask → Work
 as_work work = record { cid = work.cid; status = status work.task }
 
+-- Converts the code's pending request to that of the definitions: its channel and KEEPALIVE status.
 abbrev pub work_of : WaitingWork → Work
 work_of w = record { cid = w.cid; status = status_number w.status }
 
--- what a turn returns, with the bytes that stand beside it
+-- Converts the code's `Turn`, with the bytes of the response, to an answer of the definitions.
 abbrev pub answer_of : Turn → List ℕ → Answer
 answer_of turns.Answer bytes = Answered bytes
 answer_of (turns.Refuses why) bytes = Answered bytes
@@ -60,11 +64,12 @@ answer_of (turns.Waits status) bytes = Waits (status_number status)
 answer_of turns.Ignored bytes = Ignored
 answer_of turns.Nothing bytes = Nothing
 
--- why it refuses, where it does
-abbrev pub why_of : Turn → Option Refusal
-why_of (turns.Refuses why) = Some why
-why_of turn = None
+-- The error of the code's `Turn`, if any.
+abbrev pub refusal_of : Turn → Option Refusal
+refusal_of (turns.Refuses why) = Some why
+refusal_of turn = None
 
+-- Converts the code's event to that of the definitions.
 abbrev pub event_of : Happening → Event
 event_of (happening.Request cid message) = Request cid message.now
 event_of (happening.Presence reply) = PresenceIs reply
@@ -73,87 +78,95 @@ event_of (happening.Signature signature) = SignatureIs signature.now
 event_of happening.Cancel = Cancel
 event_of happening.Drop = Drop
 
--- the steps of the last request, after an event
+-- The steps of parsing the last request, after an event.
 abbrev pub steps_after : ℕ → Event → ℕ
 steps_after steps (Request cid bytes) = min (steps_of bytes) LARGEST
 steps_after steps e = steps
 
--- An event that came at a moment was taken: the state and the answer are those of its turn at the latest moment.
-pub record IsTurn (old new : Held) (said : Answer) (at : ℕ) (e : Event) : Type 0 where
+-- The code handled an event: its state and answer are those of `turn` at the latest timestamp.
+pub record IsTurn (old new : CoreContents) (said : Answer) (at : ℕ) (e : Event) : Type 0 where
   pub core : new.core ≡ core_after old.core (max old.latest at) e
   pub answer : said ≡ core_answer old.core (max old.latest at) e
   pub latest : new.latest ≡ max old.latest at
   pub steps : new.last_steps ≡ steps_after old.last_steps e
 
--- an authenticator at its start
-abbrev pub first_held : Start → Held
-first_held start = record { core = first_state start; latest = start.moment; last_steps = 0 }
+-- The authenticator at the start.
+abbrev pub first_contents : Start → CoreContents
+first_contents start = record { core = first_state start; latest = start.moment; last_steps = 0 }
 
--- the same authenticator at another moment, with the steps of another request
-abbrev pub moved : Held → (latest last_steps : ℕ) → Held
-moved v latest last_steps = record { core = v.core; latest = latest; last_steps = last_steps }
+-- The authenticator with another timestamp and step count.
+abbrev pub with_time_and_steps : CoreContents → (latest last_steps : ℕ) → CoreContents
+with_time_and_steps v latest last_steps = record { core = v.core; latest = latest; last_steps = last_steps }
 
--- the same authenticator with another state
-abbrev pub after : Held → Turned → Held
-after v t = record {
+-- The authenticator with another state.
+abbrev pub with_turn : CoreContents → TurnResult → CoreContents
+with_turn v t = record {
   core = record { setup = v.core.setup; state = t.state };
   latest = v.latest;
   last_steps = v.last_steps;
 }
 
--- A turn was taken: the state is what it makes, the answer what it returns, and all else stays.
-abbrev pub Takes : (old new : Held) → Turn → List ℕ → Turned → Type 0
-Takes old new result bytes t = (new ≡ after old t) × (answer_of result bytes ≡ t.answer) × (why_of result ≡ t.why)
+-- The code's state and answer are those of this result, and all else is unchanged.
+abbrev pub TakesTurn : (old new : CoreContents) → Turn → List ℕ → TurnResult → Type 0
+TakesTurn old new result bytes t = (new ≡ with_turn old t) × (answer_of result bytes ≡ t.answer) × (refusal_of result ≡ t.why)
 
--- A turn was taken after which work waits with a status: the state is what it makes, and all else stays.
-abbrev pub TakesWork : (old new : Held) → KeepaliveStatus → Turned → Type 0
-TakesWork old new result t = (new ≡ after old t) × (Waits (status_number result) ≡ t.answer) × (None ≡ t.why)
+-- The code's state is that of this result, whose request is pending with this KEEPALIVE status.
+abbrev pub TakesWork : (old new : CoreContents) → KeepaliveStatus → TurnResult → Type 0
+TakesWork old new result t = (new ≡ with_turn old t) × (Waits (status_number result) ≡ t.answer) × (None ≡ t.why)
 
--- what the caller has to hand in
+-- What the pending request needs from the caller.
 pub data Needed : Type 0 where
   nothing : Needed
   presence : Needed
   key : Needed
-  -- the credential's id, and the bytes to sign
+  -- A signature by the credential with this ID over these bytes.
   sign : (id signed : List ℕ) → Needed
 
+-- What the task needs.
 abbrev pub task_needs : Task → Needed
-task_needs Resets = presence
-task_needs Selects = presence
-task_needs (AsksMake m excluded) = presence
-task_needs (AsksAssert a) = presence
-task_needs (WantsKey m) = key
-task_needs (SignsMake m k signed) = sign k.id signed
-task_needs (SignsAssert a counter signed) = sign a.id signed
+task_needs AwaitResetPresence = presence
+task_needs AwaitSelectionPresence = presence
+task_needs (AwaitMakePresence m excluded) = presence
+task_needs (AwaitAssertPresence a) = presence
+task_needs (AwaitKeyPair m) = key
+task_needs (AwaitMakeSignature m k signed) = sign k.id signed
+task_needs (AwaitAssertSignature a counter signed) = sign a.id signed
 
-abbrev pub needs : Option ChannelTask → Needed
+-- What the pending task, if any, needs.
+abbrev pub needs : Option PendingTask → Needed
 needs None = nothing
 needs (Some work) = task_needs work.task
 
-abbrev pub needed : Need → Needed
-needed need.None = nothing
-needed need.Presence = presence
-needed need.Key = key
-needed (need.Sign id signed) = sign id.now signed.now
+-- Converts the code's need to that of the definitions.
+abbrev pub needed_reply : Need → Needed
+needed_reply need.None = nothing
+needed_reply need.Presence = presence
+needed_reply need.Key = key
+needed_reply (need.Sign id signed) = sign id.now signed.now
 
+-- User presence is needed.
 abbrev pub is_presence : Needed → Bool
 is_presence presence = true
 is_presence n = false
 
+-- A key pair is needed.
 abbrev pub is_key : Needed → Bool
 is_key key = true
 is_key n = false
 
+-- A signature is needed.
 abbrev pub is_sign : Needed → Bool
 is_sign (sign id signed) = true
 is_sign n = false
 
--- which reply the waiting work needs
-abbrev pub wants_presence : Option ChannelTask → Bool
+-- The pending task needs user presence.
+abbrev pub wants_presence : Option PendingTask → Bool
 wants_presence work = is_presence (needs work)
 
-abbrev pub wants_key : Option ChannelTask → Bool
+-- The pending task needs a key pair.
+abbrev pub wants_key : Option PendingTask → Bool
 wants_key work = is_key (needs work)
 
-abbrev pub wants_signature : Option ChannelTask → Bool
+-- The pending task needs a signature.
+abbrev pub wants_signature : Option PendingTask → Bool
 wants_signature work = is_sign (needs work)

@@ -5,47 +5,47 @@ ghost use Rattle.cred_table.specs.declared.row.Row.{Row as AnyRow};
 ghost use Rattle.cred_table.specs.Snapshots.{Loads, Refuses};
 ghost use Rattle.cred_table.specs.Waiting.{pending_count};
 ghost use Rattle.authn_core.specs.State.{Request as Asks, PresenceIs, KeyIs, SignatureIs, Cancel, Drop as DropWork, Nothing};
-ghost use Rattle.authn_core.specs.Turn.{waiting, core_why};
+ghost use Rattle.authn_core.specs.Turn.{waiting, core_refusal};
 ghost use Rattle.authn_core.specs.Needs.{IsNeed};
-ghost use Rattle.authn_core.specs.Views.{IsTurn, answer_of, why_of, first_held, event_of, needs, needed, is_presence, is_key, is_sign, sign as needs_sign, work_of};
+ghost use Rattle.authn_core.specs.Views.{IsTurn, answer_of, refusal_of, first_contents, event_of, needs, needed_reply, is_presence, is_key, is_sign, sign as needs_sign, work_of};
 
 use crate::event::Event;
 use crate::refusal::Refusal;
 use crate::replies::{NewKey, Presence, Signature};
-use crate::task::{ChannelTask, Task};
+use crate::task::{PendingTask, Task};
 use crate::work::{KeepaliveStatus, Work};
 use arrayvec::ArrayVec;
 use cred_table::{Pending, SnapshotFault, Table, load};
-use ctap_message::{Answer, read_request};
+use ctap_message::{Answer, parse_request};
 use std::marker::Model;
 
-/// What the turn of an event returns.
+/// The result of handling an event.
 #[derive(Clone, Copy, Debug, PartialEq, Eq)]
 pub enum Turn {
-    /// The answer is due, whose message was written.
+    /// The response was written.
     Answer,
-    /// The command is refused: the answer is due, whose message was written.
+    /// The command is refused: the response with its status was written.
     Refuses(Refusal),
-    /// Work waits with this status.
+    /// The request is pending with this status.
     Waits(KeepaliveStatus),
-    /// The reply wasn't needed.
+    /// The reply wasn't needed, and is ignored.
     Ignored,
-    /// The work was dropped: nothing is answered.
+    /// The pending request was dropped without a response.
     Nothing,
 }
 
-/// What the authenticator needs of its caller before its work goes on.
+/// What the authenticator needs from its caller.
 #[derive(Clone, Copy, Debug, PartialEq, Eq)]
 pub enum Need<'a> {
     /// Nothing.
     None,
-    /// The reply of a test of user presence.
+    /// User presence.
     Presence,
     /// A new key pair.
     Key,
-    /// A signature by the credential's key.
+    /// A signature by the credential's private key.
     Sign {
-        /// The credential's id.
+        /// The credential ID.
         id: &'a [u8; 32],
         /// The bytes to sign.
         signed: &'a [u8],
@@ -53,32 +53,32 @@ pub enum Need<'a> {
 }
 
 impl Need<'_> {
-    /// Returns whether the reply of a test of user presence is needed.
+    /// Returns whether user presence is needed.
     pub fn is_presence(&self) -> bool
-        ensures { result ≡ is_presence (needed self.now) }
+        ensures { result ≡ is_presence (needed_reply self.now) }
     {
         matches!(self, Need::Presence)
     }
 
     /// Returns whether a new key pair is needed.
     pub fn is_key(&self) -> bool
-        ensures { result ≡ is_key (needed self.now) }
+        ensures { result ≡ is_key (needed_reply self.now) }
     {
         matches!(self, Need::Key)
     }
 
     /// Returns whether a signature is needed.
     pub fn is_sign(&self) -> bool
-        ensures { result ≡ is_sign (needed self.now) }
+        ensures { result ≡ is_sign (needed_reply self.now) }
     {
         matches!(self, Need::Sign { .. })
     }
 }
 
-/// Returns that these bytes are signed by the key of the credential.
+/// Returns the need for a signature of these bytes by the credential's key.
 fn signature_need<'a>(id: &'a [u8; 32], signed: &'a ArrayVec<u8, 196>) -> Need<'a>
-    ensures value { needed result ≡ needs_sign id.now signed.now.items }
-    ensures sized { IsNeed (needed result) }
+    ensures value { needed_reply result ≡ needs_sign id.now signed.now.items }
+    ensures sized { IsNeed (needed_reply result) }
 {
     Need::Sign {
         id,
@@ -86,15 +86,15 @@ fn signature_need<'a>(id: &'a [u8; 32], signed: &'a ArrayVec<u8, 196>) -> Need<'
     }
 }
 
-/// What an authenticator is made with.
+/// The configuration of an authenticator.
 #[derive(Clone, Copy, Debug, Default, PartialEq, Eq)]
 pub struct Config {
-    /// The AAGUID, which names the authenticator's model (WebAuthn Level 2, section 6.1).
+    /// The AAGUID, which identifies the authenticator's model (WebAuthn Level 2, section 6.1).
     pub aaguid: [u8; 16],
 }
 
-/// The authenticator over a table of at most `C` rows. The moment of an event, in milliseconds, is the greatest of the
-/// start and of all moments that were handed in so far. No call allocates.
+/// The authenticator over a table of at most `C` credentials. The time of an event, in milliseconds, is the latest of
+/// the start and all timestamps so far. No call allocates.
 #[derive(Drop)]
 pub struct Core<T: Table<C>, const C: usize> {
     pub(crate) config: Config,
@@ -103,19 +103,20 @@ pub struct Core<T: Table<C>, const C: usize> {
     pub(crate) last_steps: u64,
     pub(crate) table: T,
     pub(crate) pending: Pending<C>,
-    pub(crate) work: Option<ChannelTask>,
-    /// The ids of the rows that may sign the last getAssertion. They stay here, since a new list would be cleared whole.
+    pub(crate) work: Option<PendingTask>,
+    /// The IDs of the credentials that may sign the last getAssertion. Stored here, since a new list would be cleared
+    /// each time.
     pub(crate) applicable: ArrayVec<[u8; 32], C>,
 }
 
-// Clauses see the authenticator's state, and the steps of the last request.
+// In contracts, an authenticator is its state, and the steps of parsing the last request.
 impl<T: Table<C>, const C: usize> Model for Core<T, C> {
     ghost use Rattle.std.specs.Prelude.{◌≤◌, option_map};
-    ghost use Rattle.authn_core.specs.Turn.{Held};
+    ghost use Rattle.authn_core.specs.Turn.{CoreContents};
     ghost use Rattle.authn_core.specs.Ready.{Ready, WorkSignsItsAnswer};
     ghost use Rattle.authn_core.specs.Views.{channel_task};
 
-    ghost Value = { Held };
+    ghost Value = { CoreContents };
 
     ghost view = { λ s. record {
       core = record {
@@ -131,10 +132,10 @@ impl<T: Table<C>, const C: usize> Model for Core<T, C> {
 }
 
 impl<T: Table<C>, const C: usize> Core<T, C> {
-    /// Returns an authenticator that begins at the moment `start`, in milliseconds, with these rows and no waiting
-    /// work.
+    /// Returns an authenticator that starts at time `start`, in milliseconds, with these credentials and no pending
+    /// request.
     pub fn new(config: Config, table: T, start: u64) -> Self
-        ensures { result ≡ first_held (record { aaguid = config.aaguid; moment = start; capacity = C; rows = T.rows table }) }
+        ensures { result ≡ first_contents (record { aaguid = config.aaguid; moment = start; capacity = C; rows = T.rows table }) }
     {
         Core {
             config,
@@ -148,12 +149,12 @@ impl<T: Table<C>, const C: usize> Core<T, C> {
         }
     }
 
-    /// Begins anew with this configuration at the moment `start`, in milliseconds, with the rows of a snapshot in place of
-    /// its own and no waiting work. A snapshot that is refused leaves all as it was.
+    /// Starts again with this configuration at time `start`, in milliseconds, with the credentials of a snapshot in
+    /// place of its own and no pending request. A refused snapshot leaves everything as it was.
     pub fn load(&mut self, config: Config, snapshot: &[u8], start: u64) -> Result<(), SnapshotFault>
         ensures { MatchResult result
             (λ _. (rows : List AnyRow) × Loads C snapshot.now (Ok tt) rows
-            × (self.new ≡ first_held (record { aaguid = config.aaguid; moment = start; capacity = C; rows = rows })))
+            × (self.new ≡ first_contents (record { aaguid = config.aaguid; moment = start; capacity = C; rows = rows })))
             (λ fault. Refuses C snapshot.now fault × (self.new ≡ self.old)) }
     {
         load(snapshot, &mut self.table)?;
@@ -166,43 +167,43 @@ impl<T: Table<C>, const C: usize> Core<T, C> {
         Ok(())
     }
 
-    /// Takes the turn of a request that came at `at` on the channel `cid`: `message` is its command byte and what
-    /// follows. Work that waits ends with no answer of its own.
+    /// Handles a request at time `at` on the channel `cid`: `message` is its command byte and parameters. A pending
+    /// request ends without a response.
     pub fn request(&mut self, at: u64, cid: u32, message: &[u8], answer: &mut Answer) -> Turn
         ensures { IsTurn self.old self.new (answer_of result answer.new.items) at (Asks cid message.now) }
     {
         self.take(at, &Event::Request { cid, message }, answer)
     }
 
-    /// Takes the turn of the reply of a test of user presence.
+    /// Handles a user presence reply.
     pub fn presence(&mut self, at: u64, reply: Presence, answer: &mut Answer) -> Turn
         ensures { IsTurn self.old self.new (answer_of result answer.new.items) at (PresenceIs reply) }
     {
         self.take(at, &Event::Presence(reply), answer)
     }
 
-    /// Takes the turn of a new key; `None` refuses one.
+    /// Handles a new key; `None` refuses one.
     pub fn key(&mut self, at: u64, key: Option<NewKey>, answer: &mut Answer) -> Turn
         ensures { IsTurn self.old self.new (answer_of result answer.new.items) at (KeyIs key) }
     {
         self.take(at, &Event::Key(&key), answer)
     }
 
-    /// Takes the turn of a signature; `None` refuses one.
+    /// Handles a signature; `None` refuses one.
     pub fn signature(&mut self, at: u64, signature: Option<Signature>, answer: &mut Answer) -> Turn
         ensures { IsTurn self.old self.new (answer_of result answer.new.items) at (SignatureIs signature) }
     {
         self.take(at, &Event::Signature(&signature), answer)
     }
 
-    /// Takes the turn of a CANCEL of the waiting work, the same at every moment.
+    /// Handles a CANCEL of the pending request.
     pub fn cancel(&mut self, answer: &mut Answer) -> Turn
         ensures { IsTurn self.old self.new (answer_of result answer.new.items) 0 Cancel }
     {
         self.take(0, &Event::Cancel, answer)
     }
 
-    /// Ends the waiting work with no answer.
+    /// Ends the pending request without a response.
     #[tactic(auto, unfolding(crate::specs::Turn::turn))]
     pub fn drop_work(&mut self)
         ensures { IsTurn self.old self.new Nothing 0 DropWork }
@@ -210,19 +211,18 @@ impl<T: Table<C>, const C: usize> Core<T, C> {
         self.take(0, &Event::Drop, &mut Answer::new());
     }
 
-    /// Takes the turn of an event that came at `at`. Where it returns [`Turn::Answer`] or
-    /// [`Turn::Refuses`], the answer's message is in `answer`.
-    // It isn't inlined: where it is, what reads a request isn't inlined into it.
+    /// Handles an event at time `at`. For [`Turn::Answer`] and [`Turn::Refuses`] the response is in `answer`.
+    // Not inlined; otherwise the parser of requests isn't inlined into it.
     #[inline(never)]
     #[tactic(auto, unfolding(crate::specs::Turn::turn))]
     pub fn take(&mut self, at: u64, event: &Event<'_>, answer: &mut Answer) -> Turn
         ensures turn { IsTurn self.old self.new (answer_of result answer.new.items) at (event_of event.now) }
-        ensures why { why_of result ≡ core_why self.old.core (max self.old.latest at) (event_of event.now) }
+        ensures why { refusal_of result ≡ core_refusal self.old.core (max self.old.latest at) (event_of event.now) }
     {
         self.latest = self.latest.max(at);
         match event {
             Event::Request { cid, message } => {
-                let (request, steps) = read_request(message);
+                let (request, steps) = parse_request(message);
                 self.last_steps = steps;
                 self.serve(*cid, request, answer)
             }
@@ -236,29 +236,30 @@ impl<T: Table<C>, const C: usize> Core<T, C> {
         }
     }
 
-    /// Returns what the waiting work needs, nothing where none waits. At most 196 bytes are to sign.
+    /// Returns what the pending request needs, if there is one. At most 196 bytes are to sign.
     pub fn need(&self) -> Need<'_>
-        ensures value { needed result ≡ needs self.now.core.state.work }
-        ensures sized { IsNeed (needed result) }
+        ensures value { needed_reply result ≡ needs self.now.core.state.work }
+        ensures sized { IsNeed (needed_reply result) }
     {
-        let Some(ChannelTask { task, .. }) = &self.work else {
+        let Some(PendingTask { task, .. }) = &self.work else {
             return Need::None;
         };
         match task {
-            Task::Resets | Task::Selects | Task::AsksMake(..) | Task::AsksAssert(_) => {
-                Need::Presence
-            }
-            Task::WantsKey(_) => Need::Key,
-            Task::SignsMake(_, key, signed) => signature_need(&key.id, signed),
-            Task::SignsAssert(a, _, signed) => signature_need(&a.id, signed),
+            Task::AwaitResetPresence
+            | Task::AwaitSelectionPresence
+            | Task::AwaitMakePresence(..)
+            | Task::AwaitAssertPresence(_) => { Need::Presence }
+            Task::AwaitKeyPair(_) => Need::Key,
+            Task::AwaitMakeSignature(_, key, signed) => signature_need(&key.id, signed),
+            Task::AwaitAssertSignature(a, _, signed) => signature_need(&a.id, signed),
         }
     }
 
-    /// Returns the work that waits.
+    /// Returns the pending request.
     pub fn work(&self) -> Option<Work>
         ensures { waiting self.now.core ≡ option_map work_of result }
     {
-        let Some(ChannelTask { cid, task }) = &self.work else {
+        let Some(PendingTask { cid, task }) = &self.work else {
             return None;
         };
         Some(Work {
@@ -290,7 +291,7 @@ impl<T: Table<C>, const C: usize> Core<T, C> {
         self.pending.len()
     }
 
-    /// Returns the steps that reading the last request took, 0 before one.
+    /// Returns the number of steps that parsing the last request took, 0 before one.
     pub fn last_steps(&self) -> u64
         ensures { result ≡ self.now.last_steps }
     {

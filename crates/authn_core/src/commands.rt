@@ -1,6 +1,6 @@
-//! The commands, each with its turns.
+//! The authenticator commands.
 
-pub(crate) mod asking;
 pub(crate) mod get_assertion;
 pub(crate) mod get_info;
 pub(crate) mod make_credential;
+pub(crate) mod presence_commands;

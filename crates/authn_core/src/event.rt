@@ -1,20 +1,20 @@
-//! What happens to the authenticator.
+//! The events of an authenticator.
 
 use crate::replies::{NewKey, Presence, Signature};
 
-/// What happens to the authenticator.
+/// An event of an authenticator.
 #[derive(Clone, Copy)]
 pub enum Event<'a> {
-    /// A request came on the channel `cid`: its command byte and what follows.
+    /// A request on the channel `cid`: its command byte and parameters.
     Request { cid: u32, message: &'a [u8] },
-    /// The reply of a test of user presence.
+    /// A user presence reply.
     Presence(Presence),
     /// A new key; `None` refuses one.
     Key(&'a Option<NewKey>),
     /// A signature; `None` refuses one.
     Signature(&'a Option<Signature>),
-    /// The waiting work is cancelled.
+    /// The pending request is cancelled.
     Cancel,
-    /// The waiting work is dropped, with no answer.
+    /// The pending request is dropped, without a response.
     Drop,
 }

@@ -1,91 +1,88 @@
-//! What holds over the definitions alone. Each law is the contract of a function that does nothing.
+//! Laws stated over the definitions. Each is the contract of a function that does nothing.
 
 ghost use Rattle.std.specs.Prelude.{◌≡◌, ◌≤◌, ℕ, List, ◌∷◌, length, true, Some, None};
 ghost use Rattle.ctap_cbor.specs.Head.{AreBytes};
 ghost use Rattle.ctap_cbor.specs.Grammar.{IsCanonical};
 ghost use Rattle.fido_authdata.specs.CoseKey.{cose_key_bytes};
-ghost use Rattle.cred_table.specs.Rows.{Lawful};
+ghost use Rattle.cred_table.specs.Rows.{ValidRows};
 ghost use Rattle.cred_table.specs.Waiting.{pending_count};
 ghost use Rattle.authn_core.specs.CoseTree.{cose_key_tree};
 ghost use Rattle.authn_core.specs.State.{Setup, State, Event as AnyEvent, SignatureIs};
 ghost use Rattle.authn_core.specs.Turn.{CoreState, Start, core_answer, first_state, turn, waiting};
 ghost use Rattle.authn_core.specs.Ready.{Ready};
 ghost use Rattle.authn_core.specs.Rising.{all_rise, IsTextOf, IsNewest};
-ghost use Rattle.authn_core.specs.Signed.{Heard, Signs as SignsFor, IsNeeded, IsSigned, hears, heard};
+ghost use Rattle.authn_core.specs.Signed.{LatestRequests, Signs as SignsFor, IsNeeded, IsSigned, with_event, requests_of};
 ghost use Rattle.authn_core.specs.Views.{needs, sign};
-ghost use Rattle.authn_core.specs.Exchanges.{rows_after, unanswered, waiting_in};
+ghost use Rattle.authn_core.specs.Exchanges.{rows_after, pending_request, work_of_request};
 ghost use Rattle.authn_core.specs.Answers.{answer_to, exchanges};
-ghost use Rattle.authn_core.specs.Marks.{Step, Comes, Orderly, core_at, marks, rows_of, signs_by, texts, all_differ, Text};
+ghost use Rattle.authn_core.specs.Marks.{TimedEvent, MayComeNow, Orderly, core_at, changes, rows_after_changes, signs_by, texts, all_differ, SignedText};
 
-/// States that every turn leads from a ready state to a ready one: every pending id has a row, and what waits can go
-/// on.
+/// States that every event keeps the state valid: every pending ID has a credential, and the pending request can
+/// continue.
 pub fn turns_keep_ready()
     ensures { (u : Setup) (s : State) (now : ℕ) (e : AnyEvent) → Ready u.capacity s → Ready u.capacity (turn u s now e).state }
 {}
 
-/// States that the rows after any history are the start's and those that it made, in order, without what a granted
-/// reset or a replacing row took out since; each counter is that of the start, or 0 for a made row, and the raises of
-/// that row alone. They are lawful where the start's are: at most as many as there is capacity for. No more assertions
-/// are pending.
+/// States which credentials exist after any history: those of the start and the created ones, in order, without those
+/// that a granted reset or a replacement removed. Each counter is its initial value plus the number of its increments.
+/// There are at most as many as the capacity, and no more pending assertions.
 pub fn rows_follow_history()
-    ensures rows { (start : CoreState) (h : List Step) → Orderly start h
-        → (core_at start h).state.rows ≡ rows_of start.state.rows (marks start h) }
-    ensures lawful { (start : CoreState) (h : List Step) → Ready start.setup.capacity start.state
-        → Lawful start.setup.capacity start.state.rows
-        → Lawful start.setup.capacity (core_at start h).state.rows }
-    ensures pending { (start : CoreState) (h : List Step) → Ready start.setup.capacity start.state
-        → Lawful start.setup.capacity start.state.rows
+    ensures rows { (start : CoreState) (h : List TimedEvent) → Orderly start h
+        → (core_at start h).state.rows ≡ rows_after_changes start.state.rows (changes start h) }
+    ensures lawful { (start : CoreState) (h : List TimedEvent) → Ready start.setup.capacity start.state
+        → ValidRows start.setup.capacity start.state.rows
+        → ValidRows start.setup.capacity (core_at start h).state.rows }
+    ensures pending { (start : CoreState) (h : List TimedEvent) → Ready start.setup.capacity start.state
+        → ValidRows start.setup.capacity start.state.rows
         → pending_count start.state.pending ≤ start.setup.capacity
         → pending_count (core_at start h).state.pending ≤ start.setup.capacity }
 {}
 
-/// States that no two texts to sign of assertions by one row hold the same counter: they rise, each above all before
-/// it. A text that an input adds holds its row's counter. While an assertion's signature is waited for, the newest is
-/// to be signed.
+/// States that no two assertions signed with one credential have the same counter: the counters increase strictly. The
+/// bytes to sign have the credential's counter. While an assertion's signature is pending, its bytes are the newest.
 pub fn texts_to_sign_differ()
-    ensures differ { (start : CoreState) (h : List Step) → Ready start.setup.capacity start.state
-        → Lawful start.setup.capacity start.state.rows
+    ensures differ { (start : CoreState) (h : List TimedEvent) → Ready start.setup.capacity start.state
+        → ValidRows start.setup.capacity start.state.rows
         → Orderly start h → all_differ (texts start h) ≡ true }
-    ensures rise { (start : CoreState) (h : List Step) → Ready start.setup.capacity start.state
-        → Lawful start.setup.capacity start.state.rows
+    ensures rise { (start : CoreState) (h : List TimedEvent) → Ready start.setup.capacity start.state
+        → ValidRows start.setup.capacity start.state.rows
         → Orderly start h → all_rise (texts start h) ≡ true }
-    ensures told { (start : CoreState) (h : List Step) (x : Step) (t : Text) → Ready start.setup.capacity start.state
-        → Lawful start.setup.capacity start.state.rows → Orderly start (x ∷ h)
+    ensures told { (start : CoreState) (h : List TimedEvent) (x : TimedEvent) (t : SignedText) → Ready start.setup.capacity start.state
+        → ValidRows start.setup.capacity start.state.rows → Orderly start (x ∷ h)
         → texts start (x ∷ h) ≡ t ∷ texts start h → IsTextOf t (core_at start (x ∷ h)).state }
-    ensures newest { (start : CoreState) (h : List Step) (id : List ℕ) → start.state.work ≡ None
-        → Ready start.setup.capacity start.state → Lawful start.setup.capacity start.state.rows → Orderly start h
+    ensures newest { (start : CoreState) (h : List TimedEvent) (id : List ℕ) → start.state.work ≡ None
+        → Ready start.setup.capacity start.state → ValidRows start.setup.capacity start.state.rows → Orderly start h
         → signs_by id (core_at start h).state.work ≡ true → IsNewest (texts start h) (core_at start h).state }
 {}
 
-/// States that what is signed is what is answered. After any history the bytes to sign of an assertion are the
-/// authenticator data, with the hash of the RP id, the UP flag that was asked for and the counter of the row, and the
-/// hash of the client data, of the newest request; of a registration those with the id and public key of a key that was
-/// handed in. Where UP is set, the user's presence was granted since that request. A signature is answered with
-/// authenticator data that are, followed by that hash, just the bytes that were to sign.
+/// States that the signed bytes are the bytes in the response. For an assertion these are the authenticator data, with
+/// the RP ID hash, the requested UP flag and the credential's counter, and the client data hash of the newest request;
+/// for a registration they have the ID and public key that the caller supplied. If UP is set, the user consented since
+/// that request. The response to a signature has exactly the authenticator data that were signed.
 pub fn what_is_signed_is_answered()
-    ensures kept { (u : Setup) (s : State) (now : ℕ) (e : AnyEvent) (h : Heard) → Comes s.work e
-        → Lawful u.capacity s.rows → SignsFor u.aaguid h s → SignsFor u.aaguid (hears e h) (turn u s now e).state }
-    ensures signed { (start : Start) (h : List Step) → Lawful start.capacity start.rows → Orderly (first_state start) h
-        → IsNeeded start.aaguid (heard h) (core_at (first_state start) h).state.rows
+    ensures kept { (u : Setup) (s : State) (now : ℕ) (e : AnyEvent) (h : LatestRequests) → MayComeNow s.work e
+        → ValidRows u.capacity s.rows → SignsFor u.aaguid h s → SignsFor u.aaguid (with_event e h) (turn u s now e).state }
+    ensures signed { (start : Start) (h : List TimedEvent) → ValidRows start.capacity start.rows → Orderly (first_state start) h
+        → IsNeeded start.aaguid (requests_of h) (core_at (first_state start) h).state.rows
         (needs (core_at (first_state start) h).state.work) }
-    ensures answered { (start : Start) (h : List Step) (now : ℕ) (id signed sig : List ℕ)
-        → Lawful start.capacity start.rows → Orderly (first_state start) h
+    ensures answered { (start : Start) (h : List TimedEvent) (now : ℕ) (id signed sig : List ℕ)
+        → ValidRows start.capacity start.rows → Orderly (first_state start) h
         → needs (core_at (first_state start) h).state.work ≡ sign id signed
         → IsSigned start.aaguid (core_at (first_state start) h).state.work id signed sig
-        (core_answer (core_at (first_state start) h) now (SignatureIs (Some sig))) (heard h).asked }
+        (core_answer (core_at (first_state start) h) now (SignatureIs (Some sig))) (requests_of h).asked }
 {}
 
-/// States that each answer is the one that what happened before it names, by search, filters and counts over the events
-/// and their answers, without a state: after any history in which a request comes only where none waits. So are the
-/// credentials, and what waits, with its channel and the status that a KEEPALIVE has.
+/// States that each response is determined by the earlier events and their responses alone, without the authenticator's
+/// state, for any history in which a request arrives only if none is pending. So are the credentials, and the pending
+/// request with its channel and KEEPALIVE status.
 pub fn answers_follow_history()
-    ensures answers { (start : Start) (h : List Step) (x : Step) → Lawful start.capacity start.rows
+    ensures answers { (start : Start) (h : List TimedEvent) (x : TimedEvent) → ValidRows start.capacity start.rows
         → Orderly (first_state start) (x ∷ h)
         → core_answer (core_at (first_state start) h) x.at x.event ≡ answer_to start (exchanges start h) x.at x.event }
-    ensures rows { (start : Start) (h : List Step) → Lawful start.capacity start.rows → Orderly (first_state start) h
+    ensures rows { (start : Start) (h : List TimedEvent) → ValidRows start.capacity start.rows → Orderly (first_state start) h
         → (core_at (first_state start) h).state.rows ≡ rows_after start (exchanges start h) }
-    ensures waits { (start : Start) (h : List Step) → Lawful start.capacity start.rows → Orderly (first_state start) h
-        → waiting (core_at (first_state start) h) ≡ waiting_in (unanswered (exchanges start h)) }
+    ensures waits { (start : Start) (h : List TimedEvent) → ValidRows start.capacity start.rows → Orderly (first_state start) h
+        → waiting (core_at (first_state start) h) ≡ work_of_request (pending_request (exchanges start h)) }
 {}
 
 /// States that the bytes of a COSE key are the canonical CBOR encoding of its map `{1: 2, 3: -7, -1: 1, -2: x, -3: y}`

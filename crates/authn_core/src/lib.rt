@@ -1,5 +1,5 @@
-//! The authenticator of CTAP 2.1, section 6, as a machine that takes requests and replies, one turn each. Nothing here
-//! allocates.
+//! The authenticator of CTAP 2.1, section 6, as a state machine that handles one request or reply at a time. Nothing
+//! here allocates.
 //!
 //! An example, which the gate runs (`crates/page_tests/src/authn_core_page.rt`):
 //!
@@ -17,12 +17,12 @@
 
 mod authenticator;
 mod commands;
+mod dispatch;
 mod event;
 pub mod laws;
 mod refusal;
 mod replies;
 mod task;
-mod turns;
 mod work;
 
 pub use authenticator::{Config, Core, Need, Turn};

@@ -1,49 +1,49 @@
-//! Why a command is refused.
+//! Errors of commands.
 ghost use Rattle.std.specs.Prelude.{◌≡◌};
 ghost use Rattle.authn_core.specs.Refusals.{status_of, not_granted};
 
 use crate::replies::Presence;
 use ctap_message::Status;
 
-/// Why a command is refused, with what was compared.
+/// An error of a command, with the values compared.
 #[derive(Clone, Copy, Debug, PartialEq, Eq)]
 pub enum Refusal {
-    /// The message isn't one that asks what is served: the status of the first check that it fails.
+    /// The request fails a check: the status of the first one.
     BadRequest { status: u8 },
-    /// The host cancelled the command while it waited.
+    /// The host cancelled the command.
     Cancelled,
     /// The user refused.
     Denied,
-    /// The user didn't answer in time, of a command that makes or uses a credential.
+    /// The user didn't respond in time to a command that creates or uses a credential.
     NoConsentInTime,
-    /// The user didn't answer in time, of a command that asks for presence alone.
+    /// The user didn't respond in time to a command that only asks for user presence.
     TimedOut,
-    /// A credential of the exclude list is there.
+    /// A credential of the excludeList exists.
     Excluded,
-    /// There is no capacity for a credential.
+    /// There is no capacity for another credential.
     Full,
-    /// The caller refused a key.
+    /// The caller refused a key pair.
     KeyRefused,
-    /// The new key's id is that of a credential.
+    /// The new credential ID exists already.
     KeyIdTaken,
     /// The caller refused a signature.
     SignatureRefused,
-    /// No credential of the RP may sign; `listed` where an allow list was given.
+    /// No credential of the RP may sign; `listed` if an allowList was given.
     NoCredential { listed: bool },
-    /// The credential's counter can't be raised any more.
+    /// The credential's counter has reached its maximum.
     CounterSpent,
     /// No assertion is pending.
     NothingPending,
-    /// The pending assertions are those of another channel.
+    /// The pending assertions belong to another channel.
     PendingElsewhere { channel: u32 },
-    /// The time to ask for the next assertion, which began at `since`, is over at `at`.
+    /// The time for the next assertion, which began at `since`, is over at `at`.
     NextTooLate { since: u64, at: u64 },
     /// The time for a reset, which began at `since`, is over at `at`.
     ResetTooLate { since: u64, at: u64 },
 }
 
 impl Refusal {
-    /// Returns the status that is answered (CTAP 2.1, section 8.2, "Status codes").
+    /// Returns the status of the response (CTAP 2.1, section 8.2, "Status codes").
     pub fn status(self) -> Status
         ensures { result.0 ≡ status_of self }
     {
@@ -65,7 +65,7 @@ impl Refusal {
     }
 }
 
-/// Returns why a credential isn't made or used after such a reply.
+/// Returns the error for a reply that doesn't grant user presence.
 pub(crate) fn not_granted(reply: Presence) -> Refusal
     ensures { result ≡ not_granted reply }
 {

@@ -5,18 +5,18 @@ ghost use Rattle.authn_core.specs.Padded.{padded};
 
 use std::marker::Model;
 
-/// The reply of a test of user presence.
+/// A user presence reply.
 #[derive(Clone, Copy, Debug, PartialEq, Eq)]
 pub enum Presence {
     /// The user consented.
     Granted,
     /// The user refused.
     Denied,
-    /// The user didn't answer in time.
+    /// The user didn't respond in time.
     TimedOut,
 }
 
-/// A new key pair's public key by its coordinates, with the id of its credential.
+/// The public key of a new key pair, by its coordinates, and the credential ID.
 #[derive(Clone, Copy, Debug, PartialEq, Eq)]
 pub struct NewKey {
     pub id: [u8; 32],
@@ -24,7 +24,7 @@ pub struct NewKey {
     pub y: [u8; 32],
 }
 
-/// A signature, of 1 to 72 bytes. A contract sees its bytes.
+/// A signature of 1 to 72 bytes. In contracts it is the list of its bytes.
 #[derive(Clone, Copy, Debug, PartialEq, Eq)]
 pub struct Signature {
     bytes: [u8; 72],
@@ -50,7 +50,7 @@ impl Model for Signature {
         (length-kept a.len a.bytes h.1 h.2) };
 }
 
-/// Writes the bytes over the first places.
+/// Copies the bytes to the start.
 fn put_front(out: &mut [u8], bytes: &[u8])
     requires { length bytes.now ≤ length out.old }
     ensures { out.new ≡ bytes.now ++ drop (length bytes.now) out.old }
@@ -59,7 +59,7 @@ fn put_front(out: &mut [u8], bytes: &[u8])
 }
 
 impl Signature {
-    /// Returns the signature of these bytes. `None` exactly for another length than 1 to 72.
+    /// Returns the signature with these bytes, or `None` exactly if there are none or more than 72.
     pub fn new(bytes: &[u8]) -> Option<Signature>
         ensures exactly { IsSome result ↔ ((1 ≤ length bytes.now) × (length bytes.now ≤ 72)) }
         ensures value { IfSome result (λ s. s ≡ bytes.now) }

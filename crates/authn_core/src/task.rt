@@ -1,4 +1,4 @@
-//! What work is at.
+//! The state of a pending request.
 
 ghost use Rattle.std.specs.Prelude.{◌≡◌};
 ghost use Rattle.authn_core.specs.State.{status};
@@ -8,9 +8,9 @@ use crate::work::KeepaliveStatus;
 use arrayvec::ArrayVec;
 use cred_table::Name;
 
-/// A credential that is to be made.
+/// A credential that is being created.
 #[derive(Drop)]
-pub(crate) struct Making {
+pub(crate) struct MakeState {
     pub(crate) hash: [u8; 32],
     pub(crate) rp: [u8; 32],
     pub(crate) user: ArrayVec<u8, 64>,
@@ -20,7 +20,7 @@ pub(crate) struct Making {
 
 /// An assertion that is to be signed.
 #[derive(Clone, Copy)]
-pub(crate) struct Asserting {
+pub(crate) struct AssertState {
     pub(crate) hash: [u8; 32],
     pub(crate) rp: [u8; 32],
     pub(crate) id: [u8; 32],
@@ -28,35 +28,37 @@ pub(crate) struct Asserting {
     pub(crate) number: Option<u16>,
 }
 
-/// What work is at. The last field of one that waits for a signature is what is signed.
+/// The state of a pending request. The last field of a state that waits for a signature is the bytes to sign.
 #[derive(Drop)]
 pub(crate) enum Task {
-    Resets,
-    Selects,
-    AsksMake(Making, bool),
-    WantsKey(Making),
-    SignsMake(Making, crate::replies::NewKey, ArrayVec<u8, 196>),
-    AsksAssert(Asserting),
-    SignsAssert(Asserting, u32, ArrayVec<u8, 196>),
+    AwaitResetPresence,
+    AwaitSelectionPresence,
+    AwaitMakePresence(MakeState, bool),
+    AwaitKeyPair(MakeState),
+    AwaitMakeSignature(MakeState, crate::replies::NewKey, ArrayVec<u8, 196>),
+    AwaitAssertPresence(AssertState),
+    AwaitAssertSignature(AssertState, u32, ArrayVec<u8, 196>),
 }
 
 impl Task {
-    /// Returns what a KEEPALIVE says while it waits.
+    /// Returns the KEEPALIVE status of this state.
     pub(crate) fn status(&self) -> KeepaliveStatus
         ensures { status_number result ≡ status (task_of self.now) }
     {
         match self {
-            Task::WantsKey(_) | Task::SignsMake(..) | Task::SignsAssert(..) =>
+            Task::AwaitKeyPair(_) | Task::AwaitMakeSignature(..) | Task::AwaitAssertSignature(..) =>
                 KeepaliveStatus::Processing,
-            Task::Resets | Task::Selects | Task::AsksMake(..) | Task::AsksAssert(_) =>
-                KeepaliveStatus::PresenceNeeded,
+            Task::AwaitResetPresence
+            | Task::AwaitSelectionPresence
+            | Task::AwaitMakePresence(..)
+            | Task::AwaitAssertPresence(_) => KeepaliveStatus::PresenceNeeded,
         }
     }
 }
 
-/// Waiting work, with the channel that asked.
+/// A pending request with its channel.
 #[derive(Drop)]
-pub(crate) struct ChannelTask {
+pub(crate) struct PendingTask {
     pub(crate) cid: u32,
     pub(crate) task: Task,
 }

@@ -1,19 +1,19 @@
-//! Waiting work, as its channel sees it.
+//! A pending request, as its channel sees it.
 
 ghost use Rattle.std.specs.Prelude.{◌≡◌};
 ghost use Rattle.authn_core.specs.Views.{status_number};
 
-/// What waiting work waits for, the byte that a KEEPALIVE carries (CTAP 2.1, section 11.2.9.1.7).
+/// The status of a pending request: the data byte of a KEEPALIVE (CTAP 2.1, section 11.2.9.1.7).
 #[derive(Clone, Copy, Debug, PartialEq, Eq)]
 pub enum KeepaliveStatus {
     /// The authenticator is processing.
     Processing = 1,
-    /// The user's presence is needed.
+    /// User presence is needed.
     PresenceNeeded = 2,
 }
 
 impl KeepaliveStatus {
-    /// Returns the status as the byte that a KEEPALIVE carries.
+    /// Returns the status as the data byte of a KEEPALIVE.
     pub fn number(self) -> u8
         ensures { result ≡ status_number self }
     {
@@ -21,7 +21,7 @@ impl KeepaliveStatus {
     }
 }
 
-/// Work that waits: the channel that asked, and what it waits for.
+/// A pending request: its channel, and its status.
 #[derive(Clone, Copy, Debug, PartialEq, Eq)]
 pub struct Work {
     pub cid: u32,

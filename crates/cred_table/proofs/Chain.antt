@@ -7,11 +7,11 @@ use Rattle.std.specs.List.{IsDistinct, AllByRecursion}
 use Rattle.std.proofs.lemmas.List.{length-set, get_or-set_same, get_or-set_other, get_or-map, get_or_default}
 use Rattle.std.proofs.lemmas.List.{length-map, map-set, set-get_or, reverse-append, reverse-reverse}
 use Rattle.std.proofs.lemmas.Bool.{and_parts, or_parts, not-true}
-use Rattle.cred_table.specs.Slots.{walk, ends, chain, is_chain, has, but, distinct, begun, links, link_of, with_link}
-use Rattle.cred_table.specs.Slots.{led_slots, slot_at, blank, within, bucket, numbered}
+use Rattle.cred_table.specs.Slots.{walk, ends, chain, is_chain, is_among, without_slot, distinct, first_link, links, link_of, with_link}
+use Rattle.cred_table.specs.Slots.{relinked, slot_at, blank, within, bucket, numbered}
 use Rattle.cred_table.proofs.Basics.{all_stay}
-use Rattle.cred_table.specs.declared.{slot.Slot.Slot, slot.Along.Along, chains.Chains.Chains}
-use Rattle.cred_table.specs.declared.slot.Along.TheVariants.{Next, Newer, Older}
+use Rattle.cred_table.specs.declared.{slot.Slot.Slot, slot.ChainKind.ChainKind, chains.Chains.Chains}
+use Rattle.cred_table.specs.declared.slot.ChainKind.TheVariants.{Next, Newer, Older}
 use Rattle.cred_table.specs.Linked.{row_at, Linked, age, free_slots, id_slots, head}
 
 -- ---- numbers
@@ -33,29 +33,29 @@ ne_test a b h = λ e. let f = eq_is a b e in let g : true ≡ false = sym f ∙ 
 
 -- ---- lists of slots
 
-pub has-split : (k : ℕ) (ks : List ℕ) → has k ks ≡ true → (fs : List ℕ) × (rs : List ℕ) × (ks ≡ fs ++ k ∷ rs)
+pub has-split : (k : ℕ) (ks : List ℕ) → is_among k ks ≡ true → (fs : List ℕ) × (rs : List ℕ) × (ks ≡ fs ++ k ∷ rs)
 has-split k [] h = cc
 has-split k (j ∷ ks) h = go (λ i. has-split k ks i) (nat_eq k j) refl h
   where
-    go : (has k ks ≡ true → (fs : List ℕ) × (rs : List ℕ) × (ks ≡ fs ++ k ∷ rs)) → (b : Bool) → nat_eq k j ≡ b →
-        (b || has k ks) ≡ true → (fs : List ℕ) × (rs : List ℕ) × (j ∷ ks ≡ fs ++ k ∷ rs)
+    go : (is_among k ks ≡ true → (fs : List ℕ) × (rs : List ℕ) × (ks ≡ fs ++ k ∷ rs)) → (b : Bool) → nat_eq k j ≡ b →
+        (b || is_among k ks) ≡ true → (fs : List ℕ) × (rs : List ℕ) × (j ∷ ks ≡ fs ++ k ∷ rs)
     go ih true e i = ([], ks, ap (λ (x : ℕ). x ∷ ks) (sym (eq_test k j e)))
     go ih false e i = let r = ih i in (j ∷ r.0, r.1, ap (λ (l : List ℕ). j ∷ l) r.2)
 
 -- what stands before and after a slot
-pub distinct-split : (fs : List ℕ) (k : ℕ) (rs : List ℕ) → distinct (fs ++ k ∷ rs) ≡ true → (has k fs ≡ false)
-    × (has k rs ≡ false)
-distinct-split [] k rs h = let e = and_parts (not (has k rs)) (distinct rs) h in (refl, not-true (has k rs) e.0)
+pub distinct-split : (fs : List ℕ) (k : ℕ) (rs : List ℕ) → distinct (fs ++ k ∷ rs) ≡ true → (is_among k fs ≡ false)
+    × (is_among k rs ≡ false)
+distinct-split [] k rs h = let e = and_parts (not (is_among k rs)) (distinct rs) h in (refl, not-true (is_among k rs) e.0)
 distinct-split (j ∷ fs) k rs h = grind (arith, list_any-append, distinct-split fs k rs)
 
-pub but-split : (fs : List ℕ) (k : ℕ) (rs : List ℕ) → has k fs ≡ false → has k rs ≡ false →
-    but k (fs ++ k ∷ rs) ≡ fs ++ rs
+pub but-split : (fs : List ℕ) (k : ℕ) (rs : List ℕ) → is_among k fs ≡ false → is_among k rs ≡ false →
+    without_slot k (fs ++ k ∷ rs) ≡ fs ++ rs
 but-split [] k rs h i = rw (eq_is k k refl) (all_stay (nat_eq k) rs i)
 but-split (j ∷ fs) k rs h i = grind (arith, but-split fs k rs)
 
-all_apart : (k : ℕ) (ks : List ℕ) → has k ks ≡ false → AllByRecursion (λ j. eqb k j ≡ false) ks
+all_apart : (k : ℕ) (ks : List ℕ) → is_among k ks ≡ false → AllByRecursion (λ j. eqb k j ≡ false) ks
 all_apart k [] h = tt
-all_apart k (j ∷ ks) h = let e = or_parts (nat_eq k j) (has k ks) h in (e.0, all_apart k ks e.1)
+all_apart k (j ∷ ks) h = let e = or_parts (nat_eq k j) (is_among k ks) h in (e.0, all_apart k ks e.1)
 
 distinct-IsDistinct : (ks : List ℕ) → distinct ks ≡ true → IsDistinct eqb ks
 unfolding IsDistinct
@@ -63,7 +63,7 @@ distinct-IsDistinct [] h = tt
 distinct-IsDistinct (k ∷ ks) h = grind (arith, all_apart, distinct-IsDistinct ks)
 
 -- distinct numbers below n are at most n
-pub distinct_below : (ks : List ℕ) (n : ℕ) → distinct ks ≡ true → ((k : ℕ) → has k ks ≡ true → k < n) → length ks ≤ n
+pub distinct_below : (ks : List ℕ) (n : ℕ) → distinct ks ≡ true → ((k : ℕ) → is_among k ks ≡ true → k < n) → length ks ≤ n
 distinct_below ks n h l = length-le_from_distinct_below ks n (distinct-IsDistinct ks h) l
 
 -- ---- links
@@ -107,19 +107,19 @@ Leads-split to at end [] ls h = (at, refl, h)
 Leads-split to at end (k ∷ ks) ls h = search (rules, arith, Leads-split to (get_or to k None) end ks ls)
 
 -- the link of a slot elsewhere changes
-pub Leads-set : (to : List (Option ℕ)) (at end : Option ℕ) (ks : List ℕ) (k : ℕ) (l : Option ℕ) → has k ks ≡ false →
+pub Leads-set : (to : List (Option ℕ)) (at end : Option ℕ) (ks : List ℕ) (k : ℕ) (l : Option ℕ) → is_among k ks ≡ false →
     Leads to at ks end → Leads (set to k l) at ks end
 Leads-set to at end [] k l n h = h
 Leads-set to at end (j ∷ ks) k l n h =
     grind (arith, get_or-set_other, length-set, Leads-set to (get_or to j None) end ks k l)
 
 -- a slot is put first
-pub Leads-first : (to : List (Option ℕ)) (at end : Option ℕ) (ks : List ℕ) (k : ℕ) → has k ks ≡ false → k < length to →
+pub Leads-first : (to : List (Option ℕ)) (at end : Option ℕ) (ks : List ℕ) (k : ℕ) → is_among k ks ≡ false → k < length to →
     Leads to at ks end → Leads (set to k at) (Some k) (k ∷ ks) end
 Leads-first to at end ks k n l h = grind (arith, Leads-set, get_or-set_same, length-set)
 
 -- the link of the last slot changes
-pub Leads-last : (to : List (Option ℕ)) (at end : Option ℕ) (ks : List ℕ) (k : ℕ) (l : Option ℕ) → has k ks ≡ false →
+pub Leads-last : (to : List (Option ℕ)) (at end : Option ℕ) (ks : List ℕ) (k : ℕ) (l : Option ℕ) → is_among k ks ≡ false →
     Leads to at (ks ++ k ∷ []) end → Leads (set to k l) at (ks ++ k ∷ []) l
 Leads-last to at end ks k l n h =
     let s = Leads-split to at end ks (k ∷ []) h in
@@ -128,10 +128,10 @@ Leads-last to at end ks k l n h =
 
 -- a chain visits no slot twice
 pub Leads-once : (to : List (Option ℕ)) (at : Option ℕ) (k : ℕ) (ks : List ℕ) → Leads to at (k ∷ ks) None →
-    has k ks ≡ false
-Leads-once to at k ks h = go (has k ks) refl
+    is_among k ks ≡ false
+Leads-once to at k ks h = go (is_among k ks) refl
   where
-    go : (b : Bool) → has k ks ≡ b → b ≡ false
+    go : (b : Bool) → is_among k ks ≡ b → b ≡ false
     go false e = refl
     go true e =
         let s = has-split k ks e in
@@ -149,7 +149,7 @@ Leads-distinct to at [] h = refl
 Leads-distinct to at (k ∷ ks) h = rw (Leads-once to at k ks h, Leads-distinct to (get_or to k None) ks h.2) refl
 
 pub Leads-within : (to : List (Option ℕ)) (at end : Option ℕ) (ks : List ℕ) (k : ℕ) → Leads to at ks end →
-    has k ks ≡ true → k < length to
+    is_among k ks ≡ true → k < length to
 Leads-within to at end [] k h i = cc
 Leads-within to at end (j ∷ ks) k h i = grind (arith, Leads-within to (get_or to j None) end ks k)
 
@@ -173,8 +173,8 @@ led (Some p) next to = set to p next
 
 -- a slot is put last
 pub Leads-push : (to : List (Option ℕ)) (at : Option ℕ) (ks : List ℕ) (last : Option ℕ) (k : ℕ) → Leads to at ks None →
-    EndsWith ks last → has k ks ≡ false → k < length to →
-    Leads (led last (Some k) (set to k None)) (begun last (Some k) at) (ks ++ k ∷ []) None
+    EndsWith ks last → is_among k ks ≡ false → k < length to →
+    Leads (led last (Some k) (set to k None)) (first_link last (Some k) at) (ks ++ k ∷ []) None
 Leads-push to at ks None k h w n l = grind (arith, get_or-set_same, length-set)
 Leads-push to at ks (Some p) k h w n l = subst P (sym w.1) (Leads-append to2 at (Some k) None (w.0 ++ p ∷ [])
     (k ∷ []) front back)
@@ -188,7 +188,7 @@ Leads-push to at ks (Some p) k h w n l = subst P (sym w.1) (Leads-append to2 at 
     P : List ℕ → Type 0
     P ls = Leads to2 at (ls ++ k ∷ []) None
 
-    init_first : has p w.0 ≡ false
+    init_first : is_among p w.0 ≡ false
     init_first = grind (arith, Leads-distinct, distinct-split)
 
     front : Leads to2 at (w.0 ++ p ∷ []) (Some k)
@@ -202,7 +202,7 @@ Leads-push to at ks (Some p) k h w n l = subst P (sym w.1) (Leads-append to2 at 
 -- a slot is taken out
 pub Leads-without : (to : List (Option ℕ)) (at : Option ℕ) (fs : List ℕ) (k : ℕ) (rs : List ℕ) (before : Option ℕ) →
     Leads to at (fs ++ k ∷ rs) None → EndsWith fs before →
-    Leads (led before (get_or to k None) to) (begun before (get_or to k None) at) (fs ++ rs) None
+    Leads (led before (get_or to k None) to) (first_link before (get_or to k None) at) (fs ++ rs) None
 Leads-without to at fs k rs None h w = search (rules, arith)
 Leads-without to at fs k rs (Some p) h w =
     let P : List ℕ → Type 0 = λ ls. Leads to at (ls ++ k ∷ rs) None in
@@ -217,7 +217,7 @@ Leads-without to at fs k rs (Some p) h w =
         let t = Leads-split to at s.0 init (p ∷ []) s.1 in
         let tail : Leads to (Some p) (p ∷ k ∷ rs) None =
         (refl, t.2.1, subst (λ (o : Option ℕ). Leads to o (k ∷ rs) None) (sym t.2.2) s.2) in
-        let first = or_parts (nat_eq p k) (has p rs) (Leads-once to (Some p) p (k ∷ rs) tail) in
+        let first = or_parts (nat_eq p k) (is_among p rs) (Leads-once to (Some p) p (k ∷ rs) tail) in
         let whole = Leads-append to at (Some p) None init (p ∷ k ∷ rs)
         (subst (λ (o : Option ℕ). Leads to at init o) t.2.0 t.1) tail in
         let init_first = (distinct-split init p (k ∷ rs) (Leads-distinct to at (init ++ p ∷ k ∷ rs) whole)).0 in
@@ -226,16 +226,16 @@ Leads-without to at fs k rs (Some p) h w =
 
 -- The slots without one of them.
 pub but_is : (to : List (Option ℕ)) (at : Option ℕ) (fs : List ℕ) (k : ℕ) (rs : List ℕ) →
-    Leads to at (fs ++ k ∷ rs) None → but k (fs ++ k ∷ rs) ≡ fs ++ rs
+    Leads to at (fs ++ k ∷ rs) None → without_slot k (fs ++ k ∷ rs) ≡ fs ++ rs
 but_is to at fs k rs h = grind (arith, Leads-distinct, but-split, distinct-split)
 
 -- The links and the rows of changed slots.
 
-pub length-links : (along : Along) (slots : List Slot) → length (links along slots) ≡ length slots
+pub length-links : (along : ChainKind) (slots : List Slot) → length (links along slots) ≡ length slots
 length-links along slots = length-map slots (link_of along)
 
 -- the link of a slot
-pub link_at : (along : Along) (slots : List Slot) (k : ℕ) → k < length slots →
+pub link_at : (along : ChainKind) (slots : List Slot) (k : ℕ) → k < length slots →
     get_or (links along slots) k None ≡ link_of along (slot_at slots k)
 link_at along slots k l = get_or-map (link_of along) slots k blank None l
 
@@ -244,19 +244,19 @@ pub slot_read : (slots : List Slot) (k place : ℕ) (slot : Slot) → k < length
     get_or slots place slot ≡ slot_at slots k
 slot_read slots k place slot l p = rw p (get_or_default slots k slot blank l)
 
-pub links-set : (along : Along) (slots : List Slot) (k : ℕ) (slot : Slot) →
+pub links-set : (along : ChainKind) (slots : List Slot) (k : ℕ) (slot : Slot) →
     links along (set slots k slot) ≡ set (links along slots) k (link_of along slot)
 links-set along slots k slot = map-set (link_of along) slots k slot
 
 -- the links of the kind that changes
-pub links-led : (along : Along) (before next : Option ℕ) (slots : List Slot) →
-    links along (led_slots along before next slots) ≡ led before next (links along slots)
+pub links-led : (along : ChainKind) (before next : Option ℕ) (slots : List Slot) →
+    links along (relinked along before next slots) ≡ led before next (links along slots)
 links-led along before next slots = grind (arith, links-set)
 
 -- the links of another kind
-pub links-led_other : (along other : Along) (before next : Option ℕ) (slots : List Slot) →
+pub links-led_other : (along other : ChainKind) (before next : Option ℕ) (slots : List Slot) →
     ((slot : Slot) → link_of other (with_link along next slot) ≡ link_of other slot) → within before slots ≡ true →
-    links other (led_slots along before next slots) ≡ links other slots
+    links other (relinked along before next slots) ≡ links other slots
 links-led_other along other None next slots h w = refl
 links-led_other along other (Some p) next slots h w =
     let there : p < length slots = lt_test p (length slots) w in
@@ -264,8 +264,8 @@ links-led_other along other (Some p) next slots h w =
     ∙ (ap (set (links other slots) p) (h (slot_at slots p) ∙ sym (link_at other slots p there))
     ∙ set-get_or (links other slots) p None)
 
-pub length-led : (along : Along) (before next : Option ℕ) (slots : List Slot) →
-    length (led_slots along before next slots) ≡ length slots
+pub length-led : (along : ChainKind) (before next : Option ℕ) (slots : List Slot) →
+    length (relinked along before next slots) ≡ length slots
 length-led along before next slots = search (rules, arith)
 
 pub row-set_same : (slots : List Slot) (k : ℕ) (slot : Slot) → k < length slots → row_at (set slots k slot) k ≡ slot.row
@@ -275,12 +275,12 @@ pub row-set_other : (slots : List Slot) (k j : ℕ) (slot : Slot) → j ≢ k �
 row-set_other slots k j slot n = ap (λ (s : Slot). s.row) (get_or-set_other slots k j slot blank n)
 
 -- a changed link leaves the rows
-pub row-led : (along : Along) (before next : Option ℕ) (slots : List Slot) (j : ℕ) → within before slots ≡ true →
-    row_at (led_slots along before next slots) j ≡ row_at slots j
+pub row-led : (along : ChainKind) (before next : Option ℕ) (slots : List Slot) (j : ℕ) → within before slots ≡ true →
+    row_at (relinked along before next slots) j ≡ row_at slots j
 row-led along before next slots j w = grind (arith, row-set_other, row-set_same)
 
 -- what is made of each slot, where it is made of each alike
-pub map_same : {X : Type 0} (f g : ℕ → X) (ks : List ℕ) → ((k : ℕ) → has k ks ≡ true → f k ≡ g k) → map f ks ≡ map g ks
+pub map_same : {X : Type 0} (f g : ℕ → X) (ks : List ℕ) → ((k : ℕ) → is_among k ks ≡ true → f k ≡ g k) → map f ks ≡ map g ks
 map_same f g [] h = refl
 map_same {X = X} f g (k ∷ ks) h = grind (arith, map_same f g ks)
 
@@ -291,10 +291,10 @@ pub record Holds {C : ℕ} (away : List ℕ) (chains : Chains C) (held spare : L
   pub back : Leads (links Older chains.slots) chains.newest (reverse held) None
   pub freed : Leads (links Next chains.slots) chains.free spare None
   pub found : (b : ℕ) → Leads (links Next chains.slots) (head b chains) (ids b) None
-  pub by_id : (b k : ℕ) → has k (ids b) ≡ (has k held && nat_eq (bucket (row_at chains.slots k).id) b)
-  pub in_free : (k : ℕ) → has k spare ≡ (not (has k (away ++ held)) && nat_lt k (length chains.slots))
+  pub by_id : (b k : ℕ) → is_among k (ids b) ≡ (is_among k held && nat_eq (bucket (row_at chains.slots k).id) b)
+  pub in_free : (k : ℕ) → is_among k spare ≡ (not (is_among k (away ++ held)) && nat_lt k (length chains.slots))
   pub apart : distinct (away ++ held) ≡ true
-  pub inside : (k : ℕ) → has k (away ++ held) ≡ true → k < length chains.slots
+  pub inside : (k : ℕ) → is_among k (away ++ held) ≡ true → k < length chains.slots
   pub all : length (away ++ held) + length spare ≡ length chains.slots
 
 pub opened : {C : ℕ} (away : List ℕ) (chains : Chains C) → Linked away chains →
@@ -322,10 +322,10 @@ ends_newest to newest ks h = go (reverse ks) newest refl h
 or_swap : (a b : Bool) → (a || (b || false)) ≡ (b || a)
 or_swap a b = search (rules, arith)
 
-pub has-push : (k : ℕ) (ks : List ℕ) (j : ℕ) → has j (ks ++ k ∷ []) ≡ has j (k ∷ ks)
-has-push k ks j = list_any-append (nat_eq j) ks (k ∷ []) ∙ or_swap (has j ks) (nat_eq j k)
+pub has-push : (k : ℕ) (ks : List ℕ) (j : ℕ) → is_among j (ks ++ k ∷ []) ≡ is_among j (k ∷ ks)
+has-push k ks j = list_any-append (nat_eq j) ks (k ∷ []) ∙ or_swap (is_among j ks) (nat_eq j k)
 
-pub has-reverse : (k : ℕ) (ks : List ℕ) → has k (reverse ks) ≡ has k ks
+pub has-reverse : (k : ℕ) (ks : List ℕ) → is_among k (reverse ks) ≡ is_among k ks
 has-reverse k [] = refl
 has-reverse k (j ∷ ks) = grind (arith, common_steps, has-reverse k ks)
 
@@ -343,7 +343,7 @@ chain_step to k h =
     go ks e g = search (rules, arith, chain_is)
 
 -- what a walk gives
-pub walk_step : (slots : List Slot) (along : Along) (at : Option ℕ) (k place : ℕ) (slot : Slot) (next : Option ℕ) →
+pub walk_step : (slots : List Slot) (along : ChainKind) (at : Option ℕ) (k place : ℕ) (slot : Slot) (next : Option ℕ) →
     is_chain (links along slots) at ≡ true → at ≡ Some k → place ≡ k → slot ≡ get_or slots place slot →
     next ≡ link_of along slot → (is_chain (links along slots) next ≡ true)
     × (numbered slots (chain (links along slots) at) ≡ (k, slot) ∷ numbered slots (chain (links along slots) next))

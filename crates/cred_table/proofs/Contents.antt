@@ -6,21 +6,21 @@ use Rattle.ctap_cbor.specs.Tree.{Int, Tree, Plain, Array, Map, Trees, no_trees, 
 use Rattle.ctap_cbor.specs.{Tree.count_pairs, Head.head, Grammar.IsCanonical, Reading.Reading, Reading.rest_of}
 use Rattle.ctap_cbor.specs.Grammar.{text, texts, pair_texts, scalar_text, IsLawful, AreLawful, AreLawfulPairs}
 use Rattle.ctap_cbor.specs.Parts.{One, OpensArray, OpensMap}
-use Rattle.ctap_cbor.specs.Laws.{NoneBeginsAnother, NoItemBeginsAnother}
-use Rattle.cred_table.specs.{declared.row.Row.Row, declared.fault.SnapshotFault.SnapshotFault, Rows.Lawful}
+use Rattle.ctap_cbor.specs.Laws.{NoEncodingIsAPrefix, NoItemBeginsAnother}
+use Rattle.cred_table.specs.{declared.row.Row.Row, declared.fault.SnapshotFault.SnapshotFault, Rows.ValidRows}
 use Rattle.cred_table.specs.declared.fault.SnapshotFault.TheVariants.{NotSnapshot, TooMany, RowBroken, Memory}
 use Rattle.cred_table.specs.Snapshots.{number, version, IsRow, row_tree, rows_then, snapshot_of, IsSnapshot, Holds}
 use Rattle.cred_table.specs.Snapshots.{Refuses, Loads}
-use Rattle.cred_table.specs.Parsing.{Reads, heads_text, row_text, rows_text, TakesRows, BreaksOff, ReadsRows}
+use Rattle.cred_table.specs.Parsing.{Reads, heads_text, row_text, rows_text, TakesRows, StopsAtRow, ReadsRows}
 use Rattle.cred_table.proofs.{Entries.IsHeads, RowTrees.row_lawful}
 
 -- No tree's encoding begins another's, and no item's head does.
 pub record Apart : Type 0 where
-  pub trees : NoneBeginsAnother
+  pub trees : NoEncodingIsAPrefix
   pub items : NoItemBeginsAnother
 
 -- of one text only one tree stands at the front
-pub trees_same : (none : NoneBeginsAnother) (t u : Tree) (x y : List ℕ) → IsLawful t → IsLawful u →
+pub trees_same : (none : NoEncodingIsAPrefix) (t u : Tree) (x y : List ℕ) → IsLawful t → IsLawful u →
     text t ++ x ≡ text u ++ y → (t ≡ u) × (x ≡ y)
 trees_same none t u x y p q e = search (rules, arith)
 
@@ -192,7 +192,7 @@ one_left no_trees lt = absurd (omega arith)
 one_left (tree t ts) lt = record { entry = t; after = ts; is = refl }
 
 all_load : (apart : Apart) → (named : Bool) (capacity n : ℕ) (b : List ℕ) (a c : Reading) (rows : List Row) →
-    Lawful capacity rows → HasEntries named n b (rest_of a) → TakesRows named n a c rows →
+    ValidRows capacity rows → HasEntries named n b (rest_of a) → TakesRows named n a c rows →
     IsSnapshot named capacity rows b
 all_load apart named capacity n b a c rows lawful h k =
     let d = after_rows apart named rows h.entries (rest_of c) k.typed h.lawful (omega (arith, h.number, k.number))
@@ -205,7 +205,7 @@ all_load apart named capacity n b a c rows lawful h k =
     }
 
 broken_at : (apart : Apart) → (named : Bool) (capacity n place : ℕ) (b : List ℕ) (a : Reading) →
-    HasEntries named n b (rest_of a) → n ≤ capacity → BreaksOff named capacity n place a →
+    HasEntries named n b (rest_of a) → n ≤ capacity → StopsAtRow named capacity n place a →
     Refuses capacity b (RowBroken place)
 broken_at apart named capacity n place b a h few k =
     let d = after_rows apart named k.rows h.entries (rest_of k.between) k.takes.typed h.lawful
@@ -233,7 +233,7 @@ broken_at apart named capacity n place b a h few k =
 pub rows_load : (apart : Apart) → (named : Bool) (capacity n : ℕ) (t : Tree) (b : List ℕ) (a c : Reading)
     (rows : List Row)
     (r : Result (Unit {0}) SnapshotFault) →
-    n < 2 ^ 64 → n ≤ capacity → IsCanonical t b → b ≡ heads_text (named, n) ++ rest_of a → Lawful capacity rows →
+    n < 2 ^ 64 → n ≤ capacity → IsCanonical t b → b ≡ heads_text (named, n) ++ rest_of a → ValidRows capacity rows →
     ReadsRows named capacity n a c rows r → Loads capacity b r rows
 rows_load apart named capacity n t b a c rows (Ok u) fits few is e lawful k =
     (named, all_load apart named capacity n b a c rows lawful (has_entries apart named n t b (rest_of a) fits is e) k)

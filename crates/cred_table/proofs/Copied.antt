@@ -5,7 +5,7 @@ use Rattle.std.proofs.lemmas.List.{Folds.list_any-append, append-nil, Elements.f
 use Rattle.std.specs.{List.list_any, List.find, Prelude.◌<◌, Prelude.None, Prelude.IsTrue}
 use Rattle.std.proofs.lemmas.{Bool.or_parts, Bool.or_from, List.Sums.length-filter, List.Sums.count_by-le-length}
 use Rattle.cred_table.specs.{declared.row.Row.Row, Snapshots.clashes}
-use Rattle.cred_table.specs.Rows.{has_id, replaces, no_two, Lawful, is_user, without}
+use Rattle.cred_table.specs.Rows.{has_id, replaces, no_two, ValidRows, is_user, without}
 use Rattle.cred_table.proofs.{Stored.replaces_sym, Stored.none_kept, RowTrees.no_clash}
 
 none_before : (clash : Row → Row → Bool) (before : List Row) (row : Row) (after : List Row) →
@@ -14,7 +14,7 @@ none_before clash [] row after h = refl
 none_before clash (r ∷ rows) row after h = grind (arith, list_any-append, none_before clash rows row after)
 
 -- so each may be put after those before it
-pub free_before : (capacity : ℕ) (rows before : List Row) (row : Row) (rest after : List Row) → Lawful capacity rows →
+pub free_before : (capacity : ℕ) (rows before : List Row) (row : Row) (rest after : List Row) → ValidRows capacity rows →
     before ++ rest ≡ rows → rest ≡ row ∷ after → clashes row before ≡ false
 free_before capacity rows before row rest after lawful e f = grind (arith, none_before, replaces_sym)
 
@@ -56,7 +56,7 @@ pub record MayBePut (capacity : ℕ) (row : Row) (to : List Row) : Type 0 where
   pub alone : IsTrue row.discoverable → find (is_user row.rp row.user.items) to ≡ None
 
 pub may_be_put : (capacity : ℕ) (id : List ℕ) (rows left rest : List Row) (row copy : Row) (to : List Row) →
-    Lawful capacity rows → left ≡ row ∷ rest → copy ≡ row → Copied id rows left to → MayBePut capacity copy to
+    ValidRows capacity rows → left ≡ row ∷ rest → copy ≡ row → Copied id rows left to → MayBePut capacity copy to
 may_be_put capacity id rows left rest row copy to lawful first same w = subst (λ r. MayBePut capacity r to) (sym same)
     (subst (MayBePut capacity row) (sym w.copied) (record {
       space = omega (

@@ -2,7 +2,7 @@
 use Rattle.std.proofs.Common.{◌≡◌, ℕ, List, [], ◌∷◌, length, replicate, Bool, true, false, Some, None, option_map, refl}
 use Rattle.std.specs.List.{find}
 use Rattle.cred_table.specs.declared.row.Row.{Row}
-use Rattle.cred_table.specs.Rows.{has_id, is_named, is_user, stored, raised, listed, ids, counter_of}
+use Rattle.cred_table.specs.Rows.{has_id, is_named, is_user, rows_with, rows_incremented, discoverable_rows, ids, counter_of}
 
 rp : List ℕ
 rp = replicate 32 0xA3
@@ -27,20 +27,20 @@ hidden_user_is : find (is_user rp (0x02 ∷ [])) (rows false) ≡ None
 unfolding rp made rows
 hidden_user_is = refl
 
-stored_is : stored (made 0xAC 1 0 true) (rows true) ≡ after true
+stored_is : rows_with (made 0xAC 1 0 true) (rows true) ≡ after true
 unfolding made rows after
 stored_is = refl
 
 -- a row that isn't discoverable replaces nothing
-kept_is : length (stored (made 0xAC 1 0 false) (rows true)) ≡ 3
+kept_is : length (rows_with (made 0xAC 1 0 false) (rows true)) ≡ 3
 unfolding made rows
 kept_is = refl
 
-listed_is : ids (listed rp (after true)) ≡ replicate 32 0xAC ∷ replicate 32 0xAB ∷ []
+listed_is : ids (discoverable_rows rp (after true)) ≡ replicate 32 0xAC ∷ replicate 32 0xAB ∷ []
 unfolding rp made after
 listed_is = refl
 
-hidden_is : ids (listed rp (after false)) ≡ replicate 32 0xAC ∷ []
+hidden_is : ids (discoverable_rows rp (after false)) ≡ replicate 32 0xAC ∷ []
 unfolding rp made after
 hidden_is = refl
 
@@ -48,11 +48,11 @@ gone_is : find (has_id (replicate 32 0xAA)) (after true) ≡ None
 unfolding made after
 gone_is = refl
 
-raised_is : raised (replicate 32 0xAB) (after true) ≡ made 0xAB 2 1 true ∷ made 0xAC 1 0 true ∷ []
+raised_is : rows_incremented (replicate 32 0xAB) (after true) ≡ made 0xAB 2 1 true ∷ made 0xAC 1 0 true ∷ []
 unfolding made after
 raised_is = refl
 
-counter_is : counter_of (replicate 32 0xAB) (raised (replicate 32 0xAB) (after true)) ≡ 1
+counter_is : counter_of (replicate 32 0xAB) (rows_incremented (replicate 32 0xAB) (after true)) ≡ 1
 unfolding made after
 counter_is = refl
 

@@ -4,10 +4,10 @@ use Rattle.std.proofs.Common.{rules, ◌≡◌, ℕ, zero, suc, ◌+◌, ◌<◌
 use Rattle.std.proofs.Common.{◌||◌, Option, Some, None, refl, sym, ◌∙◌, subst, arith, nat_lt, nat_eq, get_or, ◌∷◌, ◌&&◌}
 use Rattle.std.proofs.Common.{not, ap, ◌++◌, map, reverse, cond, set}
 use Rattle.std.specs.List.{range_with_len}
-use Rattle.cred_table.specs.declared.{slot.Slot.Slot, slot.Along.Along, chains.Chains.Chains, row.Row.Row}
-use Rattle.cred_table.specs.declared.slot.Along.TheVariants.{Next, Newer, Older}
-use Rattle.cred_table.specs.Slots.{links, slot_at, has, next_free, chain, is_chain, distinct, led_slots, begun, within}
-use Rattle.cred_table.specs.Slots.{bucket, link_of, raised_slot}
+use Rattle.cred_table.specs.declared.{slot.Slot.Slot, slot.ChainKind.ChainKind, chains.Chains.Chains, row.Row.Row}
+use Rattle.cred_table.specs.declared.slot.ChainKind.TheVariants.{Next, Newer, Older}
+use Rattle.cred_table.specs.Slots.{links, slot_at, is_among, next_free, chain, is_chain, distinct, relinked, first_link, within}
+use Rattle.cred_table.specs.Slots.{bucket, link_of, slot_incremented}
 use Rattle.cred_table.specs.Linked.{Linked, age, free_slots, id_slots, head, row_at, rows_in, raised_at}
 use Rattle.cred_table.proofs.Chain.{Leads, lt_is, link_at, length-links, closed, Leads-once, eq_is, chain_step}
 use Rattle.cred_table.proofs.Chain.{slot_read, Holds, opened, Leads-first, Leads-set, Leads-push, Leads-distinct}
@@ -22,15 +22,15 @@ leads_on : (slots : List Slot) → ((k : ℕ) → k < length slots → (slot_at 
 leads_on slots h zero k e = grind (arith, length-links, link_at)
 leads_on slots h (suc m) k e = grind (arith, link_at, leads_on slots h m (k + 1))
 
-range_within : (i m k : ℕ) → has k (range_with_len i m) ≡ true → (i ≤ k) × (k < i + m)
+range_within : (i m k : ℕ) → is_among k (range_with_len i m) ≡ true → (i ≤ k) × (k < i + m)
 range_within i zero k h = cc
 range_within i (suc m) k h = grind (arith, range_within (i + 1) m k)
 
-range_has : (i m k : ℕ) → i ≤ k → k < i + m → has k (range_with_len i m) ≡ true
+range_has : (i m k : ℕ) → i ≤ k → k < i + m → is_among k (range_with_len i m) ≡ true
 range_has i zero k l h = absurd (omega arith)
 range_has i (suc m) k l h = grind (arith, range_has (i + 1) m k)
 
-range_test : (m k : ℕ) → has k (range_with_len 0 m) ≡ nat_lt k m
+range_test : (m k : ℕ) → is_among k (range_with_len 0 m) ≡ nat_lt k m
 range_test m k = grind (arith, range_has, range_within)
 
 abbrev none : Option ℕ
@@ -74,7 +74,7 @@ taken chains k held rest ids next h n = record {
   found = h.found;
   by_id = h.by_id;
   in_free = λ j. go j (nat_eq j k) refl;
-  apart = and_from (not (has k held)) (distinct held) away.0 h.apart;
+  apart = and_from (not (is_among k held)) (distinct held) away.0 h.apart;
   inside = λ j i. inside j (nat_eq j k) refl i;
   all = let a = h.all in omega arith;
 }
@@ -85,13 +85,13 @@ taken chains k held rest ids next h n = record {
     leads : get_or (links Next chains.slots) k None ≡ next
     leads = link_at Next chains.slots k there ∙ sym n
 
-    away : (not (has k held) ≡ true) × (nat_lt k (length chains.slots) ≡ true)
-    away = and_parts (not (has k held)) (nat_lt k (length chains.slots)) (sym (h.in_free k) ∙ rw (eq_is k k refl) refl)
+    away : (not (is_among k held) ≡ true) × (nat_lt k (length chains.slots) ≡ true)
+    away = and_parts (not (is_among k held)) (nat_lt k (length chains.slots)) (sym (h.in_free k) ∙ rw (eq_is k k refl) refl)
 
-    go : (j : ℕ) (b : Bool) → nat_eq j k ≡ b → has j rest ≡ (not (b || has j held) && nat_lt j (length chains.slots))
+    go : (j : ℕ) (b : Bool) → nat_eq j k ≡ b → is_among j rest ≡ (not (b || is_among j held) && nat_lt j (length chains.slots))
     go j b e = grind (arith, Leads-once)
 
-    inside : (j : ℕ) (b : Bool) → nat_eq j k ≡ b → (b || has j held) ≡ true → j < length chains.slots
+    inside : (j : ℕ) (b : Bool) → nat_eq j k ≡ b → (b || is_among j held) ≡ true → j < length chains.slots
     inside j b e i = grind arith
 
 pub take_free : {C : ℕ} (chains : Chains C) (k place : ℕ) (slot : Slot) → Linked [] chains → chains.free ≡ Some k →
@@ -114,7 +114,7 @@ take_free chains k place slot l f p =
 
 -- The slot before the new one is there.
 pub within_newest : (slots : List Slot) (k : ℕ) (slot : Slot) (held : List ℕ) (newest : Option ℕ) →
-    EndsWith held newest → ((j : ℕ) → has j held ≡ true → j < length slots) → within newest (set slots k slot) ≡ true
+    EndsWith held newest → ((j : ℕ) → is_among j held ≡ true → j < length slots) → within newest (set slots k slot) ≡ true
 within_newest slots k slot held None e i = refl
 within_newest slots k slot held (Some p) e i = search (rules, arith, eq_is, has-push, length-set, lt_is, e.1, e.0)
 
@@ -127,12 +127,12 @@ within_back slots k slot (Some p) h =
 -- The table after it.
 abbrev pub filled : {C : ℕ} → Chains C → ℕ → Row → Chains C
 filled chains k row = record {
-  slots = led_slots Newer chains.newest (Some k)
+  slots = relinked Newer chains.newest (Some k)
       (set chains.slots k (record
       { row = row; next = head (bucket row.id) chains; newer = None; older = chains.newest }));
   heads = set chains.heads (bucket row.id) (Some k);
   free = chains.free;
-  oldest = begun chains.newest (Some k) chains.oldest;
+  oldest = first_link chains.newest (Some k) chains.oldest;
   newest = Some k;
 }
 
@@ -143,11 +143,11 @@ joined k b ids c = cond (nat_eq c b) (k ∷ ids c) (ids c)
 holds : {C : ℕ} (chains : Chains C) (k : ℕ) (row : Row) (held spare : List ℕ) (ids : ℕ → List ℕ) →
     Holds (k ∷ []) chains held spare ids → bucket row.id < length chains.heads →
     Holds [] (filled chains k row) (held ++ k ∷ []) spare (joined k (bucket row.id) ids)
-    × ((j : ℕ) → has j held ≡ true → row_at (filled chains k row).slots j ≡ row_at chains.slots j)
+    × ((j : ℕ) → is_among j held ≡ true → row_at (filled chains k row).slots j ≡ row_at chains.slots j)
     × (row_at (filled chains k row).slots k ≡ row)
 holds {C = C} chains k row held spare ids h bound = (
   record {
-    aged = subst (λ (to : List (Option ℕ)). Leads to (begun chains.newest (Some k) chains.oldest) (held ++ k ∷ []) None)
+    aged = subst (λ (to : List (Option ℕ)). Leads to (first_link chains.newest (Some k) chains.oldest) (held ++ k ∷ []) None)
         (sym newers) (Leads-push newer chains.oldest held chains.newest k h.aged last out there_newer);
     back = subst (λ (to : List (Option ℕ)). Leads to (Some k) (reverse (held ++ k ∷ [])) None) (sym olders)
         (subst (λ (ks : List ℕ). Leads (set older k chains.newest) (Some k) ks None)
@@ -191,8 +191,8 @@ holds {C = C} chains k row held spare ids h bound = (
     after : Chains C
     after = filled chains k row
 
-    out : has k held ≡ false
-    out = not-true (has k held) (and_parts (not (has k held)) (distinct held) h.apart).0
+    out : is_among k held ≡ false
+    out = not-true (is_among k held) (and_parts (not (is_among k held)) (distinct held) h.apart).0
 
     there : k < length slots
     there = h.inside k (rw (eq_is k k refl) refl)
@@ -206,7 +206,7 @@ holds {C = C} chains k row held spare ids h bound = (
     last : EndsWith held chains.newest
     last = ends_newest older chains.newest held h.back
 
-    inside : (j : ℕ) → has j held ≡ true → j < length slots
+    inside : (j : ℕ) → is_among j held ≡ true → j < length slots
     inside j i = h.inside j (rw i (or-true (nat_eq j k)))
 
     named : within chains.newest written ≡ true
@@ -224,13 +224,13 @@ holds {C = C} chains k row held spare ids h bound = (
     nexts : links Next after.slots ≡ set next k (head b chains)
     nexts = links-led_other Newer Next chains.newest (Some k) written (λ s. refl) named ∙ links-set Next slots k slot
 
-    not_spare : has k spare ≡ false
+    not_spare : is_among k spare ≡ false
     not_spare = h.in_free k ∙ rw (eq_is k k refl) refl
 
     here : row_at after.slots k ≡ row
     here = row-led Newer chains.newest (Some k) written k named ∙ row-set_same slots k slot there
 
-    kept : (j : ℕ) → has j held ≡ true → row_at after.slots j ≡ row_at slots j
+    kept : (j : ℕ) → is_among j held ≡ true → row_at after.slots j ≡ row_at slots j
     kept j i = search (rules, arith)
 
     found : (c : ℕ) (p : Bool) → nat_eq c b ≡ p →
@@ -238,12 +238,12 @@ holds {C = C} chains k row held spare ids h bound = (
     found c p e = grind (arith, common_steps, Leads-set)
 
     by_id : (c j : ℕ) (p : Bool) → nat_eq c b ≡ p → (q : Bool) → nat_eq j k ≡ q →
-        has j (cond p (k ∷ ids c) (ids c)) ≡ (has j (held ++ k ∷ []) && nat_eq (bucket (row_at after.slots j).id) c)
+        is_among j (cond p (k ∷ ids c) (ids c)) ≡ (is_among j (held ++ k ∷ []) && nat_eq (bucket (row_at after.slots j).id) c)
     by_id c j p e q f = search (rules, arith, has-push)
 
     distinct_after : distinct (held ++ k ∷ []) ≡ true
     distinct_after =
-        Leads-distinct (led chains.newest (Some k) (set newer k None)) (begun chains.newest (Some k) chains.oldest)
+        Leads-distinct (led chains.newest (Some k) (set newer k None)) (first_link chains.newest (Some k) chains.oldest)
         (held ++ k ∷ []) (Leads-push newer chains.oldest held chains.newest k h.aged last out there_newer)
 
 pub fill : {C : ℕ} (chains : Chains C) (k : ℕ) (row : Row) → Linked (k ∷ []) chains →
@@ -265,28 +265,28 @@ fill chains k row l bound =
 -- as the code writes it
 pub fill_code : {C : ℕ} (chains : Chains C) (k : ℕ) (row : Row) (b place : ℕ) (slots : List Slot) (start : Option ℕ) →
     Linked (k ∷ []) chains → b ≡ bucket row.id → b < length chains.heads → place ≡ k →
-    slots ≡ led_slots Newer chains.newest (Some k)
+    slots ≡ relinked Newer chains.newest (Some k)
     (set chains.slots place
     (record { row = row; next = get_or chains.heads b None; newer = None; older = chains.newest })) →
-    start ≡ begun chains.newest (Some k) chains.oldest →
+    start ≡ first_link chains.newest (Some k) chains.oldest →
     record { slots = slots; heads = set chains.heads b (Some k); free = chains.free; oldest = start; newest = Some k } ≡
     filled chains k row
 fill_code chains k row b place slots start l e bound p s o = rw (s, o, p, e) refl
 
 -- The counter of the row in a slot is raised.
 
-linked_same : (along : Along) (slot : Slot) → link_of along (raised_slot slot) ≡ link_of along slot
+linked_same : (along : ChainKind) (slot : Slot) → link_of along (slot_incremented slot) ≡ link_of along slot
 linked_same along slot = search (rules, arith)
 
-links_same : (along : Along) (slots : List Slot) (k : ℕ) → k < length slots →
-    links along (set slots k (raised_slot (slot_at slots k))) ≡ links along slots
+links_same : (along : ChainKind) (slots : List Slot) (k : ℕ) → k < length slots →
+    links along (set slots k (slot_incremented (slot_at slots k))) ≡ links along slots
 links_same along slots k l =
-    links-set along slots k (raised_slot (slot_at slots k))
+    links-set along slots k (slot_incremented (slot_at slots k))
     ∙ (ap (set (links along slots) k) (linked_same along (slot_at slots k) ∙ sym (link_at along slots k l))
     ∙ set-get_or (links along slots) k None)
 
-pub raise : {C : ℕ} (chains : Chains C) (k : ℕ) (slots : List Slot) → Linked [] chains → has k (age chains) ≡ true →
-    slots ≡ set chains.slots k (raised_slot (slot_at chains.slots k)) →
+pub raise : {C : ℕ} (chains : Chains C) (k : ℕ) (slots : List Slot) → Linked [] chains → is_among k (age chains) ≡ true →
+    slots ≡ set chains.slots k (slot_incremented (slot_at chains.slots k)) →
     Linked [] (record chains { slots = slots })
     × (rows_in (record chains { slots = slots }) ≡ map (raised_at k chains.slots) (age chains))
 raise {C = C} chains k slots l is_held is = grind (arith, length-set, links_same, row-set_other, row-set_same)

@@ -4,8 +4,8 @@ use Rattle.std.proofs.Common.{option_map, Bor, refl, sym, ◌∙◌, ap, nat_eq,
 use Rattle.std.proofs.{Common.get_or, Common.slice_get, Common.◌+◌, lemmas.Bool.and_parts}
 use Rattle.std.specs.List.{find, list_any, filter}
 use Rattle.cred_table.specs.declared.{row.Row.Row, slot.Slot.Slot, chains.Chains.Chains}
-use Rattle.cred_table.specs.Rows.{has_id, same_id, no_two, without, raised, raised_row, counter_in, counter_of}
-use Rattle.cred_table.specs.Slots.{slot_at, numbered, has, bucket, but}
+use Rattle.cred_table.specs.Rows.{has_id, same_id, no_two, without, rows_incremented, row_incremented, counter_in, counter_of}
+use Rattle.cred_table.specs.Slots.{slot_at, numbered, is_among, bucket, without_slot}
 use Rattle.cred_table.specs.Linked.{Linked, age, id_slots, row_at, rows_in, raised_at}
 use Rattle.cred_table.proofs.{Basics.bytes_from, Chain.eq_is, Chain.map_same}
 
@@ -32,24 +32,24 @@ found_row slots ks test o e = same o ∙ (ap (option_map (λ (item : ℕ × Slot
 
 -- a row that is found is that of a slot
 pub find_some : (row : ℕ → Row) (test : Row → Bool) (ks : List ℕ) (r : Row) → find test (map row ks) ≡ Some r →
-    (k : ℕ) × (has k ks ≡ true) × (row k ≡ r) × (test (row k) ≡ true)
+    (k : ℕ) × (is_among k ks ≡ true) × (row k ≡ r) × (test (row k) ≡ true)
 find_some row test [] r h = cc
 find_some row test (k ∷ ks) r h = grind (arith, find_some row test ks r)
 
 -- where none is found, no slot's row passes
 pub find_none : (row : ℕ → Row) (test : Row → Bool) (ks : List ℕ) (k : ℕ) → find test (map row ks) ≡ None →
-    has k ks ≡ true → test (row k) ≡ false
+    is_among k ks ≡ true → test (row k) ≡ false
 find_none row test [] k h i = cc
 find_none row test (j ∷ ks) k h i = grind (arith, find_none row test ks k)
 
-pub any_has : (row : ℕ → Row) (test : Row → Bool) (ks : List ℕ) (k : ℕ) → has k ks ≡ true → test (row k) ≡ true →
+pub any_has : (row : ℕ → Row) (test : Row → Bool) (ks : List ℕ) (k : ℕ) → is_among k ks ≡ true → test (row k) ≡ true →
     list_any test (map row ks) ≡ true
 any_has row test [] k h t = cc
 any_has row test (j ∷ ks) k h t = grind (arith, any_has row test ks k)
 
 -- a row with the id is the one that is found
 pub find_only : (row : ℕ → Row) (test : Row → Bool) (id : List ℕ) (ks : List ℕ) (k : ℕ) →
-    ((r : Row) → test r ≡ true → has_id id r ≡ true) → no_two same_id (map row ks) ≡ true → has k ks ≡ true →
+    ((r : Row) → test r ≡ true → has_id id r ≡ true) → no_two same_id (map row ks) ≡ true → is_among k ks ≡ true →
     test (row k) ≡ true →
     find test (map row ks) ≡ Some (row k)
 find_only row test id [] k imp d h t = cc
@@ -70,7 +70,7 @@ found_alike chains test id l d imp = go (find test (map row near)) refl
     go : (o : Option Row) → find test (map row near) ≡ o → o ≡ find test (rows_in chains)
     go (Some r) e =
         let f = find_some row test near r e in
-        let held = (and_parts (has f.0 (age chains)) (nat_eq (bucket (row f.0).id) (bucket id))
+        let held = (and_parts (is_among f.0 (age chains)) (nat_eq (bucket (row f.0).id) (bucket id))
         (sym (l.by_id (bucket id) f.0) ∙ f.1)).0 in
         ap (λ (x : Row). Some x) (sym f.2) ∙ sym (find_only row test id (age chains) f.0 imp d held f.3)
     go None e = none (find test (rows_in chains)) refl
@@ -80,7 +80,7 @@ found_alike chains test id l d imp = go (find test (map row near)) refl
         none (Some r) f =
             let s = find_some row test (age chains) r f in
             let same : (row s.0).id ≡ id = bytes_from (row s.0).id id (imp (row s.0) s.3) in
-            let in_near : has s.0 near ≡ true = l.by_id (bucket id) s.0
+            let in_near : is_among s.0 near ≡ true = l.by_id (bucket id) s.0
             ∙ rw (s.1, eq_is (bucket (row s.0).id) (bucket id) (ap bucket same)) refl in
             let refused = find_none row test near s.0 e in_near in
             let taken = s.3 in
@@ -89,7 +89,7 @@ found_alike chains test id l d imp = go (find test (map row near)) refl
 -- The slot of a row that is found.
 
 numbered_some : (slots : List Slot) (ks : List ℕ) (test : Row → Bool) (q : ℕ × Slot) →
-    find (λ (item : ℕ × Slot). test item.1.row) (numbered slots ks) ≡ Some q → (has q.0 ks ≡ true)
+    find (λ (item : ℕ × Slot). test item.1.row) (numbered slots ks) ≡ Some q → (is_among q.0 ks ≡ true)
     × (test (row_at slots q.0) ≡ true)
 numbered_some slots [] test q h = cc
 numbered_some slots (k ∷ ks) test q h = grind (arith, numbered_some slots ks test q)
@@ -98,11 +98,11 @@ pub slot_found : {C : ℕ} (chains : Chains C) (id : List ℕ) (o : Option (ℕ 
     Linked [] chains → o ≡ Some item →
     option_map seen o ≡ find (λ (found : ℕ × Slot). has_id id found.1.row)
     (numbered chains.slots (id_slots (bucket id) chains)) →
-    (has item.0 (age chains) ≡ true) × (has_id id (row_at chains.slots item.0) ≡ true)
+    (is_among item.0 (age chains) ≡ true) × (has_id id (row_at chains.slots item.0) ≡ true)
 slot_found chains id o item l s e =
     let f = numbered_some chains.slots (id_slots (bucket id) chains) (has_id id) (seen item) (sym e
     ∙ ap (option_map seen) s) in
-    ((and_parts (has item.0 (age chains)) (nat_eq (bucket (row_at chains.slots item.0).id) (bucket id)) (sym (l.by_id (bucket id) item.0) ∙ f.0)).0, f.1)
+    ((and_parts (is_among item.0 (age chains)) (nat_eq (bucket (row_at chains.slots item.0).id) (bucket id)) (sym (l.by_id (bucket id) item.0) ∙ f.0)).0, f.1)
 
 -- a row that is there is found in the chain of its id
 pub slot_there : {C : ℕ} (chains : Chains C) (id : List ℕ) (o : Option (ℕ × Bor Slot)) → Linked [] chains →
@@ -123,7 +123,7 @@ slot_there chains id o l t e = go o (found_row chains.slots (id_slots (bucket id
     none n (Some r) f =
         let s = find_some row (has_id id) (age chains) r f in
         let same : (row s.0).id ≡ id = bytes_from (row s.0).id id s.3 in
-        let in_near : has s.0 near ≡ true = l.by_id (bucket id) s.0
+        let in_near : is_among s.0 near ≡ true = l.by_id (bucket id) s.0
         ∙ rw (s.1, eq_is (bucket (row s.0).id) (bucket id) (ap bucket same)) refl in
         let refused = find_none row (has_id id) near s.0 n in_near in
         let taken = s.3 in
@@ -157,41 +157,41 @@ nth_row slots ks o place l e =
 
 -- one slot has the row with an id
 one_slot : (row : ℕ → Row) (id : List ℕ) (ks : List ℕ) (j k : ℕ) → no_two same_id (map row ks) ≡ true →
-    has j ks ≡ true → has k ks ≡ true → has_id id (row j) ≡ true → has_id id (row k) ≡ true → j ≡ k
+    is_among j ks ≡ true → is_among k ks ≡ true → has_id id (row j) ≡ true → has_id id (row k) ≡ true → j ≡ k
 one_slot row id [] j k d hj hk rj rk = cc
 one_slot row id (i ∷ ks) j k d hj hk rj rk = search (rules, arith, any_has, one_slot row id ks j k)
 
 -- the row with the id is the row of that slot
-has_slot : (row : ℕ → Row) (id : List ℕ) (ks : List ℕ) (k : ℕ) → no_two same_id (map row ks) ≡ true → has k ks ≡ true →
-    has_id id (row k) ≡ true → (j : ℕ) → has j ks ≡ true → has_id id (row j) ≡ nat_eq k j
+has_slot : (row : ℕ → Row) (id : List ℕ) (ks : List ℕ) (k : ℕ) → no_two same_id (map row ks) ≡ true → is_among k ks ≡ true →
+    has_id id (row k) ≡ true → (j : ℕ) → is_among j ks ≡ true → has_id id (row j) ≡ nat_eq k j
 has_slot row id ks k d hk rk j hj = grind (arith, one_slot)
 
 filter_rows : (row : ℕ → Row) (p : Row → Bool) (q : ℕ → Bool) (ks : List ℕ) →
-    ((j : ℕ) → has j ks ≡ true → p (row j) ≡ q j) → map row (filter (λ j. not (q j)) ks) ≡ filter (λ r. not (p r))
+    ((j : ℕ) → is_among j ks ≡ true → p (row j) ≡ q j) → map row (filter (λ j. not (q j)) ks) ≡ filter (λ r. not (p r))
     (map row ks)
 filter_rows row p q [] h = refl
 filter_rows row p q (k ∷ ks) h = grind (arith, filter_rows row p q ks)
 
 -- taking out the slot takes out the row with its id
 pub but_without : (row : ℕ → Row) (id : List ℕ) (ks : List ℕ) (k : ℕ) → no_two same_id (map row ks) ≡ true →
-    has k ks ≡ true → has_id id (row k) ≡ true → map row (but k ks) ≡ without id (map row ks)
+    is_among k ks ≡ true → has_id id (row k) ≡ true → map row (without_slot k ks) ≡ without id (map row ks)
 but_without row id ks k d hk rk = filter_rows row (has_id id) (nat_eq k) ks (has_slot row id ks k d hk rk)
 
 -- raising the counter in the slot raises that of the row with its id
 pub raised_is : (slots : List Slot) (id : List ℕ) (ks : List ℕ) (k : ℕ) →
-    no_two same_id (map (row_at slots) ks) ≡ true → has k ks ≡ true → has_id id (row_at slots k) ≡ true →
-    map (raised_at k slots) ks ≡ raised id (map (row_at slots) ks)
+    no_two same_id (map (row_at slots) ks) ≡ true → is_among k ks ≡ true → has_id id (row_at slots k) ≡ true →
+    map (raised_at k slots) ks ≡ rows_incremented id (map (row_at slots) ks)
 raised_is slots id ks k d hk rk =
-    map_same (raised_at k slots) (λ j. raised_row id (row_at slots j)) ks
+    map_same (raised_at k slots) (λ j. row_incremented id (row_at slots j)) ks
     (λ j i. ap (λ (b : Bool). cond b (record (row_at slots j) { counter = (row_at slots j).counter + 1 })
     (row_at slots j)) (sym (has_slot (row_at slots) id ks k d hk rk j i)))
     ∙ twice ks
   where
-    twice : (ls : List ℕ) → map (λ j. raised_row id (row_at slots j)) ls ≡ raised id (map (row_at slots) ls)
+    twice : (ls : List ℕ) → map (λ j. row_incremented id (row_at slots j)) ls ≡ rows_incremented id (map (row_at slots) ls)
     twice [] = refl
-    twice (l ∷ ls) = ap (λ (rows : List Row). raised_row id (row_at slots l) ∷ rows) (twice ls)
+    twice (l ∷ ls) = ap (λ (rows : List Row). row_incremented id (row_at slots l) ∷ rows) (twice ls)
 
 -- and its counter is that row's
 pub counter_slot : (row : ℕ → Row) (id : List ℕ) (ks : List ℕ) (k : ℕ) → no_two same_id (map row ks) ≡ true →
-    has k ks ≡ true → has_id id (row k) ≡ true → counter_of id (map row ks) ≡ (row k).counter
+    is_among k ks ≡ true → has_id id (row k) ≡ true → counter_of id (map row ks) ≡ (row k).counter
 counter_slot row id ks k d hk rk = ap counter_in (find_only row (has_id id) id ks k (λ r h. h) d hk rk)

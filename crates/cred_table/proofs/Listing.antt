@@ -5,37 +5,37 @@ use Rattle.std.proofs.Common.{rules, ◌≡◌, ℕ, ◌<◌, ◌≤◌, List, [
 use Rattle.std.proofs.Common.{◌∙◌, ap, arith, filter, length-append, map, refl}
 use Rattle.std.proofs.lemmas.List.{length-map, length-reverse, reverse-append, Elements.filter-append}
 use Rattle.cred_table.specs.declared.{row.Row.Row, slot.Slot.Slot, chains.Chains.Chains}
-use Rattle.cred_table.specs.{Rows.is_listed, Rows.listed, Rows.ids, Linked.row_at, Linked.age, Linked.rows_in}
+use Rattle.cred_table.specs.{Rows.is_listed, Rows.discoverable_rows, Rows.ids, Linked.row_at, Linked.age, Linked.rows_in}
 use Rattle.cred_table.{proofs.Stored.length-filter, specs.Slots.numbered}
 
 -- no more rows are listed than there are
-pub length-listed : (rp : List ℕ) (rows : List Row) → length (ids (listed rp rows)) ≤ length rows
+pub length-listed : (rp : List ℕ) (rows : List Row) → length (ids (discoverable_rows rp rows)) ≤ length rows
 length-listed rp rows = grind (arith, length-filter, length-map, length-reverse)
 
 -- the last row is listed first, or not at all
 listed_last : (rp : List ℕ) (rows : List Row) (x : Row) (test : Bool) → is_listed rp x ≡ test →
-    ids (listed rp (rows ++ x ∷ [])) ≡ cond test (x.id ∷ ids (listed rp rows)) (ids (listed rp rows))
+    ids (discoverable_rows rp (rows ++ x ∷ [])) ≡ cond test (x.id ∷ ids (discoverable_rows rp rows)) (ids (discoverable_rows rp rows))
 listed_last rp rows x test tested = grind (arith, filter-append, reverse-append)
 
 -- one row less is left, and it was gathered
 pub listed_taken : (rp : List ℕ) (rows before left : List Row) (x : Row) (gathered after : List (List ℕ)) →
     before ≡ push left x → is_listed rp x ≡ true → after ≡ gathered ++ x.id ∷ [] →
-    gathered ++ ids (listed rp before) ≡ ids (listed rp rows) → after ++ ids (listed rp left) ≡ ids (listed rp rows)
+    gathered ++ ids (discoverable_rows rp before) ≡ ids (discoverable_rows rp rows) → after ++ ids (discoverable_rows rp left) ≡ ids (discoverable_rows rp rows)
 listed_taken rp rows before left x gathered after stands tested last all = grind (arith, common_steps)
 
 -- one row less is left, and it isn't listed
 pub listed_passed : (rp : List ℕ) (rows before left : List Row) (x : Row) (gathered : List (List ℕ)) →
     before ≡ push left x → is_listed rp x ≡ false →
-    gathered ++ ids (listed rp before) ≡ ids (listed rp rows) → gathered ++ ids (listed rp left) ≡ ids (listed rp rows)
+    gathered ++ ids (discoverable_rows rp before) ≡ ids (discoverable_rows rp rows) → gathered ++ ids (discoverable_rows rp left) ≡ ids (discoverable_rows rp rows)
 listed_passed rp rows before left x gathered stands tested all = grind (arith, common_steps)
 
 -- there is room for a row that is listed
 pub capacity_left : (rp : List ℕ) (rows before left : List Row) (x : Row) (gathered : List (List ℕ)) (capacity : ℕ) →
     before ≡ push left x → is_listed rp x ≡ true →
-    gathered ++ ids (listed rp before) ≡ ids (listed rp rows) → length rows ≤ capacity → length gathered < capacity
+    gathered ++ ids (discoverable_rows rp before) ≡ ids (discoverable_rows rp rows) → length rows ≤ capacity → length gathered < capacity
 capacity_left rp rows before left x gathered capacity stands tested all few =
-    let first = ap length (ap (λ (l : List Row). ids (listed rp l)) stands ∙ listed_last rp left x true tested) in
-    let joined = length-append gathered (ids (listed rp before)) in
+    let first = ap length (ap (λ (l : List Row). ids (discoverable_rows rp l)) stands ∙ listed_last rp left x true tested) in
+    let joined = length-append gathered (ids (discoverable_rows rp before)) in
     let whole = ap length all in
     let most = length-listed rp rows in
     omega arith
@@ -61,18 +61,18 @@ filter-reverse p (r ∷ rows) = grind (arith, common_steps, filter-reverse p row
 
 -- all slots from the newest on list what the rows list
 pub listed_all : {C : ℕ} (rp : List ℕ) (chains : Chains C) →
-    listed_left rp (numbered chains.slots (reverse (age chains))) ≡ ids (listed rp (rows_in chains))
+    listed_left rp (numbered chains.slots (reverse (age chains))) ≡ ids (discoverable_rows rp (rows_in chains))
 listed_all rp chains = search (rules, arith, filter-reverse, map-reverse, rows_numbered)
 
 pub listed_begun : {C : ℕ} (rp : List ℕ) (chains : Chains C) (out : List (List ℕ)) (items : List (ℕ × Slot)) →
     out ≡ [] → items ≡ numbered chains.slots (reverse (age chains)) →
-    out ++ listed_left rp items ≡ ids (listed rp (rows_in chains))
+    out ++ listed_left rp items ≡ ids (discoverable_rows rp (rows_in chains))
 listed_begun rp chains out items o i = rw (o, i) (listed_all rp chains)
 
 -- there is room for one more
 pub listed_capacity : (rp : List ℕ) (k : ℕ) (slot : Slot) (before left : List (ℕ × Slot)) (gathered : List (List ℕ))
     (rows : List Row) (capacity : ℕ) → before ≡ (k, slot) ∷ left → is_listed rp slot.row ≡ true →
-    gathered ++ listed_left rp before ≡ ids (listed rp rows) → length rows ≤ capacity → length gathered < capacity
+    gathered ++ listed_left rp before ≡ ids (discoverable_rows rp rows) → length rows ≤ capacity → length gathered < capacity
 listed_capacity rp k slot before left gathered rows capacity stands tested last few =
     let first : listed_left rp before ≡ slot.row.id ∷ listed_left rp left = ap (listed_left rp) stands
     ∙ rw tested refl in

@@ -5,11 +5,11 @@ use Rattle.std.specs.{Prelude.pos, Prelude.nat_lt, List.AllByRecursion, List.lis
 use Rattle.ctap_cbor.specs.Tree.{Int, Null, Tree, Plain, Array, Trees, no_trees, tree, count}
 use Rattle.cred_table.{specs.declared.row.Row.Row, proofs.Copied.free_before}
 use Rattle.cred_table.specs.declared.fault.SnapshotFault.TheVariants.{NotSnapshot, TooMany, RowBroken, Memory}
-use Rattle.cred_table.specs.Rows.{has_id, replaces, Lawful}
+use Rattle.cred_table.specs.Rows.{has_id, replaces, ValidRows}
 use Rattle.cred_table.specs.Snapshots.{version, IsRow, row_tree, rows_then, snapshot_of, Holds, clashes, FirstBroken}
 use Rattle.cred_table.specs.Laws.{SameRows, SnapshotsAreOne, RefusedIsNone, OneRefusal}
 use Rattle.cred_table.proofs.RowTrees.{pairs_in, first_of_pairs, beyond_first, bytes_in, flag_in}
-use Rattle.ctap_cbor.specs.Laws.{NoneBeginsAnother}
+use Rattle.ctap_cbor.specs.Laws.{NoEncodingIsAPrefix}
 use Rattle.cred_table.proofs.Contents.{trees_same, count_then}
 
 abbrev number_in : Tree → ℕ
@@ -24,7 +24,7 @@ version_same : (named other : Bool) → version named ≡ version other → name
 version_same named other e = search (rules, arith)
 
 -- one text holds entries of one version
-pub holds_same : (none : NoneBeginsAnother) → (named other : Bool) (es fs : Trees) (text : List ℕ) →
+pub holds_same : (none : NoEncodingIsAPrefix) → (named other : Bool) (es fs : Trees) (text : List ℕ) →
     Holds named es text → Holds other fs text → (named ≡ other) × (es ≡ fs)
 holds_same none named other es fs text p q =
     let same = (trees_same none (snapshot_of named es) (snapshot_of other fs) [] [] p.enc.lawful q.enc.lawful
@@ -50,7 +50,7 @@ nameless_same [] (b ∷ others) p q e = cc
 nameless_same (a ∷ rows) [] p q e = cc
 nameless_same (a ∷ rows) (b ∷ others) p q e = grind (arith, nameless_same rows others)
 
-pub snapshots_are_one : NoneBeginsAnother → SnapshotsAreOne
+pub snapshots_are_one : NoEncodingIsAPrefix → SnapshotsAreOne
 snapshots_are_one none named other capacity space rows others text p q = grind (arith, holds_same, nameless_same)
 
 -- ---- what is refused
@@ -112,7 +112,7 @@ all_at P (r ∷ front) row back all = all_at P front row back all.1
 
 -- no entry is broken that is the tree of one of lawful rows
 none_broken : (named : Bool) (capacity place : ℕ) (rows : List Row) (entries others : Trees) →
-    AllByRecursion (IsRow named) rows → Lawful capacity rows → entries ≡ rows_then named rows others →
+    AllByRecursion (IsRow named) rows → ValidRows capacity rows → entries ≡ rows_then named rows others →
     FirstBroken named capacity entries place → place < length rows → ⊥
 none_broken named capacity place rows entries others typed lawful e b lt =
     let s = split_at named rows b.before others b.entry b.after (omega (arith, b.place_is)) (sym e ∙ b.split) in
@@ -129,7 +129,7 @@ place_below : (named : Bool) (capacity place : ℕ) (entries : Trees) → FirstB
     place < count entries
 place_below named capacity place entries b = search (rules, arith, count_then)
 
-pub refused_is_none : NoneBeginsAnother → RefusedIsNone
+pub refused_is_none : NoEncodingIsAPrefix → RefusedIsNone
 refused_is_none none capacity text NotSnapshot r named rows is = r named (rows_then named rows no_trees) is.canonical
 refused_is_none none capacity text TooMany r named rows is =
     let same = (holds_same none r.0 named r.1 (rows_then named rows no_trees) text r.2 is.canonical).1 in
@@ -156,7 +156,7 @@ one_place named capacity i j entries a b = go (nat_lt i j) (nat_lt j i) refl ref
     go false true e f = absurd (not_before named capacity j i entries b a (grind arith))
     go false false e f = grind arith
 
-pub one_refusal : NoneBeginsAnother → OneRefusal
+pub one_refusal : NoEncodingIsAPrefix → OneRefusal
 one_refusal none capacity text NotSnapshot NotSnapshot r s = refl
 one_refusal none capacity text NotSnapshot TooMany r s = absurd (r s.0 s.1 s.2)
 one_refusal none capacity text NotSnapshot (RowBroken j) r s = absurd (r s.0 s.1 s.2)

@@ -4,8 +4,8 @@ use Rattle.std.proofs.Common.{rules, ◌≡◌, ℕ, ◌+◌, ◌<◌, List, [],
 use Rattle.std.proofs.Common.{is_some, refl, sym, ◌∙◌, ap, arith, get_or, set, inl, None, IsTrue, option_map, subst}
 use Rattle.std.proofs.Common.{filter}
 use Rattle.std.specs.List.{find, list_any, position, position_or_len, refill, remove}
-use Rattle.cred_table.specs.{declared.row.Row.Row, Rows.Lawful}
-use Rattle.cred_table.specs.Rows.{has_id, same_id, no_two, without, raised, counter_of, is_user, replaces, stored}
+use Rattle.cred_table.specs.{declared.row.Row.Row, Rows.ValidRows}
+use Rattle.cred_table.specs.Rows.{has_id, same_id, no_two, without, rows_incremented, counter_of, is_user, replaces, rows_with}
 use Rattle.cred_table.proofs.Basics.{bytes_from, all_stay, same_bytes, any_is_found, none_passes}
 use Rattle.cred_table.proofs.Stored.{no_two-filter, no_two-append, Lawful-stored, stored_last, one_replaced, one_less}
 use Rattle.cred_table.proofs.Stored.{fresh_stays, others_stay}
@@ -51,14 +51,14 @@ pub replaced_rows : (id : List ℕ) (new : Row) (rows kept after : List Row) (pl
     after ≡ without id rows ++ new ∷ []
 replaced_rows id new rows kept after place there distinct at taken last = search (rules, arith, remove_is)
 
-raised_none : (id : List ℕ) (rows : List Row) → list_any (has_id id) rows ≡ false → raised id rows ≡ rows
+raised_none : (id : List ℕ) (rows : List Row) → list_any (has_id id) rows ≡ false → rows_incremented id rows ≡ rows
 raised_none id [] h = refl
 raised_none id (r ∷ rows) h = grind (arith, raised_none id rows)
 
 -- raising the counter of the row at the place of the id raises that of the row with the id
 pub set_raised : (id : List ℕ) (rows : List Row) (x : Row) → no_two same_id rows ≡ true →
     is_some (find (has_id id) rows) ≡ true → x ≡ get_or rows (position_or_len (has_id id) rows) x →
-    set rows (position_or_len (has_id id) rows) (record x { counter = x.counter + 1 }) ≡ raised id rows
+    set rows (position_or_len (has_id id) rows) (record x { counter = x.counter + 1 }) ≡ rows_incremented id rows
 set_raised id [] x d h j = cc
 set_raised id (r ∷ rows) x d h j = grind (arith, no_other, raised_none, set_raised id rows x)
 
@@ -72,7 +72,7 @@ pub written_is : (id : List ℕ) (rows seen : List Row) (x : Row) (place : ℕ) 
     is_some (find (has_id id) rows) ≡ true →
     place ≡ position_or_len (has_id id) rows → seen ≡ rows → x ≡ get_or seen place x →
     refill (length rows) rows
-    (set seen place (record (get_or seen place x) { counter = (get_or seen place x).counter + 1 })) ≡ raised id rows
+    (set seen place (record (get_or seen place x) { counter = (get_or seen place x).counter + 1 })) ≡ rows_incremented id rows
 written_is id rows seen x place distinct there at same is = grind (arith, common_steps, set_raised)
 
 -- and the counter that it reads
@@ -130,21 +130,21 @@ without_is id new (r ∷ rows) d o h =
     go false e n m ih h = other (has_id id r) refl n (ih h) (id_found (replaces new) id rows h)
 
 -- the rows after a `put`
-pub Lawful-put : (capacity : ℕ) (new : Row) (rows : List Row) → Lawful capacity rows → length rows < capacity →
-    find (has_id new.id) rows ≡ None → find (replaces new) rows ≡ None → Lawful capacity (rows ++ new ∷ [])
+pub Lawful-put : (capacity : ℕ) (new : Row) (rows : List Row) → ValidRows capacity rows → length rows < capacity →
+    find (has_id new.id) rows ≡ None → find (replaces new) rows ≡ None → ValidRows capacity (rows ++ new ∷ [])
 Lawful-put capacity new rows lawful space fresh alone =
-    let P : List Row → Type 0 = λ after. Lawful capacity after in
+    let P : List Row → Type 0 = λ after. ValidRows capacity after in
     subst P (stored_last new rows alone) (Lawful-stored capacity new rows lawful fresh (inl space))
 
 -- where it is taken out and the new one is discoverable, these are the rows after the new one's making
-pub replaced_is : (capacity : ℕ) (id : List ℕ) (new : Row) (rows : List Row) → Lawful capacity rows →
+pub replaced_is : (capacity : ℕ) (id : List ℕ) (new : Row) (rows : List Row) → ValidRows capacity rows →
     IsTrue new.discoverable →
     option_map (λ (r : Row). r.id) (find (is_user new.rp new.user.items) rows) ≡ Some id →
-    without id rows ++ new ∷ [] ≡ stored new rows
+    without id rows ++ new ∷ [] ≡ rows_with new rows
 replaced_is capacity id new rows lawful discoverable there = grind (arith, one_replaced, without_is)
 
 -- and no row that stays clashes with the new one, discoverable or not
-none_clashes : (capacity : ℕ) (id : List ℕ) (new : Row) (rows : List Row) → Lawful capacity rows →
+none_clashes : (capacity : ℕ) (id : List ℕ) (new : Row) (rows : List Row) → ValidRows capacity rows →
     option_map (λ (r : Row). r.id) (find (is_user new.rp new.user.items) rows) ≡ Some id →
     list_any (λ r. replaces r new) (without id rows) ≡ false
 none_clashes capacity id new rows lawful there = go new.discoverable refl
@@ -161,10 +161,10 @@ none_clashes capacity id new rows lawful there = go new.discoverable refl
     go false h = hidden h (without id rows)
 
 -- the rows after a `replace`
-pub Lawful-replace : (capacity : ℕ) (id : List ℕ) (new : Row) (rows : List Row) → Lawful capacity rows →
+pub Lawful-replace : (capacity : ℕ) (id : List ℕ) (new : Row) (rows : List Row) → ValidRows capacity rows →
     find (has_id new.id) rows ≡ None →
     option_map (λ (r : Row). r.id) (find (is_user new.rp new.user.items) rows) ≡ Some id →
-    Lawful capacity (without id rows ++ new ∷ [])
+    ValidRows capacity (without id rows ++ new ∷ [])
 Lawful-replace capacity id new rows lawful fresh there = record {
   distinct = no_two-append same_id new (without id rows)
       (no_two-filter same_id (λ row. not (has_id id row)) rows lawful.distinct)

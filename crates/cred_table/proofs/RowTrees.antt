@@ -3,7 +3,7 @@ use Rattle.std.proofs.Common.{rules, ◌≡◌, ℕ, Bool, true, false, not, con
 use Rattle.std.proofs.Common.{is_some, IsTrue, option_map, refl, arith, sym, ap, ◌∙◌}
 use Rattle.std.specs.List.{find, list_any}
 use Rattle.ctap_cbor.specs.Tree.{Bytes, Flag, Null, Tree, Plain, Map, Pairs, no_pairs, pair, depth}
-use Rattle.ctap_cbor.specs.{Head.head, Reading.Reading, Laws.NoneBeginsAnother, Grammar.IsLawful, Grammar.IsEncoding}
+use Rattle.ctap_cbor.specs.{Head.head, Reading.Reading, Laws.NoEncodingIsAPrefix, Grammar.IsLawful, Grammar.IsEncoding}
 use Rattle.cred_table.specs.{declared.row.Row.Row, Rows.has_id, Rows.is_user}
 use Rattle.cred_table.specs.Snapshots.{IsRow, row_tree, clashes}
 use Rattle.cred_table.specs.Parsing.{Reads, row_text, ReadsEntry}
@@ -20,7 +20,7 @@ pub row_encoding : (named : Bool) (row : Row) → IsRow named row → IsEncoding
 row_encoding named row is = record { lawful = row_lawful named row is; spelled = refl }
 
 -- where one row's text stands, no other row's does
-pub row_same : (none : NoneBeginsAnother) → (named : Bool) (a b : Row) (x y : List ℕ) → IsRow named a → IsRow named b →
+pub row_same : (none : NoEncodingIsAPrefix) → (named : Bool) (a b : Row) (x y : List ℕ) → IsRow named a → IsRow named b →
     row_text named a ++ x ≡ row_text named b ++ y → row_tree named a ≡ row_tree named b
 row_same none named a b x y p q e = (none (row_tree named a) (row_tree named b) (row_text named a)
     (row_text named b) x y (row_encoding named a p) (row_encoding named b q) e).0
@@ -73,7 +73,7 @@ pub no_clash : (row : Row) (rows : List Row) → clashes row rows ≡ false → 
 no_clash row rows e = grind (arith, any_is_found)
 
 -- a row was read, and put or not
-pub entry_read : (none : NoneBeginsAnother) → (named : Bool) (old new : Reading) (row : Row) (rows more : List Row)
+pub entry_read : (none : NoEncodingIsAPrefix) → (named : Bool) (old new : Reading) (row : Row) (rows more : List Row)
     (put : Bool) → Reads (IsRow named) (row_text named) old new (Some row) → put ≡ not (clashes row rows) →
     more ≡ cond (clashes row rows) rows (rows ++ row ∷ []) → ReadsEntry named old new rows more put
 entry_read none named old new row rows more put r e f = grind (arith, row_same)

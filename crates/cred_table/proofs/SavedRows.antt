@@ -4,7 +4,7 @@ use Rattle.std.proofs.Common.{rules, ◌≡◌, ℕ, ◌+◌, Bool, List, [], �
 use Rattle.std.proofs.Common.{length-append, ◌≤◌, true, length, subst, Result, ◌*◌, take, drop, take-append-drop}
 use Rattle.std.specs.{List.AllByRecursion, Prelude.OnErr}
 use Rattle.ctap_cbor.specs.{Reading.Reading, declared.sink.Sink.Sink, Writing.Appends, Head.head, Head.head_len}
-use Rattle.cred_table.specs.{declared.row.Row.Row, Rows.Lawful, Saving.AppendsUpTo, Saving.SavesInto, Saving.longest}
+use Rattle.cred_table.specs.{declared.row.Row.Row, Rows.ValidRows, Saving.AppendsUpTo, Saving.SavesInto, Saving.longest}
 use Rattle.cred_table.specs.Snapshots.{IsRow, rows_then, snapshot, IsSnapshot, Saves, saved_len}
 use Rattle.cred_table.specs.Parsing.{row_text, rows_text, TakesRow, TakesRows, heads_text}
 use Rattle.ctap_cbor.specs.{Tree.no_trees, Tree.depth_all, Tree.count, Grammar.text, Grammar.AreLawful}
@@ -43,7 +43,7 @@ rows_flat named (row ∷ rows) = omega (arith, row_flat named row, rows_flat nam
 
 -- typed and lawful rows have a snapshot
 pub snapshot_is : (named : Bool) (capacity : ℕ) (rows : List Row) → capacity ≤ 256 → AllByRecursion (IsRow named) rows →
-    Lawful capacity rows → IsSnapshot named capacity rows (text (snapshot named rows))
+    ValidRows capacity rows → IsSnapshot named capacity rows (text (snapshot named rows))
 unfolding head
 snapshot_is named capacity rows small typed lawful = grind (arith, count_then, rows_flat, rows_lawful)
 
@@ -97,7 +97,7 @@ row_within rows left rest row old between first w =
     rows_joined [] more = omega arith
     rows_joined (r ∷ some) more = search (rules, arith, length-append, rows_joined some more)
 
-pub all_written : (capacity : ℕ) (rows left : List Row) (old new : List ℕ) → capacity ≤ 256 → Lawful capacity rows →
+pub all_written : (capacity : ℕ) (rows left : List Row) (old new : List ℕ) → capacity ≤ 256 → ValidRows capacity rows →
     left ≡ [] →
     Written rows left old new → Saves capacity rows old new
 all_written capacity rows left old new small lawful end w = grind (arith, append-nil, snapshot_is, whole_is)
@@ -150,12 +150,12 @@ one_put rows left rest row old between new first is w p =
 whole : (rows left : List Row) (old new : Sink) → left ≡ [] → (w : Put rows left old new) → w.done ≡ rows
 whole rows left old new end w = sym (append-nil w.done) ∙ ap (λ l. w.done ++ l) (sym end) ∙ w.all
 
-pub all_put : (capacity : ℕ) (rows left : List Row) (old new : Sink) → Lawful capacity rows → left ≡ [] →
+pub all_put : (capacity : ℕ) (rows left : List Row) (old new : Sink) → ValidRows capacity rows → left ≡ [] →
     Put rows left old new → AppendsUpTo old new (text (snapshot true rows)) (longest capacity)
 all_put capacity rows left old new lawful end w = search (rules, arith, whole_is)
 
 -- the buffer then
-pub saved_into : (capacity : ℕ) (rows : List Row) (old new : List ℕ) (len : ℕ) → capacity ≤ 256 → Lawful capacity rows →
+pub saved_into : (capacity : ℕ) (rows : List Row) (old new : List ℕ) (len : ℕ) → capacity ≤ 256 → ValidRows capacity rows →
     AllByRecursion (IsRow true) rows → longest capacity ≤ length old → take len new ≡ text (snapshot true rows) →
     drop len new ≡ drop len old → len ≤ length new → SavesInto capacity rows old new (Some len)
 saved_into capacity rows old new len small lawful typed space front rest within =

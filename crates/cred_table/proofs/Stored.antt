@@ -4,7 +4,7 @@ use Rattle.std.proofs.Common.{◌<◌, ◌≤◌, length, ◌&&◌, ◌⊎◌, N
 use Rattle.std.proofs.lemmas.List.{Folds.list_any-append, length-append}
 use Rattle.std.specs.List.{list_any, find}
 use Rattle.cred_table.specs.declared.row.Row.{Row}
-use Rattle.cred_table.specs.Rows.{no_two, has_id, is_user, replaces, same_id, stored, Lawful}
+use Rattle.cred_table.specs.Rows.{no_two, has_id, is_user, replaces, same_id, rows_with, ValidRows}
 use Rattle.cred_table.proofs.Basics.{bytes_sym, none_passes, all_stay}
 
 pub none_kept : (p q : Row → Bool) (rows : List Row) → list_any q rows ≡ false → list_any q (filter p rows) ≡ false
@@ -59,7 +59,7 @@ pub one_replaced : (new : Row) (rows : List Row) → IsTrue new.discoverable →
 one_replaced new rows h = search (rules, arith)
 
 -- nothing is replaced
-pub stored_last : (new : Row) (rows : List Row) → find (replaces new) rows ≡ None → stored new rows ≡ rows ++ new ∷ []
+pub stored_last : (new : Row) (rows : List Row) → find (replaces new) rows ≡ None → rows_with new rows ≡ rows ++ new ∷ []
 stored_last new rows h = ap (λ (kept : List Row). kept ++ new ∷ [])
     (all_stay (replaces new) rows (none_passes (replaces new) rows h))
 
@@ -86,9 +86,9 @@ others_stay new [] = refl
 others_stay new (r ∷ rows) = grind (arith, replaces_sym, others_stay new rows)
 
 -- Lawful rows stay lawful as a new one is stored: its id is new, and there is room or it replaces one.
-pub Lawful-stored : (capacity : ℕ) (new : Row) (rows : List Row) → Lawful capacity rows →
+pub Lawful-stored : (capacity : ℕ) (new : Row) (rows : List Row) → ValidRows capacity rows →
     find (has_id new.id) rows ≡ None →
-    (length rows < capacity) ⊎ (is_some (find (replaces new) rows) ≡ true) → Lawful capacity (stored new rows)
+    (length rows < capacity) ⊎ (is_some (find (replaces new) rows) ≡ true) → ValidRows capacity (rows_with new rows)
 Lawful-stored capacity new rows lawful fresh space = record {
   distinct = no_two-append same_id new kept (no_two-filter same_id (λ old. not (replaces new old)) rows lawful.distinct)
       (fresh_stays new.id new (λ old. not (replaces new old)) rows refl (none_passes (has_id new.id) rows fresh));

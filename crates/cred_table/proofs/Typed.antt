@@ -6,7 +6,7 @@ use Rattle.ctap_cbor.specs.Tree.{Int, Bytes, Text, Flag}
 use Rattle.ctap_cbor.specs.{Grammar.scalar_text, Faults.AnItem, Head.head, Reading.Reading, Reading.rest_of}
 use Rattle.ctap_cbor.specs.Parts.{Part, item_text, Suits, One, OpensArray, OpensMap}
 use Rattle.cred_table.specs.Parsing.{Given, and_then, Reads, ReadsPart, member_text, ReadsMember, map_in, key_in}
-use Rattle.cred_table.specs.Parsing.{hash_in, short_in, flag_in, counter_in, name_in, count_in, named_in}
+use Rattle.cred_table.specs.Parsing.{hash_in, short_in, flag_in, counter_in, name_in, count_in, has_names_in}
 use Rattle.cred_table.specs.Snapshots.{IsHash, IsShort, IsName, version}
 
 pub item_missed : (capacity : ℕ) (old new : Reading) → ((k : Part) (rest : List ℕ) → Suits capacity AnItem k →
@@ -133,12 +133,12 @@ pub counter_complete : (capacity : ℕ) (w : ℕ) → w < 2 ^ 32 → Suits capac
     × (counter_in (One (Int (pos w))) ≡ Some w)
 counter_complete capacity w is = (omega arith, ap (λ b. cond b (Some w) None) (lt_is w (2 ^ 32) is))
 
-pub named_sound : (capacity : ℕ) (i : Part) (w : Bool) → Suits capacity AnItem i → named_in i ≡ Some w →
+pub named_sound : (capacity : ℕ) (i : Part) (w : Bool) → Suits capacity AnItem i → has_names_in i ≡ Some w →
     (i ≡ One (Int (pos (version w)))) × ⊤
 named_sound capacity i w suits e = grind arith
 
 pub named_complete : (capacity : ℕ) (w : Bool) → ⊤ → Suits capacity AnItem (One (Int (pos (version w))))
-    × (named_in (One (Int (pos (version w)))) ≡ Some w)
+    × (has_names_in (One (Int (pos (version w)))) ≡ Some w)
 named_complete capacity w is = search (rules, arith)
 
 pub count_sound : (capacity : ℕ) (i : Part) (w : ℕ) → Suits capacity AnItem i → count_in i ≡ Some w → (i ≡ OpensArray w)
@@ -195,10 +195,10 @@ counter_read key old new m r p e = rw e (value_reads {W = ℕ} (λ n. n < 2 ^ 32
     (member_text key) old new m (counter_sound 1) (counter_complete 1) p)
 
 pub version_read : (key : ℕ) (old new : Reading) (m : Option Part) (r : Option Bool) →
-    ReadsPart 3 (member_text key) old new m → r ≡ and_then named_in m →
+    ReadsPart 3 (member_text key) old new m → r ≡ and_then has_names_in m →
     ReadsMember (λ _. ⊤) (λ named. One (Int (pos (version named)))) key old new r
 version_read key old new m r p e =
-    rw e (value_reads {W = Bool} (λ _. ⊤) (λ named. One (Int (pos (version named)))) named_in 3
+    rw e (value_reads {W = Bool} (λ _. ⊤) (λ named. One (Int (pos (version named)))) has_names_in 3
     (member_text key) old new m (named_sound 3) (named_complete 3) p)
 
 pub count_read : (key : ℕ) (old new : Reading) (m : Option Part) (r : Option ℕ) →

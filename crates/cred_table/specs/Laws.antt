@@ -1,24 +1,24 @@
--- What holds of snapshots, over the definitions alone.
+-- Laws of snapshots, stated over the definitions alone.
 use Rattle.std.specs.Prelude.{◌≡◌, ℕ, Bool, true, List}
 use Rattle.ctap_cbor.specs.Tree.{no_trees}
 use Rattle.cred_table.specs.declared.{row.Row.Row, fault.SnapshotFault.SnapshotFault}
 use Rattle.cred_table.specs.Snapshots.{rows_then, IsSnapshot, Refuses}
 
--- the rows are equal in all that a row has
+-- The rows are equal in all their fields.
 abbrev pub SameRows : List Row → List Row → Type 0
 SameRows rows others = rows_then true rows no_trees ≡ rows_then true others no_trees
 
--- one text is the snapshot of one list of rows, of one version
+-- A byte string is the snapshot of at most one list of rows, in one version.
 abbrev pub SnapshotsAreOne : Type 0
 SnapshotsAreOne = (named other : Bool) (capacity space : ℕ) (rows others : List Row) (text : List ℕ)
     → IsSnapshot named capacity rows text → IsSnapshot other space others text → (named ≡ other) × SameRows rows others
 
--- what is refused is the snapshot of no rows for which there is capacity
+-- Rejected bytes aren't a snapshot of rows that fit the capacity.
 abbrev pub RefusedIsNone : Type 0
 RefusedIsNone = (capacity : ℕ) (text : List ℕ) (fault : SnapshotFault) → Refuses capacity text fault
     → (named : Bool) (rows : List Row) → IsSnapshot named capacity rows text → ⊥
 
--- a text is refused for one thing
+-- Rejected bytes have exactly one error.
 abbrev pub OneRefusal : Type 0
 OneRefusal = (capacity : ℕ) (text : List ℕ) (f g : SnapshotFault) → Refuses capacity text f → Refuses capacity text g →
     f ≡ g

@@ -1,11 +1,11 @@
--- How the chains of a table hold its rows.
+-- The linked lists of a table, and the rows in their slots.
 use Rattle.std.specs.Prelude.{ℕ, ◌+◌, ◌<◌, ◌≡◌, List, ◌++◌, length, map, reverse, true, ◌&&◌, not, Option, None, nat_lt}
 use Rattle.std.specs.Prelude.{nat_eq, slice_index_or, if◌then◌else◌}
 use Rattle.cred_table.specs.declared.{row.Row.Row, slot.Slot.Slot, chains.Chains.Chains}
-use Rattle.cred_table.specs.declared.slot.Along.TheVariants.{Next, Newer, Older}
-use Rattle.cred_table.specs.Slots.{links, slot_at, chain, is_chain, has, distinct, bucket, raised_by_one}
+use Rattle.cred_table.specs.declared.slot.ChainKind.TheVariants.{Next, Newer, Older}
+use Rattle.cred_table.specs.Slots.{links, slot_at, chain, is_chain, is_among, distinct, bucket, row_plus_one}
 
--- The slots that hold rows, oldest first.
+-- The slots with rows, oldest first.
 abbrev pub age : {C : ℕ} → Chains C → List ℕ
 age chains = chain (links Newer chains.slots) chains.oldest
 
@@ -13,14 +13,15 @@ age chains = chain (links Newer chains.slots) chains.oldest
 abbrev pub free_slots : {C : ℕ} → Chains C → List ℕ
 free_slots chains = chain (links Next chains.slots) chains.free
 
--- Where one of the 32 chains begins.
+-- The first slot of one of the 32 ID chains.
 abbrev pub head : {C : ℕ} → ℕ → Chains C → Option ℕ
 head b chains = slice_index_or chains.heads b None
 
--- The slots of one of the 32 chains.
+-- The slots of one of the 32 ID chains.
 abbrev pub id_slots : {C : ℕ} → ℕ → Chains C → List ℕ
 id_slots b chains = chain (links Next chains.slots) (head b chains)
 
+-- The row in a slot.
 abbrev pub row_at : List Slot → ℕ → Row
 row_at slots k = (slot_at slots k).row
 
@@ -28,22 +29,22 @@ row_at slots k = (slot_at slots k).row
 abbrev pub rows_in : {C : ℕ} → Chains C → List Row
 rows_in chains = map (row_at chains.slots) (age chains)
 
--- Each slot but those that are away is either in the free chain alone, or once in the age chain and once in the
--- chain of its id; the older links are the newer links, turned round.
+-- The invariant of the links: each slot except those in `away` is either in the free list, or once in the age list
+-- and once in the chain of its ID; and the backward links match the forward ones.
 pub record Linked {C : ℕ} (away : List ℕ) (chains : Chains C) : Type 0 where
   pub aged : is_chain (links Newer chains.slots) chains.oldest ≡ true
   pub back : is_chain (links Older chains.slots) chains.newest ≡ true
   pub turned : chain (links Older chains.slots) chains.newest ≡ reverse (age chains)
   pub freed : is_chain (links Next chains.slots) chains.free ≡ true
   pub found : (b : ℕ) → is_chain (links Next chains.slots) (head b chains) ≡ true
-  pub by_id : (b k : ℕ) → has k (id_slots b chains) ≡
-      (has k (age chains) && nat_eq (bucket (row_at chains.slots k).id) b)
-  pub in_free : (k : ℕ) → has k (free_slots chains) ≡
-      (not (has k (away ++ age chains)) && nat_lt k (length chains.slots))
+  pub by_id : (b k : ℕ) → is_among k (id_slots b chains) ≡
+      (is_among k (age chains) && nat_eq (bucket (row_at chains.slots k).id) b)
+  pub in_free : (k : ℕ) → is_among k (free_slots chains) ≡
+      (not (is_among k (away ++ age chains)) && nat_lt k (length chains.slots))
   pub apart : distinct (away ++ age chains) ≡ true
-  pub inside : (k : ℕ) → has k (away ++ age chains) ≡ true → k < length chains.slots
+  pub inside : (k : ℕ) → is_among k (away ++ age chains) ≡ true → k < length chains.slots
   pub all : length (away ++ age chains) + length (free_slots chains) ≡ length chains.slots
 
--- The row of a slot, once the counter of one slot's row is raised.
+-- The row in a slot, after the counter of one slot's row was incremented.
 abbrev pub raised_at : ℕ → List Slot → ℕ → Row
-raised_at number slots k = if nat_eq number k then raised_by_one (row_at slots k) else row_at slots k
+raised_at number slots k = if nat_eq number k then row_plus_one (row_at slots k) else row_at slots k

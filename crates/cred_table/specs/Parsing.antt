@@ -1,4 +1,4 @@
--- What reading a part of a snapshot does, wherever the part is.
+-- The effect of reading a part of a snapshot, wherever the cursor is.
 use Rattle.std.specs.Prelude.{◌≡◌, ℕ, ◌^◌, ◌<◌, pos, Bool, true, false, if◌then◌else◌, nat_eq, nat_le, nat_lt, List, []}
 use Rattle.std.specs.Prelude.{◌∷◌, ◌++◌, length, Option, Some, None, IsSome, IsTrue, Result, Ok, Err}
 use Rattle.std.specs.List.{AllByRecursion}
@@ -6,131 +6,142 @@ use Rattle.ctap_cbor.specs.Tree.{Int, Bytes, Text, Flag, no_trees}
 use Rattle.ctap_cbor.specs.{Head.head, Faults.AnItem, Reading.Reading, Reading.rest_of}
 use Rattle.ctap_cbor.specs.Grammar.{text, texts, scalar_text}
 use Rattle.ctap_cbor.specs.Parts.{Part, One, OpensArray, OpensMap, item_text, Suits}
-use Rattle.cred_table.specs.{declared.row.Row.Row, Rows.Lawful}
+use Rattle.cred_table.specs.{declared.row.Row.Row, Rows.ValidRows}
 use Rattle.cred_table.specs.declared.fault.SnapshotFault.{SnapshotFault, TheVariants.RowBroken}
 use Rattle.cred_table.specs.Snapshots.{version, row_tree, rows_then, IsRow, clashes}
 
--- what holds of a value, if there is one
+-- The property holds of the value, if any.
 abbrev pub Given : {V : Type 0} → Option V → (V → Type 0) → Type 0
 Given None P = Unit {0}
 Given (Some v) P = P v
 
--- Some kind of values has texts. What a reader returned was passed; where the text of any such value is, it was read.
+-- A reader returned a value if and only if the value's encoding is at the cursor, and then read it.
 pub record Reads {V : Type 0} (Is : V → Type 0) (spell : V → List ℕ) (old new : Reading)
     (result : Option V) : Type 0 where
   pub took : Given result (λ v. Is v × (rest_of old ≡ spell v ++ rest_of new))
   pub found : (v : V) (rest : List ℕ) → Is v → rest_of old ≡ spell v ++ rest → IsSome result × (rest_of new ≡ rest)
 
--- The same of heads, with the bytes of strings: where one is, it is what was read.
+-- A reader returned an item if and only if its encoding is at the cursor, and then read it: its head, and the content
+-- of a string.
 pub record ReadsPart (capacity : ℕ) (spell : Part → List ℕ) (old new : Reading) (result : Option Part) : Type 0 where
   pub took : Given result (λ i. Suits capacity AnItem i × (rest_of old ≡ spell i ++ rest_of new))
   pub found : (i : Part) (rest : List ℕ) → Suits capacity AnItem i → rest_of old ≡ spell i ++ rest
       → (result ≡ Some i) × (rest_of new ≡ rest)
 
--- a member of a map, by its key: the key and the head of its value, which is a string whole
+-- The encoding of a map member: its key, and the head of its value or a whole string.
 abbrev pub member_text : ℕ → Part → List ℕ
 member_text key part = scalar_text (Int (pos key)) ++ item_text part
 
--- the values that a member may have, by its head
+-- The head of a map with this number of members.
 abbrev pub map_in : ℕ → Part → Option (Unit {0})
 map_in count (OpensMap n) = if nat_eq n count then Some tt else None
 map_in count _ = None
 
+-- This integer.
 abbrev pub key_in : ℕ → Part → Option (Unit {0})
 key_in key (One (Int (pos n))) = if nat_eq n key then Some tt else None
 key_in key _ = None
 
+-- A byte string of 32 bytes.
 abbrev pub hash_in : Part → Option (List ℕ)
 hash_in (One (Bytes s)) = if nat_eq (length s) 32 then Some s else None
 hash_in _ = None
 
+-- A byte string of at most 64 bytes.
 abbrev pub short_in : Part → Option (List ℕ)
 short_in (One (Bytes s)) = if nat_le (length s) 64 then Some s else None
 short_in _ = None
 
+-- A Boolean.
 abbrev pub flag_in : Part → Option Bool
 flag_in (One (Flag b)) = Some b
 flag_in _ = None
 
+-- An integer below 2^32.
 abbrev pub counter_in : Part → Option ℕ
 counter_in (One (Int (pos n))) = if nat_lt n (2 ^ 32) then Some n else None
 counter_in _ = None
 
+-- A text string of at most 64 bytes.
 abbrev pub name_in : Part → Option (List ℕ)
 name_in (One (Text s)) = if nat_le (length s) 64 then Some s else None
 name_in _ = None
 
+-- The number of items of an array.
 abbrev pub count_in : Part → Option ℕ
 count_in (OpensArray n) = Some n
 count_in _ = None
 
-abbrev pub named_in : Part → Option Bool
-named_in (One (Int (pos n))) = if nat_eq n 1 then Some false else if nat_eq n 2 then Some true else None
-named_in _ = None
+-- Whether the rows of a version have user names.
+abbrev pub has_names_in : Part → Option Bool
+has_names_in (One (Int (pos n))) = if nat_eq n 1 then Some false else if nat_eq n 2 then Some true else None
+has_names_in _ = None
 
+-- Applies a function to the value, if any.
 abbrev pub and_then : {V W : Type 0} → (V → Option W) → Option V → Option W
 and_then f None = None
 and_then f (Some v) = f v
 
--- the readers of a member give this
+-- The result of reading a member.
 abbrev pub ReadsMember : {W : Type 0} → (Is : W → Type 0) (shown : W → Part) → ℕ → Reading → Reading → Option W → Type 0
 ReadsMember {W} Is shown key old new result = Reads {V = W} Is (λ w. member_text key (shown w)) old new result
 
--- the text of a row's name, where it is kept
+-- The encoding of a row's user name, in versions that have one.
 abbrev pub name_text : (named : Bool) → List ℕ → List ℕ
 name_text true s = member_text 8 (One (Text s))
 name_text false s = []
 
+-- The number of members of a row.
 abbrev pub members_of : (named : Bool) → ℕ
 members_of named = if named then 8 else 7
 
--- the text of a row's map
+-- The encoding of a row.
 abbrev pub row_text : (named : Bool) → Row → List ℕ
 row_text named row = text (row_tree named row)
 
--- the text of a snapshot up to its first entry, by whether it has names and the number of its entries
+-- The encoding of a snapshot up to its first entry: the version and the number of entries.
 abbrev pub heads_text : Bool × ℕ → List ℕ
 heads_text h = head 5 2 ++ (member_text 1 (One (Int (pos (version h.0)))) ++ member_text 2 (OpensArray h.1))
 
--- the texts of rows one after another
+-- The encodings of rows, concatenated.
 abbrev pub rows_text : (named : Bool) → List Row → List ℕ
 rows_text named rows = texts (rows_then named rows no_trees)
 
--- where no row is that may come after these
-abbrev pub NoneFits : (named : Bool) → List Row → List ℕ → Type 0
-NoneFits named rows here = (row : Row) (rest : List ℕ) → IsRow named row → here ≡ row_text named row ++ rest
+-- These bytes don't begin with the encoding of a row that may follow these rows.
+abbrev pub NoRowFollows : (named : Bool) → List Row → List ℕ → Type 0
+NoRowFollows named rows here = (row : Row) (rest : List ℕ) → IsRow named row → here ≡ row_text named row ++ rest
     → IsTrue (clashes row rows)
 
--- a row was taken and put after these
+-- A row was read and appended to these.
 pub record TakesRow (named : Bool) (old new : Reading) (rows more : List Row) : Type 0 where
   pub row : Row
   pub typed : IsRow named row
   pub spelled : rest_of old ≡ row_text named row ++ rest_of new
   pub more_is : more ≡ rows ++ row ∷ []
 
--- what reading an entry does with the rows
+-- The result of reading an entry.
 abbrev pub ReadsEntry : (named : Bool) → Reading → Reading → List Row → List Row → Bool → Type 0
 ReadsEntry named old new rows more true = TakesRow named old new rows more
-ReadsEntry named old new rows more false = NoneFits named rows (rest_of old)
+ReadsEntry named old new rows more false = NoRowFollows named rows (rest_of old)
 
--- these rows were taken from the first on
+-- These rows were read, from the first on.
 pub record TakesRows (named : Bool) (n : ℕ) (old new : Reading) (rows : List Row) : Type 0 where
   pub typed : AllByRecursion (IsRow named) rows
   pub number : length rows ≡ n
   pub spelled : rest_of old ≡ rows_text named rows ++ rest_of new
 
--- so many were, fewer than the entries, and after them none fits
-pub record BreaksOff (named : Bool) (capacity n place : ℕ) (old : Reading) : Type 0 where
+-- Some rows were read, fewer than the number of entries, and then an invalid one.
+pub record StopsAtRow (named : Bool) (capacity n place : ℕ) (old : Reading) : Type 0 where
   pub rows : List Row
   pub between : Reading
   pub takes : TakesRows named place old between rows
-  pub lawful : Lawful capacity rows
+  pub lawful : ValidRows capacity rows
   pub fewer : place < n
-  pub none : NoneFits named rows (rest_of between)
+  pub none : NoRowFollows named rows (rest_of between)
 
--- what reading so many entries does
+-- The result of reading this number of entries.
 abbrev pub ReadsRows : (named : Bool) (capacity n : ℕ) → Reading → Reading → List Row → Result (Unit {0}) SnapshotFault
     → Type 0
 ReadsRows named capacity n old new rows (Ok _) = TakesRows named n old new rows
-ReadsRows named capacity n old new rows (Err (RowBroken place)) = BreaksOff named capacity n place old
+ReadsRows named capacity n old new rows (Err (RowBroken place)) = StopsAtRow named capacity n place old
 ReadsRows named capacity n old new rows (Err _) = ⊥

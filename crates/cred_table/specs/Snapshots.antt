@@ -1,5 +1,6 @@
--- Snapshots: the rows of a table as one data item in canonical CBOR, {1: version, 2: [row, ..]}, in order of making.
--- Version 2 has the users' names, version 1 hasn't; `named` says which it is.
+-- A snapshot is one data item in canonical CBOR, the map {1: version, 2: [row, ..]}, with the rows of a credential
+-- table in order of creation. Rows of version 2 have the user's name, rows of version 1 do not; `named` is true for
+-- version 2.
 use Rattle.std.specs.Prelude.{◌≡◌, ℕ, ◌^◌, ◌<◌, ◌≤◌, pos, Bool, true, false, ◌||◌, if◌then◌else◌, IsTrue, List, [], ◌∷◌}
 use Rattle.std.specs.Prelude.{◌++◌, length, Result, Ok, Err}
 use Rattle.std.specs.{List.AllByRecursion, List.list_any, Str.IsUtf8}
@@ -7,9 +8,9 @@ use Rattle.ctap_cbor.specs.{Head.AreBytes, Grammar.text, Grammar.IsCanonical, Tr
 use Rattle.ctap_cbor.specs.Tree.{Int, Bytes, Text, Flag, Tree, Plain, Array, Map, Trees, no_trees, tree, Pairs}
 use Rattle.cred_table.specs.declared.{row.Row.Row, fault.SnapshotFault.SnapshotFault}
 use Rattle.cred_table.specs.declared.fault.SnapshotFault.TheVariants.{NotSnapshot, TooMany, RowBroken, Memory}
-use Rattle.cred_table.specs.Rows.{has_id, replaces, Lawful}
+use Rattle.cred_table.specs.Rows.{has_id, replaces, ValidRows}
 
--- an integer of at least 0, as keys, versions and counters are
+-- An unsigned integer as a CBOR item: a map key, a version or a counter.
 abbrev pub number : ℕ → Tree
 number n = Plain (Int (pos n))
 
@@ -18,12 +19,13 @@ bytes s = Plain (Bytes s)
 
 -- ---- rows
 
--- its last member, in version 2 alone
+-- The last member of a row's map, the user's name, which only version 2 has.
 abbrev pub name_member : (named : Bool) → Row → Pairs
 name_member true row = pair (number 8) (Plain (Text row.name)) no_pairs
 name_member false row = no_pairs
 
--- the map of a row, which has just these members
+-- The map of a row: RP ID hash, credential ID, coordinates of the public key, user handle, whether it is
+-- discoverable, signature counter, and in version 2 the user's name.
 abbrev pub row_tree : (named : Bool) → Row → Tree
 row_tree named row =
     Map (pair (number 1) (bytes row.rp)
@@ -41,12 +43,12 @@ IsHash s = (length s ≡ 32) × AreBytes s
 abbrev pub IsShort : List ℕ → Type 0
 IsShort s = (length s ≤ 64) × AreBytes s
 
--- a text of at most 64 bytes; where names aren't kept, an empty one
+-- The user's name: at most 64 bytes of UTF-8 in version 2, empty in version 1.
 abbrev pub IsName : (named : Bool) → List ℕ → Type 0
 IsName true s = (length s ≤ 64) × IsUtf8 s
 IsName false s = s ≡ []
 
--- the members have their types and lengths
+-- Each field of the row has the type and the length that a snapshot allows.
 pub record IsRow (named : Bool) (row : Row) : Type 0 where
   pub rp : IsHash row.rp
   pub id : IsHash row.id
@@ -61,11 +63,11 @@ pub record IsRow (named : Bool) (row : Row) : Type 0 where
 abbrev pub version : (named : Bool) → ℕ
 version named = if named then 2 else 1
 
--- the map of a snapshot with these entries
+-- The map of a snapshot with these entries.
 abbrev pub snapshot_of : (named : Bool) → Trees → Tree
 snapshot_of named entries = Map (pair (number 1) (number (version named)) (pair (number 2) (Array entries) no_pairs))
 
--- the rows' maps, and more entries after them
+-- The maps of these rows, followed by further entries.
 abbrev pub rows_then : (named : Bool) → List Row → Trees → Trees
 rows_then named [] entries = entries
 rows_then named (row ∷ rows) entries = tree (row_tree named row) (rows_then named rows entries)
@@ -73,33 +75,35 @@ rows_then named (row ∷ rows) entries = tree (row_tree named row) (rows_then na
 abbrev pub snapshot : (named : Bool) → List Row → Tree
 snapshot named rows = snapshot_of named (rows_then named rows no_trees)
 
--- The text is the canonical one of these rows' snapshot, and the rows are lawful.
+-- The bytes are the canonical encoding of the snapshot of these rows, which are valid for a table of this capacity.
 pub record IsSnapshot (named : Bool) (capacity : ℕ) (rows : List Row) (text : List ℕ) : Type 0 where
   pub typed : AllByRecursion (IsRow named) rows
-  pub lawful : Lawful capacity rows
+  pub lawful : ValidRows capacity rows
   pub canonical : IsCanonical (snapshot named rows) text
 
 -- ---- saving
 
--- the rows' snapshot, of version 2, was written at the end
+-- The snapshot of the rows, in version 2, was appended to the old bytes.
 abbrev pub Saves : (capacity : ℕ) → List Row → (old new : List ℕ) → Type 0
 Saves capacity rows old new = (saved : List ℕ) × IsSnapshot true capacity rows saved × (new ≡ old ++ saved)
 
--- the number of its bytes
+-- The length of the rows' snapshot in version 2, in bytes.
 abbrev pub saved_len : List Row → ℕ
 saved_len rows = length (text (snapshot true rows))
 
 -- ---- loading
 
--- a text that is canonical, of the map of a snapshot with these entries, whatever they are
+-- The bytes are the canonical encoding of a snapshot's map with these entries, which need not be valid rows.
 abbrev pub Holds : (named : Bool) → Trees → List ℕ → Type 0
 Holds named entries text = IsCanonical (snapshot_of named entries) text
 
--- The row can't be after these: it has the id of one, or is discoverable as one of its RP and user handle is.
+-- The row conflicts with one of these rows: both have the same ID, or both are discoverable with the same RP and user
+-- handle.
 abbrev pub clashes : Row → List Row → Bool
 clashes row rows = list_any (has_id row.id) rows || list_any (replaces row) rows
 
--- The entry at a place is broken, and those before it aren't: no row has its map and can be after them.
+-- The entry at this index, counted from 0, is the first invalid one: it isn't the map of a row, or that row conflicts
+-- with an earlier one.
 pub record FirstBroken (named : Bool) (capacity : ℕ) (entries : Trees) (place : ℕ) : Type 0 where
   pub before : List Row
   pub entry : Tree
@@ -107,11 +111,11 @@ pub record FirstBroken (named : Bool) (capacity : ℕ) (entries : Trees) (place 
   pub split : entries ≡ rows_then named before (tree entry after)
   pub place_is : length before ≡ place
   pub typed : AllByRecursion (IsRow named) before
-  pub lawful : Lawful capacity before
+  pub lawful : ValidRows capacity before
   pub broken : (row : Row) → IsRow named row → entry ≡ row_tree named row → IsTrue (clashes row before)
 
--- What a text is refused for, in the order in which it is asked: it is no snapshot at all; it has more entries than
--- there is capacity for; it has a broken entry.
+-- The bytes are rejected with this error. The errors are checked in this order: the bytes aren't a snapshot, it has
+-- more entries than the capacity, an entry is invalid.
 abbrev pub Refuses : (capacity : ℕ) → List ℕ → SnapshotFault → Type 0
 Refuses capacity text NotSnapshot = (named : Bool) (entries : Trees) → Holds named entries text → ⊥
 Refuses capacity text TooMany = (named : Bool) × (entries : Trees) × Holds named entries text
@@ -120,7 +124,7 @@ Refuses capacity text (RowBroken place) = (named : Bool) × (entries : Trees) ×
     × (count entries ≤ capacity) × FirstBroken named capacity entries place
 Refuses capacity text Memory = ⊥
 
--- what loading answers of a text, and the rows that the table then has
+-- The result of loading a snapshot from these bytes: either its rows, or an error.
 abbrev pub Loads : (capacity : ℕ) → List ℕ → Result (Unit {0}) SnapshotFault → List Row → Type 0
 Loads capacity text (Ok _) rows = (named : Bool) × IsSnapshot named capacity rows text
 Loads capacity text (Err fault) rows = Refuses capacity text fault

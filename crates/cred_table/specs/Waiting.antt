@@ -1,55 +1,57 @@
--- Assertions that wait to be asked for (CTAP 2.1, section 6.3).
+-- The pending assertions, which authenticatorGetNextAssertion returns one by one (CTAP 2.1, section 6.3).
 use Rattle.std.specs.Prelude.{ℕ, length, drop, slice_get, List, [], ◌∷◌, Bool, false, Option, Some, None}
 
--- What is pending on channel `cid`, over client data `hash`, for a time after `moment`.
-pub record Waiting : Type 0 where
+-- The pending assertions: the channel, the client data hash, whether user presence was requested, the time of the last
+-- response, and the credential IDs.
+pub record PendingAssertions : Type 0 where
   pub cid : ℕ
   pub hash : List ℕ
   pub presence : Bool
   pub moment : ℕ
   pub ids : List (List ℕ)
 
--- these ids, or nothing where there are none
-abbrev pub pending_of : (cid : ℕ) (hash : List ℕ) (presence : Bool) (moment : ℕ) → List (List ℕ) → Option Waiting
+-- Pending assertions with these IDs, or None if there are none.
+abbrev pub pending_of : (cid : ℕ) (hash : List ℕ) (presence : Bool) (moment : ℕ) → List (List ℕ) → Option PendingAssertions
 pending_of cid hash presence moment [] = None
 pending_of cid hash presence moment (id ∷ ids) =
     Some (record { cid = cid; hash = hash; presence = presence; moment = moment; ids = id ∷ ids })
 
--- how many ids are pending
-abbrev pub pending_count : Option Waiting → ℕ
+-- The number of pending IDs.
+abbrev pub pending_count : Option PendingAssertions → ℕ
 pending_count None = 0
 pending_count (Some w) = length w.ids
 
--- the same with this moment
-abbrev pub stamped : ℕ → Option Waiting → Option Waiting
-stamped at None = None
-stamped at (Some w) = Some (record w { moment = at })
+-- The pending assertions with this time.
+abbrev pub with_time : ℕ → Option PendingAssertions → Option PendingAssertions
+with_time at None = None
+with_time at (Some w) = Some (record w { moment = at })
 
--- the first id that is pending
-abbrev pub first_of : Option Waiting → Option (List ℕ)
+-- The first pending ID.
+abbrev pub first_of : Option PendingAssertions → Option (List ℕ)
 first_of None = None
 first_of (Some w) = slice_get w.ids 0
 
--- what is pending without its first
-abbrev pub rest_of : Option Waiting → Option Waiting
+-- The pending assertions without the first.
+abbrev pub rest_of : Option PendingAssertions → Option PendingAssertions
 rest_of None = None
 rest_of (Some w) = pending_of w.cid w.hash w.presence w.moment (drop 1 w.ids)
 
--- what goes with the ids, where there are any
-abbrev pub cid_of : Option Waiting → ℕ
+-- The channel of the request, or 0.
+abbrev pub cid_of : Option PendingAssertions → ℕ
 cid_of None = 0
 cid_of (Some w) = w.cid
 
--- the hash of the client data
-abbrev pub hash_of : Option Waiting → List ℕ
+-- The client data hash.
+abbrev pub hash_of : Option PendingAssertions → List ℕ
 hash_of None = []
 hash_of (Some w) = w.hash
 
--- whether the user's presence was asked for
-abbrev pub presence_of : Option Waiting → Bool
+-- Whether user presence was requested.
+abbrev pub presence_of : Option PendingAssertions → Bool
 presence_of None = false
 presence_of (Some w) = w.presence
 
-abbrev pub moment_of : Option Waiting → ℕ
+-- The time of the last response, in milliseconds, or 0.
+abbrev pub moment_of : Option PendingAssertions → ℕ
 moment_of None = 0
 moment_of (Some w) = w.moment

@@ -1,7 +1,7 @@
-//! A table that chains its rows by age and by id.
+//! A table with linked lists of rows by age and by ID.
 
 ghost use Rattle.std.specs.Prelude.{◌≡◌, ◌≤◌, [], length};
-ghost use Rattle.cred_table.specs.Rows.{Lawful};
+ghost use Rattle.cred_table.specs.Rows.{ValidRows};
 ghost use Rattle.cred_table.specs.Linked.{Linked, rows_in};
 
 use crate::chains::Chains;
@@ -11,20 +11,20 @@ use crate::table::Table;
 use arrayvec::ArrayVec;
 use std::fmt;
 
-/// A table that keeps its rows in slots, chained by age and by id.
+/// A table that stores its rows in slots, linked by age and by ID.
 #[derive(Drop)]
 pub struct Chained<const C: usize> {
     chains: Chains<C>,
     count: usize,
     ghost linked: { Linked [] chains },
-    ghost lawful: { Lawful C (rows_in chains) },
+    ghost lawful: { ValidRows C (rows_in chains) },
     ghost counted: { count ≡ length (rows_in chains) },
     ghost some: { 1 ≤ C },
     ghost few: { C ≤ 256 },
 }
 
 impl<const C: usize> Chained<C> {
-    /// Returns a table without rows, for 1 to 256 rows. It allocates nothing.
+    /// Creates an empty table for `C` rows, 1 to 256. Allocates nothing.
     pub fn new() -> Self
         requires some { 1 ≤ C }
         requires few { C ≤ 256 }

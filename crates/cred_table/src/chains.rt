@@ -1,29 +1,29 @@
-//! The chains of a chained table.
+//! The linked lists of a chained table.
 
 ghost use Rattle.std.specs.Prelude.{◌≡◌, ◌<◌, ◌≤◌, ◌+◌, ◌-◌, ◌^◌, ◌++◌, [], ◌∷◌, slice_index_or, length, map, reverse, true, IsSome};
 ghost use Rattle.std.specs.List.{find};
-ghost use Rattle.cred_table.specs.Slots.{numbered, has, but, bucket, before};
+ghost use Rattle.cred_table.specs.Slots.{numbered, is_among, without_slot, bucket, before};
 ghost use Rattle.cred_table.specs.Rows.{has_id};
 ghost use Rattle.cred_table.specs.Linked.{Linked, raised_at, age, id_slots, rows_in, row_at};
 
 use crate::row::Row;
-use crate::slot::{self, Along, ChainWalk, Link, Slot};
+use crate::slot::{self, ChainKind, ChainWalk, Link, Slot};
 use std::array;
 
-/// Slots that hold rows, chained by age and by id, and free slots.
+/// Slots for rows, linked by age and by ID, and a list of free slots.
 #[derive(Drop)]
 pub(crate) struct Chains<const C: usize> {
     slots: [Slot; C],
-    /// Where the chains of the ids begin.
+    /// The first slot of each ID chain.
     heads: [Link; 32],
-    /// Where the chain of the free slots begins.
+    /// The first free slot.
     free: Link,
     oldest: Link,
     newest: Link,
 }
 
 impl<const C: usize> Chains<C> {
-    /// Returns free slots.
+    /// Creates free slots.
     pub(crate) fn new() -> Self
         requires some { 1 ≤ C }
         requires few { C ≤ 256 }
@@ -55,7 +55,7 @@ impl<const C: usize> Chains<C> {
         self.newest = None;
     }
 
-    /// Returns the row at a place in order of age.
+    /// Returns the row at an index in order of creation.
     pub(crate) fn row(&self, place: usize) -> &Row
         requires linked { Linked [] self.now }
         requires there { place < length (rows_in self.now) }
@@ -65,20 +65,20 @@ impl<const C: usize> Chains<C> {
         &item.1.row
     }
 
-    /// Returns the number of the slot that holds the row with an id, which is there.
+    /// Returns the slot of the row with an ID. The row must exist.
     pub(crate) fn number(&self, id: &[u8; 32]) -> u16
         requires linked { Linked [] self.now }
         requires there { IsSome (find (has_id id.now) (rows_in self.now)) }
-        ensures held { has result (age self.now) ≡ true }
+        ensures held { is_among result (age self.now) ≡ true }
         ensures named { has_id id.now (row_at self.now.slots result) ≡ true }
     {
         self.like(id).find(|item| item.1.row.id == *id).unwrap().0
     }
 
-    /// Adds one to the counter of the row in a slot, and returns it.
+    /// Increments the counter of the row in a slot, and returns it.
     pub(crate) fn raise(&mut self, number: u16) -> u32
         requires linked { Linked [] self.old }
-        requires held { has number (age self.old) ≡ true }
+        requires held { is_among number (age self.old) ≡ true }
         requires below { (row_at self.old.slots number).counter < 2 ^ 32 - 1 }
         ensures linked { Linked [] self.new }
         ensures rows { rows_in self.new ≡ map (raised_at number self.old.slots) (age self.old) }
@@ -87,14 +87,14 @@ impl<const C: usize> Chains<C> {
         slot::raise(&mut self.slots, number)
     }
 
-    /// Returns the rows whose ids are in the chain of an id.
+    /// Returns the rows in the chain of an ID.
     pub(crate) fn like(&self, id: &[u8]) -> ChainWalk<'_>
         requires { Linked [] self.now }
         ensures { result ≡ numbered self.now.slots (id_slots (bucket id.now) self.now) }
     {
         ChainWalk {
             slots: &self.slots,
-            along: Along::Next,
+            along: ChainKind::Next,
             at: self.heads[slot::bucket(id)],
         }
     }
@@ -106,7 +106,7 @@ impl<const C: usize> Chains<C> {
     {
         ChainWalk {
             slots: &self.slots,
-            along: Along::Newer,
+            along: ChainKind::Newer,
             at: self.oldest,
         }
     }
@@ -118,12 +118,12 @@ impl<const C: usize> Chains<C> {
     {
         ChainWalk {
             slots: &self.slots,
-            along: Along::Older,
+            along: ChainKind::Older,
             at: self.newest,
         }
     }
 
-    /// Takes a slot out of the free chain. There is one.
+    /// Removes a slot from the free list, which must not be empty.
     pub(crate) fn take_free(&mut self) -> u16
         requires linked { Linked [] self.old }
         requires some { IsSome self.old.free }
@@ -135,22 +135,22 @@ impl<const C: usize> Chains<C> {
         number
     }
 
-    /// Returns the slot before one in the chain of its id.
+    /// Returns the predecessor of a slot in the chain of its ID.
     fn before(&self, number: u16) -> Link
         requires linked { Linked [] self.now }
-        requires there { has number (age self.now) ≡ true }
+        requires there { is_among number (age self.now) ≡ true }
         ensures { result ≡ before number (id_slots (bucket (row_at self.now.slots number).id) self.now) }
     {
         let id = &self.slots[usize::from(number)].row.id;
         self.like(id).leader(number)
     }
 
-    /// Takes a slot out of the age chain and the chain of its id.
+    /// Removes a slot from the age list and from the chain of its ID.
     pub(crate) fn unlink(&mut self, number: u16)
         requires linked { Linked [] self.old }
-        requires there { has number (age self.old) ≡ true }
+        requires there { is_among number (age self.old) ≡ true }
         ensures linked { Linked (number ∷ []) self.new }
-        ensures rows { rows_in self.new ≡ map (row_at self.old.slots) (but number (age self.old)) }
+        ensures rows { rows_in self.new ≡ map (row_at self.old.slots) (without_slot number (age self.old)) }
         ensures one_less { length (rows_in self.new) + 1 ≡ length (rows_in self.old) }
     {
         let before = self.before(number);
@@ -159,12 +159,18 @@ impl<const C: usize> Chains<C> {
         let next = slot.next;
         let newer = slot.newer;
         let older = slot.older;
-        self.heads[head] = slot::lead(&mut self.slots, Along::Next, before, next, self.heads[head]);
-        self.oldest = slot::lead(&mut self.slots, Along::Newer, older, newer, self.oldest);
-        self.newest = slot::lead(&mut self.slots, Along::Older, newer, older, self.newest);
+        self.heads[head] = slot::lead(
+            &mut self.slots,
+            ChainKind::Next,
+            before,
+            next,
+            self.heads[head],
+        );
+        self.oldest = slot::lead(&mut self.slots, ChainKind::Newer, older, newer, self.oldest);
+        self.newest = slot::lead(&mut self.slots, ChainKind::Older, newer, older, self.newest);
     }
 
-    /// Puts a row into a slot that is away, as the newest.
+    /// Stores a row in an unlinked slot, as the newest.
     pub(crate) fn fill(&mut self, number: u16, row: Row)
         requires { Linked (number ∷ []) self.old }
         ensures linked { Linked [] self.new }
@@ -180,7 +186,7 @@ impl<const C: usize> Chains<C> {
         self.heads[head] = Some(number);
         self.oldest = slot::lead(
             &mut self.slots,
-            Along::Newer,
+            ChainKind::Newer,
             self.newest,
             Some(number),
             self.oldest,

@@ -1,29 +1,29 @@
-//! Why a snapshot is refused.
+//! Snapshot errors.
 
 ghost use Rattle.std.specs.Prelude.{◌≡◌};
 ghost use Rattle.cred_table.specs.Numbers.{refusal_number};
 
 use thiserror::Error;
 
-/// Why a snapshot isn't loaded or saved. Of the first three the first that applies is named.
+/// A snapshot error. If several of the first three apply, the first is reported.
 #[derive(Clone, Copy, Debug, PartialEq, Eq, Error)]
 pub enum SnapshotFault {
-    /// 1: the bytes aren't canonical CBOR, or not the map of a snapshot.
+    /// 1: the bytes aren't a snapshot in canonical CBOR.
     #[error("not a snapshot")]
     NotSnapshot,
-    /// 2: there are more rows than the table has capacity for.
+    /// 2: the snapshot has more rows than the table's capacity.
     #[error("too many rows")]
     TooMany,
-    /// 3: the row at this place, counted from 0, is the first that isn't one or can't be after those before it.
+    /// 3: the row at this index, counted from 0, is the first that is invalid or conflicts with an earlier row.
     #[error("row {0} is broken")]
     RowBroken(usize),
-    /// 4: no memory to save into.
+    /// 4: an allocation failed.
     #[error("no memory")]
     Memory,
 }
 
 impl SnapshotFault {
-    /// Returns the number of the fault.
+    /// Returns the error's number, as the programs print it.
     pub fn number(&self) -> u8
         ensures { result ≡ refusal_number self.now }
     {

@@ -1,19 +1,19 @@
-//! What holds of snapshots, over the definitions alone. Each function does nothing: its contract is a law, and a caller
-//! has it by calling.
+//! Laws of snapshots, stated over the definitions. Each function has an empty body: its contract is the law, which a
+//! caller obtains by calling it.
 
 ghost use Rattle.cred_table.specs.Laws.{SnapshotsAreOne, RefusedIsNone, OneRefusal};
 
 use ctap_cbor::laws::none_begins_another;
 
-/// States that one text is the snapshot of one list of rows, of one version. So what was saved is loaded again as the
-/// same rows.
+/// States that a byte string is the snapshot of at most one list of rows. So loading a saved snapshot restores the same
+/// rows.
 pub fn snapshots_are_one()
     ensures { SnapshotsAreOne }
 {
     none_begins_another();
 }
 
-/// States that what is refused is the snapshot of no rows for which there is capacity. So whatever is a snapshot is
+/// States that bytes that are rejected aren't a snapshot of rows that fit the capacity. So every valid snapshot is
 /// loaded.
 pub fn refused_is_none()
     ensures { RefusedIsNone }
@@ -21,7 +21,7 @@ pub fn refused_is_none()
     none_begins_another();
 }
 
-/// States that a text is refused for one thing.
+/// States that rejected bytes have exactly one error.
 pub fn one_refusal()
     ensures { OneRefusal }
 {

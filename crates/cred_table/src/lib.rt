@@ -1,4 +1,4 @@
-//! The credential table of an authenticator: rows in order of making, whatever keeps them.
+//! The credential table of an authenticator: its rows in order of creation, with several implementations.
 //!
 //! An example, which the gate runs (`crates/page_tests/src/cred_table_page.rt`):
 //!
@@ -21,33 +21,33 @@
 
 mod chained;
 mod chains;
-mod copying;
-mod cutting;
+mod copy;
 mod fault;
 pub mod laws;
 mod listed;
-mod loading;
+mod load_snapshot;
 mod name;
-mod parsing;
+mod parse;
 mod pending;
 mod row;
 mod rows;
-mod saving;
+mod save_snapshot;
 mod slot;
 mod table;
+mod truncate;
 
 pub use chained::Chained;
-pub use copying::copy_without;
-pub use cutting::cut_name;
+pub use copy::copy_without;
 pub use fault::SnapshotFault;
 pub use listed::Listed;
-pub use loading::{load, put_new};
+pub use load_snapshot::{load, put_new};
 pub use name::Name;
 pub use pending::Pending;
 pub use row::Row;
 pub use rows::Rows;
-pub use saving::{save, save_into};
+pub use save_snapshot::{save, save_into};
 pub use table::Table;
+pub use truncate::cut_name;
 
 /// The table that the authenticator uses.
 pub type Store<const C: usize> = Chained<C>;

@@ -1,25 +1,25 @@
-//! A table that keeps its rows in a list.
+//! A table backed by a list of rows.
 
 ghost use Rattle.std.specs.Prelude.{◌≡◌, ◌<◌, ◌≤◌, [], length, IsSome};
 ghost use Rattle.std.specs.List.{find, position, position_or_len};
-ghost use Rattle.cred_table.specs.Rows.{has_id, Lawful};
+ghost use Rattle.cred_table.specs.Rows.{has_id, ValidRows};
 
 use crate::row::Row;
 use crate::rows::Rows;
 use crate::table::Table;
 use arrayvec::ArrayVec;
 
-/// A table that keeps its rows in a list, and looks through it.
+/// A table backed by a list of rows, with linear search.
 #[derive(Debug, Drop)]
 pub struct Listed<const C: usize> {
     pub(crate) list: ArrayVec<Row, C>,
-    ghost lawful: { Lawful C list.items },
+    ghost lawful: { ValidRows C list.items },
     ghost some: { 1 ≤ C },
     ghost few: { C ≤ 256 },
 }
 
 impl<const C: usize> Listed<C> {
-    /// Returns a table without rows, for 1 to 256 rows. It allocates nothing.
+    /// Creates an empty table for `C` rows, 1 to 256. Allocates nothing.
     pub fn new() -> Self
         requires some { 1 ≤ C }
         requires few { C ≤ 256 }
@@ -30,14 +30,14 @@ impl<const C: usize> Listed<C> {
         }
     }
 
-    /// Returns the place of the row with the id, if there is one.
+    /// Returns the index of the row with the ID, if any.
     fn position(&self, id: &[u8; 32]) -> Option<usize>
         ensures { result ≡ position (has_id id.now) self.now.list.items }
     {
         self.list.as_slice().iter().position(|row| row.id == *id)
     }
 
-    /// Returns the place of the row with the id, which is there.
+    /// Returns the index of the row with the ID. The row must exist.
     fn place(&self, id: &[u8; 32]) -> usize
         requires { IsSome (find (has_id id.now) self.now.list.items) }
         ensures value { result ≡ position_or_len (has_id id.now) self.now.list.items }

@@ -1,14 +1,13 @@
-//! A user's name.
+//! User names.
 
 ghost use Rattle.std.specs.Prelude.{◌≡◌, ◌≤◌, nat_le, if◌then◌else◌, Some, None, length};
 ghost use Rattle.cred_table.specs.Names.{cut};
 
-use crate::cutting::cut_name;
+use crate::truncate::cut_name;
 use arrayvec::ArrayString;
 use std::marker::Model;
 
-/// A user's name as a row keeps it, at most 64 bytes of text. Names of the same text are equal: a contract sees the
-/// text alone.
+/// A user name as stored in a row: at most 64 bytes of UTF-8. Names with the same text are equal.
 #[derive(Clone, Debug, Default, Drop)]
 pub struct Name {
     text: ArrayString<64>,
@@ -23,7 +22,7 @@ impl Model for Name {
 }
 
 impl Name {
-    /// Returns the name of this text, `None` where it has over 64 bytes.
+    /// Creates a name, or returns `None` if the text has more than 64 bytes.
     pub fn new(text: &str) -> Option<Self>
         ensures { result ≡ (if nat_le (length text.now) 64 then Some text.now else None) }
     {
@@ -33,7 +32,7 @@ impl Name {
         }
     }
 
-    /// Returns the name that is kept of a whole one: its longest beginning that fits.
+    /// Creates a name from a text, truncated to 64 bytes at a character boundary.
     pub fn cut(whole: &str) -> Self
         ensures { result ≡ cut whole.now }
     {
@@ -42,7 +41,7 @@ impl Name {
         Name { text }
     }
 
-    /// Returns its text.
+    /// Returns the text.
     pub fn as_str(&self) -> &str
         ensures text { result.now ≡ self.now }
         ensures short { length result.now ≤ 64 }
@@ -50,7 +49,7 @@ impl Name {
         self.text.as_str()
     }
 
-    /// Returns the same name.
+    /// Copies the name.
     pub(crate) fn copy(&self) -> Self
         ensures { result ≡ self.now }
     {

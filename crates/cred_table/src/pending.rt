@@ -1,13 +1,13 @@
-//! Assertions that wait to be asked for.
+//! Pending assertions.
 
 ghost use Rattle.std.specs.Prelude.{◌≡◌, ◌≤◌, None, IsSome, length};
-ghost use Rattle.cred_table.specs.Waiting.{pending_of, pending_count, stamped, first_of, rest_of, cid_of, hash_of, presence_of, moment_of};
+ghost use Rattle.cred_table.specs.Waiting.{pending_of, pending_count, with_time, first_of, rest_of, cid_of, hash_of, presence_of, moment_of};
 
 use arrayvec::ArrayVec;
 use std::marker::Model;
 
-/// The credentials, at most `C`, that a getAssertion named and getNextAssertion may still ask for (CTAP 2.1, section
-/// 6.3), with what goes with them. A contract sees `None`, or them all. No call allocates.
+/// The credentials, at most `C`, that a getAssertion found and getNextAssertion may still return (CTAP 2.1, section
+/// 6.3), with the parameters of the request. No call allocates.
 #[derive(Drop)]
 pub struct Pending<const C: usize> {
     cid: u32,
@@ -19,15 +19,15 @@ pub struct Pending<const C: usize> {
 
 impl<const C: usize> Model for Pending<C> {
     ghost use Rattle.std.specs.Prelude.{Option};
-    ghost use Rattle.cred_table.specs.Waiting.{Waiting, pending_of};
+    ghost use Rattle.cred_table.specs.Waiting.{PendingAssertions, pending_of};
 
-    ghost Value = { Option Waiting };
+    ghost Value = { Option PendingAssertions };
 
     ghost view = { λ p. pending_of p.cid p.hash p.presence p.moment p.ids.items };
 }
 
 impl<const C: usize> Pending<C> {
-    /// Returns that of nothing.
+    /// Returns no pending assertions.
     pub fn new() -> Self
         ensures { result ≡ None }
     {
@@ -40,7 +40,7 @@ impl<const C: usize> Pending<C> {
         }
     }
 
-    /// Keeps these ids, at most `C`, in place of what was there. With none of them nothing is pending.
+    /// Stores these IDs, at most `C`, in place of the previous ones. Without IDs nothing is pending.
     pub fn fill(&mut self, cid: u32, hash: &[u8; 32], presence: bool, moment: u64, ids: &[[u8; 32]])
         requires { length ids.now ≤ C }
         ensures { self.new ≡ pending_of cid hash.now presence moment ids.now }
@@ -53,7 +53,7 @@ impl<const C: usize> Pending<C> {
         self.ids.try_extend_from_slice(ids).unwrap();
     }
 
-    /// Takes the first id off, and returns it.
+    /// Removes and returns the first ID.
     pub fn next(&mut self) -> Option<[u8; 32]>
         ensures first { result ≡ first_of self.old }
         ensures rest { self.new ≡ rest_of self.old }
@@ -64,21 +64,21 @@ impl<const C: usize> Pending<C> {
         Some(self.ids.remove(0))
     }
 
-    /// Notes a moment from which on the time to ask for the next counts. Of nothing, nothing changes.
+    /// Sets the time from which the next request's limit counts. If nothing is pending, does nothing.
     pub fn stamp(&mut self, at: u64)
-        ensures { self.new ≡ stamped at self.old }
+        ensures { self.new ≡ with_time at self.old }
     {
         self.moment = at;
     }
 
-    /// Empties it.
+    /// Removes all pending assertions.
     pub fn clear(&mut self)
         ensures { self.new ≡ None }
     {
         self.ids.clear();
     }
 
-    /// Returns the number of ids.
+    /// Returns the number of IDs.
     pub fn len(&self) -> usize
         ensures value { result ≡ pending_count self.now }
         ensures few { result ≤ C }
@@ -87,7 +87,7 @@ impl<const C: usize> Pending<C> {
         self.ids.len()
     }
 
-    /// Returns the channel that asked. Something is pending.
+    /// Returns the channel of the request. Something is pending.
     pub fn cid(&self) -> u32
         requires { IsSome self.now }
         ensures { result ≡ cid_of self.now }
@@ -103,7 +103,7 @@ impl<const C: usize> Pending<C> {
         self.hash
     }
 
-    /// Returns whether the user's presence was asked for. Something is pending.
+    /// Returns whether user presence was requested. Something is pending.
     pub fn presence(&self) -> bool
         requires { IsSome self.now }
         ensures { result ≡ presence_of self.now }
@@ -111,7 +111,7 @@ impl<const C: usize> Pending<C> {
         self.presence
     }
 
-    /// Returns the moment from which the time to ask for the next counts. Something is pending.
+    /// Returns the time from which the next request's limit counts. Something is pending.
     pub fn moment(&self) -> u64
         requires { IsSome self.now }
         ensures { result ≡ moment_of self.now }

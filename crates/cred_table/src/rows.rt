@@ -1,4 +1,4 @@
-//! The rows of a table, one after another.
+//! An iterator over the rows of a table.
 
 ghost use Rattle.std.specs.Prelude.{◌≡◌, map};
 ghost use Rattle.std.specs.Iterator.{YieldsFirstBy, item_count};
@@ -8,14 +8,13 @@ use crate::slot::ChainWalk;
 use std::marker::Model;
 use std::{fmt, slice};
 
-/// The rows of a table in order of making, as [`Table::iter`](crate::Table::iter) yields them. A contract sees those
-/// that are left.
+/// The remaining rows of a table in order of creation, as [`Table::iter`](crate::Table::iter) yields them.
 #[derive(Drop)]
 pub struct Rows<'a> {
     left: RowsLeft<'a>,
 }
 
-/// The rows that are left, by how their table keeps them.
+/// The remaining rows, for each implementation.
 #[derive(Drop)]
 enum RowsLeft<'a> {
     Listed(slice::Iter<'a, Row>),

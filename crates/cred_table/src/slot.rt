@@ -2,30 +2,30 @@
 
 ghost use Rattle.std.specs.Prelude.{◌≡◌, ◌+◌, ◌-◌, ◌^◌, ◌<◌, ◌≤◌, true, length, EachIndex, option_map, slice_set};
 ghost use Rattle.std.specs.Iterator.{YieldsFirstBy, item_count};
-ghost use Rattle.cred_table.specs.Slots.{within, led_slots, begun, bucket, slot_at, next_free, raised_slot};
+ghost use Rattle.cred_table.specs.Slots.{within, relinked, first_link, bucket, slot_at, next_free, slot_incremented};
 
 use crate::row::Row;
 use std::marker::Model;
 
-/// The number of a slot, where there is one.
+/// The index of a slot, if any.
 pub(crate) type Link = Option<u16>;
 
-/// A place for a row.
+/// A slot for a row.
 #[derive(Default, Drop)]
 pub(crate) struct Slot {
-    /// The row, where the slot isn't free.
+    /// The row, unless the slot is free.
     pub(crate) row: Row,
-    /// The next slot of the chain that the slot is in: that of its id, or the free chain.
+    /// The next slot of its ID chain, or of the free list.
     pub(crate) next: Link,
-    /// The slot of the row that was made next.
+    /// The slot of the next newer row.
     pub(crate) newer: Link,
-    /// The slot of the row that was made before.
+    /// The slot of the next older row.
     pub(crate) older: Link,
 }
 
-/// The links that a walk follows.
+/// The kinds of links.
 #[derive(Clone, Copy)]
-pub(crate) enum Along {
+pub(crate) enum ChainKind {
     Next,
     Newer,
     Older,
@@ -35,13 +35,13 @@ impl Slot {
     ghost use Rattle.cred_table.specs.Slots.{link_of};
 
     /// Returns the link of one kind.
-    pub(crate) fn link(&self, along: Along) -> Link
+    pub(crate) fn link(&self, along: ChainKind) -> Link
         ensures { result ≡ link_of along self.now }
     {
         match along {
-            Along::Next => self.next,
-            Along::Newer => self.newer,
-            Along::Older => self.older,
+            ChainKind::Next => self.next,
+            ChainKind::Newer => self.newer,
+            ChainKind::Older => self.older,
         }
     }
 }
@@ -50,24 +50,24 @@ impl Slot {
     ghost use Rattle.cred_table.specs.Slots.{with_link};
 
     /// Changes the link of one kind.
-    fn set_link(&mut self, along: Along, to: Link)
+    fn set_link(&mut self, along: ChainKind, to: Link)
         ensures { self.new ≡ with_link along to self.old }
     {
         match along {
-            Along::Next => self.next = to,
-            Along::Newer => self.newer = to,
-            Along::Older => self.older = to,
+            ChainKind::Next => self.next = to,
+            ChainKind::Newer => self.newer = to,
+            ChainKind::Older => self.older = to,
         }
     }
 }
 
 impl Slot {
-    ghost use Rattle.cred_table.specs.Slots.{raised_slot};
+    ghost use Rattle.cred_table.specs.Slots.{slot_incremented};
 
-    /// Adds one to the counter of the row, and returns it.
+    /// Increments the row's counter, and returns it.
     fn raise(&mut self) -> u32
         requires { self.old.row.counter < 2 ^ 32 - 1 }
-        ensures raised { self.new ≡ raised_slot self.old }
+        ensures raised { self.new ≡ slot_incremented self.old }
         ensures value { result ≡ self.old.row.counter + 1 }
     {
         self.row.counter += 1;
@@ -78,7 +78,7 @@ impl Slot {
 impl Slot {
     ghost use Rattle.cred_table.specs.Slots.{is_to};
 
-    /// Returns whether its link leads to a slot, along the chain that it is in.
+    /// Returns whether this slot's chain link points to a slot.
     fn leads_to(&self, number: u16) -> bool
         ensures { result ≡ is_to number self.now.next }
     {
@@ -89,12 +89,17 @@ impl Slot {
     }
 }
 
-/// Makes a chain that begins at `start` lead to `next` after the slot `before`, or begin there, and returns where it
-/// begins.
-pub(crate) fn lead(slots: &mut [Slot], along: Along, before: Link, next: Link, start: Link) -> Link
+/// Links the slot `before` to `next`, or makes `next` the first slot. Returns the first slot of the chain.
+pub(crate) fn lead(
+    slots: &mut [Slot],
+    along: ChainKind,
+    before: Link,
+    next: Link,
+    start: Link,
+) -> Link
     requires { within before slots.old ≡ true }
-    ensures slots { slots.new ≡ led_slots along before next slots.old }
-    ensures start { result ≡ begun before next start }
+    ensures slots { slots.new ≡ relinked along before next slots.old }
+    ensures start { result ≡ first_link before next start }
 {
     match before {
         Some(number) => {
@@ -105,17 +110,17 @@ pub(crate) fn lead(slots: &mut [Slot], along: Along, before: Link, next: Link, s
     }
 }
 
-/// Adds one to the counter of the row in a slot, and returns it.
+/// Increments the counter of the row in a slot, and returns it.
 pub(crate) fn raise(slots: &mut [Slot], number: u16) -> u32
     requires there { number < length slots.old }
     requires below { (slot_at slots.old number).row.counter < 2 ^ 32 - 1 }
-    ensures slots { slots.new ≡ slice_set slots.old number (raised_slot (slot_at slots.old number)) }
+    ensures slots { slots.new ≡ slice_set slots.old number (slot_incremented (slot_at slots.old number)) }
     ensures value { result ≡ (slot_at slots.old number).row.counter + 1 }
 {
     slots[usize::from(number)].raise()
 }
 
-/// Chains all slots in their order.
+/// Links all slots in order.
 pub(crate) fn chain_all(slots: &mut [Slot])
     requires { length slots.old ≤ 256 }
     ensures { EachIndex slots.new (λ k. (slot_at slots.new k).next ≡ next_free (length slots.new) k) }
@@ -127,11 +132,11 @@ pub(crate) fn chain_all(slots: &mut [Slot])
         } else {
             None
         };
-        slots[place].set_link(Along::Next, next);
+        slots[place].set_link(ChainKind::Next, next);
     }
 }
 
-/// Returns the chain that an id is in: the low five bits of its first byte.
+/// Returns the index of an ID's chain: the low five bits of its first byte.
 pub(crate) fn bucket(id: &[u8]) -> usize
     ensures value { result ≡ bucket id.now }
     ensures bound { result < 32 }
@@ -139,16 +144,16 @@ pub(crate) fn bucket(id: &[u8]) -> usize
     usize::from(id.first().map_or(0, |byte| byte % 32))
 }
 
-/// The slots of a chain from one on, each with its number.
+/// An iterator over the slots of a chain, with their indices.
 #[derive(Drop)]
 pub(crate) struct ChainWalk<'a> {
     pub(crate) slots: &'a [Slot],
-    pub(crate) along: Along,
-    /// The number of the next one.
+    pub(crate) along: ChainKind,
+    /// The index of the next slot.
     pub(crate) at: Link,
 }
 
-// Clauses see the slots that are left.
+// In contracts, this is the list of the remaining slots.
 impl<'a> Model for ChainWalk<'a> {
     ghost use Rattle.std.specs.Prelude.{ℕ, List, ◌≡◌, true};
     ghost use Rattle.cred_table.specs.Slots.{links, chain, is_chain, numbered};
@@ -166,7 +171,7 @@ impl<'a> ChainWalk<'a> {
     ghost use Rattle.std.specs.List.{find};
     ghost use Rattle.cred_table.specs.Slots.{leads_to};
 
-    /// Returns the first slot whose link along its chain leads to a slot.
+    /// Returns the first slot whose chain link points to a slot.
     pub(crate) fn leader(mut self, number: u16) -> Link
         ensures { result ≡ option_map (λ found. found.0) (find (leads_to number) self.entry) }
     {

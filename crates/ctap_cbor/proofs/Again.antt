@@ -6,7 +6,7 @@ use Rattle.ctap_cbor.specs.Tree.{Scalar, Tree, Plain, Array, Map, Trees, no_tree
 use Rattle.ctap_cbor.specs.Tree.{depth_all, depth_pairs, count, count_pairs}
 use Rattle.ctap_cbor.specs.Grammar.{scalar_text, text, texts, pair_texts, Fits, IsKey, IsAbove, Rises, IsLawful}
 use Rattle.ctap_cbor.specs.Faults.{AnItem, AKey, fault}
-use Rattle.ctap_cbor.specs.Outcome.{Enclosing, InArray, AtKey, AtValue, fronts, last_key, HaltsIn}
+use Rattle.ctap_cbor.specs.Outcome.{Enclosing, InArray, AtKey, AtValue, fronts, last_key, FailsIn}
 use Rattle.ctap_cbor.specs.Parts.{One, OpensArray, OpensMap, read}
 use Rattle.ctap_cbor.proofs.Items.{read_again, read_fault}
 use Rattle.ctap_cbor.specs.Parse.{Parse, Done, Halt, Run, Ran, Broke, Walk, Walked, BadKey, BadValue, array_of, map_of}
@@ -133,7 +133,7 @@ mutual
       (parse_again v levels (pair_texts ps ++ rest) h.1 (omega arith))
       ∙ ap (before_pair (Plain s) v) (pairs_again ps levels n (Some (scalar_text s)) rest u.2 h.2 (omega arith))
 
-pub halt_again : (os : List Enclosing) (levels : ℕ) (kind : Kind) (rest : List ℕ) → HaltsIn levels AnItem os kind rest →
+pub halt_again : (os : List Enclosing) (levels : ℕ) (kind : Kind) (rest : List ℕ) → FailsIn levels AnItem os kind rest →
     parse levels (fronts os ++ rest) ≡ Halt os kind rest
 halt_again [] levels kind rest h = parse_fault levels rest kind h
 halt_again (o ∷ os) zero kind rest h = absurd h

@@ -7,7 +7,7 @@ use Rattle.ctap_cbor.specs.declared.fault.{Kind.TheVariants.Trailing, Fault.Faul
 use Rattle.ctap_cbor.specs.{Tree.Tree, Head.AreBytes, Faults.fault_steps, Grammar.text, Grammar.IsCanonical}
 use Rattle.ctap_cbor.proofs.Uniqueness.{each_text_is_one}
 use Rattle.ctap_cbor.specs.Outcome.{fronts, Outcome, Whole, Longer, Stopped, IsOutcome, Answers, result_of}
-use Rattle.ctap_cbor.specs.Reading.{Reading, rest_of, PassesOne, Halts, Ends, GoesOn}
+use Rattle.ctap_cbor.specs.Reading.{Reading, rest_of, PassesOne, Fails, Ends, GoesOn}
 
 abbrev pub start : List ℕ → Reading
 start b = record { bytes = b; place = 0; steps = 0 }
@@ -38,7 +38,7 @@ found_longer b middle new f p e =
       (ap (λ x. Some (x, Trailing)) at ∙ ap (λ x. Some (f.at, x)) (sym e.is_trailing), omega (arith, ap steps_at e.moved, ap steps_at p.1.moved)),
     )
 
-pub found_stopped : (b : List ℕ) (new : Reading) (f : Fault) → Halts 4 (start b) new f.at f.kind →
+pub found_stopped : (b : List ℕ) (new : Reading) (f : Fault) → Fails 4 (start b) new f.at f.kind →
     Found b (Err f) new.steps
 found_stopped b new f h =
     let at : length (fronts h.os) ≡ f.at = omega (arith, h.place) in
@@ -51,7 +51,7 @@ found_stopped b new f h =
 
 abbrev Whole-read : Reading → Reading → Result (Unit {0}) Fault → Type 0
 Whole-read old new r = MatchResult r (λ _. (middle : Reading) × PassesOne 4 old middle × Ends middle new)
-    (λ f. Halts 4 old new f.at f.kind ⊎ ((middle : Reading) × PassesOne 4 old middle × GoesOn middle new f.at f.kind))
+    (λ f. Fails 4 old new f.at f.kind ⊎ ((middle : Reading) × PassesOne 4 old middle × GoesOn middle new f.at f.kind))
 
 found_from : (b : List ℕ) (new : Reading) (r : Result (Unit {0}) Fault) → Whole-read (start b) new r →
     Found b r new.steps

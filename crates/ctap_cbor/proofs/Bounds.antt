@@ -5,8 +5,8 @@ use Rattle.std.proofs.lemmas.{Bool.ltb-false, List.drop_at}
 use Rattle.ctap_cbor.specs.{declared.fault.Kind.Kind, Tree.count_pairs, Head.head}
 use Rattle.ctap_cbor.specs.Tree.{Tree, Plain, Array, Map, Trees, no_trees, tree, Pairs, no_pairs, pair, count}
 use Rattle.ctap_cbor.specs.Grammar.{text, texts, pair_texts}
-use Rattle.ctap_cbor.specs.Faults.{Due, first_faults, body_faults, fault, item_len, passed, fault_steps}
-use Rattle.ctap_cbor.specs.Outcome.{Enclosing, InArray, AtKey, AtValue, front, fronts, HaltsIn, due_in, later_keys}
+use Rattle.ctap_cbor.specs.Faults.{Expected, first_faults, body_faults, fault, item_len, passed, fault_steps}
+use Rattle.ctap_cbor.specs.Outcome.{Enclosing, InArray, AtKey, AtValue, front, fronts, FailsIn, due_in, later_keys}
 use Rattle.ctap_cbor.specs.Outcome.{later_in_all, later_in_map, later_in_pairs, later_key, later_in, later_in_open}
 use Rattle.ctap_cbor.specs.Outcome.{Outcome, Whole, Longer, Stopped, IsOutcome, steps}
 
@@ -49,7 +49,7 @@ AllAfter : (Kind → Type 0) → List (Bool × Kind) → Type 0
 AllAfter P [] = Unit {0}
 AllAfter P (t ∷ ts) = P t.1 × (t.0 ≡ false → AllAfter P ts)
 
-passed_le : (levels : ℕ) (due : Due) (bytes : List ℕ) (kind : Kind) → fault levels due bytes ≡ Some kind →
+passed_le : (levels : ℕ) (due : Expected) (bytes : List ℕ) (kind : Kind) → fault levels due bytes ≡ Some kind →
     passed kind bytes ≤ length bytes
 unfolding first_faults body_faults passed item_len AllAfter
 passed_le levels due bytes kind e = grind (arith, length-drop, ltb-false)
@@ -60,10 +60,10 @@ unfolding fault_steps
 steps_le kind bytes h = search (rules, arith)
 
 abbrev pub Fault-at : List ℕ → Kind → Type 0
-Fault-at rest kind = (levels : ℕ) × (due : Due) × (fault levels due rest ≡ Some kind)
+Fault-at rest kind = (levels : ℕ) × (due : Expected) × (fault levels due rest ≡ Some kind)
 
-pub halts_fault : (os : List Enclosing) (levels : ℕ) (due : Due) (kind : Kind) (rest : List ℕ) →
-    HaltsIn levels due os kind rest → Fault-at rest kind
+pub halts_fault : (os : List Enclosing) (levels : ℕ) (due : Expected) (kind : Kind) (rest : List ℕ) →
+    FailsIn levels due os kind rest → Fault-at rest kind
 halts_fault [] levels due kind rest h = (levels, due, h)
 halts_fault (o ∷ os) zero due kind rest h = absurd h
 halts_fault (o ∷ os) (suc levels) due kind rest h = halts_fault os levels (due_in o) kind rest h.2

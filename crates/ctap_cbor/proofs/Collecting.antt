@@ -3,7 +3,7 @@ use Rattle.std.proofs.Common.{arith, ◌≡◌, ℕ, ◌+◌, ◌-◌, ◌<◌, 
 use Rattle.std.specs.Prelude.{◌&&◌}
 use Rattle.ctap_cbor.specs.{declared.fault.Kind.Kind, Parts.Part, Parts.OpensArray, Parts.OpensMap}
 use Rattle.ctap_cbor.specs.Tree.{Plain, Array, Map, Trees, no_trees, Pairs, no_pairs, push, push_pair}
-use Rattle.ctap_cbor.specs.Reading.{Reading, Takes, Halts, HaltsInPairs, GivesKey}
+use Rattle.ctap_cbor.specs.Reading.{Reading, Takes, Fails, FailsInPairs, GivesKey}
 use Rattle.ctap_cbor.proofs.Moves.{passes_none, passes_more, pairs_none}
 use Rattle.ctap_cbor.proofs.Skipping.{given_more, map_then, array_then}
 use Rattle.ctap_cbor.specs.Collecting.{Adds, AddsEntry, AddsPairs, AddsAll, ReadsMap, ReadsArray}
@@ -21,8 +21,8 @@ adds_more H levels n last ok taken both x y z a b c d part bytes h k s is =
 
 pub value_ends : {M : Type 0} (H : M → Bool → Pairs → Type 0) (levels n i : ℕ) (last : Option (List ℕ)) (ok : Bool)
     (x y : M) (a b c d : Reading) (part : Part) (bytes : List ℕ) (at : ℕ) (kind : Kind)
-    → i < n → AddsPairs H levels i last ok x y a b → GivesKey last b c part bytes → Halts levels c d at kind →
-    HaltsInPairs levels n a d at kind
+    → i < n → AddsPairs H levels i last ok x y a b → GivesKey last b c part bytes → Fails levels c d at kind →
+    FailsInPairs levels n a d at kind
 value_ends H levels n i last ok x y a b c d part bytes at kind lt h k p = grind arith
 
 pub all_none : {M : Type 0} (H : M → Bool → Trees → Type 0) (levels : ℕ) (m : M) (r : Reading) →

@@ -2,7 +2,7 @@
 use Rattle.std.proofs.Common.{arith, rules, ◌≡◌, ℕ, ◌<◌, Bool, true, false, List, [], ◌∷◌, ◌++◌, Some, None, Result}
 use Rattle.std.proofs.{Common.Err, Common.refl, lemmas.Bool.leb-false}
 use Rattle.ctap_cbor.specs.{declared.fault.Kind.Kind, declared.item.Item.Item, Head.info, Parts.read}
-use Rattle.ctap_cbor.specs.Faults.{Due, first_of, first_faults, passed}
+use Rattle.ctap_cbor.specs.Faults.{Expected, first_of, first_faults, passed}
 use Rattle.ctap_cbor.specs.Views.{Finds, FindsRest, due_of}
 
 first_some : (ts us : List (Bool × Kind)) (kind : Kind) → first_of ts ≡ Some kind → first_of (ts ++ us) ≡ Some kind
@@ -15,7 +15,7 @@ first_none [] us e = refl
 first_none ((true, k) ∷ ts) us e = absurd cc
 first_none ((false, k) ∷ ts) us e = first_none ts us e
 
-pub fault_first : (levels : ℕ) (due : Due) (first : ℕ) (rest : List ℕ) (kind : Kind) →
+pub fault_first : (levels : ℕ) (due : Expected) (first : ℕ) (rest : List ℕ) (kind : Kind) →
     first_of (first_faults levels due first) ≡ Some kind → read levels due (first ∷ rest) ≡ Err kind
 unfolding read
 fault_first levels due first rest kind e = search (rules, arith, first_some)
@@ -24,12 +24,12 @@ head_false : (ts : List (Bool × Kind)) (t : Bool × Kind) (us : List (Bool × K
     t.0 ≡ false
 head_false ts t us is e = search (rules, arith)
 
-pub info_known : (levels : ℕ) (due : Due) (first : ℕ) → first_of (first_faults levels due first) ≡ None →
+pub info_known : (levels : ℕ) (due : Expected) (first : ℕ) → first_of (first_faults levels due first) ≡ None →
     info first < 28
 unfolding first_faults
 info_known levels due first e = leb-false 28 (info first) (head_false (first_faults levels due first) (_, _) _ refl e)
 
-pub passed_first : (levels : ℕ) (due : Due) (first : ℕ) (rest : List ℕ) (kind : Kind) →
+pub passed_first : (levels : ℕ) (due : Expected) (first : ℕ) (rest : List ℕ) (kind : Kind) →
     first_of (first_faults levels due first) ≡ Some kind → 1 ≡ passed kind (first ∷ rest)
 unfolding first_faults passed
 passed_first levels due first rest kind e = grind arith

@@ -13,9 +13,9 @@ use Rattle.ctap_cbor.specs.Head.{AreBytes, head, major, info, argument_len, argu
 use Rattle.ctap_cbor.proofs.Heads.{AreBytes-take, AreBytes-drop, Begins, head_again, head_read}
 use Rattle.ctap_cbor.specs.Grammar.{scalar_text, Fits, IsKey}
 use Rattle.ctap_cbor.specs.Parts.{Part, One, OpensArray, OpensMap, item_text, string_at, item_of, read, Nests, Suits}
-use Rattle.ctap_cbor.specs.Faults.{Due, AnItem, is_key, is_above, first_of, fault, faults, first_faults, body_faults}
+use Rattle.ctap_cbor.specs.Faults.{Expected, AnItem, is_key, is_above, first_of, fault, faults, first_faults, body_faults}
 
-pub record Reads (levels : ℕ) (due : Due) (bytes : List ℕ) (i : Part) (rest : List ℕ) : Type 0 where
+pub record Reads (levels : ℕ) (due : Expected) (bytes : List ℕ) (i : Part) (rest : List ℕ) : Type 0 where
   pub parts : bytes ≡ item_text i ++ rest
   pub suits : Suits levels due i
   pub bytes_beyond : AreBytes rest
@@ -43,14 +43,14 @@ front_is k whole text rest e d = grind (arith, common_steps)
 
 -- ---- what is spelled is read
 
-accepts : (levels : ℕ) (due : Due) (i : Part) (first : ℕ) (after rest : List ℕ) → item_text i ++ rest ≡ first ∷ after →
+accepts : (levels : ℕ) (due : Expected) (i : Part) (first : ℕ) (after rest : List ℕ) → item_text i ++ rest ≡ first ∷ after →
     NonePass (faults levels due first after) → item_of (major first) first after ≡ i →
     drop (item_len first after) (first ∷ after) ≡ rest → read levels due (item_text i ++ rest) ≡ Ok (i, rest)
 unfolding read
 accepts levels due i first after rest e none item beyond = search (rules, arith, none_from)
 
 -- A head of a known major type, and the bytes of a string where it has one.
-item_again : (levels : ℕ) (due : Due) (m n : ℕ) (i : Part) (str rest : List ℕ) → item_text i ≡ head m n ++ str →
+item_again : (levels : ℕ) (due : Expected) (m n : ℕ) (i : Part) (str rest : List ℕ) → item_text i ≡ head m n ++ str →
     n < 2 ^ 64
     → cond (nat_eq m 2 || nat_eq m 3) n 0 ≡ length str → (nat_eq m 6 || nat_eq m 7) ≡ false
     → (is_key due && (nat_eq m 4 || nat_eq m 5 || nat_eq m 7)) ≡ false →
@@ -109,7 +109,7 @@ item_again levels due m n i str rest text lt counted known key deep utf8 above i
     ∙ item first after b.argument_is b.beyond_is) beyond
 
 -- integers and strings, as an item and as a key
-plain_again : (levels : ℕ) (due : Due) (s : Scalar) (rest : List ℕ) → Fits s → IsKey (Plain s) →
+plain_again : (levels : ℕ) (due : Expected) (s : Scalar) (rest : List ℕ) → Fits s → IsKey (Plain s) →
     is_above due (scalar_text s) ≡ true → read levels due (scalar_text s ++ rest) ≡ Ok (One s, rest)
 plain_again levels due (Int (pos n)) rest h k above = item_again levels due 0 n (One (Int (pos n))) [] rest
     (sym (append-nil (head 0 n))) h refl refl (and_right (is_key due) false refl) refl refl above
@@ -146,7 +146,7 @@ simple_again : (levels : ℕ) (s : Scalar) (rest : List ℕ) → Fits s →
 unfolding read first_faults body_faults string_len item_len argument_len argument least_argument
 simple_again levels s rest h = grind (arith, plain_again)
 
-pub read_again : (levels : ℕ) (due : Due) (i : Part) (rest : List ℕ) → Suits levels due i →
+pub read_again : (levels : ℕ) (due : Expected) (i : Part) (rest : List ℕ) → Suits levels due i →
     read levels due (item_text i ++ rest) ≡ Ok (i, rest)
 read_again levels due i rest h = grind (arith, array_again, map_again, plain_again, simple_again)
 
@@ -176,11 +176,11 @@ item_parts m first after str i fits e known len least str-is text =
     )
 
 -- an integer or a string where it may stand
-plain_suits : (levels : ℕ) (due : Due) (s : Scalar) → Fits s → IsKey (Plain s) → is_above due (scalar_text s) ≡ true →
+plain_suits : (levels : ℕ) (due : Expected) (s : Scalar) → Fits s → IsKey (Plain s) → is_above due (scalar_text s) ≡ true →
     Suits levels due (One s)
 plain_suits levels due s h k above = grind arith
 
-nests : (levels : ℕ) (due : Due) → (is_key due && true) ≡ false → nat_eq levels 0 ≡ false → Nests levels due
+nests : (levels : ℕ) (due : Expected) → (is_key due && true) ≡ false → nat_eq levels 0 ≡ false → Nests levels due
 nests levels due e d = grind arith
 
 -- what the tests of a head say, apart from those on its major type
@@ -194,7 +194,7 @@ record Sized (first : ℕ) (after : List ℕ) : Type 0 where
 rest_fits : (first : ℕ) (after : List ℕ) → Sized first after → AreBytes (drop (item_len first after) (first ∷ after))
 rest_fits first after z = AreBytes-drop (item_len first after) (first ∷ after) (z.small, z.fits)
 
-plain_reads : (m levels : ℕ) (due : Due) (first : ℕ) (after str : List ℕ) (s : Scalar) → Sized first after →
+plain_reads : (m levels : ℕ) (due : Expected) (first : ℕ) (after str : List ℕ) (s : Scalar) → Sized first after →
     major first ≡ m → str ≡ take (string_len first after) (drop (argument_len (info first)) after)
     → scalar_text s ≡ head m (argument first after) ++ str → (argument first after < 2 ^ 64 → Fits s) →
     IsKey (Plain s) → is_above due (take (item_len first after) (first ∷ after)) ≡ true
@@ -205,7 +205,7 @@ plain_reads m levels due first after str s z e str-is text fit key above =
     (drop (item_len first after) (first ∷ after)) p.0 refl in
     record { parts = p.0; suits = plain_suits levels due s (fit p.1) key (ap (is_above due) (sym front) ∙ above); bytes_beyond = rest_fits first after z }
 
-simple_reads : (levels : ℕ) (due : Due) (first i : ℕ) (after : List ℕ) → Sized first after → first ≡ 224 + i →
+simple_reads : (levels : ℕ) (due : Expected) (first i : ℕ) (after : List ℕ) → Sized first after → first ≡ 224 + i →
     i ≡ info first → (is_key due && true) ≡ false → (nat_le 20 i && nat_le i 22) ≡ true → string_len first after ≡ 0
     → Reads levels due (first ∷ after) (One (if nat_eq i 20 then Flag false else if nat_eq i 21 then Flag true else
     Null))
@@ -213,7 +213,7 @@ simple_reads : (levels : ℕ) (due : Due) (first i : ℕ) (after : List ℕ) →
 unfolding item_len argument_len
 simple_reads levels due first i after z e h key range none = grind arith
 
-by_major : (m : ℕ) (levels : ℕ) (due : Due) (first : ℕ) (after : List ℕ) → Sized first after → major first ≡ m
+by_major : (m : ℕ) (levels : ℕ) (due : Expected) (first : ℕ) (after : List ℕ) → Sized first after → major first ≡ m
     → (nat_eq m 6 || (nat_eq m 7 && not (nat_le 20 (info first) && nat_le (info first) 22))) ≡ false
     → (is_key due && (nat_eq m 4 || nat_eq m 5 || nat_eq m 7)) ≡ false →
     ((nat_eq m 4 || nat_eq m 5) && nat_eq levels 0) ≡ false
@@ -256,23 +256,23 @@ by_major (suc (suc (suc (suc (suc (suc (suc zero))))))) levels due first after z
 by_major (suc (suc (suc (suc (suc (suc (suc (suc m)))))))) levels due first after z e known key deep whole utf8 above =
     absurd (omega (arith, z.small))
 
-by_tests : (levels : ℕ) (due : Due) (first : ℕ) (after : List ℕ) → first < 256 → AreBytes after →
+by_tests : (levels : ℕ) (due : Expected) (first : ℕ) (after : List ℕ) → first < 256 → AreBytes after →
     NonePass (faults levels due first after)
     → Reads levels due (first ∷ after) (item_of (major first) first after) (drop (item_len first after) (first ∷ after))
 unfolding first_faults body_faults
 by_tests levels due first after small fits h = search (rules, arith, by_major, not-false)
 
-pub read_sound : (levels : ℕ) (due : Due) (bytes : List ℕ) (i : Part) (rest : List ℕ) → AreBytes bytes →
+pub read_sound : (levels : ℕ) (due : Expected) (bytes : List ℕ) (i : Part) (rest : List ℕ) → AreBytes bytes →
     read levels due bytes ≡ Ok (i, rest) → Reads levels due bytes i rest
 unfolding read
 read_sound levels due bytes i rest fits e = grind (arith, by_tests, none_to)
 
-pub read_fault : (levels : ℕ) (due : Due) (bytes : List ℕ) (kind : Kind) → fault levels due bytes ≡ Some kind →
+pub read_fault : (levels : ℕ) (due : Expected) (bytes : List ℕ) (kind : Kind) → fault levels due bytes ≡ Some kind →
     read levels due bytes ≡ Err kind
 unfolding read
 read_fault levels due bytes kind e = search (rules, arith)
 
-pub fault_read : (levels : ℕ) (due : Due) (bytes : List ℕ) (kind : Kind) → read levels due bytes ≡ Err kind →
+pub fault_read : (levels : ℕ) (due : Expected) (bytes : List ℕ) (kind : Kind) → read levels due bytes ≡ Err kind →
     fault levels due bytes ≡ Some kind
 unfolding read
 fault_read levels due bytes kind e = search (rules, arith)

@@ -4,7 +4,7 @@ use Rattle.std.proofs.Common.{Some, None, Ok, Err, refl, arith, sym, ap, ◌∙�
 use Rattle.std.specs.Prelude.{not}
 use Rattle.ctap_cbor.specs.declared.fault.Kind.{Kind, TheVariants.KeyOrder}
 use Rattle.ctap_cbor.specs.{Head.AreBytes, Faults.fault_steps, Views.end_steps_of, Parts.Part, Parts.One, Parts.read}
-use Rattle.ctap_cbor.specs.Faults.{Due, AKey, is_above, first_of, first_faults, body_faults, fault, item_len, passed}
+use Rattle.ctap_cbor.specs.Faults.{Expected, AKey, is_above, first_of, first_faults, body_faults, fault, item_len, passed}
 use Rattle.ctap_cbor.specs.Reading.{Reading, rest_of, advance, compared, Refuses, GivesKey}
 use Rattle.ctap_cbor.proofs.Items.{Reads, read_sound, read_again, read_fault, fault_read, front_is}
 use Rattle.ctap_cbor.proofs.Taking.{InOrder, in_order_steps, rest_beyond, read_len}
@@ -44,7 +44,7 @@ pub key_in_order : (bytes : List ℕ) (kind : Kind) → fault 0 (AKey None) byte
 unfolding first_faults body_faults
 key_in_order bytes kind e = grind arith
 
-read_none : (levels : ℕ) (due : Due) (bytes : List ℕ) (i : Part) (tail : List ℕ) →
+read_none : (levels : ℕ) (due : Expected) (bytes : List ℕ) (i : Part) (tail : List ℕ) →
     read levels due bytes ≡ Ok (i, tail) →
     fault levels due bytes ≡ None
 unfolding read

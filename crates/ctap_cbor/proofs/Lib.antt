@@ -1,4 +1,4 @@
-pub mod Rows
+pub mod Examples
 pub mod Heads
 pub mod Items
 pub mod Again

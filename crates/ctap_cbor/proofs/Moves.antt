@@ -9,8 +9,8 @@ use Rattle.ctap_cbor.specs.Grammar.{text, texts, pair_texts, scalar_text, IsKey,
 use Rattle.ctap_cbor.specs.Faults.{AKey, first_faults, fault}
 use Rattle.ctap_cbor.specs.{Parts.OpensArray, Parts.OpensMap, Outcome.later_in_pairs, Outcome.later_key}
 use Rattle.ctap_cbor.specs.Outcome.{InArray, AtKey, AtValue, fronts, last_key, later_keys, later_in_all, later_in_map}
-use Rattle.ctap_cbor.specs.Reading.{Reading, rest_of, advance, compared, Takes, TakesKey, Passes, Halts}
-use Rattle.ctap_cbor.specs.Reading.{PassesAll, HaltsInAll, PassesPairs, HaltsAtKey, HaltsAtValue}
+use Rattle.ctap_cbor.specs.Reading.{Reading, rest_of, advance, compared, Takes, TakesKey, Passes, Fails}
+use Rattle.ctap_cbor.specs.Reading.{PassesAll, FailsInArray, PassesPairs, FailsAtKey, FailsAtValue}
 
 abbrev pub at : List ℕ → ℕ → ℕ → Reading
 at b p s = record { bytes = b; place = p; steps = s }
@@ -89,7 +89,7 @@ passes_more levels n ts u a b c h k =
     }
 
 pub array_halts : (levels n : ℕ) (a b c : Reading) (at : ℕ) (kind : Kind) → Takes (suc levels) a b (OpensArray n) →
-    HaltsInAll levels n b c at kind → Halts (suc levels) a c at kind
+    FailsInArray levels n b c at kind → Fails (suc levels) a c at kind
 array_halts levels n a b c at kind t h =
     let ts : Trees = h.done in
     let hh = h.halts in
@@ -144,7 +144,7 @@ pairs_more levels n ps u last a b c d s h t k =
     }
 
 pub key_halts : (levels n : ℕ) (a b c : Reading) (at : ℕ) (kind : Kind) → Takes (suc levels) a b (OpensMap n) →
-    HaltsAtKey levels n b c at kind → Halts (suc levels) a c at kind
+    FailsAtKey levels n b c at kind → Fails (suc levels) a c at kind
 key_halts levels n a b c at kind t h =
     let ps : Pairs = h.done in
     let len : length (head 5 n ++ pair_texts ps ++ []) ≡ length (head 5 n) + length (pair_texts ps) =
@@ -162,7 +162,7 @@ key_halts levels n a b c at kind t h =
     }
 
 pub value_halts : (levels n : ℕ) (a b c : Reading) (at : ℕ) (kind : Kind) → Takes (suc levels) a b (OpensMap n) →
-    HaltsAtValue levels n b c at kind → Halts (suc levels) a c at kind
+    FailsAtValue levels n b c at kind → Fails (suc levels) a c at kind
 value_halts levels n a b c at kind t h =
     let ps : Pairs = h.done in
     let s : Scalar = h.key in

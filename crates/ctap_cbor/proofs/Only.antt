@@ -2,11 +2,11 @@
 use Rattle.std.proofs.Common.{arith, rules, ◌≡◌, ℕ, ◌+◌, List, [], ◌++◌, length, Ok, Err, Result, refl, sym, ap, ◌∙◌}
 use Rattle.std.specs.Prelude.{MatchResult}
 use Rattle.ctap_cbor.specs.declared.{fault.Fault.Fault, fault.Kind.Kind, item.Item.Item}
-use Rattle.ctap_cbor.specs.{Tree.Tree, Grammar.text, Outcome.later_keys, Views.part_of, Views.TakesOnly}
+use Rattle.ctap_cbor.specs.{Tree.Tree, Grammar.text, Outcome.later_keys, Views.part_of, Views.ReadsItem}
 use Rattle.ctap_cbor.specs.{Faults.AnItem, Parse.Done, Parse.parse}
-use Rattle.ctap_cbor.specs.Laws.{NoItemBeginsAnother, OneTreePasses, NothingHalts}
+use Rattle.ctap_cbor.specs.Laws.{NoItemBeginsAnother, OneTreePasses, CanonicalIsAccepted}
 use Rattle.ctap_cbor.specs.Parts.{Part, item_text, Suits, read}
-use Rattle.ctap_cbor.specs.Reading.{Reading, rest_of, advance, Passes, PassesAs, Halts, Only}
+use Rattle.ctap_cbor.specs.Reading.{Reading, rest_of, advance, Passes, PassesAs, Fails, Only}
 use Rattle.ctap_cbor.proofs.{Items.read_again, Again.parse_again, Again.halt_again}
 use Rattle.ctap_cbor.proofs.Uniqueness.{tree_of, rest_from}
 
@@ -21,7 +21,7 @@ rest_in (Ok p) = p.1
 rest_in (Err k) = []
 
 pub item_only : (levels : ℕ) (old new : Reading) (item : Item) →
-    read levels AnItem (rest_of old) ≡ Ok (part_of item, rest_of new) → TakesOnly levels old new (Ok item)
+    read levels AnItem (rest_of old) ≡ Ok (part_of item, rest_of new) → ReadsItem levels old new (Ok item)
 item_only levels old new item is i rest suits e = search (rules, arith, read_again)
 
 pub item_never : (levels : ℕ) (i : Part) (rest : List ℕ) (old : Reading) (kind : Kind) → Suits levels AnItem i →
@@ -42,7 +42,7 @@ passes_only levels t u x a c lawful flat e p =
     ∙ ap (parse levels) (sym p.spelled ∙ e) ∙ parse_again t levels x lawful flat in
     (ap (tree_of t) same, ap rest_from same)
 
-pub halts_never : NothingHalts
+pub halts_never : CanonicalIsAccepted
 halts_never levels t x a c at kind lawful flat e h = grind (arith, halt_again, parse_again)
 
 -- two trees that are passed from one place lead to one place
@@ -57,8 +57,8 @@ record SameHalt (a b c : Reading) (at place : ℕ) (kind other : Kind) : Type 0 
   kind_is : other ≡ kind
   moved : c ≡ b
 
-halts_same : (levels : ℕ) (a b c : Reading) (at place : ℕ) (kind other : Kind) → Halts levels a b at kind →
-    Halts levels a c place other → SameHalt a b c at place kind other
+halts_same : (levels : ℕ) (a b c : Reading) (at place : ℕ) (kind other : Kind) → Fails levels a b at kind →
+    Fails levels a c place other → SameHalt a b c at place kind other
 halts_same levels a b c at place kind other h k = grind (arith, halt_again)
 
 abbrev fault_at : ℕ → Kind → Result (Unit {0}) Fault
@@ -71,7 +71,7 @@ only_passes levels old new t p = record {
   halted = λ at kind r h. absurd (halts_never levels t (rest_of new) old r at kind p.lawful p.flat p.spelled h);
 }
 
-pub only_halts : (levels : ℕ) (old new : Reading) (f : Fault) → Halts levels old new f.at f.kind →
+pub only_halts : (levels : ℕ) (old new : Reading) (f : Fault) → Fails levels old new f.at f.kind →
     Only levels old new (Err f)
 only_halts levels old new f h = record {
   passed = λ u r q. absurd (halts_never levels u (rest_of r) old new f.at f.kind q.lawful q.flat q.spelled h);
@@ -81,6 +81,6 @@ only_halts levels old new f h = record {
 }
 
 pub only_matches : (levels : ℕ) (part : Part) (old new : Reading) (r : Result (Unit {0}) Fault) →
-    MatchResult r (λ _. PassesAs levels part old new) (λ f. Halts levels old new f.at f.kind) → Only levels old new r
+    MatchResult r (λ _. PassesAs levels part old new) (λ f. Fails levels old new f.at f.kind) → Only levels old new r
 only_matches levels part old new (Ok tt) h = only_passes levels old new h.0 h.1
 only_matches levels part old new (Err f) h = only_halts levels old new f h

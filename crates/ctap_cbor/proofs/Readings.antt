@@ -3,8 +3,8 @@ use Rattle.std.proofs.Common.{rules, ◌≡◌, ℕ, List, ◌++◌, length, dro
 use Rattle.std.proofs.lemmas.List.{append-nil, drop_at}
 use Rattle.ctap_cbor.specs.{declared.fault.Kind.Kind, declared.fault.Kind.TheVariants.Trailing, Tree.Tree, Head.AreBytes, Grammar.text, Faults.fault_steps}
 use Rattle.ctap_cbor.specs.Outcome.{Outcome, Whole, Longer, Stopped, fronts, IsOutcome, result_of, steps}
-use Rattle.ctap_cbor.specs.{Telling.outcome_of, Telling.whole_tree, Laws.TellsTree, Laws.TellsNone, Laws.WholeReadings}
-use Rattle.ctap_cbor.specs.Reading.{Reading, at_front, rest_of, counted, Passes, Halts, Ends, GoesOn}
+use Rattle.ctap_cbor.specs.{Telling.outcome_of, Telling.whole_tree, Laws.ReadsTree, Laws.ReadsNoTree, Laws.WholeReadings}
+use Rattle.ctap_cbor.specs.Reading.{Reading, at_front, rest_of, counted, Passes, Fails, Ends, GoesOn}
 use Rattle.ctap_cbor.proofs.{Moves.at, Telling.bytes_tell}
 
 -- the outcome is this one
@@ -12,7 +12,7 @@ is : (b : List ℕ) (o : Outcome) → AreBytes b → IsOutcome b o → outcome_o
 is b o fits h = bytes_tell.only b o fits h
 
 passed : (b : List ℕ) (t : Tree) (s : ℕ) (middle new : Reading) → AreBytes b → Passes 4 t (at_front b s) middle →
-    Ends middle new → TellsTree b s t new
+    Ends middle new → ReadsTree b s t new
 passed b t s middle new fits p e =
     let spelled : b ≡ text t = p.spelled ∙ ap (λ x. text t ++ x) e.at_end ∙ append-nil (text t) in
     let told : outcome_of b ≡ Whole t =
@@ -31,7 +31,7 @@ passed b t s middle new fits p e =
     }
 
 longer : (b : List ℕ) (t : Tree) (s : ℕ) (middle new : Reading) (place : ℕ) (kind : Kind) → AreBytes b →
-    Passes 4 t (at_front b s) middle → GoesOn middle new place kind → TellsNone b s new place kind
+    Passes 4 t (at_front b s) middle → GoesOn middle new place kind → ReadsNoTree b s new place kind
 longer b t s middle new place kind fits p e =
     let told : outcome_of b ≡ Longer t = is b (Longer t) fits
     (text t, rest_of middle, record { enc = record { lawful = p.lawful; spelled = refl }; flat = p.flat }, e.left, p.spelled) in
@@ -46,7 +46,7 @@ longer b t s middle new place kind fits p e =
     }
 
 stopped : (b : List ℕ) (s : ℕ) (new : Reading) (place : ℕ) (kind : Kind) → AreBytes b →
-    Halts 4 (at_front b s) new place kind → TellsNone b s new place kind
+    Fails 4 (at_front b s) new place kind → ReadsNoTree b s new place kind
 stopped b s new place kind fits h =
     let told : outcome_of b ≡ Stopped h.os kind = is b (Stopped h.os kind) fits (h.tail, h.halts, h.spelled) in
     let tail : drop (length (fronts h.os)) b ≡ h.tail = ap (drop (length (fronts h.os))) h.spelled

@@ -6,8 +6,8 @@ use Rattle.ctap_cbor.specs.declared.item.Item.TheVariants as item
 use Rattle.ctap_cbor.specs.Tree.{push_pair, Tree, Trees, Pairs, Array, Map, Plain, Scalar}
 use Rattle.ctap_cbor.specs.{Faults.AnItem, Faults.AKey, Views.part_of}
 use Rattle.ctap_cbor.specs.Parts.{Part, One, OpensArray, OpensMap}
-use Rattle.ctap_cbor.specs.Reading.{Reading, Takes, Refuses, Passes, PassesAs, PassesSome, Halts, PassesAll, HaltsInAll}
-use Rattle.ctap_cbor.specs.Reading.{PassesPairs, PassesSomePairs, HaltsInPairs, GivesKey}
+use Rattle.ctap_cbor.specs.Reading.{Reading, Takes, Refuses, Passes, PassesAs, PassesSome, Fails, PassesAll, FailsInArray}
+use Rattle.ctap_cbor.specs.Reading.{PassesPairs, PassesSomePairs, FailsInPairs, GivesKey}
 use Rattle.ctap_cbor.proofs.Moves.{pairs_more, array_halts, key_halts, value_halts}
 
 deeper : (level : ℕ) → 0 < 5 - level → 5 - level ≡ suc (5 - (level + 1))
@@ -18,7 +18,7 @@ pub array_then : (level n : ℕ) (ts : Trees) (a b c : Reading) → Takes (5 - l
 array_then level n ts a b c t h = grind (arith, common_steps)
 
 pub array_stops : (level n : ℕ) (a b c : Reading) (at : ℕ) (kind : Kind) → Takes (5 - level) a b (OpensArray n) →
-    HaltsInAll (5 - (level + 1)) n b c at kind → Halts (5 - level) a c at kind
+    FailsInArray (5 - (level + 1)) n b c at kind → Fails (5 - level) a c at kind
 array_stops level n a b c at kind t h = grind (arith, array_halts, deeper)
 
 pub map_then : (level n : ℕ) (ps : Pairs) (last : Option (List ℕ)) (a b c : Reading) →
@@ -26,7 +26,7 @@ pub map_then : (level n : ℕ) (ps : Pairs) (last : Option (List ℕ)) (a b c : 
 map_then level n ps last a b c t h = grind (arith, common_steps)
 
 pub map_stops : (level n : ℕ) (a b c : Reading) (at : ℕ) (kind : Kind) → Takes (5 - level) a b (OpensMap n) →
-    HaltsInPairs (5 - (level + 1)) n b c at kind → Halts (5 - level) a c at kind
+    FailsInPairs (5 - (level + 1)) n b c at kind → Fails (5 - level) a c at kind
 map_stops level n a b c at kind t h = grind (arith, deeper, key_halts, value_halts)
 
 pub one_passes : (levels : ℕ) (a b : Reading) (s : Scalar) → Takes levels a b (One s) → Passes levels (Plain s) a b
@@ -53,7 +53,7 @@ map_whole level n a b c t h = (Map h.0, map_then level n h.0 h.1 a b c t h.2, ap
 
 -- an item that is refused at once
 pub refused_halts : (levels : ℕ) (a b : Reading) (at : ℕ) (kind : Kind) → Refuses levels AnItem a b at kind →
-    Halts levels a b at kind
+    Fails levels a b at kind
 refused_halts levels a b at kind h = search (rules, arith)
 
 -- one more pair, by the key that was given
@@ -66,14 +66,14 @@ given_more levels n ps u last a b c d part bytes h k p =
 
 pub value_stops : (levels n i : ℕ) (ps : Pairs) (last : Option (List ℕ)) (a b c d : Reading) (part : Part)
     (bytes : List ℕ) (at : ℕ) (kind : Kind) → i < n → PassesPairs levels i ps last a b → GivesKey last b c part bytes →
-    Halts levels c d at kind → HaltsInPairs levels n a d at kind
+    Fails levels c d at kind → FailsInPairs levels n a d at kind
 value_stops levels n i ps last a b c d part bytes at kind lt h k p = search (rules, arith)
 
 pub key_stops : (levels n i : ℕ) (ps : Pairs) (last : Option (List ℕ)) (a b c : Reading) (at : ℕ) (kind : Kind) →
     i < n →
-    PassesPairs levels i ps last a b → Refuses 0 (AKey last) b c at kind → HaltsInPairs levels n a c at kind
+    PassesPairs levels i ps last a b → Refuses 0 (AKey last) b c at kind → FailsInPairs levels n a c at kind
 key_stops levels n i ps last a b c at kind lt h k = search (rules, arith)
 
 pub item_stops : (levels n i : ℕ) (ts : Trees) (a b c : Reading) (at : ℕ) (kind : Kind) → i < n →
-    PassesAll levels i ts a b → Halts levels b c at kind → HaltsInAll levels n a c at kind
+    PassesAll levels i ts a b → Fails levels b c at kind → FailsInArray levels n a c at kind
 item_stops levels n i ts a b c at kind lt h k = search (rules, arith)

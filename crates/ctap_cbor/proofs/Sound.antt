@@ -5,7 +5,7 @@ use Rattle.ctap_cbor.specs.{declared.fault.Kind.Kind, Head.AreBytes, Head.head}
 use Rattle.ctap_cbor.specs.Tree.{Scalar, Null, Plain, depth, depth_all, depth_pairs, count, count_pairs}
 use Rattle.ctap_cbor.specs.Grammar.{scalar_text, text, texts, pair_texts, Fits, IsKey, IsAbove, Rises, IsLawful}
 use Rattle.ctap_cbor.specs.{Grammar.AreLawful, Grammar.AreLawfulPairs, Faults.AnItem, Faults.AKey, Faults.fault}
-use Rattle.ctap_cbor.specs.Outcome.{fronts, last_key, HaltsIn}
+use Rattle.ctap_cbor.specs.Outcome.{fronts, last_key, FailsIn}
 use Rattle.ctap_cbor.specs.Parts.{Part, One, OpensArray, OpensMap, read}
 use Rattle.ctap_cbor.proofs.Items.{read_sound, fault_read}
 use Rattle.ctap_cbor.specs.Parse.{Parse, Done, Halt, Run, Ran, Broke, Walk, Walked, BadKey, BadValue, array_of, map_of}
@@ -13,13 +13,13 @@ use Rattle.ctap_cbor.specs.Parse.{then_items, items, then_pairs, then_value, pai
 
 abbrev pub IsParse : ℕ → List ℕ → Parse → Type 0
 IsParse levels bytes (Done t rest) = IsLawful t × (depth t ≤ levels) × (bytes ≡ text t ++ rest) × AreBytes rest
-IsParse levels bytes (Halt os kind rest) = HaltsIn levels AnItem os kind rest × (bytes ≡ fronts os ++ rest)
+IsParse levels bytes (Halt os kind rest) = FailsIn levels AnItem os kind rest × (bytes ≡ fronts os ++ rest)
 
 abbrev pub IsRun : ℕ → ℕ → List ℕ → Run → Type 0
 IsRun levels n bytes (Ran ts rest) = AreLawful ts × (depth_all ts ≤ levels) × (bytes ≡ texts ts ++ rest) × AreBytes rest
     × (count ts ≡ n)
 IsRun levels n bytes (Broke done os kind rest) = AreLawful done × (depth_all done ≤ levels)
-    × (bytes ≡ texts done ++ (fronts os ++ rest)) × HaltsIn levels AnItem os kind rest × (count done < n)
+    × (bytes ≡ texts done ++ (fronts os ++ rest)) × FailsIn levels AnItem os kind rest × (count done < n)
 
 abbrev pub IsWalk : ℕ → ℕ → Option (List ℕ) → List ℕ → Walk → Type 0
 IsWalk levels n last bytes (Walked ps rest) = Rises last ps × AreLawfulPairs ps × (depth_pairs ps ≤ levels)
@@ -29,7 +29,7 @@ IsWalk levels n last bytes (BadKey done kind rest) = Rises last done × AreLawfu
     × (count_pairs done < n)
 IsWalk levels n last bytes (BadValue done key os kind rest) = Rises last done × AreLawfulPairs done
     × (depth_pairs done ≤ levels) × (bytes ≡ pair_texts done ++ (text key ++ (fronts os ++ rest)))
-    × HaltsIn levels AnItem os kind rest × (count_pairs done < n) × IsKey key × IsLawful key
+    × FailsIn levels AnItem os kind rest × (count_pairs done < n) × IsKey key × IsLawful key
     × IsAbove (last_key last done) (text key)
 
 -- ---- arrays

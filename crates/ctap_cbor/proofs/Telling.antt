@@ -7,7 +7,7 @@ use Rattle.ctap_cbor.specs.{Grammar.texts, Grammar.IsCanonical, Faults.passed, F
 use Rattle.ctap_cbor.specs.Outcome.{Outcome, Whole, Stopped, IsOutcome, steps}
 use Rattle.ctap_cbor.specs.Parse.{items, parse, outcome_by, ran_by}
 use Rattle.ctap_cbor.specs.Telling.{are_bytes, outcome_of, whole_tree, items_at}
-use Rattle.ctap_cbor.specs.Laws.{BytesTell, TreesAreTold, CheckStepsAreBounded, ItemsAreFound}
+use Rattle.ctap_cbor.specs.Laws.{BytesDetermineTree, TreesAreComputed, CheckStepsAreBounded, ItemsAreFound}
 use Rattle.ctap_cbor.proofs.{Accepting.below, Sound.parse_sound, Bounds.steps_bound, Again.items_again, Again.all_ran}
 use Rattle.ctap_cbor.proofs.Uniqueness.{outcome_sound, outcome_only}
 
@@ -26,13 +26,13 @@ outcome_parsed b fits = ap (λ c. if c then outcome_by (parse 4 b) else Stopped 
 pub told : (b : List ℕ) → AreBytes b → IsOutcome b (outcome_of b)
 told b fits = rw (outcome_parsed b fits) (outcome_sound b (parse 4 b) (parse_sound 4 b fits))
 
-pub bytes_tell : BytesTell
+pub bytes_tell : BytesDetermineTree
 bytes_tell = record { told = told; only = λ b o fits is. outcome_parsed b fits ∙ outcome_only b o is }
 
 tree_of : (b : List ℕ) (t : Tree) (o : Outcome) → IsOutcome b o → whole_tree o ≡ Some t → IsCanonical t b
 tree_of b t o is e = grind arith
 
-pub trees_are_told : TreesAreTold
+pub trees_are_told : TreesAreComputed
 trees_are_told b t fits =
     (λ e. tree_of b t (outcome_of b) (told b fits) e, λ c. ap whole_tree (bytes_tell.only b (Whole t) fits c))
 

@@ -6,9 +6,9 @@ use Rattle.ctap_cbor.specs.declared.fault.Kind.TheVariants.{Trailing, Memory}
 use Rattle.ctap_cbor.specs.declared.item.Item.TheVariants as item
 use Rattle.ctap_cbor.specs.{declared.value.Value.Value, Parts.Part, Views.part_of}
 use Rattle.ctap_cbor.specs.Tree.{push, push_pair, Tree, Plain}
-use Rattle.ctap_cbor.specs.Faults.{Due, first_faults, body_faults, fault}
+use Rattle.ctap_cbor.specs.Faults.{Expected, first_faults, body_faults, fault}
 use Rattle.ctap_cbor.specs.Outcome.{Outcome, IsOutcome, result_of}
-use Rattle.ctap_cbor.specs.Reading.{Reading, Takes, Refuses, Passes, PassesAll, PassesPairs, GivesKey, Halts, GoesOn}
+use Rattle.ctap_cbor.specs.Reading.{Reading, Takes, Refuses, Passes, PassesAll, PassesPairs, GivesKey, Fails, GoesOn}
 use Rattle.ctap_cbor.specs.Values.{trees, pairs, tree_of, pair_of, trees_of, pairs_of, IsScalarOf, UnlessMemory}
 use Rattle.ctap_cbor.proofs.Answering.{start, found_stopped, found_longer}
 use Rattle.ctap_cbor.proofs.{Moves.passes_more, Skipping.given_more, Skipping.one_passes}
@@ -63,12 +63,12 @@ scalar_passes levels a b item.Null t no-array no-map k is = subst (λ x. Passes 
 
 -- ---- no item's fault is want of memory
 
-fault_not_memory : (levels : ℕ) (due : Due) (bytes : List ℕ) (kind : Kind) → fault levels due bytes ≡ Some kind →
+fault_not_memory : (levels : ℕ) (due : Expected) (bytes : List ℕ) (kind : Kind) → fault levels due bytes ≡ Some kind →
     kind ≢ Memory
 unfolding first_faults body_faults
 fault_not_memory levels due bytes kind e = search (rules, arith)
 
-pub refuses_not_memory : (levels : ℕ) (due : Due) (a b : Reading) (at : ℕ) (kind : Kind) →
+pub refuses_not_memory : (levels : ℕ) (due : Expected) (a b : Reading) (at : ℕ) (kind : Kind) →
     Refuses levels due a b at kind →
     kind ≢ Memory
 refuses_not_memory levels due a b at kind h = fault_not_memory levels due _ kind h.is
@@ -83,10 +83,10 @@ told_by f p q go h = (λ differs. go (h.0 differs), h.1)
 
 -- ---- what a decoder's refusal says of the text
 
-pub stopped_outcome : (b : List ℕ) (old new : Reading) (f : Fault) → old ≡ start b → Halts 4 old new f.at f.kind →
+pub stopped_outcome : (b : List ℕ) (old new : Reading) (f : Fault) → old ≡ start b → Fails 4 old new f.at f.kind →
     (o : Outcome) × IsOutcome b o × (result_of o ≡ Some (f.at, f.kind))
 stopped_outcome b old new f e h =
-    let k = found_stopped b new f (subst (λ r. Halts 4 r new f.at f.kind) e h) in
+    let k = found_stopped b new f (subst (λ r. Fails 4 r new f.at f.kind) e h) in
     (k.0, k.1, k.2.0)
 
 pub longer_outcome : (b : List ℕ) (old middle new : Reading) (f : Fault) (t : Tree) → old ≡ start b →

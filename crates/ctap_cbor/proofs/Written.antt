@@ -4,7 +4,7 @@ use Rattle.std.proofs.Common.{rules, ◌≡◌, ℕ, ◌+◌, ◌-◌, ◌<◌, 
 use Rattle.std.proofs.Common.{Option, Some, None, Result, refl, arith, sym, ap, ◌∙◌, append_assoc, length-append}
 use Rattle.std.specs.{Prelude.IfErr, Option.ForSome}
 use Rattle.std.proofs.lemmas.List.{at_drop_more, drop_at, take-append-le, drop-append-le, drop_all}
-use Rattle.ctap_cbor.specs.declared.{encoding.Span.Span, value.Value.Value}
+use Rattle.ctap_cbor.specs.declared.{encode.Span.Span, value.Value.Value}
 use Rattle.ctap_cbor.specs.declared.fault.Kind.{Kind, TheVariants.Memory}
 use Rattle.ctap_cbor.specs.Tree.{Tree, Array, Map, Trees, no_trees, tree, Pairs, pair, depth_all, depth_pairs, count}
 use Rattle.ctap_cbor.specs.{Tree.count_pairs, Head.head, Writes.last_text, Faults.AKey, Faults.is_above}

@@ -1,4 +1,4 @@
--- The fault of one item: the table of docs/use/PROFILE.md, "Faults".
+-- The error of one item: the table in docs/use/PROFILE.md, "Faults".
 use Rattle.std.specs.Prelude.{ℕ, ◌+◌, Bool, true, false, not, ◌&&◌, ◌||◌, List, [], ◌∷◌, ◌++◌, length, take, drop}
 use Rattle.std.specs.Prelude.{Option, Some, None, if◌then◌else◌, nat_lt, nat_le, nat_eq}
 use Rattle.std.specs.{Ordering.is_lt, Ordering.nat_cmp, Str.is_utf8, Cmp.Lexicographic.slice_cmp}
@@ -7,7 +7,7 @@ use Rattle.ctap_cbor.specs.declared.fault.Kind.TheVariants.{Truncated, Reserved,
 use Rattle.ctap_cbor.specs.declared.fault.Kind.TheVariants.{KeyOrder, NotUtf8, Unsupported, Trailing, Memory}
 use Rattle.ctap_cbor.specs.Head.{major, info, argument_len, argument, least_argument}
 
--- the number by which programs show a kind
+-- The number of an error kind, as the programs print it: 1 to 10.
 abbrev pub number_of : Kind → ℕ
 number_of Truncated = 1
 number_of Reserved = 2
@@ -20,38 +20,38 @@ number_of Unsupported = 8
 number_of Trailing = 9
 number_of Memory = 10
 
--- what is due: an item, or a key with the text of the key before it in its map
-pub data Due : Type 0 where
-  AnItem : Due
-  AKey : Option (List ℕ) → Due
+-- What is expected next: any item, or a map key, with the encoding of the previous key of its map if any.
+pub data Expected : Type 0 where
+  AnItem : Expected
+  AKey : Option (List ℕ) → Expected
 
--- whether a key is due
-abbrev pub is_key : Due → Bool
+-- Whether a map key is expected.
+abbrev pub is_key : Expected → Bool
 is_key AnItem = false
 is_key (AKey before) = true
 
--- whether a key's text is above that of the key before it, in lexical order
-abbrev pub is_above : Due → List ℕ → Bool
+-- Whether a key's encoding is above that of the previous key, in lexical order.
+abbrev pub is_above : Expected → List ℕ → Bool
 is_above AnItem key = true
 is_above (AKey None) key = true
 is_above (AKey (Some before)) key = is_lt (slice_cmp nat_cmp before key)
 
--- how many bytes of a string follow the head
+-- The number of content bytes of a string with this initial byte, or 0.
 unfoldable pub string_len : ℕ → List ℕ → ℕ
 string_len first rest = if nat_eq (major first) 2 || nat_eq (major first) 3 then argument first rest else 0
 
--- how long the item is that begins with this byte: its head, and the bytes of a string
+-- The length of the item with this initial byte: its head, and the content bytes of a string.
 unfoldable pub item_len : ℕ → List ℕ → ℕ
 item_len first rest = 1 + argument_len (info first) + string_len first rest
 
--- the first of the faults whose test holds
+-- The first error whose test holds.
 abbrev pub first_of : List (Bool × Kind) → Option Kind
 first_of [] = None
 first_of (t ∷ ts) = if t.0 then Some t.1 else first_of ts
 
--- The faults that a head's first byte shows, each with its test, in their order. So many arrays and maps may
--- still be opened.
-unfoldable pub first_faults : ℕ → Due → ℕ → List (Bool × Kind)
+-- The errors that the initial byte of a head shows, each with its test, in order. `levels` is how many arrays and maps
+-- may still be opened.
+unfoldable pub first_faults : ℕ → Expected → ℕ → List (Bool × Kind)
 first_faults levels due first =
     let m = major first in
     let i = info first in
@@ -62,7 +62,7 @@ first_faults levels due first =
     ∷ (is_nest && nat_eq levels 0, TooDeep)
     ∷ []
 
--- the faults of the rest of the head, and of the string
+-- The errors of the rest of the head, and of a string's content.
 unfoldable pub body_faults : ℕ → List ℕ → List (Bool × Kind)
 body_faults first rest =
     let i = info first in
@@ -73,21 +73,21 @@ body_faults first rest =
     ∷ (nat_eq (major first) 3 && not (is_utf8 (take (string_len first rest) content)), NotUtf8)
     ∷ []
 
--- these, and the fault of a key's order
-abbrev pub later_faults : Due → ℕ → List ℕ → List (Bool × Kind)
+-- These, and the error of a key out of order.
+abbrev pub later_faults : Expected → ℕ → List ℕ → List (Bool × Kind)
 later_faults due first rest = body_faults first rest ++
     (not (is_above due (take (item_len first rest) (first ∷ rest))), KeyOrder) ∷ []
 
--- all of these, in their order
-abbrev pub faults : ℕ → Due → ℕ → List ℕ → List (Bool × Kind)
+-- All errors of an item with their tests, in order.
+abbrev pub faults : ℕ → Expected → ℕ → List ℕ → List (Bool × Kind)
 faults levels due first rest = first_faults levels due first ++ later_faults due first rest
 
--- the fault of the item that begins here
-abbrev pub fault : ℕ → Due → List ℕ → Option Kind
+-- The first error of the item at the beginning of these bytes.
+abbrev pub fault : ℕ → Expected → List ℕ → Option Kind
 fault levels due [] = Some Truncated
 fault levels due (first ∷ rest) = first_of (faults levels due first rest)
 
--- how many bytes from the item's place on count as passed
+-- The number of bytes from the item's beginning that count as read when this error is found.
 unfoldable pub passed : Kind → List ℕ → ℕ
 passed Truncated bytes = length bytes
 passed kind [] = 0
@@ -97,7 +97,7 @@ passed KeyOrder (first ∷ rest) = item_len first rest
 passed Trailing (first ∷ rest) = 0
 passed kind (first ∷ rest) = 1
 
--- the steps that a fault takes: the bytes passed, the end where it is found, the key that is compared
+-- The steps until an error is found: one for each byte read, one for the end of the input, and the comparison of a key.
 unfoldable pub fault_steps : Kind → List ℕ → ℕ
 fault_steps Truncated bytes = length bytes + 1
 fault_steps KeyOrder bytes = passed KeyOrder bytes + passed KeyOrder bytes

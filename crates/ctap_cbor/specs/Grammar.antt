@@ -1,4 +1,4 @@
--- Which texts are canonical, and of which tree (CTAP 2.1, "Message Encoding"; RFC 8949, sections 3.1 and 4.2.1).
+-- The canonical encoding of each data item (CTAP 2.1, "Message Encoding"; RFC 8949, sections 3.1 and 4.2.1).
 use Rattle.std.specs.Prelude.{◌≡◌, ℕ, ◌^◌, ◌<◌, ◌≤◌, pos, negsuc, true, false, List, [], ◌∷◌, ◌++◌, length, Option}
 use Rattle.std.specs.Prelude.{Some, None}
 use Rattle.std.specs.{Ordering.nat_cmp, Str.IsUtf8, Cmp.Lexicographic.slice_cmp, declared.cmp.Ordering.TheVariants.Less}
@@ -6,7 +6,7 @@ use Rattle.ctap_cbor.specs.Tree.{Scalar, Int, Bytes, Text, Flag, Null, Tree, Pla
 use Rattle.ctap_cbor.specs.Tree.{Pairs, no_pairs, pair, depth, count, count_pairs}
 use Rattle.ctap_cbor.specs.Head.{AreBytes, head}
 
--- the encoding of a scalar
+-- The encoding of a scalar (RFC 8949, section 3).
 abbrev pub scalar_text : Scalar → List ℕ
 scalar_text (Int (pos n)) = head 0 n
 scalar_text (Int (negsuc n)) = head 1 n
@@ -16,7 +16,7 @@ scalar_text (Flag false) = 0xf4 ∷ []
 scalar_text (Flag true) = 0xf5 ∷ []
 scalar_text Null = 0xf6 ∷ []
 
--- the encoding of a tree; major types 4 and 5 say how much is inside
+-- The encoding of a tree. The head of an array or a map has the number of its items or pairs.
 abbrev mutual
   pub text : Tree → List ℕ
   text (Plain s) = scalar_text s
@@ -31,7 +31,7 @@ abbrev mutual
   pair_texts no_pairs = []
   pair_texts (pair k v ps) = text k ++ (text v ++ pair_texts ps)
 
--- what can be written
+-- A scalar that can be encoded: an integer of 64 bits, or a string shorter than 2^64 bytes.
 abbrev pub Fits : Scalar → Type 0
 Fits (Int (pos n)) = n < 2 ^ 64
 Fits (Int (negsuc n)) = n < 2 ^ 64
@@ -40,24 +40,24 @@ Fits (Text s) = (length s < 2 ^ 64) × IsUtf8 s
 Fits (Flag b) = Unit {0}
 Fits Null = Unit {0}
 
--- an integer, a byte string or a text
+-- A type allowed for map keys: an integer, a byte string or a text string.
 abbrev pub IsKey : Tree → Type 0
 IsKey (Plain (Int i)) = Unit {0}
 IsKey (Plain (Bytes s)) = Unit {0}
 IsKey (Plain (Text s)) = Unit {0}
 IsKey _ = ⊥
 
--- the key's text is above the one before
+-- The key's encoding is above that of the previous key.
 abbrev pub IsAbove : Option (List ℕ) → List ℕ → Type 0
 IsAbove None key = Unit {0}
 IsAbove (Some before) key = slice_cmp nat_cmp before key ≡ Less
 
--- The keys of a map rise.
+-- The keys of a map are in canonical order, without duplicates (CTAP 2.1, section 8).
 abbrev pub Rises : Option (List ℕ) → Pairs → Type 0
 Rises before no_pairs = Unit {0}
 Rises before (pair k v ps) = IsKey k × IsAbove before (text k) × Rises (Some (text k)) ps
 
--- what has an encoding, whatever its depth
+-- The trees that have an encoding, at any depth of nesting.
 abbrev mutual
   pub IsLawful : Tree → Type 0
   IsLawful (Plain s) = Fits s
@@ -72,12 +72,12 @@ abbrev mutual
   AreLawfulPairs no_pairs = Unit {0}
   AreLawfulPairs (pair k v ps) = IsLawful k × IsLawful v × AreLawfulPairs ps
 
--- The text is the tree's encoding.
+-- The bytes are the encoding of the tree.
 pub record IsEncoding (t : Tree) (b : List ℕ) : Type 0 where
   pub lawful : IsLawful t
   pub spelled : b ≡ text t
 
--- The same, with at most four levels (CTAP 2.1, section 8).
+-- The bytes are the canonical encoding of the tree, with at most four levels of nesting (CTAP 2.1, section 8).
 pub record IsCanonical (t : Tree) (b : List ℕ) : Type 0 where
   pub enc : IsEncoding t b
   pub flat : depth t ≤ 4

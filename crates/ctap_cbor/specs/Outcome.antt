@@ -1,35 +1,35 @@
--- What a text is: the encoding of one tree, or a text with one first fault, of the first item that has any.
+-- The outcome of decoding a byte string: it is the encoding of one tree, or it has exactly one first error.
 use Rattle.std.specs.Prelude.{◌≡◌, ℕ, zero, suc, ◌+◌, ◌^◌, ◌<◌, ◌≤◌, List, [], ◌∷◌, ◌++◌, length, drop, min, Option}
 use Rattle.std.specs.Prelude.{Some, None, Result, Ok, Err}
 use Rattle.ctap_cbor.specs.declared.fault.{Fault.Fault, Kind.Kind, Kind.TheVariants.Trailing}
 use Rattle.ctap_cbor.specs.Tree.{Tree, Plain, Array, Map, Trees, no_trees, tree, Pairs, no_pairs, pair, depth_all}
 use Rattle.ctap_cbor.specs.{Tree.depth_pairs, Tree.count, Tree.count_pairs, Head.head, Grammar.IsCanonical}
 use Rattle.ctap_cbor.specs.Grammar.{text, texts, pair_texts, IsKey, IsAbove, Rises, IsLawful, AreLawful, AreLawfulPairs}
-use Rattle.ctap_cbor.specs.Faults.{Due, AnItem, AKey, fault, fault_steps}
+use Rattle.ctap_cbor.specs.Faults.{Expected, AnItem, AKey, fault, fault_steps}
 
--- An array or a map that is open: what its head counts, and the whole items after the head.
+-- An unfinished array or map: the count in its head, and its complete items so far.
 pub data Enclosing : Type 0 where
   InArray : (total : ℕ) (done : Trees) → Enclosing
   AtKey : (total : ℕ) (done : Pairs) → Enclosing
   AtValue : (total : ℕ) (done : Pairs) (key : Tree) → Enclosing
 
--- the text up to where the next item is due
+-- The encoding of an unfinished array or map, up to where the next item is expected.
 abbrev pub front : Enclosing → List ℕ
 front (InArray total done) = head 4 total ++ texts done
 front (AtKey total done) = head 5 total ++ pair_texts done
 front (AtValue total done key) = head 5 total ++ (pair_texts done ++ text key)
 
--- the same of those that are open, each in the one before
+-- The encodings of nested unfinished arrays and maps, outermost first.
 abbrev pub fronts : List Enclosing → List ℕ
 fronts [] = []
 fronts (o ∷ os) = front o ++ fronts os
 
--- the text of the last key, or of the key before where there is none
+-- The encoding of the last key, or the given one if there is no key.
 abbrev pub last_key : Option (List ℕ) → Pairs → Option (List ℕ)
 last_key before no_pairs = before
 last_key before (pair k v ps) = last_key (Some (text k)) ps
 
--- It may be open where so many more may be opened inside of it.
+-- An unfinished array or map, in which `levels` more may be opened.
 abbrev pub IsOpen : ℕ → Enclosing → Type 0
 IsOpen levels (InArray total done) = (total < 2 ^ 64) × (count done < total) × AreLawful done
     × (depth_all done ≤ levels)
@@ -39,39 +39,39 @@ IsOpen levels (AtValue total done key) = (total < 2 ^ 64) × (count_pairs done <
     × AreLawfulPairs done × (depth_pairs done ≤ levels) × IsKey key × IsLawful key
     × IsAbove (last_key None done) (text key)
 
--- an array or a map is inside one, and a key is no array or map
+-- An array or map may be inside of another one, except as a map key.
 abbrev pub CanHold : Enclosing → List Enclosing → Type 0
 CanHold (AtKey total done) (o ∷ os) = ⊥
 CanHold _ _ = Unit {0}
 
--- what is due after what is inside of it
-abbrev pub due_in : Enclosing → Due
+-- What is expected next inside of an unfinished array or map.
+abbrev pub due_in : Enclosing → Expected
 due_in (InArray total done) = AnItem
 due_in (AtKey total done) = AKey (last_key None done)
 due_in (AtValue total done key) = AnItem
 
--- the arrays and maps that are open, where so many may be, and the fault of the item after them
-abbrev pub HaltsIn : ℕ → Due → List Enclosing → Kind → List ℕ → Type 0
-HaltsIn levels due [] kind rest = fault levels due rest ≡ Some kind
-HaltsIn zero due (o ∷ os) kind rest = ⊥
-HaltsIn (suc levels) due (o ∷ os) kind rest = IsOpen levels o × CanHold o os × HaltsIn levels (due_in o) os kind rest
+-- The unfinished arrays and maps, and the error of the item after them.
+abbrev pub FailsIn : ℕ → Expected → List Enclosing → Kind → List ℕ → Type 0
+FailsIn levels due [] kind rest = fault levels due rest ≡ Some kind
+FailsIn zero due (o ∷ os) kind rest = ⊥
+FailsIn (suc levels) due (o ∷ os) kind rest = IsOpen levels o × CanHold o os × FailsIn levels (due_in o) os kind rest
 
--- What a text is.
+-- The result of decoding: a tree; a tree and trailing bytes; or unfinished arrays and maps, and an error after them.
 pub data Outcome : Type 0 where
-  -- the text of a tree
+  -- The bytes are the encoding of this tree.
   Whole : Tree → Outcome
-  -- such a text, and bytes after it
+  -- The bytes are the encoding of this tree, followed by trailing bytes.
   Longer : Tree → Outcome
-  -- an item after these open arrays and maps has a fault
+  -- The item after these unfinished arrays and maps has this error.
   Stopped : List Enclosing → Kind → Outcome
 
--- what it is that a text has this outcome
+-- These bytes have this outcome.
 abbrev pub IsOutcome : List ℕ → Outcome → Type 0
 IsOutcome b (Whole t) = IsCanonical t b
 IsOutcome b (Longer t) = (whole rest : List ℕ) × IsCanonical t whole × (0 < length rest) × (b ≡ whole ++ rest)
-IsOutcome b (Stopped os kind) = (rest : List ℕ) × HaltsIn 4 AnItem os kind rest × (b ≡ fronts os ++ rest)
+IsOutcome b (Stopped os kind) = (rest : List ℕ) × FailsIn 4 AnItem os kind rest × (b ≡ fronts os ++ rest)
 
--- the lengths of all keys' texts in a tree, except for the first of each map
+-- The sum of the lengths of all encoded keys in a tree, except the first key of each map.
 abbrev mutual
   pub later_keys : Tree → ℕ
   later_keys (Plain s) = 0
@@ -90,12 +90,12 @@ abbrev mutual
   later_in_pairs no_pairs = 0
   later_in_pairs (pair k v ps) = length (text k) + (later_keys v + later_in_pairs ps)
 
--- the length of a key's text, unless it is the first of its map
+-- The length of a key's encoding, or 0 for the first key of its map.
 abbrev pub later_key : Pairs → Tree → ℕ
 later_key no_pairs key = 0
 later_key (pair k v ps) key = length (text key)
 
--- the same of what is open
+-- The lengths of the keys of an unfinished array or map, without the first of each map.
 abbrev pub later_in : Enclosing → ℕ
 later_in (InArray total done) = later_in_all done
 later_in (AtKey total done) = later_in_map done
@@ -105,20 +105,20 @@ abbrev pub later_in_open : List Enclosing → ℕ
 later_in_open [] = 0
 later_in_open (o ∷ os) = later_in o + later_in_open os
 
--- the steps of reading a text that is so: one for each byte that is passed, those of each key but the
--- first of its map once more, and one for finding the end
+-- The steps of decoding: one for each byte that is read, one more for each byte of a key that is compared with the
+-- previous one, and one for the end of the input.
 abbrev pub steps : List ℕ → Outcome → ℕ
 steps b (Whole t) = length b + later_keys t + 1
 steps b (Longer t) = length (text t) + later_keys t
 steps b (Stopped os kind) = length (fronts os) + later_in_open os + fault_steps kind (drop (length (fronts os)) b)
 
--- the place and the kind of the fault
+-- The position and the kind of the error, if any.
 abbrev pub result_of : Outcome → Option (ℕ × Kind)
 result_of (Whole t) = None
 result_of (Longer t) = Some (length (text t), Trailing)
 result_of (Stopped os kind) = Some (length (fronts os), kind)
 
--- what a check answers of a text that is so; the count of steps stops at 2^64-1
+-- The result of `check` for an outcome. The step count saturates at 2^64-1.
 abbrev pub Answers : List ℕ → Outcome → Result (Unit {0}) Fault → ℕ → Type 0
 Answers b o (Ok _) n = (result_of o ≡ None) × (n ≡ min (steps b o) 18446744073709551615)
 Answers b o (Err f) n = (result_of o ≡ Some (f.at, f.kind)) × (n ≡ min (steps b o) 18446744073709551615)

@@ -1,70 +1,79 @@
--- Reading a whole item, with all that is inside, as a function (RFC 8949, section 3): the tree, or where it stops. What
--- the text is says Outcome.antt; that this function returns it is a law.
+-- Parsing a whole item with its content, as a function (RFC 8949, section 3): it returns the tree, or where parsing
+-- stops. Outcome.antt defines the outcome of a byte string; a law states that this function returns it.
 use Rattle.std.proofs.Common.{ℕ, zero, suc, List, [], ◌∷◌, Option, Some, None, Result, Ok, Err}
 use Rattle.ctap_cbor.specs.{declared.fault.Kind.Kind, Grammar.scalar_text, Faults.AnItem, Faults.AKey}
 use Rattle.ctap_cbor.specs.Tree.{Null, Tree, Plain, Array, Map, Trees, no_trees, tree, Pairs, no_pairs, pair}
 use Rattle.ctap_cbor.specs.Outcome.{Enclosing, InArray, AtKey, AtValue, Outcome, Whole, Longer, Stopped}
 use Rattle.ctap_cbor.specs.Parts.{Part, One, OpensArray, OpensMap, read}
 
--- a tree and what follows, or the open arrays and maps with the fault after them
+-- The result of parsing an item: a tree and the remaining bytes, or unfinished arrays and maps and the error after
+-- them.
 pub data Parse : Type 0 where
   Done : Tree → List ℕ → Parse
   Halt : List Enclosing → Kind → List ℕ → Parse
 
--- the items of an array
+-- The result of parsing the items of an array.
 pub data Run : Type 0 where
   Ran : Trees → List ℕ → Run
   Broke : Trees → List Enclosing → Kind → List ℕ → Run
 
--- the pairs of a map
+-- The result of parsing the pairs of a map.
 pub data Walk : Type 0 where
   Walked : Pairs → List ℕ → Walk
   BadKey : Pairs → Kind → List ℕ → Walk
   BadValue : Pairs → Tree → List Enclosing → Kind → List ℕ → Walk
 
+-- The result of parsing an array, from that of its items.
 abbrev pub array_of : ℕ → Run → Parse
 array_of total (Ran ts rest) = Done (Array ts) rest
 array_of total (Broke done os kind rest) = Halt (InArray total done ∷ os) kind rest
 
+-- The result of parsing a map, from that of its pairs.
 abbrev pub map_of : ℕ → Walk → Parse
 map_of total (Walked ps rest) = Done (Map ps) rest
 map_of total (BadKey done kind rest) = Halt (AtKey total done ∷ []) kind rest
 map_of total (BadValue done key os kind rest) = Halt (AtValue total done key ∷ os) kind rest
 
+-- Prepends an item to those that were parsed.
 abbrev pub before : Tree → Run → Run
 before t (Ran ts rest) = Ran (tree t ts) rest
 before t (Broke done os kind rest) = Broke (tree t done) os kind rest
 
+-- Prepends a pair to those that were parsed.
 abbrev pub before_pair : Tree → Tree → Walk → Walk
 before_pair k v (Walked ps rest) = Walked (pair k v ps) rest
 before_pair k v (BadKey done kind rest) = BadKey (pair k v done) kind rest
 before_pair k v (BadValue done key os kind rest) = BadValue (pair k v done) key os kind rest
 
+-- Parses the other items of an array after the first.
 abbrev pub then_items : Parse → (List ℕ → Run) → Run
 then_items (Done t rest) go = before t (go rest)
 then_items (Halt os kind rest) go = Broke no_trees os kind rest
 
+-- Parses the items of an array.
 abbrev pub items : (List ℕ → Parse) → ℕ → List ℕ → Run
 items sub zero bytes = Ran no_trees bytes
 items sub (suc n) bytes = then_items (sub bytes) (items sub n)
 
+-- Parses the other pairs of a map after the first.
 abbrev pub then_pairs : Tree → Parse → (List ℕ → Walk) → Walk
 then_pairs k (Done v rest) go = before_pair k v (go rest)
 then_pairs k (Halt os kind rest) go = BadValue no_pairs k os kind rest
 
--- a key, and then its value
+-- Parses a value after its key.
 abbrev pub then_value : (List ℕ → Parse) → List ℕ → Result (Part × List ℕ) Kind → (List ℕ → List ℕ → Walk) → Walk
 then_value sub bytes (Err kind) go = BadKey no_pairs kind bytes
 then_value sub bytes (Ok (One s, rest)) go = then_pairs (Plain s) (sub rest) (go (scalar_text s))
 then_value sub bytes (Ok (OpensArray n, rest)) go = Walked no_pairs rest
 then_value sub bytes (Ok (OpensMap n, rest)) go = Walked no_pairs rest
 
+-- Parses the pairs of a map.
 abbrev pub pairs : (List ℕ → Parse) → ℕ → ℕ → Option (List ℕ) → List ℕ → Walk
 pairs sub levels zero last bytes = Walked no_pairs bytes
 pairs sub levels (suc n) last bytes = then_value sub bytes (read levels (AKey last) bytes)
     (λ key. pairs sub levels n (Some key))
 
--- what an item leads to
+-- Parses the content of an array or map after its head.
 abbrev pub then_inside : (List ℕ → Parse) → ℕ → List ℕ → Result (Part × List ℕ) Kind → Parse
 then_inside sub levels bytes (Err kind) = Halt [] kind bytes
 then_inside sub levels bytes (Ok (One s, rest)) = Done (Plain s) rest
@@ -75,13 +84,13 @@ unfoldable pub parse : ℕ → List ℕ → Parse
 parse zero bytes = then_inside (λ b. Done (Plain Null) b) zero bytes (read zero AnItem bytes)
 parse (suc levels) bytes = then_inside (parse levels) levels bytes (read (suc levels) AnItem bytes)
 
--- a text, by what reading its item returns
+-- The outcome of a whole input, from the result of parsing its item.
 abbrev pub outcome_by : Parse → Outcome
 outcome_by (Done t []) = Whole t
 outcome_by (Done t (x ∷ rest)) = Longer t
 outcome_by (Halt os kind rest) = Stopped os kind
 
--- the items, so far as they are there
+-- The items that were parsed.
 abbrev pub ran_by : Run → Trees
 ran_by (Ran ts rest) = ts
 ran_by (Broke done os kind rest) = done

@@ -1,28 +1,30 @@
--- One item: its head, and the bytes of a string (RFC 8949, section 3). Reading it returns its fault, or the item and
--- what follows.
+-- One item: its head, and the content of a string (RFC 8949, section 3). Reading it returns the item and the bytes
+-- after it, or an error.
 use Rattle.std.specs.Prelude.{ℕ, zero, suc, ◌<◌, ◌^◌, pos, negsuc, true, false, List, [], ◌∷◌, take, drop, Option, Some}
 use Rattle.std.specs.Prelude.{None, Result, Ok, Err, if◌then◌else◌, nat_eq}
 use Rattle.ctap_cbor.specs.declared.fault.Kind.{Kind, TheVariants.Truncated}
 use Rattle.ctap_cbor.specs.Tree.{Scalar, Int, Bytes, Text, Flag, Null, Plain}
 use Rattle.ctap_cbor.specs.Head.{head, major, info, argument_len, argument}
 use Rattle.ctap_cbor.specs.Grammar.{scalar_text, Fits, IsKey, IsAbove}
-use Rattle.ctap_cbor.specs.Faults.{Due, AnItem, AKey, fault, item_len}
+use Rattle.ctap_cbor.specs.Faults.{Expected, AnItem, AKey, fault, item_len}
 
--- an item without what is inside it
+-- An item without its content, if it is an array or a map.
 pub data Part : Type 0 where
   One : Scalar → Part
   OpensArray : ℕ → Part
   OpensMap : ℕ → Part
 
+-- The encoding of an item without the content of an array or map.
 abbrev pub item_text : Part → List ℕ
 item_text (One s) = scalar_text s
 item_text (OpensArray n) = head 4 n
 item_text (OpensMap n) = head 5 n
 
+-- The content of the string at the beginning of these bytes.
 abbrev pub string_at : ℕ → List ℕ → List ℕ
 string_at first rest = take (argument first rest) (drop (argument_len (info first)) rest)
 
--- the item that begins with this byte, by its major type
+-- The item with this initial byte, by its major type.
 abbrev pub item_of : ℕ → ℕ → List ℕ → Part
 item_of zero first rest = One (Int (pos (argument first rest)))
 item_of (suc zero) first rest = One (Int (negsuc (argument first rest)))
@@ -33,22 +35,23 @@ item_of (suc (suc (suc (suc (suc zero))))) first rest = OpensMap (argument first
 item_of m first rest = One (if nat_eq (info first) 20 then Flag false else if nat_eq (info first) 21 then Flag true
     else Null)
 
--- a fault, or an item and what follows it
+-- The error if any, or else the item and the bytes after it.
 abbrev pub unless : Option Kind → Part → List ℕ → Result (Part × List ℕ) Kind
 unless None i rest = Ok (i, rest)
 unless (Some kind) i rest = Err kind
 
-unfoldable pub read : ℕ → Due → List ℕ → Result (Part × List ℕ) Kind
+unfoldable pub read : ℕ → Expected → List ℕ → Result (Part × List ℕ) Kind
 read levels due [] = Err Truncated
 read levels due (first ∷ rest) = unless (fault levels due (first ∷ rest)) (item_of (major first) first rest)
     (drop (item_len first rest) (first ∷ rest))
 
-abbrev pub Nests : ℕ → Due → Type 0
+-- An array or map may be opened here: it isn't a key, and the nesting limit isn't reached.
+abbrev pub Nests : ℕ → Expected → Type 0
 Nests levels AnItem = 0 < levels
 Nests levels (AKey before) = ⊥
 
--- the item may be there
-abbrev pub Suits : ℕ → Due → Part → Type 0
+-- The item is allowed here.
+abbrev pub Suits : ℕ → Expected → Part → Type 0
 Suits levels AnItem (One s) = Fits s
 Suits levels (AKey before) (One s) = Fits s × IsKey (Plain s) × IsAbove before (scalar_text s)
 Suits levels due (OpensArray n) = Nests levels due × (n < 2 ^ 64)

@@ -1,4 +1,4 @@
--- Which trees have no canonical text, and why: the first refusal in the order of writing.
+-- The trees without a canonical encoding, and the encoder's error for each: the first one in the order of encoding.
 use Rattle.std.specs.Prelude.{ℕ, ◌-◌, pos, negsuc, Bool, true, false, List, Option, Some, None, if◌then◌else◌, nat_lt}
 use Rattle.std.specs.Prelude.{nat_eq}
 use Rattle.ctap_cbor.specs.{declared.fault.Kind.Kind, Grammar.text, Tree.no_pairs, Tree.pair}
@@ -6,37 +6,38 @@ use Rattle.ctap_cbor.specs.declared.fault.Kind.TheVariants.{TooDeep, KeyType, Ke
 use Rattle.ctap_cbor.specs.Tree.{Scalar, Int, Bytes, Text, Tree, Plain, Array, Map, Trees, no_trees, tree, Pairs}
 use Rattle.ctap_cbor.specs.Faults.{AKey, is_above}
 
--- integers from -2^64 to 2^64-1
+-- Whether an integer is from -2^64 to 2^64-1. Other scalars are always in range.
 abbrev pub is_in_range : Scalar → Bool
 is_in_range (Int (pos n)) = nat_lt n 18446744073709551616
 is_in_range (Int (negsuc n)) = nat_lt n 18446744073709551616
 is_in_range _ = true
 
+-- A scalar that may be a map key.
 abbrev pub is_key_scalar : Scalar → Bool
 is_key_scalar (Int i) = true
 is_key_scalar (Bytes s) = true
 is_key_scalar (Text s) = true
 is_key_scalar _ = false
 
--- of a scalar
+-- The encoder's error for a scalar out of range.
 abbrev pub range_refusal : Scalar → Option Kind
 range_refusal s = if is_in_range s then None else Some Unsupported
 
--- of a key by itself: its type, and then its range
+-- The encoder's error for a map key alone: its type, or else its range.
 abbrev pub own_refusal : Tree → Option Kind
 own_refusal (Plain s) = if is_key_scalar s then range_refusal s else Some KeyType
 own_refusal _ = Some KeyType
 
--- the first refusal, or the other
+-- The first error, or else the second.
 abbrev pub or_else : Option Kind → Option Kind → Option Kind
 or_else None other = other
 or_else (Some kind) other = Some kind
 
--- and its order after the key before
+-- The encoder's error for a key that isn't above the previous one.
 abbrev pub order_refusal : Option (List ℕ) → List ℕ → Option Kind
 order_refusal last key = if is_above (AKey last) key then None else Some KeyOrder
 
--- of a tree, where so many arrays and maps may be in one another
+-- The encoder's first error for a tree with at most this many levels of arrays and maps, if any.
 abbrev mutual
   pub refusal : ℕ → Tree → Option Kind
   refusal levels (Plain s) = range_refusal s

@@ -2,7 +2,7 @@
 use Rattle.std.specs.Prelude.{ℕ, ◌+◌, ◌^◌, ℤ, pos, Bool, true, false, nat_lt, List, Option, Some, None, if◌then◌else◌}
 use Rattle.std.specs.Prelude.{max}
 
--- What is no array and no map.
+-- An item that is neither an array nor a map.
 pub data Scalar : Type 0 where
   Int : ℤ → Scalar
   Bytes : List ℕ → Scalar
@@ -10,7 +10,7 @@ pub data Scalar : Type 0 where
   Flag : Bool → Scalar
   Null : Scalar
 
--- a scalar, an array, or a map of keys and values
+-- A data item: a scalar, an array of items, or a map of keys and values.
 mutual
   pub data Tree : Type 0 where
     Plain : Scalar → Tree
@@ -25,7 +25,7 @@ mutual
     no_pairs : Pairs
     pair : Tree → Tree → Pairs → Pairs
 
--- how many arrays and maps are in one another
+-- The nesting depth of a tree; 0 for a scalar.
 abbrev mutual
   pub depth : Tree → ℕ
   depth (Plain s) = 0
@@ -40,17 +40,17 @@ abbrev mutual
   depth_pairs no_pairs = 0
   depth_pairs (pair k v ps) = max (max (depth k) (depth v)) (depth_pairs ps)
 
--- whether it is a map
+-- Whether the data item is a map.
 abbrev pub is_map : Tree → Bool
 is_map (Map ps) = true
 is_map _ = false
 
--- whether it is an array
+-- Whether the data item is an array.
 abbrev pub is_array : Tree → Bool
 is_array (Array ts) = true
 is_array _ = false
 
--- what a tree is, None if something else
+-- The content of a byte string, or None.
 abbrev pub as_bytes : Tree → Option (List ℕ)
 as_bytes (Plain (Bytes s)) = Some s
 as_bytes _ = None
@@ -63,7 +63,7 @@ abbrev pub as_int : Tree → Option ℤ
 as_int (Plain (Int i)) = Some i
 as_int _ = None
 
--- an integer of at least 0
+-- The value of an unsigned integer below 2^64, or None.
 abbrev pub as_uint : Tree → Option ℕ
 as_uint (Plain (Int (pos n))) = if nat_lt n (2 ^ 64) then Some n else None
 as_uint _ = None
@@ -72,21 +72,22 @@ abbrev pub as_flag : Tree → Option Bool
 as_flag (Plain (Flag b)) = Some b
 as_flag _ = None
 
--- how many items there are
+-- The number of items.
 abbrev pub count : Trees → ℕ
 count no_trees = 0
 count (tree t ts) = count ts + 1
 
--- how many pairs there are
+-- The number of pairs.
 abbrev pub count_pairs : Pairs → ℕ
 count_pairs no_pairs = 0
 count_pairs (pair k v ps) = count_pairs ps + 1
 
--- one more at the end
+-- Appends an item.
 unfoldable pub push : Trees → Tree → Trees
 push no_trees u = tree u no_trees
 push (tree t ts) u = tree t (push ts u)
 
+-- Appends a pair.
 unfoldable pub push_pair : Pairs → Tree → Tree → Pairs
 push_pair no_pairs k v = pair k v no_pairs
 push_pair (pair j u ps) k v = pair j u (push_pair ps k v)

@@ -1,4 +1,4 @@
--- The tree that a value shows.
+-- The tree that a value of the code represents.
 use Rattle.std.specs.Prelude.{◌≡◌, ◌≢◌, List, [], ◌∷◌, map, string_bytes}
 use Rattle.ctap_cbor.specs.declared.fault.{Fault.Fault, Kind.TheVariants.Memory}
 use Rattle.ctap_cbor.specs.declared.value.Value.{Value, Value-F, fold-Value}
@@ -7,15 +7,17 @@ use Rattle.ctap_cbor.specs.Tree as tree
 use Rattle.ctap_cbor.specs.{Grammar.Fits, Parts.Part, Parts.One}
 use Rattle.ctap_cbor.specs.Tree.{Scalar, Tree, Plain, Array, Map, Trees, no_trees, Pairs, no_pairs, pair}
 
+-- The trees of a list.
 abbrev pub trees : List Tree → Trees
 trees [] = no_trees
 trees (t ∷ ts) = tree.tree t (trees ts)
 
+-- The pairs of a list.
 abbrev pub pairs : List (Tree × Tree) → Pairs
 pairs [] = no_pairs
 pairs (p ∷ ps) = pair p.0 p.1 (pairs ps)
 
--- one layer of a value, with the trees of what is inside
+-- The tree of a value, given the trees of its content.
 abbrev pub tree_step : Value-F Tree → Tree
 tree_step (layer.Int i) = Plain (tree.Int i)
 tree_step (layer.Bytes v) = Plain (tree.Bytes v.items)
@@ -25,22 +27,26 @@ tree_step (layer.Map v) = Map (pairs v.items)
 tree_step (layer.Bool b) = Plain (tree.Flag b)
 tree_step layer.Null = Plain tree.Null
 
+-- The tree of a value.
 abbrev pub tree_of : Value → Tree
 tree_of = fold-Value Tree tree_step
 
+-- The trees of a pair of values.
 abbrev pub pair_of : Value × Value → Tree × Tree
 pair_of p = (tree_of p.0, tree_of p.1)
 
+-- The trees of a list of values.
 abbrev pub trees_of : List Value → Trees
 trees_of vs = trees (map tree_of vs)
 
+-- The trees of a list of pairs of values.
 abbrev pub pairs_of : List (Value × Value) → Pairs
 pairs_of vs = pairs (map pair_of vs)
 
--- the tree is that of an item that opens no array or map
+-- The tree of an item that is neither an array nor a map.
 abbrev pub IsScalarOf : Part → Tree → Type 0
 IsScalarOf part t = (s : Scalar) → part ≡ One s → Fits s → t ≡ Plain s
 
--- Of a refusal by a decoder: it is what the text says, or refused memory, which is at 0.
+-- A decoder's error: it is the first error of the input, or `Memory` at position 0.
 abbrev pub UnlessMemory : Fault → Type 0 → Type 0
 UnlessMemory f p = (f.kind ≢ Memory → p) × (f.kind ≡ Memory → f.at ≡ 0)

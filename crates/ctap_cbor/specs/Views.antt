@@ -1,17 +1,17 @@
--- What a lent item is, without where it lies in memory.
+-- Borrowed items as values of the definitions, without their addresses in memory.
 use Rattle.std.specs.Prelude.{zero, suc, true, false, None, Some, nat_eq, pos, negsuc, if◌then◌else◌, ◌≡◌, ℕ, List, ◌∷◌}
 use Rattle.std.specs.Prelude.{◌++◌, drop, Result, Ok, Err, IsOkAnd, ◌≤◌, length}
 use Rattle.ctap_cbor.specs.declared.{fault.Fault.Fault, fault.Kind.Kind, item.Item.Item}
 use Rattle.ctap_cbor.specs.declared.fault.Kind.TheVariants.{Truncated, KeyOrder}
 use Rattle.ctap_cbor.specs.declared.item.Item.TheVariants.{Int, Bytes, Text, Array, Map, Bool as Logical, Null}
 use Rattle.std.specs.Prelude.{Bool}
-use Rattle.ctap_cbor.specs.Faults.{Due, AnItem, AKey, first_of, later_faults, item_len, passed}
+use Rattle.ctap_cbor.specs.Faults.{Expected, AnItem, AKey, first_of, later_faults, item_len, passed}
 use Rattle.ctap_cbor.specs.Head.{major}
 use Rattle.ctap_cbor.specs.Tree as tree
 use Rattle.ctap_cbor.specs.Parts.{Part, One, OpensArray, OpensMap, item_text, item_of, Suits}
 use Rattle.ctap_cbor.specs.Reading.{Reading, rest_of}
 
--- the item that a lent item shows
+-- Converts an item of the code (`Item`) to one of the definitions.
 abbrev pub part_of : Item → Part
 part_of (Int i) = One (tree.Int i)
 part_of (Bytes s) = One (tree.Bytes s.now)
@@ -21,43 +21,46 @@ part_of (Map n) = OpensMap n
 part_of (Logical b) = One (tree.Flag b)
 part_of Null = One tree.Null
 
--- an item as a tree, without what is inside an array or a map
+-- The item as a tree, without the content of an array or map.
 abbrev pub head_of : Part → tree.Tree
 head_of (One s) = tree.Plain s
 head_of (OpensArray n) = tree.Array tree.no_trees
 head_of (OpensMap n) = tree.Map tree.no_pairs
 
--- Nothing else can be taken there: an item that is at the place is the one that was taken.
-abbrev pub TakesOnly : ℕ → Reading → Reading → Result Item Fault → Type 0
-TakesOnly levels old new result =
+-- The result is the only possible one: an item that is at the position is the one that was read.
+abbrev pub ReadsItem : ℕ → Reading → Reading → Result Item Fault → Type 0
+ReadsItem levels old new result =
     (i : Part) (rest : List ℕ) → Suits levels AnItem i → rest_of old ≡ item_text i ++ rest
     → IsOkAnd result (λ j. (part_of j ≡ i) × (rest_of new ≡ rest))
 
--- what a function found is what reading returns
+-- The code's result equals that of the definition `read`.
 abbrev pub Finds : List ℕ → Result (Item × ℕ) (Kind × ℕ) → Result (Part × List ℕ) Kind → Type 0
 Finds bytes (Ok (i, len)) read = (read ≡ Ok (part_of i, drop len bytes)) × (len ≤ length bytes)
     × (len ≡ passed KeyOrder bytes)
 Finds bytes (Err (kind, n)) read = (read ≡ Err kind) × (n ≡ passed kind bytes) × (n ≤ length bytes)
 
-abbrev pub due_of : Bool → Due
+-- What is expected: a key, or any item.
+abbrev pub due_of : Bool → Expected
 due_of true = AKey None
 due_of false = AnItem
 
--- what a head opens or is, unless it is a string
-abbrev pub headed : ℕ → ℕ → ℕ → Part
-headed zero i n = One (tree.Int (pos n))
-headed (suc zero) i n = One (tree.Int (negsuc n))
-headed (suc (suc (suc (suc zero)))) i n = OpensArray n
-headed (suc (suc (suc (suc (suc zero))))) i n = OpensMap n
-headed m i n = One (if nat_eq i 20 then tree.Flag false else if nat_eq i 21 then tree.Flag true else tree.Null)
+-- The item with this head, unless it is a string.
+abbrev pub item_with_head : ℕ → ℕ → ℕ → Part
+item_with_head zero i n = One (tree.Int (pos n))
+item_with_head (suc zero) i n = One (tree.Int (negsuc n))
+item_with_head (suc (suc (suc (suc zero)))) i n = OpensArray n
+item_with_head (suc (suc (suc (suc (suc zero))))) i n = OpensMap n
+item_with_head m i n = One (if nat_eq i 20 then tree.Flag false else if nat_eq i 21 then tree.Flag true else tree.Null)
 
--- the tests after those of a head's first byte, and the item
+-- The result of reading the rest of an item after a valid initial byte: the item and its length, or the first error
+-- and the number of bytes read.
 abbrev pub FindsRest : ℕ → List ℕ → Result (Item × ℕ) (Kind × ℕ) → Type 0
 FindsRest first rest (Ok (i, len)) = (first_of (later_faults AnItem first rest) ≡ None)
     × (part_of i ≡ item_of (major first) first rest) × (len ≡ item_len first rest) × (len ≤ suc (length rest))
 FindsRest first rest (Err (kind, n)) = (first_of (later_faults AnItem first rest) ≡ Some kind)
     × (n ≡ passed kind (first ∷ rest)) × (n ≤ suc (length rest))
 
+-- The steps for finding the end of the input, by the kind of error.
 abbrev pub end_steps_of : Kind → ℕ
 end_steps_of Truncated = 1
 end_steps_of _ = 0

@@ -1,18 +1,18 @@
--- What a sink does with the buffer that it was lent.
+-- The effect of a sink on its borrowed buffer.
 use Rattle.std.specs.Prelude.{◌≡◌, ℕ, ◌+◌, ◌-◌, pos, negsuc, List, ◌++◌, length, take, drop}
 use Rattle.std.specs.Borrow.{MutBor}
 use Rattle.ctap_cbor.specs.Tree.{Scalar, Int, Bytes, Text, Flag, Null}
 use Rattle.ctap_cbor.specs.{Head.head_len, declared.sink.Sink.Sink}
 
--- what is written
+-- The bytes written so far.
 abbrev pub contents : Sink → List ℕ
 contents s = take s.len s.buffer.now
 
--- what the buffer holds after that
+-- The rest of the buffer, after the bytes written.
 abbrev pub spare : Sink → List ℕ
 spare s = drop s.len s.buffer.now
 
--- how long a scalar's text is
+-- The length of a scalar's encoding.
 abbrev pub scalar_len : Scalar → ℕ
 scalar_len (Int (pos n)) = head_len n
 scalar_len (Int (negsuc n)) = head_len n
@@ -21,21 +21,21 @@ scalar_len (Text s) = head_len (length s) + length s
 scalar_len (Flag b) = 1
 scalar_len Null = 1
 
--- how many bytes may still be written
+-- The number of bytes that can still be written.
 abbrev pub space_of : Sink → ℕ
 space_of s = length s.buffer.now - s.len
 
--- so many bytes were written at the end, these, and the buffer keeps its length and what is after them
+-- The sink appended exactly these bytes. The buffer keeps its length, and its rest is unchanged.
 pub record Appends (old new : Sink) (bytes : List ℕ) (len : ℕ) : Type 0 where
   pub grows : contents new ≡ contents old ++ bytes
   pub len_is : length (contents new) ≡ length (contents old) + len
   pub space_is : space_of old ≡ space_of new + len
   pub keeps : spare new ≡ drop len (spare old)
 
--- the sink writes into this buffer, so what is written in the end is found in it
+-- The sink writes to this buffer.
 abbrev pub IsOver : MutBor (List ℕ) → Sink → Type 0
 IsOver buffer s = s.buffer.ghost_name ≡ buffer.ghost_name
 
--- and goes on to
+-- Both sinks write to the same buffer.
 abbrev pub SameBuffer : Sink → Sink → Type 0
 SameBuffer old new = new.buffer.ghost_name ≡ old.buffer.ghost_name

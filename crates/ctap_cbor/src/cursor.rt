@@ -1,13 +1,13 @@
-//! The cursor: the only way to the bytes of a message, with a count of the steps.
+//! A cursor over an encoded message, which counts its steps.
 
 ghost use Rattle.std.specs.Prelude.{◌≡◌, ◌-◌, ◌+◌, ◌≤◌, length, take, drop, MatchResult, Ok, Err};
 ghost use Rattle.std.specs.Option.{option_copied};
 ghost use Rattle.ctap_cbor.specs.Head.{AreBytes};
 ghost use Rattle.ctap_cbor.specs.Faults.{AnItem, AKey, is_above};
 ghost use Rattle.ctap_cbor.specs.Parts.{read, Suits};
-ghost use Rattle.ctap_cbor.specs.Views.{part_of, TakesOnly, end_steps_of};
+ghost use Rattle.ctap_cbor.specs.Views.{part_of, ReadsItem, end_steps_of};
 ghost use Rattle.ctap_cbor.specs.Reading.{Reading, rest_of, advance, compared, Takes, Refuses, GivesKey, Ends, GoesOn};
-ghost use Rattle.ctap_cbor.specs.Reading.{PassesOne, PassesAs, PassesSome, PassesSomePairs, Halts, HaltsInAll, HaltsInPairs, Only, MovesOn};
+ghost use Rattle.ctap_cbor.specs.Reading.{PassesOne, PassesAs, PassesSome, PassesSomePairs, Fails, FailsInArray, FailsInPairs, Only, MovesOn};
 
 use crate::fault::{Fault, Kind};
 use crate::head::find;
@@ -15,17 +15,16 @@ use crate::item::{Item, Key};
 use crate::laws::known_bytes;
 use std::marker::Model;
 
-/// Reads a message item by item, in place.
+/// Decodes a message item by item, in place.
 ///
-/// In contracts a cursor is its message, the place of the next byte, and the steps so far. A step is a byte that
-/// was passed, a byte of a key that was compared with the key before it, or the finding of the message's end.
+/// In contracts, a cursor is its message, the position, and the steps so far. A step is a byte that is read, a byte of
+/// a key that is compared with the previous key, or the check for the message's end.
 ///
-/// Levels count from 1, the level of a message's one item; what is within an array or a map of level n is at
-/// level n + 1. At level 5 no array or map may be.
+/// Nesting levels count from 1, the message's one item. The content of an array or map of level n is at level n + 1.
+/// Level 5 allows no array or map.
 ///
-/// After a fault the cursor is after the bytes that count as passed: all of them where the text is truncated,
-/// the faulty first byte, the head that isn't the shortest, or the item whose text isn't UTF-8 or whose order is
-/// wrong.
+/// After an error, the cursor is after the bytes that count as read: all of them if the input is truncated, or else the
+/// invalid initial byte, the head that isn't the shortest, the text that isn't UTF-8, or the key out of order.
 #[derive(Drop)]
 pub struct Cursor<'a> {
     bytes: &'a [u8],
@@ -42,7 +41,7 @@ impl<'a> Model for Cursor<'a> {
 }
 
 impl<'a> Cursor<'a> {
-    /// Returns a cursor at the message's first byte.
+    /// Creates a cursor at the message's first byte.
     pub fn new(bytes: &'a [u8]) -> Self
         ensures { result ≡ record { bytes = bytes.now; place = 0; steps = 0 } }
     {
@@ -53,21 +52,21 @@ impl<'a> Cursor<'a> {
         }
     }
 
-    /// Returns the place of the next byte, counted from 0.
+    /// Returns the position of the next byte, counted from 0.
     pub fn place(&self) -> usize
         ensures { result ≡ self.now.place }
     {
         self.place
     }
 
-    /// Returns the steps so far. The count stops at 2^64-1.
+    /// Returns the number of steps so far, saturating at 2^64-1.
     pub fn steps(&self) -> u64
         ensures { result ≡ self.now.steps }
     {
         self.steps
     }
 
-    /// Takes one item: a head, and the bytes of a string. What an array or a map holds is next.
+    /// Reads one item: its head, and the content of a string. The content of an array or map follows in the message.
     pub fn item(&mut self, level: u8) -> Result<Item<'a>, Fault>
         requires low { 1 ≤ level }
         requires high { level ≤ 5 }
@@ -77,7 +76,7 @@ impl<'a> Cursor<'a> {
         ensures exact { MatchResult result
             (λ i. read (5 - level) AnItem (rest_of self.old) ≡ Ok (part_of i, rest_of self.new))
             (λ f. read (5 - level) AnItem (rest_of self.old) ≡ Err f.kind) }
-        ensures only { TakesOnly (5 - level) self.old self.new result }
+        ensures only { ReadsItem (5 - level) self.old self.new result }
     {
         let at = self.place;
         let rest = self.rest();
@@ -93,8 +92,8 @@ impl<'a> Cursor<'a> {
         }
     }
 
-    /// Takes a key of a map, with its encoded bytes. `previous` has those of the key before it in the same map, and
-    /// is None for the first; a key has to be above it in lexical order.
+    /// Reads a key of a map, and returns it with its encoding. `previous` is the encoding of the previous key of the
+    /// same map, or None for the first key. The key must be above it in lexical order.
     pub fn key(&mut self, previous: Option<&'a [u8]>) -> Result<Key<'a>, Fault>
         ensures gives { MatchResult result
             (λ k. GivesKey (option_copied previous.entry) self.old self.new (part_of k.item) k.bytes.now)
@@ -127,34 +126,34 @@ impl<'a> Cursor<'a> {
         }
     }
 
-    /// Passes a whole item, with all that is inside.
+    /// Skips a whole item with its content.
     #[cycle(skip)]
     pub fn skip(&mut self, level: u8) -> Result<(), Fault>
         requires low { 1 ≤ level }
         requires high { level ≤ 5 }
         ensures passes { MatchResult result
             (λ _. PassesOne (5 - level) self.old self.new)
-            (λ f. Halts (5 - level) self.old self.new f.at f.kind) }
+            (λ f. Fails (5 - level) self.old self.new f.at f.kind) }
         ensures only { Only (5 - level) self.old self.new result }
     {
         let item = self.item(level)?;
         self.inside(item, level)
     }
 
-    /// Passes a whole item, with all that is inside, and returns its head.
+    /// Skips a whole item with its content, and returns its head.
     pub fn whole(&mut self, level: u8) -> Result<Item<'a>, Fault>
         requires low { 1 ≤ level }
         requires high { level ≤ 5 }
         ensures { MatchResult result
             (λ i. PassesAs (5 - level) (part_of i) self.old self.new)
-            (λ f. Halts (5 - level) self.old self.new f.at f.kind) }
+            (λ f. Fails (5 - level) self.old self.new f.at f.kind) }
     {
         let item = self.item(level)?;
         self.inside(item, level)?;
         Ok(item)
     }
 
-    /// Passes what is inside an item whose head was taken just now, at this level.
+    /// Skips the content of the item at this nesting level whose head was just read.
     #[cycle(skip)]
     pub(crate) fn inside(&mut self, item: Item<'a>, level: u8) -> Result<(), Fault>
         requires low { 1 ≤ level }
@@ -162,9 +161,9 @@ impl<'a> Cursor<'a> {
         requires suits { Suits (5 - level) AnItem (part_of item) }
         ensures passes { (start : Reading) → Takes (5 - level) start self.old (part_of item.entry) → MatchResult result
             (λ _. PassesAs (5 - level) (part_of item.entry) start self.new)
-            (λ f. Halts (5 - level) start self.new f.at f.kind) }
+            (λ f. Fails (5 - level) start self.new f.at f.kind) }
 
-        // Whatever was read before.
+        // The position and the step count don't decrease.
         ensures onward { MovesOn self.old self.new }
     {
         match item {
@@ -174,14 +173,14 @@ impl<'a> Cursor<'a> {
         }
     }
 
-    /// Passes so many whole items.
+    /// Skips `count` whole items.
     #[cycle(skip)]
     fn skip_items(&mut self, level: u8, count: u64) -> Result<(), Fault>
         requires low { 1 ≤ level }
         requires high { level ≤ 5 }
         ensures { MatchResult result
             (λ _. PassesSome (5 - level) count self.old self.new)
-            (λ f. HaltsInAll (5 - level) count self.old self.new f.at f.kind) }
+            (λ f. FailsInArray (5 - level) count self.old self.new f.at f.kind) }
     {
         for done in 0..count {
             self.skip(level)?;
@@ -189,14 +188,14 @@ impl<'a> Cursor<'a> {
         Ok(())
     }
 
-    /// Passes so many keys, each with its value.
+    /// Skips `count` keys, each with its value.
     #[cycle(skip)]
     fn skip_pairs(&mut self, level: u8, count: u64) -> Result<(), Fault>
         requires low { 1 ≤ level }
         requires high { level ≤ 5 }
         ensures { MatchResult result
             (λ _. PassesSomePairs (5 - level) count self.old self.new)
-            (λ f. HaltsInPairs (5 - level) count self.old self.new f.at f.kind) }
+            (λ f. FailsInPairs (5 - level) count self.old self.new f.at f.kind) }
     {
         let mut previous = None;
         for done in 0..count {
@@ -207,8 +206,7 @@ impl<'a> Cursor<'a> {
         Ok(())
     }
 
-    /// Ends the reading, where no byte is left. Otherwise the fault is [`Kind::Trailing`], and the cursor stays where
-    /// it is.
+    /// Checks that no byte is left. Otherwise fails with [`Kind::Trailing`], and leaves the cursor where it is.
     pub fn end(&mut self) -> Result<(), Fault>
         ensures { MatchResult result (λ _. Ends self.old self.new) (λ f. GoesOn self.old self.new f.at f.kind) }
     {
@@ -224,14 +222,14 @@ impl<'a> Cursor<'a> {
         }
     }
 
-    /// Goes back to the first byte. The steps stay.
+    /// Moves the cursor back to the first byte. The step count is unchanged.
     pub fn rewind(&mut self)
         ensures { self.new ≡ record { bytes = self.old.bytes; place = 0; steps = self.old.steps } }
     {
         self.place = 0;
     }
 
-    /// Returns the bytes that were passed from this place on, as the text of a whole list.
+    /// Returns the bytes from this position to the cursor: the encoding of a whole list.
     pub fn since(&self, place: usize) -> &'a [u8]
         requires { place ≤ self.now.place }
         ensures { result.now ≡ take (self.now.place - place) (drop place self.now.bytes) }
@@ -239,7 +237,7 @@ impl<'a> Cursor<'a> {
         &self.bytes[place..self.place]
     }
 
-    /// Returns the bytes from the place on.
+    /// Returns the bytes from the cursor on.
     fn rest(&self) -> &'a [u8]
         ensures rest { result.now ≡ rest_of self.now }
         ensures bytes { AreBytes result.now }
@@ -249,7 +247,7 @@ impl<'a> Cursor<'a> {
         rest
     }
 
-    /// Passes bytes, with so many steps more than these.
+    /// Moves the cursor forward by this many bytes, and adds the steps.
     fn pass(&mut self, len: usize, more: usize)
         requires { len ≤ length (rest_of self.old) }
         ensures { self.new ≡ advance self.old len (len + more) }
@@ -262,8 +260,8 @@ impl<'a> Cursor<'a> {
     }
 }
 
-/// Returns whether a key is above the one before it, in lexical order, and the steps of comparing them: one for each of
-/// its bytes.
+/// Returns whether a key is above the previous one in lexical order, and the steps of the comparison: one for each byte
+/// of the key.
 fn compare(previous: Option<&[u8]>, key: &[u8]) -> (bool, usize)
     ensures above { result.0 ≡ is_above (AKey (option_copied previous.entry)) key.now }
     ensures steps { result.1 ≡ compared (option_copied previous.entry) (length key.now) }
@@ -274,7 +272,7 @@ fn compare(previous: Option<&[u8]>, key: &[u8]) -> (bool, usize)
     }
 }
 
-/// Counts the step of finding the end, where a fault is that.
+/// Returns 1 if the error is that the input ends, which takes one step, or else 0.
 fn end_steps(kind: Kind) -> usize
     ensures { result ≡ end_steps_of kind }
 {

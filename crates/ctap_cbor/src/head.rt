@@ -1,18 +1,18 @@
-//! One item at the front of a text: its head, and the bytes of a string (RFC 8949, section 3).
+//! Decodes one item: its head, and the content of a string (RFC 8949, section 3).
 
 ghost use Rattle.std.specs.Prelude.{◌≡◌, ◌≢◌, ◌<◌, ◌≤◌, length, MatchOption, true, false};
 ghost use Rattle.std.specs.Str.{is_utf8};
 ghost use Rattle.ctap_cbor.specs.Head.{info, argument_len, argument, least_argument};
 ghost use Rattle.ctap_cbor.specs.Faults.{first_of, first_faults};
 ghost use Rattle.ctap_cbor.specs.Parts.{read};
-ghost use Rattle.ctap_cbor.specs.Views.{Finds, FindsRest, part_of, due_of, headed};
+ghost use Rattle.ctap_cbor.specs.Views.{Finds, FindsRest, part_of, due_of, item_with_head};
 
 use crate::fault::Kind;
 use crate::item::Item;
 use byteorder::{BigEndian, ByteOrder};
 
-/// Returns the item or the key that begins a text, with its length, or its fault and how many bytes count as passed
-/// then. The order of keys is left out.
+/// Decodes the item or key at the beginning of the input, and returns it with its length. On failure, returns the error
+/// and the number of bytes that count as read. The order of keys isn't checked.
 #[inline(always)]
 pub(crate) fn find<'a>(
     bytes: &'a [u8],
@@ -30,7 +30,7 @@ pub(crate) fn find<'a>(
     }
 }
 
-/// Returns the fault that a head's first byte shows.
+/// Returns the error that the initial byte of a head shows, if any.
 #[tactic(auto, unfolding(crate::specs::Faults::first_faults))]
 fn first_fault(first: u8, levels: u8, is_key: bool) -> Option<Kind>
     ensures { result ≡ first_of (first_faults levels (due_of is_key) first) }
@@ -51,7 +51,7 @@ fn first_fault(first: u8, levels: u8, is_key: bool) -> Option<Kind>
     }
 }
 
-/// Returns the item after a head's first byte that shows no fault, with its length, or its fault.
+/// Decodes the item after a valid initial byte, and returns it with its length, or the error.
 #[tactic(auto, unfolding(crate::specs::Faults::body_faults, crate::specs::Faults::string_len, crate::specs::Faults::item_len, crate::specs::Faults::passed))]
 #[inline(always)]
 fn find_rest<'a>(first: u8, rest: &'a [u8]) -> Result<(Item<'a>, usize), (Kind, usize)>
@@ -85,8 +85,8 @@ fn find_rest<'a>(first: u8, rest: &'a [u8]) -> Result<(Item<'a>, usize), (Kind, 
     }
 }
 
-/// Returns how many bytes of an argument follow a first byte with this additional information, and the least argument
-/// that needs so many.
+/// Returns the number of argument bytes after an initial byte with this additional information, and the smallest
+/// argument that needs so many.
 #[tactic(auto, unfolding(crate::specs::Head::argument_len, crate::specs::Head::least_argument))]
 fn argument_form(info: u8) -> (usize, u64)
     requires { info < 28 }
@@ -119,10 +119,10 @@ fn argument_of(first: u8, rest: &[u8]) -> u64
     }
 }
 
-/// Returns what a head with this major type and additional information opens or is, unless it is a string.
+/// Returns the item of a head with this major type and additional information, unless it is a string.
 fn without_string<'a>(major: u8, info: u8, argument: u64) -> Item<'a>
     requires { major ≢ 2 × major ≢ 3 }
-    ensures { part_of result ≡ headed major info argument }
+    ensures { part_of result ≡ item_with_head major info argument }
 {
     match major {
         0 => Item::Int(i128::from(argument)),

@@ -1,28 +1,28 @@
-//! What a cursor returns for an item.
+//! Decoded items and map keys.
 
 ghost use Rattle.std.specs.Prelude.{◌≡◌};
 ghost use Rattle.std.specs.Option.{option_copied};
 ghost use Rattle.ctap_cbor.specs.Tree.{as_bytes, as_text, as_int, as_uint, as_flag};
 ghost use Rattle.ctap_cbor.specs.Views.{part_of, head_of};
 
-/// A data item's head, with the bytes of a string, which are lent from the message. What an array or a map holds
-/// follows it in the message.
+/// The head of a data item, with the content of a string, borrowed from the message. The content of an array or map
+/// follows in the message.
 #[derive(Clone, Copy, Debug, PartialEq, Eq)]
 pub enum Item<'a> {
     /// From -2^64 to 2^64-1.
     Int(i128),
     Bytes(&'a [u8]),
     Text(&'a str),
-    /// With the number of its items.
+    /// An array, with the number of its items.
     Array(u64),
-    /// With the number of its pairs.
+    /// A map, with the number of its pairs.
     Map(u64),
     Bool(bool),
     Null,
 }
 
 impl<'a> Item<'a> {
-    /// Returns the bytes of a byte string.
+    /// Returns the content of a byte string, or None for other items.
     pub fn as_bytes(&self) -> Option<&'a [u8]>
         ensures { option_copied result ≡ as_bytes (head_of (part_of self.now)) }
     {
@@ -32,7 +32,7 @@ impl<'a> Item<'a> {
         }
     }
 
-    /// Returns a text.
+    /// Returns the content of a text string, or None for other items.
     pub fn as_text(&self) -> Option<&'a str>
         ensures { option_copied result ≡ as_text (head_of (part_of self.now)) }
     {
@@ -42,7 +42,7 @@ impl<'a> Item<'a> {
         }
     }
 
-    /// Returns an integer.
+    /// Returns an integer, or None for other items.
     pub fn as_int(&self) -> Option<i128>
         ensures { result ≡ as_int (head_of (part_of self.now)) }
     {
@@ -52,7 +52,7 @@ impl<'a> Item<'a> {
         }
     }
 
-    /// Returns an integer of at least 0.
+    /// Returns an unsigned integer, or None for other items.
     pub fn as_uint(&self) -> Option<u64>
         ensures { result ≡ as_uint (head_of (part_of self.now)) }
     {
@@ -62,7 +62,7 @@ impl<'a> Item<'a> {
         }
     }
 
-    /// Returns a truth value.
+    /// Returns a Boolean, or None for other items.
     pub fn as_bool(&self) -> Option<bool>
         ensures { result ≡ as_flag (head_of (part_of self.now)) }
     {
@@ -73,7 +73,7 @@ impl<'a> Item<'a> {
     }
 }
 
-/// A key of a map, with its encoded bytes, by which the next key is compared.
+/// A map key and its encoding, with which the next key is compared.
 #[derive(Clone, Copy, Debug, PartialEq, Eq)]
 pub struct Key<'a> {
     pub item: Item<'a>,

@@ -1,4 +1,4 @@
-//! CTAP2 canonical CBOR, read in place and written into a lent buffer.
+//! CTAP2 canonical CBOR: decoding in place, and encoding into a borrowed buffer.
 //!
 //! - [`check`] says whether bytes are the canonical encoding of one data item, and if not, where the first
 //!   faulty item begins and which [`Kind`] of fault it has. It also counts the steps that reading took.
@@ -36,33 +36,33 @@
 //! assert!(rt; copy.as_slice() == MESSAGE);
 //! ```
 //!
-//! Only `decode_value` and `encode_value` allocate: the first as items come, the second as its vector grows. Nesting
-//! ends at four levels, and a count that a head declares costs nothing before its items are there.
+//! Only `decode_value` and `encode_value` allocate: as items are read, and as the output grows. Nesting is limited to
+//! four levels. Counts in heads cause no allocation.
 //!
-//! What is canonical is stated in `specs/Grammar.antt`, which fault is the first in `specs/Faults.antt` and
-//! `specs/Outcome.antt`, and what each call of a cursor does in `specs/Reading.antt`.
+//! The canonical encoding is defined in `specs/Grammar.antt`, the order of errors in `specs/Faults.antt` and
+//! `specs/Outcome.antt`, and a cursor's calls in `specs/Reading.antt`.
 //!
 //! Standards: CTAP 2.1, "Message Encoding"; RFC 8949, sections 3 (encoding) and 4.2 (deterministic encoding).
 #![tactic(auto)]
 
-mod checking;
 mod collect;
 mod cursor;
-mod decoding;
-mod encoding;
+mod decode;
+mod encode;
 mod fault;
 mod head;
 mod item;
 pub mod laws;
 mod sink;
+mod validation;
 mod value;
 
-pub use checking::{Checked, check, read_whole};
 pub use collect::{Entries, Members, read_array, read_map};
 pub use cursor::Cursor;
-pub use decoding::decode_value;
-pub use encoding::encode_value;
+pub use decode::decode_value;
+pub use encode::encode_value;
 pub use fault::{Fault, Kind};
 pub use item::{Item, Key};
 pub use sink::{Sink, head_into};
+pub use validation::{Checked, check, read_whole};
 pub use value::Value;

@@ -1,15 +1,14 @@
-//! Writing into a lent buffer, each head in its shortest form.
+//! Encodes into a borrowed buffer, each head in its shortest form.
 
 ghost use Rattle.std.specs.Prelude.{◌≡◌, ◌<◌, ◌≤◌, ◌↔◌, IsTrue, [], ◌∷◌, length, take};
 ghost use Rattle.ctap_cbor.specs.Head.{head, head_len};
 ghost use Rattle.ctap_cbor.specs.Tree.{Int, Bytes, Text, Flag, Null};
 ghost use Rattle.ctap_cbor.specs.Grammar.{scalar_text, Fits};
 
-/// Writes CBOR into a lent buffer, from its front.
+/// Writes CBOR to a borrowed buffer, from its beginning.
 ///
-/// A scalar is written whole; of an array or a map its head, and what it holds is written next by the caller: so
-/// many items, or so many keys each with its value, in rising order of the keys' encodings. Each call needs space for
-/// what it writes.
+/// Scalars are written whole. Of an array or map only the head is written; the caller then writes its items, or its
+/// keys and values in ascending order of the encoded keys. Each call requires enough space for its output.
 #[derive(Drop)]
 pub struct Sink<'a> {
     buffer: &'a mut [u8],
@@ -20,7 +19,7 @@ pub struct Sink<'a> {
 impl<'a> Sink<'a> {
     ghost use Rattle.ctap_cbor.specs.Writing.{contents, spare, space_of, scalar_len, Appends, IsOver, SameBuffer};
 
-    /// Returns a sink over the whole buffer, with nothing written.
+    /// Creates a sink for the whole buffer.
     pub fn new(buffer: &'a mut [u8]) -> Self
         ensures empty { contents result ≡ [] }
         ensures spare { spare result ≡ buffer.old }
@@ -30,21 +29,21 @@ impl<'a> Sink<'a> {
         Sink { buffer, len: 0 }
     }
 
-    /// Returns how many bytes are written.
+    /// Returns the number of bytes written.
     pub fn len(&self) -> usize
         ensures { result ≡ length (contents self.now) }
     {
         self.len
     }
 
-    /// Returns whether nothing is written.
+    /// Returns whether nothing was written yet.
     pub fn is_empty(&self) -> bool
         ensures { IsTrue result ↔ (contents self.now ≡ []) }
     {
         self.len == 0
     }
 
-    /// Writes an integer of at least 0.
+    /// Writes an unsigned integer.
     pub fn uint(&mut self, value: u64)
         requires { head_len value ≤ space_of self.old }
         ensures appends { Appends self.old self.new (head 0 value) (head_len value) }
@@ -77,7 +76,7 @@ impl<'a> Sink<'a> {
         self.extend(value);
     }
 
-    /// Writes a text.
+    /// Writes a text string.
     pub fn text(&mut self, value: &str)
         requires { scalar_len (Text value.now) ≤ space_of self.old }
         ensures appends { Appends self.old self.new (scalar_text (Text value.now)) (scalar_len (Text value.now)) }
@@ -87,7 +86,7 @@ impl<'a> Sink<'a> {
         self.extend(value.as_bytes());
     }
 
-    /// Writes the head of an array of so many items.
+    /// Writes the head of an array of `count` items.
     pub fn array(&mut self, count: u64)
         requires { head_len count ≤ space_of self.old }
         ensures appends { Appends self.old self.new (head 4 count) (head_len count) }
@@ -96,7 +95,7 @@ impl<'a> Sink<'a> {
         self.head(4, count);
     }
 
-    /// Writes the head of a map of so many pairs.
+    /// Writes the head of a map of `count` pairs.
     pub fn map(&mut self, count: u64)
         requires { head_len count ≤ space_of self.old }
         ensures appends { Appends self.old self.new (head 5 count) (head_len count) }
@@ -147,8 +146,8 @@ impl<'a> Sink<'a> {
     }
 }
 
-/// Writes the shortest head of a major type with an argument to the front of a buffer that holds any head, and returns
-/// its length.
+/// Writes the shortest head of a major type with an argument to the beginning of a buffer, and returns its length. The
+/// buffer must be large enough for any head.
 #[tactic(auto, unfolding(crate::specs::Head::head))]
 pub fn head_into(major: u8, argument: u64, out: &mut [u8]) -> usize
     requires low { major < 8 }

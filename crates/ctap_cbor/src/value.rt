@@ -1,17 +1,17 @@
-//! Data items as owned trees, for tools and tests that want one.
+//! Data items as owned trees, for tools and tests.
 
 ghost use Rattle.std.specs.Prelude.{◌≡◌, map, string_bytes};
 
-/// A data item with all that is inside it.
+/// A data item with its content.
 ///
-/// Any tree can be made; [`encode_value`](crate::encode_value) refuses those that have no canonical encoding.
+/// Any tree can be built; [`encode_value`](crate::encode_value) rejects those without a canonical encoding.
 #[derive(Debug, PartialEq, Drop)]
 pub enum Value {
     Int(i128),
     Bytes(Vec<u8>),
     Text(String),
     Array(Vec<Value>),
-    /// The pairs in the order in which they are written.
+    /// The pairs, in the order of encoding.
     Map(Vec<(Value, Value)>),
     Bool(bool),
     Null,
@@ -20,7 +20,7 @@ pub enum Value {
 ghost use Rattle.ctap_cbor.specs.Tree as tree;
 ghost use Rattle.ctap_cbor.specs.Values.{tree_of, trees_of, pairs_of};
 
-// One function for each variant: in a larger body a contract doesn't see through a constructor.
+// One function for each variant: in a larger function, contracts don't see through a constructor.
 
 pub(crate) fn int_of(i: i128) -> Value
     ensures { tree_of result ≡ tree.Plain (tree.Int i) }

@@ -4,8 +4,8 @@ use Rattle.std.proofs.Common.{subst, ◌∙◌, inl, inr}
 use Rattle.std.specs.Prelude.{◌⊎◌, min}
 use Rattle.ctap_cbor.specs.{declared.fault.Fault.Fault, Tree.Tree, Outcome.result_of}
 use Rattle.ctap_cbor.specs.Telling.{canonical_tree, check_steps, outcome_of}
-use Rattle.ctap_cbor.specs.Laws.{TellsTree, TellsNone, WholeReadings}
-use Rattle.ctap_cbor.specs.Reading.{Reading, at_front, PassesOne, Halts, Ends, GoesOn}
+use Rattle.ctap_cbor.specs.Laws.{ReadsTree, ReadsNoTree, WholeReadings}
+use Rattle.ctap_cbor.specs.Reading.{Reading, at_front, PassesOne, Fails, Ends, GoesOn}
 use Rattle.ctap_message.specs.{Requests.reading_steps, Requests.LARGEST, Walks.Reads}
 
 abbrev steps_at : Reading → ℕ
@@ -16,7 +16,7 @@ bytes_at r = r.bytes
 
 -- where a walk over all bytes stops
 abbrev pub Stops : Reading → Reading → Fault → Type 0
-Stops old new f = Halts 4 old new f.at f.kind ⊎ ((middle : Reading) × PassesOne 4 old middle
+Stops old new f = Fails 4 old new f.at f.kind ⊎ ((middle : Reading) × PassesOne 4 old middle
     × GoesOn middle new f.at f.kind)
 
 -- where it passes them
@@ -24,7 +24,7 @@ abbrev pub Ended : Reading → Reading → Type 0
 Ended old new = (middle : Reading) × PassesOne 4 old middle × Ends middle new
 
 stops : (b : List ℕ) (s : ℕ) (new : Reading) (f : Fault) → WholeReadings b → Stops (at_front b s) new f →
-    TellsNone b s new f.at f.kind
+    ReadsNoTree b s new f.at f.kind
 stops b s new f w (inl h) = w.stopped s new f.at f.kind h
 stops b s new f w (inr h) = w.longer h.1.0 s h.0 new f.at f.kind h.1.1 h.2
 
@@ -39,7 +39,7 @@ pub record Refused (b : List ℕ) (new : Reading) (f : Fault) : Type 0 where
 pub refused : (b : List ℕ) (old new : Reading) (f : Fault) → WholeReadings b → old ≡ at_front b 0 → Stops old new f →
     Refused b new f
 refused b old new f w start h =
-    let t : TellsNone b 0 new f.at f.kind = stops b 0 new f w (subst (λ x. Stops x new f) start h) in
+    let t : ReadsNoTree b 0 new f.at f.kind = stops b 0 new f w (subst (λ x. Stops x new f) start h) in
     record {
       none = t.none;
       fault_is = t.fault_is;
@@ -56,7 +56,7 @@ pub record Accepted (b : List ℕ) (new : Reading) : Type 0 where
 pub accepted : (b : List ℕ) (old new : Reading) → WholeReadings b → old ≡ at_front b 0 → Ended old new → Accepted b new
 accepted b old new w start h =
     let k = subst (λ x. Ended x new) start h in
-    let t : TellsTree b 0 k.1.0 new = w.passed k.1.0 0 k.0 new k.1.1 k.2 in
+    let t : ReadsTree b 0 k.1.0 new = w.passed k.1.0 0 k.0 new k.1.1 k.2 in
     record {
       tree = k.1.0;
       tree_is = t.tree_is;
@@ -89,7 +89,7 @@ pub told : {V : Type 0} (f : Tree → V) (b : List ℕ) (m : V) (first start mid
     Told f b m new.steps
 told f b m first start middle new w a from h e =
     let k = subst (λ x. Reads f 4 m x middle) from h in
-    let t : TellsTree b first.steps k.0 new = w.passed k.0 first.steps middle new k.1 e in
+    let t : ReadsTree b first.steps k.0 new = w.passed k.0 first.steps middle new k.1 e in
     record {
       tree = k.0;
       tree_is = t.tree_is;

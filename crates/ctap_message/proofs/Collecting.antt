@@ -4,7 +4,7 @@ use Rattle.std.specs.Prelude.{unwrap_or, Result, Ok, Err, MatchResult}
 use Rattle.ctap_cbor.specs.Tree.{Scalar, Tree, Plain, Array, Map, Trees, no_trees, Pairs, no_pairs, push, push_pair}
 use Rattle.ctap_cbor.specs.{Parts.Part, Parts.One, Views.head_of}
 use Rattle.ctap_cbor.specs.{declared.fault.Fault.Fault, Reading.Reading, Reading.Passes, Reading.PassesAs}
-use Rattle.ctap_cbor.specs.Reading.{part_of_tree, Halts}
+use Rattle.ctap_cbor.specs.Reading.{part_of_tree, Fails}
 use Rattle.ctap_cbor.specs.Collecting.{Adds, AddsEntry, ReadsArray}
 use Rattle.ctap_message.specs.Members.{MemberKey, pairs_of, entries_of, suits, all_pairs, all_entries, map_of, array_of}
 use Rattle.ctap_message.specs.Walks.{Reads, ReadsMembers, HasPairs, HasEntries}
@@ -77,9 +77,9 @@ array_read {V = V} shown type view levels r b x y a c e h start = grind arith
 pub maps_read : {M V : Type 0} (shown : M → V) (types : List (MemberKey × (Tree → Bool))) (view : Option Tree →
     V) (levels : ℕ) (r : Result Bool Fault) (x y : M) (a c : Reading)
     → MatchResult r (λ taken. ReadsMembers (λ m ok ps. HasPairs types view (shown m) ok ps) levels taken x y a c)
-    (λ f. Halts levels a c f.at f.kind) → shown x ≡ view (Some (Map no_pairs))
+    (λ f. Fails levels a c f.at f.kind) → shown x ≡ view (Some (Map no_pairs))
     → MatchResult r (λ taken. Reads {V = Bool × V} (λ t. (map_of types t, view (Some (Map (pairs_of (Some t)))))) levels
-    (taken, shown y) a c) (λ f. Halts levels a c f.at f.kind)
+    (taken, shown y) a c) (λ f. Fails levels a c f.at f.kind)
 maps_read shown types view levels (Ok taken) x y a c h start = map_read shown types view levels taken x y a c h start
 maps_read shown types view levels (Err f) x y a c h start = h
 
@@ -89,9 +89,9 @@ pub adds_read : {M V W : Type 0} (shown : M → V) (types : List (MemberKey × (
     (x y : M) (a c : Reading) (r : Result Bool Fault) → Grows view next → key ≡ One j
     → ((v : Tree) → (told v).0 ≡ suits types (Plain j) v)
     → ((v : Tree) → value ≡ (told v).1 → shown y ≡ next (Plain j) v (shown x))
-    → MatchResult r (λ taken. Reads told levels (taken, value) a c) (λ f. Halts levels a c f.at f.kind)
+    → MatchResult r (λ taken. Reads told levels (taken, value) a c) (λ f. Fails levels a c f.at f.kind)
     → MatchResult r (λ taken. Adds (λ m ok ps. HasPairs types view (shown m) ok ps) levels key taken x y a c)
-    (λ f. Halts levels a c f.at f.kind)
+    (λ f. Fails levels a c f.at f.kind)
 adds_read shown types view next told value levels key j x y a c (Ok taken) grows is suit put h =
     adds_tree shown types view next levels key j taken x y a c grows is
     (h.0, h.1, ap (λ p. p.0) h.2 ∙ suit h.0, put h.0 (ap (λ p. p.1) h.2))

@@ -4,15 +4,15 @@ use Rattle.std.{proofs.Common.◌∙◌, specs.Option.option_and_then}
 use Rattle.std.specs.Prelude.{ℤ, MatchResult, is_some, unwrap_or, ◌&&◌, ◌||◌, codes}
 use Rattle.ctap_cbor.specs.{declared.fault.Fault.Fault, Views.head_of, Parts.Part, Parts.One}
 use Rattle.ctap_cbor.specs.Tree.{Text, Tree, Array, Map, Trees, no_trees, no_pairs, push, as_bytes, as_text}
-use Rattle.ctap_cbor.specs.{Tree.as_int, Tree.as_uint, Tree.as_flag, Reading.Reading, Reading.Halts, Reading.PassesAs}
+use Rattle.ctap_cbor.specs.{Tree.as_int, Tree.as_uint, Tree.as_flag, Reading.Reading, Reading.Fails, Reading.PassesAs}
 use Rattle.ctap_cbor.specs.Collecting.{Adds, AddsEntry, InArray, ReadsArray}
 use Rattle.ctap_message.specs.declared.descriptor.Descriptor.{Descriptor as DescriptorFields}
-use Rattle.ctap_message.specs.declared.make.Make.{Make}
+use Rattle.ctap_message.specs.declared.make_credential.Make.{Make}
 use Rattle.ctap_message.specs.declared.options.Options.{Options as OptionsFields}
 use Rattle.ctap_message.specs.declared.parameters.Parameter.{Parameter as ParameterFields}
 use Rattle.ctap_message.specs.declared.rp.Rp.{Rp as RpFields}
 use Rattle.ctap_message.specs.declared.user.User.{User as UserFields}
-use Rattle.ctap_message.specs.{declared.assert.Assert.Assert, GetAssertion.assertion_types}
+use Rattle.ctap_message.specs.{declared.get_assertion.Assert.Assert, GetAssertion.assertion_types}
 use Rattle.ctap_message.specs.Members.{Number, Name, is_key, suits, value_at, all_entries, some_entry, entries_of}
 use Rattle.ctap_message.specs.Members.{map_of, array_of, is_text}
 use Rattle.ctap_message.specs.MakeCredential.{rp_types, user_types, make_types}
@@ -151,10 +151,10 @@ descriptor_start = refl
 
 pub transports_arm : (levels : ℕ) (key : Part) (x : DescriptorFields) (a c : Reading) (r : Result Bool Fault) →
     key ≡ One (Text (codes "transports"))
-    → MatchResult r (λ is. Reads (array_of is_text) levels is a c) (λ f. Halts levels a c f.at f.kind)
+    → MatchResult r (λ is. Reads (array_of is_text) levels is a c) (λ f. Fails levels a c f.at f.kind)
     → MatchResult r (λ taken. Adds (λ m ok ps. HasPairs descriptor_types descriptor_in (shown_descriptor m) ok ps)
     levels
-    key taken x x a c) (λ f. Halts levels a c f.at f.kind)
+    key taken x x a c) (λ f. Fails levels a c f.at f.kind)
 transports_arm levels key x a c (Ok is) e h =
     adds_tree shown_descriptor descriptor_types descriptor_in descriptor_next levels key (Text (codes "transports")) is
     x

@@ -1,9 +1,9 @@
 pub mod Bounds
 pub mod Canonical
 pub mod Messages
-pub mod Rows
-pub mod CheckedRows
-pub mod FaultRows
+pub mod Examples
+pub mod CheckedExamples
+pub mod FaultExamples
 pub mod Pushes
 pub mod Collecting
 pub mod Growing

@@ -5,7 +5,7 @@ use Rattle.ctap_cbor.specs.Tree.{Tree, Array, Trees, no_trees, tree, push}
 use Rattle.ctap_cbor.specs.Reading.{Reading, Passes}
 use Rattle.ctap_message.specs.Members.{array_of, map_of, all_entries, has_entries, entries_of}
 use Rattle.ctap_message.specs.{Descriptors.descriptor_types, Walks.typed, Collected.listing_in, Collected.list_in}
-use Rattle.ctap_message.specs.Fields.{Descriptor, descriptor_in, is_whole_descriptor, DescriptorList}
+use Rattle.ctap_message.specs.Fields.{Descriptor, descriptor_in, is_complete_descriptor, DescriptorList}
 use Rattle.ctap_message.specs.DescriptorWalk.{DescriptorWalk, list_of, left_of, IsWhole, IsList}
 use Rattle.ctap_message.proofs.Pushes.{entries_push}
 
@@ -19,7 +19,7 @@ unfolding all_entries
 listing_start = refl
 
 pub listing_more : (old : Bool × Bool) (d : Bool × Descriptor) (w whole : Bool) (t : Tree) →
-    w ≡ is_whole_descriptor d.1 → whole ≡ (old.0 && w) → d ≡ typed (map_of descriptor_types) descriptor_in t
+    w ≡ is_complete_descriptor d.1 → whole ≡ (old.0 && w) → d ≡ typed (map_of descriptor_types) descriptor_in t
     → (ts : Trees) → old ≡ listing_in (Some (Array ts)) →
     ◌≡◌ {A = Bool × Bool} (whole, true) (listing_in (Some (Array (push ts t))))
 listing_more old d w whole t f g is ts eq = grind (arith, entries_push, given_push)

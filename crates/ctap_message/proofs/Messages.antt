@@ -63,7 +63,7 @@ abbrev pub make_and : List ℕ → List ℕ
 make_and member = 0x01 ∷ 0xa6 ∷ (hash_member ++ rp_member ++ user_member ++ parameters_member ++ options_member
     ++ member)
 
--- its beginning, of so many bytes
+-- its beginning, of this many bytes
 abbrev pub make_cut : ℕ → List ℕ
 make_cut n = take n make_message
 

@@ -5,18 +5,18 @@ use Rattle.std.specs.{Prelude.is_some, Prelude.if◌then◌else◌, Option.optio
 use Rattle.ctap_cbor.specs.declared.{fault.Kind.Kind, fault.Fault.Fault, item.Item.Item}
 use Rattle.ctap_cbor.specs.declared.item.Item.TheVariants as item
 use Rattle.ctap_cbor.specs.Tree.{Tree, Array, Trees, no_trees, tree, count}
-use Rattle.ctap_cbor.specs.{Head.AreBytes, Head.head, Faults.AnItem, Parse.parse, Views.part_of, Views.TakesOnly}
+use Rattle.ctap_cbor.specs.{Head.AreBytes, Head.head, Faults.AnItem, Parse.parse, Views.part_of, Views.ReadsItem}
 use Rattle.ctap_cbor.specs.{Grammar.text, Grammar.texts, Outcome.Whole, Outcome.later_keys}
 use Rattle.ctap_cbor.specs.Parts.{Part, OpensArray, Suits, read}
-use Rattle.ctap_cbor.specs.Laws.{OneTreePasses, NothingHalts, BytesTell, ItemsAreFound}
-use Rattle.ctap_cbor.specs.Reading.{Reading, at_front, rest_of, Halts, Passes, Takes}
+use Rattle.ctap_cbor.specs.Laws.{OneTreePasses, CanonicalIsAccepted, BytesDetermineTree, ItemsAreFound}
+use Rattle.ctap_cbor.specs.Reading.{Reading, at_front, rest_of, Fails, Passes, Takes}
 use Rattle.ctap_cbor.specs.Telling.{outcome_of, canonical_tree, whole_tree, items_at}
 use Rattle.ctap_message.specs.Members.{has_entries, entries_of, map_of}
 use Rattle.ctap_message.specs.{Descriptors.ids_of, Descriptors.descriptor_types, Walks.Reads, Walks.typed}
-use Rattle.ctap_message.specs.Fields.{Descriptor, descriptor_in, named_id}
+use Rattle.ctap_message.specs.Fields.{Descriptor, descriptor_in, id_of_public_key}
 use Rattle.std.specs.List.{cons_option}
 use Rattle.ctap_message.specs.DescriptorWalk.{DescriptorWalk, IsWhole, list_steps, entry_steps, after_first, Left}
-use Rattle.ctap_message.specs.DescriptorWalk.{Walks, Gives, IsList, IsWalk}
+use Rattle.ctap_message.specs.DescriptorWalk.{Walks, YieldsId, IsList, IsWalk}
 
 -- as many ids are left as there were
 abbrev pub Sofar : Reading → ℕ → Reading → ℕ → Type 0
@@ -25,8 +25,8 @@ Sofar r n s m = (ts : Trees) → Left r n ts → (us : Trees) × (more : ℕ) ×
 
 Onward : Reading → Reading → ℕ → Trees → Trees → Descriptor → Type 0
 Onward r s m ts us d =
-    (vs : Trees) × (more : ℕ) × Walks r s m ts vs more × (ids_of us ≡ cons_option (named_id d) (ids_of vs))
-    × (after_first us ≡ (if is_some (named_id d) then vs else after_first vs))
+    (vs : Trees) × (more : ℕ) × Walks r s m ts vs more × (ids_of us ≡ cons_option (id_of_public_key d) (ids_of vs))
+    × (after_first us ≡ (if is_some (id_of_public_key d) then vs else after_first vs))
 
 onward : OneTreePasses → (r s s' : Reading) (m : ℕ) (ts us : Trees) (more : ℕ) (d : Bool × Descriptor) →
     Walks r s m ts us more → 0 < m → Reads (typed (map_of descriptor_types) descriptor_in) 3 d s s' →
@@ -47,20 +47,20 @@ onward law r s s' m ts (tree u us) more d h lt k =
         cost = omega (arith, h.cost, length-append (text u) (texts us));
         steps = omega (arith, h.steps, ap (λ (r : Reading). r.steps) p.moved, len, later);
       },
-      ap (λ t. cons_option (named_id (descriptor_in (Some t))) (ids_of us)) (sym only.0)
-          ∙ ap (λ x. cons_option (named_id x.1) (ids_of us)) (sym k.2),
-      ap (λ t. if is_some (named_id (descriptor_in (Some t))) then us else after_first us) (sym only.0)
-          ∙ ap (λ x. if is_some (named_id x.1) then us else after_first us) (sym k.2),
+      ap (λ t. cons_option (id_of_public_key (descriptor_in (Some t))) (ids_of us)) (sym only.0)
+          ∙ ap (λ x. cons_option (id_of_public_key x.1) (ids_of us)) (sym k.2),
+      ap (λ t. if is_some (id_of_public_key (descriptor_in (Some t))) then us else after_first us) (sym only.0)
+          ∙ ap (λ x. if is_some (id_of_public_key x.1) then us else after_first us) (sym k.2),
     )
 
-pub entry_never : NothingHalts → (r s s' : Reading) (m : ℕ) (ts us : Trees) (more : ℕ) (at : ℕ) (kind : Kind) →
-    Walks r s m ts us more → 0 < m → Halts 3 s s' at kind → ⊥
+pub entry_never : CanonicalIsAccepted → (r s s' : Reading) (m : ℕ) (ts us : Trees) (more : ℕ) (at : ℕ) (kind : Kind) →
+    Walks r s m ts us more → 0 < m → Fails 3 s s' at kind → ⊥
 entry_never law r s s' m ts no_trees more at kind h lt k = omega (arith, h.left.number)
 entry_never law r s s' m ts (tree u us) more at kind h lt k = law 3 u (texts us) s s' at kind h.left.lawful.0
     (omega (arith, h.left.flat)) h.left.spelled k
 
 pub sofar_more : OneTreePasses → (r s s' : Reading) (n m : ℕ) (d : Bool × Descriptor) → Sofar r n s m → 0 < m →
-    Reads (typed (map_of descriptor_types) descriptor_in) 3 d s s' → named_id d.1 ≡ None → Sofar r n s' (m - 1)
+    Reads (typed (map_of descriptor_types) descriptor_in) 3 d s s' → id_of_public_key d.1 ≡ None → Sofar r n s' (m - 1)
 unfolding Onward
 sofar_more law r s s' n m d h lt k e = λ ts l.
     let g = h ts l in
@@ -68,8 +68,8 @@ sofar_more law r s s' n m d h lt k e = λ ts l.
     (o.0, o.1, o.2, g.3 ∙ o.3 ∙ ap (λ x. cons_option x (ids_of o.0)) e, g.4 ∙ o.4 ∙ ap (λ x. if is_some x then o.0 else after_first o.0) e)
 
 pub gives_some : OneTreePasses → (r s s' : Reading) (n m : ℕ) (d : Bool × Descriptor) (id : Option (List ℕ)) →
-    Sofar r n s m → 0 < m → Reads (typed (map_of descriptor_types) descriptor_in) 3 d s s' → id ≡ named_id d.1 →
-    is_some id ≡ true → Gives r n s' (m - 1) id
+    Sofar r n s m → 0 < m → Reads (typed (map_of descriptor_types) descriptor_in) 3 d s s' → id ≡ id_of_public_key d.1 →
+    is_some id ≡ true → YieldsId r n s' (m - 1) id
 unfolding Onward
 gives_some law r s s' n m d id h lt k e there = λ ts l.
     let g = h ts l in
@@ -86,7 +86,7 @@ empty : (us : Trees) → count us ≡ 0 → us ≡ no_trees
 empty no_trees e = refl
 empty (tree u us) e = absurd (omega arith)
 
-pub gives_none : (r s : Reading) (n m : ℕ) → Sofar r n s m → m ≡ 0 → Gives r n s m None
+pub gives_none : (r s : Reading) (n m : ℕ) → Sofar r n s m → m ≡ 0 → YieldsId r n s m None
 gives_none r s n m h e = search (rules, arith, empty)
 
 pub copied_some : (o : Option (Bor (List ℕ))) → is_some (option_copied o) ≡ is_some o
@@ -122,7 +122,7 @@ abbrev size_of : Part → ℕ
 size_of (OpensArray n) = n
 size_of _ = 0
 
-list_tree : BytesTell → (l : List ℕ) (ts : Trees) → AreBytes l → IsList l ts → canonical_tree l ≡ Some (Array ts)
+list_tree : BytesDetermineTree → (l : List ℕ) (ts : Trees) → AreBytes l → IsList l ts → canonical_tree l ≡ Some (Array ts)
 list_tree law l ts fits h =
     ap whole_tree (law.only l (Whole (Array ts)) fits
     (record { enc = record { lawful = h.lawful; spelled = h.spelled }; flat = omega (arith, h.flat) }))
@@ -132,8 +132,8 @@ list_costs no_trees e = absurd cc
 list_costs (tree t ts) e = omega (arith, length-append (head 4 (count (tree t ts))) (texts (tree t ts)))
 
 -- after its head a list's walk begins
-pub begins : BytesTell → ItemsAreFound → (l : List ℕ) (ts : Trees) (r s : Reading) (n : ℕ) → AreBytes l → IsList l ts →
-    r ≡ at_front l 0 → TakesOnly 4 r s (Ok (item.Array n)) → Takes 4 r s (OpensArray n)
+pub begins : BytesDetermineTree → ItemsAreFound → (l : List ℕ) (ts : Trees) (r s : Reading) (n : ℕ) → AreBytes l → IsList l ts →
+    r ≡ at_front l 0 → ReadsItem 4 r s (Ok (item.Array n)) → Takes 4 r s (OpensArray n)
     → IsWalk (walk_at s n) true × IsWhole (walk_at s n) ts
 begins tell found_law l ts r s n fits h e only t =
     let there = head_stands l ts r h e in
@@ -158,7 +158,7 @@ begins tell found_law l ts r s n fits h e only t =
     )
 
 pub no_fault : (l : List ℕ) (ts : Trees) (r s : Reading) (f : Fault) → IsList l ts → r ≡ at_front l 0 →
-    TakesOnly 4 r s (Err f) → ⊥
+    ReadsItem 4 r s (Err f) → ⊥
 no_fault l ts r s f h e only = let there = head_stands l ts r h e in
     only (OpensArray (count ts)) (texts ts) there.0 there.1
 
@@ -166,7 +166,7 @@ no_part : (i : Item) (n : ℕ) → ((n : ℕ) → i ≡ item.Array n → ⊥) �
 no_part i n other e = search (rules, arith)
 
 pub no_other : (l : List ℕ) (ts : Trees) (r s : Reading) (i : Item) → IsList l ts → r ≡ at_front l 0 →
-    TakesOnly 4 r s (Ok i) → ((n : ℕ) → i ≡ item.Array n → ⊥) → ⊥
+    ReadsItem 4 r s (Ok i) → ((n : ℕ) → i ≡ item.Array n → ⊥) → ⊥
 no_other l ts r s i h e only other =
     let there = head_stands l ts r h e in
     no_part i (count ts) other (only (OpensArray (count ts)) (texts ts) there.0 there.1).0

@@ -4,9 +4,9 @@ use Rattle.std.specs.Prelude.{◌&&◌, ◌==◌, nat_le, not, length, is_some, 
 use Rattle.ctap_cbor.specs.{Outcome.Outcome, Outcome.Whole, Outcome.Longer, Outcome.Stopped, Telling.whole_tree, Tree.Tree}
 use Rattle.ctap_message.specs.declared.fault.RequestFault.{RequestFault}
 use Rattle.ctap_message.specs.declared.fault.RequestFault.TheVariants as because
-use Rattle.ctap_message.specs.Asked.{Asked, MakeCredential, GetAssertion}
+use Rattle.ctap_message.specs.Asked.{RequestParameters, MakeCredential, GetAssertion}
 use Rattle.ctap_message.specs.Checks.{if_all_hold}
-use Rattle.ctap_message.specs.Judged.{MakeParameters, make_judged, AssertionParameters, assertion_judged}
+use Rattle.ctap_message.specs.Judged.{MakeParameters, validated_make, AssertionParameters, validated_assertion}
 use Rattle.ctap_message.specs.RequestFaults.{status_of, or_first, make_fault, assertion_fault, fault_of}
 
 abbrev pub refused_by : {A : Type 0} → Option RequestFault → A → Result A ℕ
@@ -62,16 +62,16 @@ assertion_tests asked h true true true true true true false _ = refl
 assertion_tests asked h true true true true true true true false = refl
 assertion_tests asked h true true true true true true true true = refl
 
-abbrev make_asked : MakeParameters → Asked
+abbrev make_asked : MakeParameters → RequestParameters
 make_asked m = MakeCredential (unwrap_or m.client_data_hash []) (unwrap_or m.rp_id []) (unwrap_or m.user.id [])
     (unwrap_or m.user.name []) (unwrap_or m.options.rk false) m.exclude_list.entries
 
-abbrev assertion_asked : AssertionParameters → Asked
+abbrev assertion_asked : AssertionParameters → RequestParameters
 assertion_asked a = GetAssertion (unwrap_or a.client_data_hash []) (unwrap_or a.rp_id []) a.allow_list.entries
     (unwrap_or a.options.up true)
 
 pub make_refused : (typed : Bool) (m : MakeParameters) (fault : RequestFault) → make_fault typed m ≡ Some fault →
-    make_judged true typed m ≡ Err (status_of fault)
+    validated_make true typed m ≡ Err (status_of fault)
 make_refused typed m fault is =
     make_tests (make_asked m)
     (length (unwrap_or m.client_data_hash [])) (length (unwrap_or m.user.id [])) typed (is_some m.client_data_hash)
@@ -81,7 +81,7 @@ make_refused typed m fault is =
     (unwrap_or m.options.up true) (is_none m.enterprise_attestation) ∙ ap (λ f. refused_by f (make_asked m)) is
 
 pub assertion_refused : (typed : Bool) (a : AssertionParameters) (fault : RequestFault) →
-    assertion_fault typed a ≡ Some fault → assertion_judged true typed a ≡ Err (status_of fault)
+    assertion_fault typed a ≡ Some fault → validated_assertion true typed a ≡ Err (status_of fault)
 assertion_refused typed a fault is =
     assertion_tests (assertion_asked a) (length (unwrap_or a.client_data_hash [])) typed (is_some a.rp_id)
     (is_some a.client_data_hash) a.allow_list.is_whole (length (unwrap_or a.client_data_hash []) == 32)

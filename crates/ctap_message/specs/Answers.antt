@@ -3,30 +3,34 @@ use Rattle.std.specs.Prelude.{ℕ, pos, negsuc, Bool, true, false, List, ◌∷�
 use Rattle.ctap_cbor.specs.Tree.{Int, Bytes, Text, Flag, Tree, Plain, Array, Map, no_trees, tree, no_pairs, pair, Pairs}
 use Rattle.ctap_cbor.specs.Grammar.{text}
 
--- a refusal is its status alone
+-- An error response: the status alone.
 abbrev pub refusal : ℕ → List ℕ
 refusal status = status ∷ []
 
--- status 0x00, and a map
+-- A success response: status 0x00 and a map.
 abbrev pub success : Tree → List ℕ
 success map = 0x00 ∷ text map
 
--- an integer of at least 0
+-- An unsigned integer.
 abbrev pub number : ℕ → Tree
 number n = Plain (Int (pos n))
 
+-- A text string.
 abbrev pub name : List ℕ → Tree
 name bytes = Plain (Text bytes)
 
+-- A byte string.
 abbrev pub byte_string : List ℕ → Tree
 byte_string bytes = Plain (Bytes bytes)
 
+-- A Boolean.
 abbrev pub flag : Bool → Tree
 flag is_set = Plain (Flag is_set)
 
 -- ---- authenticatorGetInfo
 
--- discoverable credentials, tests of presence, no platform's own authenticator
+-- The options of authenticatorGetInfo: discoverable credentials, user presence, not a platform authenticator (CTAP
+-- 2.1, section 6.4).
 abbrev pub options : Tree
 options =
     Map (pair (name (codes "rk")) (flag true)
@@ -39,7 +43,7 @@ es256 =
     Map (pair (name (codes "alg")) (Plain (Int (negsuc 6)))
     (pair (name (codes "type")) (name (codes "public-key")) no_pairs))
 
--- the map, its keys rising
+-- The map of the authenticatorGetInfo response, its keys in ascending order.
 unfoldable pub info_tree : List ℕ → Tree
 info_tree aaguid =
     Map (pair (number 0x01) (Array (tree (name (codes "FIDO_2_0")) no_trees))  -- versions
@@ -49,26 +53,26 @@ info_tree aaguid =
     (pair (number 0x09) (Array (tree (name (codes "usb")) no_trees))  -- transports
     (pair (number 0x0a) (Array (tree es256 no_trees)) no_pairs))))))  -- algorithms
 
--- the answer of authenticatorGetInfo (CTAP 2.1, section 6.4)
+-- The authenticatorGetInfo response (CTAP 2.1, section 6.4).
 unfoldable pub info_answer : List ℕ → List ℕ
 info_answer aaguid = success (info_tree aaguid)
 
 -- ---- authenticatorMakeCredential
 
--- packed self attestation (WebAuthn Level 2, section 8.2)
+-- The statement of packed self attestation (WebAuthn Level 2, section 8.2).
 abbrev pub statement : List ℕ → Tree
 statement sig =
     Map (pair (name (codes "alg")) (Plain (Int (negsuc 6)))
     (pair (name (codes "sig")) (byte_string sig) no_pairs))
 
--- the map: fmt, authData, attStmt
+-- The map of the authenticatorMakeCredential response: fmt, authData, attStmt.
 unfoldable pub created_tree : (auth sig : List ℕ) → Tree
 created_tree auth sig =
     Map (pair (number 0x01) (name (codes "packed"))
     (pair (number 0x02) (byte_string auth)
     (pair (number 0x03) (statement sig) no_pairs)))
 
--- the answer of authenticatorMakeCredential (CTAP 2.1, section 6.1.2)
+-- The authenticatorMakeCredential response (CTAP 2.1, section 6.1.2).
 unfoldable pub created_answer : (auth sig : List ℕ) → List ℕ
 created_answer auth sig = success (created_tree auth sig)
 
@@ -80,23 +84,23 @@ credential id =
     Map (pair (name (codes "id")) (byte_string id)
     (pair (name (codes "type")) (name (codes "public-key")) no_pairs))
 
--- the user's id alone, where it is given
+-- The user entity with only its ID, if given.
 abbrev pub with_user : Option (List ℕ) → Pairs → Pairs
 with_user None rest = rest
 with_user (Some id) rest = pair (number 0x04) (Map (pair (name (codes "id")) (byte_string id) no_pairs)) rest
 
--- numberOfCredentials, where it is given
+-- numberOfCredentials, if given.
 abbrev pub with_number : Option ℕ → Pairs
 with_number None = no_pairs
 with_number (Some n) = pair (number 0x05) (number n) no_pairs
 
--- the map: credential, authData, signature, user, numberOfCredentials
+-- The map of an assertion response: credential, authData, signature, user, numberOfCredentials.
 unfoldable pub assertion_tree : (id auth sig : List ℕ) → (user : Option (List ℕ)) → (credentials : Option ℕ) → Tree
 assertion_tree id auth sig user credentials =
     Map (pair (number 0x01) (credential id)
     (pair (number 0x02) (byte_string auth)
     (pair (number 0x03) (byte_string sig) (with_user user (with_number credentials)))))
 
--- the answer of an assertion (CTAP 2.1, sections 6.2.2 and 6.3)
+-- An assertion response (CTAP 2.1, sections 6.2.2 and 6.3).
 unfoldable pub assertion_answer : (id auth sig : List ℕ) → (user : Option (List ℕ)) → (credentials : Option ℕ) → List ℕ
 assertion_answer id auth sig user credentials = success (assertion_tree id auth sig user credentials)

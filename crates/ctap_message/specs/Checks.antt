@@ -1,7 +1,8 @@
--- Checks of a message: conditions, each with the status of a message that fails it; the first that fails decides.
+-- The checks of a message: a list of conditions, each with the status of the response if it fails. The first one that
+-- fails determines the status.
 use Rattle.std.specs.Prelude.{ℕ, Bool, List, [], ◌∷◌, Result, Ok, Err, if◌then◌else◌}
 
--- what is asked, or the first failing check's status
+-- The request if all checks pass, or else the status of the first check that fails.
 abbrev pub if_all_hold : {A : Type 0} → List (Bool × ℕ) → A → Result A ℕ
 if_all_hold [] asked = Ok asked
 if_all_hold (check ∷ checks) asked = if check.0 then if_all_hold checks asked else Err check.1

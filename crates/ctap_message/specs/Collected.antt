@@ -1,4 +1,5 @@
--- What is collected of the maps inside of a request: of one pair more, by its key and its value.
+-- The members of the maps inside a request as they are collected, one pair at a time: rp, user, options, credential
+-- parameters and descriptors.
 use Rattle.std.specs.Prelude.{◌≡◌, ℕ, Bool, false, List, Option, if◌then◌else◌}
 use Rattle.std.specs.Option.{option_copied}
 use Rattle.ctap_cbor.specs.Tree.{Tree, Trees, as_bytes, as_text, as_int, as_flag}
@@ -19,6 +20,7 @@ use Rattle.ctap_message.specs.DescriptorWalk.{list_of, left_of}
 abbrev pub shown_rp : Rp → Option (List ℕ)
 shown_rp x = option_copied x.id
 
+-- The fields of rp after one more member.
 abbrev pub rp_next : Tree → Tree → Option (List ℕ) → Option (List ℕ)
 rp_next k v id = if is_key (Name "id") k then as_text v else id
 
@@ -27,6 +29,7 @@ rp_next k v id = if is_key (Name "id") k then as_text v else id
 abbrev pub shown_user : UserFields → User
 shown_user x = record { id = option_copied x.id; name = option_copied x.name }
 
+-- The fields of user after one more member.
 abbrev pub user_next : Tree → Tree → User → User
 user_next k v x = record {
   id = if is_key (Name "id") k then as_bytes v else x.id;
@@ -38,6 +41,7 @@ user_next k v x = record {
 abbrev pub shown_options : OptionFields → Options
 shown_options x = record { rk = x.rk; up = x.up; uv = x.uv }
 
+-- The options after one more member.
 abbrev pub options_next : Tree → Tree → Options → Options
 options_next k v x =
     record {
@@ -51,6 +55,7 @@ options_next k v x =
 abbrev pub shown_parameter : ParameterFields → Parameter
 shown_parameter x = record { alg = x.alg; credential_type = option_copied x.kind }
 
+-- The fields of a credential parameter after one more member.
 abbrev pub parameter_next : Tree → Tree → Parameter → Parameter
 parameter_next k v x =
     record {
@@ -58,6 +63,7 @@ parameter_next k v x =
       credential_type = if is_key (Name "type") k then as_text v else x.credential_type;
     }
 
+-- Converts the code's summary of pubKeyCredParams to that of the definitions.
 abbrev pub shown_parameters : ParametersFields → Parameters
 shown_parameters x = record { is_whole = x.is_whole; has_es256 = x.has_es256 }
 
@@ -66,6 +72,7 @@ shown_parameters x = record { is_whole = x.is_whole; has_es256 = x.has_es256 }
 abbrev pub shown_descriptor : DescriptorFields → Descriptor
 shown_descriptor x = record { id = option_copied x.id; credential_type = option_copied x.kind }
 
+-- The fields of a descriptor after one more member.
 abbrev pub descriptor_next : Tree → Tree → Descriptor → Descriptor
 descriptor_next k v x =
     record {
@@ -73,20 +80,22 @@ descriptor_next k v x =
       credential_type = if is_key (Name "type") k then as_text v else x.credential_type;
     }
 
--- a key whose value isn't a list
+-- The key of a descriptor's member other than the list of transports.
 abbrev pub IsPlainName : Tree → Type 0
 IsPlainName k = is_key (Name "transports") k ≡ false
 
--- a list: whether each entry is whole, and whether there is one
+-- The summary of a list of descriptors: whether all its entries have an ID and a type, and whether it has an entry.
 abbrev pub listing_in : Option Tree → Bool × Bool
 listing_in t = ((descriptors_in t).is_whole, has_entries (entries_of t))
 
+-- Converts the code's value to this one.
 abbrev pub shown_listing : Listing → Bool × Bool
 shown_listing x = (x.is_whole, x.given)
 
--- what is said of a list, and its entries once more, which a walk over it has
+-- The summary of a list of descriptors, and its entries, over which an iterator runs.
 abbrev pub list_in : Option Tree → DescriptorList × Trees
 list_in t = (descriptors_in t, entries_of t)
 
+-- Converts the code's value to this one.
 abbrev pub shown_list : ListFields → DescriptorList × Trees
 shown_list x = (record { is_whole = x.is_whole; entries = left_of x.list }, list_of x.list)

@@ -1,15 +1,15 @@
--- What is collected of the parameters of a request, of one more by its key and its value; and beside it the entries
--- that the walk over its list has.
+-- The parameters of a request as they are collected from its map, one pair at a time, together with the entries of
+-- its list of descriptors.
 use Rattle.std.specs.Prelude.{◌≡◌, ℕ, pos, true, false, Option, Some, if◌then◌else◌}
 use Rattle.std.specs.Option.{option_copied}
 use Rattle.ctap_cbor.specs.Tree.{Int, Tree, Plain, Trees, as_bytes, as_text, as_uint}
-use Rattle.ctap_message.specs.declared.{make.Make.Make, assert.Assert.Assert}
+use Rattle.ctap_message.specs.declared.{make_credential.Make.Make, get_assertion.Assert.Assert}
 use Rattle.ctap_message.specs.Members.{Number, is_key, member, entries_of}
 use Rattle.ctap_message.specs.Fields.{parameters_in, descriptors_in, options_in, rp_in, user_in}
 use Rattle.ctap_message.specs.Judged.{MakeParameters, make_parameters, AssertionParameters, assertion_parameters}
 use Rattle.ctap_message.specs.Collected.{shown_rp, shown_user, shown_parameters, shown_options, shown_list}
 
--- the key of a parameter
+-- The key of a parameter.
 abbrev pub numbered : ℕ → Tree
 numbered n = Plain (Int (pos n))
 
@@ -34,6 +34,7 @@ shown_make m = (
   (shown_list m.exclude).1,
 )
 
+-- The parameters after one more member.
 abbrev pub make_next : Tree → Tree → MakeParameters × Trees → MakeParameters × Trees
 make_next k v m = (
   record {
@@ -50,7 +51,7 @@ make_next k v m = (
   if is_key (Number 0x05) k then entries_of (Some v) else m.1,
 )
 
--- a parameter that isn't rp, user, a list or the options
+-- The key of a parameter other than rp, user, a list or the options.
 pub record IsPlainMake (k : Tree) : Type 0 where
   pub rp : is_key (Number 0x02) k ≡ false
   pub user : is_key (Number 0x03) k ≡ false
@@ -58,7 +59,7 @@ pub record IsPlainMake (k : Tree) : Type 0 where
   pub exclude_list : is_key (Number 0x05) k ≡ false
   pub options : is_key (Number 0x07) k ≡ false
 
--- the key of no parameter
+-- An unknown key.
 pub record IsOtherMake (k : Tree) : Type 0 where
   pub others : IsPlainMake k
   pub hash : is_key (Number 0x01) k ≡ false
@@ -84,6 +85,7 @@ shown_assert a = (
   (shown_list a.allow).1,
 )
 
+-- The parameters after one more member.
 abbrev pub assert_next : Tree → Tree → AssertionParameters × Trees → AssertionParameters × Trees
 assert_next k v a = (
   record {
@@ -96,12 +98,12 @@ assert_next k v a = (
   if is_key (Number 0x03) k then entries_of (Some v) else a.1,
 )
 
--- a parameter that isn't a list or the options
+-- The key of a parameter other than a list or the options.
 pub record IsPlainAssert (k : Tree) : Type 0 where
   pub allow_list : is_key (Number 0x03) k ≡ false
   pub options : is_key (Number 0x05) k ≡ false
 
--- the key of no parameter
+-- An unknown key.
 pub record IsOtherAssert (k : Tree) : Type 0 where
   pub others : IsPlainAssert k
   pub rp_id : is_key (Number 0x01) k ≡ false

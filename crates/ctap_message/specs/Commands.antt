@@ -1,9 +1,9 @@
--- The commands as the code has them: which one a byte names. Requests.antt has what each asks.
+-- The supported commands, by their command byte. Requests.antt defines their requests.
 use Rattle.std.specs.Prelude.{ℕ, ◌==◌, Option, Some, None, if◌then◌else◌}
 use Rattle.ctap_message.specs.declared.command.Command.{Command}
 use Rattle.ctap_message.specs.declared.command.Command.TheVariants as served
 
--- the command that a byte names (CTAP 2.1, section 8.1, "Commands")
+-- The command with this byte (CTAP 2.1, section 8.1, "Commands").
 abbrev pub named_command : ℕ → Option Command
 named_command byte =
     if byte == 0x01 then Some served.MakeCredential

@@ -1,5 +1,5 @@
--- A walk over a list of descriptors, which is the one stated second look at a part of a message: what is left of the
--- list, and the walk's own steps.
+-- Iterating over a list of descriptors: the remaining entries, and the iterator's own count of steps. The iterator
+-- reads the bytes of the list again, after the request was parsed.
 use Rattle.std.specs.Prelude.{◌≡◌, ℕ, ◌+◌, ◌-◌, ◌≤◌, min, Bool, true, List, length, Option, Some, None, is_some}
 use Rattle.std.specs.{Prelude.if◌then◌else◌, Borrow.Bor, Iterator.YieldsFirstBy, List.cons_option}
 use Rattle.ctap_cbor.specs.Tree.{Array, Trees, no_trees, tree, depth_all, count}
@@ -7,83 +7,83 @@ use Rattle.ctap_cbor.specs.Grammar.{text, texts, IsLawful, AreLawful}
 use Rattle.ctap_cbor.specs.Outcome.{Whole, steps, later_in_all}
 use Rattle.ctap_cbor.specs.{Reading.Reading, Reading.rest_of, Reading.counted, Telling.canonical_tree, Telling.items_at}
 use Rattle.ctap_message.specs.Members.{entries_of, has_entries}
-use Rattle.ctap_message.specs.{Descriptors.ids_of, Fields.descriptor_in, Fields.named_id}
+use Rattle.ctap_message.specs.{Descriptors.ids_of, Fields.descriptor_in, Fields.id_of_public_key}
 
--- a cursor at the next entry, and how many entries are left
+-- An iterator over a list: a cursor at the next entry, and the number of entries left.
 pub record DescriptorWalk : Type 0 where
   pub cursor : Reading
   pub count : ℕ
 
--- the entries of the list
+-- The entries of the whole list.
 abbrev pub list_of : DescriptorWalk → Trees
 list_of w = entries_of (canonical_tree w.cursor.bytes)
 
--- those that are left
+-- The entries left.
 abbrev pub left_of : DescriptorWalk → Trees
 left_of w = items_at 3 w.count (rest_of w.cursor)
 
--- a walk over these that begins
+-- An iterator at the beginning of these entries.
 abbrev pub IsWhole : DescriptorWalk → Trees → Type 0
 IsWhole w ts = (list_of w ≡ ts) × (left_of w ≡ ts)
 
--- the steps of a whole walk: those of checking the list's bytes, except for finding their end; none where there is no
--- entry
+-- The steps of iterating over a whole list: as many as checking its bytes takes, less the one that finds the end of
+-- the input; 0 for an empty list.
 abbrev pub list_steps : Trees → ℕ
 list_steps no_trees = 0
 list_steps (tree t ts) = steps (text (Array (tree t ts))) (Whole (Array (tree t ts))) - 1
 
--- the steps of passing entries
+-- The steps of skipping entries.
 abbrev pub entry_steps : Trees → ℕ
 entry_steps ts = length (texts ts) + later_in_all ts
 
--- the steps so far; the count stops at 2^64-1
-abbrev pub walked : DescriptorWalk → ℕ
-walked w = min (list_steps (list_of w) - entry_steps (left_of w)) 18446744073709551615
+-- The number of steps so far, saturating at 2^64-1.
+abbrev pub walked_steps : DescriptorWalk → ℕ
+walked_steps w = min (list_steps (list_of w) - entry_steps (left_of w)) 18446744073709551615
 
--- the entries after the first one that names an id
+-- The entries after the first one of type `public-key`.
 abbrev pub after_first : Trees → Trees
 after_first no_trees = no_trees
-after_first (tree t ts) = if is_some (named_id (descriptor_in (Some t))) then ts else after_first ts
+after_first (tree t ts) = if is_some (id_of_public_key (descriptor_in (Some t))) then ts else after_first ts
 
--- what a call of `next` returns: the next id of an entry of type `public-key`, or nothing once no entry is left
+-- The result of `next`: the ID of the next entry of type `public-key`, or None after the last entry.
 pub record NextId (old : DescriptorWalk) (id : Option (Bor (List ℕ))) (new : DescriptorWalk) : Type 0 where
   pub first : YieldsFirstBy {A = Bor (List ℕ)} (λ x. x.now) (λ (w : DescriptorWalk). ids_of (left_of w)) old id new
   pub same : list_of new ≡ list_of old
   pub left : left_of new ≡ after_first (left_of old)
   pub ended : id ≡ None → left_of new ≡ no_trees
 
--- ---- the cursor after a walk
+-- ---- the cursor of an iterator
 
--- these entries are left, so many
+-- These are the `n` entries that the cursor has still to read.
 pub record Left (r : Reading) (n : ℕ) (ts : Trees) : Type 0 where
   pub spelled : rest_of r ≡ texts ts
   pub number : count ts ≡ n
   pub lawful : AreLawful ts
   pub flat : depth_all ts ≤ 3
 
--- from these entries to those, in so many steps more
+-- The cursor moved from the entries `ts` to the remaining entries `us`, in `more` steps.
 pub record Walks (r s : Reading) (n : ℕ) (ts us : Trees) (more : ℕ) : Type 0 where
   pub left : Left s n us
   pub same : s.bytes ≡ r.bytes
   pub cost : entry_steps ts ≡ more + entry_steps us
   pub steps : s.steps ≡ counted r.steps more
 
--- what looking for the next id returns
-abbrev pub Gives : Reading → ℕ → Reading → ℕ → Option (List ℕ) → Type 0
-Gives r n s m id =
+-- The result of searching for the next entry of type `public-key`: its ID, or None if no such entry is left.
+abbrev pub YieldsId : Reading → ℕ → Reading → ℕ → Option (List ℕ) → Type 0
+YieldsId r n s m id =
     (ts : Trees) → Left r n ts → (us : Trees) × (more : ℕ) × Walks r s m ts us more
     × (ids_of ts ≡ cons_option id (ids_of us)) × (id ≡ None → us ≡ no_trees) × (us ≡ after_first ts)
 
--- the bytes of a list with entries, as they are in a request
+-- The bytes are the encoding of this list of descriptors, which isn't empty.
 pub record IsList (l : List ℕ) (ts : Trees) : Type 0 where
   pub lawful : IsLawful (Array ts)
   pub flat : depth_all ts ≤ 3
   pub given : has_entries ts ≡ true
   pub spelled : l ≡ text (Array ts)
 
--- what holds of every walk
+-- The invariant of the iterator.
 pub record IsWalk (w : DescriptorWalk) (given : Bool) : Type 0 where
   pub stands : Left w.cursor w.count (left_of w)
   pub given_is : given ≡ has_entries (list_of w)
   pub within : entry_steps (left_of w) ≤ list_steps (list_of w)
-  pub steps_are : w.cursor.steps ≡ walked w
+  pub steps_are : w.cursor.steps ≡ walked_steps w

@@ -6,48 +6,48 @@ use Rattle.ctap_cbor.specs.Tree.{Tree, Trees, no_trees, tree, as_bytes, as_text,
 use Rattle.ctap_message.specs.Members.{MemberKey, Name, member_as, is_some_and, is_bytes, is_text, is_int, is_flag}
 use Rattle.ctap_message.specs.Members.{array_of}
 
--- the types of a descriptor's members
+-- The required types of the members of a descriptor.
 abbrev pub descriptor_types : List (MemberKey × (Tree → Bool))
 descriptor_types = (Name "id", is_bytes) ∷ (Name "type", is_text) ∷ (Name "transports", array_of is_text) ∷ []
 
--- the types of a credential parameter's members
+-- The types of a credential parameter.
 abbrev pub parameter_types : List (MemberKey × (Tree → Bool))
 parameter_types = (Name "alg", is_int) ∷ (Name "type", is_text) ∷ []
 
--- the types of the options
+-- The required types of the options, by name.
 abbrev pub option_types : List (MemberKey × (Tree → Bool))
 option_types = (Name "rk", is_flag) ∷ (Name "up", is_flag) ∷ (Name "uv", is_flag) ∷ []
 
--- the credential type that is known
+-- The credential type `public-key`.
 abbrev pub is_public_key : Option (List ℕ) → Bool
 is_public_key = is_some_and (λ s. bytes_eq s (codes "public-key"))
 
--- the type of a descriptor or a parameter
+-- The type of a descriptor or credential parameter.
 abbrev pub type_of : Tree → Option (List ℕ)
 type_of t = member_as as_text (Name "type") (Some t)
 
--- Id and type are there.
+-- The ID and the type are present.
 abbrev pub has_id_and_type : Tree → Bool
 has_id_and_type t = is_some (member_as as_bytes (Name "id") (Some t)) && is_some (type_of t)
 
--- the id, where the type is `public-key`
+-- The ID if the type is `public-key`.
 abbrev pub id_of : Tree → Option (List ℕ)
 id_of t = if is_public_key (type_of t) then member_as as_bytes (Name "id") (Some t) else None
 
--- the ids that a list names, in order
+-- The IDs in a list of descriptors, in order, without those of other types.
 abbrev pub ids_of : Trees → List (List ℕ)
 ids_of no_trees = []
 ids_of (tree t ts) = cons_option (id_of t) (ids_of ts)
 
--- Alg and type are there.
+-- The algorithm and the type are present.
 abbrev pub has_alg_and_type : Tree → Bool
 has_alg_and_type t = is_some (member_as as_int (Name "alg") (Some t)) && is_some (type_of t)
 
--- ES256 is -7.
+-- ES256 is algorithm -7.
 abbrev pub is_es256 : Option ℤ → Bool
 is_es256 (Some (negsuc n)) = n == 6
 is_es256 _ = false
 
--- a parameter that asks for ES256 keys
+-- A credential parameter for ES256 public keys.
 abbrev pub asks_es256 : Tree → Bool
 asks_es256 t = is_es256 (member_as as_int (Name "alg") (Some t)) && is_public_key (type_of t)

@@ -1,4 +1,5 @@
--- What the code keeps of descriptors, options, credential parameters, rp and the user, by the trees that they are.
+-- The members of descriptors, options, credential parameters, rp and user that the code stores, as functions of their
+-- CBOR items.
 use Rattle.std.specs.Prelude.{ℕ, ℤ, Bool, ◌&&◌, List, Option, Some, None, is_some, if◌then◌else◌}
 use Rattle.ctap_cbor.specs.Tree.{Tree, Trees, as_bytes, as_text, as_int, as_flag}
 use Rattle.ctap_message.specs.Members.{Name, member_as, all_entries, some_entry, entries_of}
@@ -13,22 +14,23 @@ pub record Descriptor : Type 0 where
 abbrev pub descriptor_in : Option Tree → Descriptor
 descriptor_in t = record { id = member_as as_bytes (Name "id") t; credential_type = member_as as_text (Name "type") t }
 
--- id and type are there
-abbrev pub is_whole_descriptor : Descriptor → Bool
-is_whole_descriptor d = is_some d.id && is_some d.credential_type
+-- The ID and the type are present.
+abbrev pub is_complete_descriptor : Descriptor → Bool
+is_complete_descriptor d = is_some d.id && is_some d.credential_type
 
--- the id that it names, where its type is `public-key`; one of another type names nothing
-abbrev pub named_id : Descriptor → Option (List ℕ)
-named_id d = if is_public_key d.credential_type then d.id else None
+-- The ID if the type is `public-key`.
+abbrev pub id_of_public_key : Descriptor → Option (List ℕ)
+id_of_public_key d = if is_public_key d.credential_type then d.id else None
 
--- What a list of descriptors says: whether each has id and type, and its entries. One that isn't there has none.
+-- The summary of a list of descriptors: whether each entry has an ID and a type, and the entries. A missing list has
+-- none.
 pub record DescriptorList : Type 0 where
   pub is_whole : Bool
   pub entries : Trees
 
 abbrev pub descriptors_in : Option Tree → DescriptorList
 descriptors_in t = record {
-  is_whole = all_entries (λ t. is_whole_descriptor (descriptor_in (Some t))) (entries_of t);
+  is_whole = all_entries (λ t. is_complete_descriptor (descriptor_in (Some t))) (entries_of t);
   entries = entries_of t;
 }
 
@@ -61,7 +63,8 @@ is_whole_parameter p = is_some p.alg && is_some p.credential_type
 abbrev pub names_es256 : Parameter → Bool
 names_es256 p = is_es256 p.alg && is_public_key p.credential_type
 
--- What pubKeyCredParams says: whether each entry has alg and type, and whether one names ES256 for public keys.
+-- The summary of pubKeyCredParams: whether each entry has an algorithm and a type, and whether one is ES256 for public
+-- keys.
 pub record Parameters : Type 0 where
   pub is_whole : Bool
   pub has_es256 : Bool
@@ -73,7 +76,7 @@ parameters_in t =
       has_es256 = some_entry (λ t. names_es256 (parameter_in (Some t))) (entries_of t);
     }
 
--- ---- rp, of which the id is kept, and the user
+-- ---- the ID of rp, and the members of user
 
 abbrev pub rp_in : Option Tree → Option (List ℕ)
 rp_in t = member_as as_text (Name "id") t

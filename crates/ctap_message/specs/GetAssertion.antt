@@ -1,15 +1,16 @@
 -- authenticatorGetAssertion (CTAP 2.1, sections 6.2 and 8.2): the types of its parameters, the checks of a request in
--- their order, and what it asks. The order, and that pinUvAuthParam is refused, are this project's choice.
+-- order, and the parsed request. The order of the checks and the rejection of pinUvAuthParam are choices of this
+-- project.
 use Prim.Native.String.{String}
 use Rattle.std.specs.Prelude.{ℕ, ◌==◌, Bool, true, false, not, ◌&&◌, List, [], ◌∷◌, length, Option, is_some, is_none}
 use Rattle.std.specs.Prelude.{unwrap_or, Result}
 use Rattle.ctap_cbor.specs.Tree.{Tree, is_map, as_bytes, as_text, as_flag}
 use Rattle.ctap_message.specs.Members.{MemberKey, Number, Name, member, member_as, entries_of, all_entries, is_some_and}
 use Rattle.ctap_message.specs.Members.{is_bytes, is_text, is_uint, array_of, map_of}
-use Rattle.ctap_message.specs.{Checks.if_all_hold, Asked.Asked, Asked.GetAssertion}
+use Rattle.ctap_message.specs.{Checks.if_all_hold, Asked.RequestParameters, Asked.GetAssertion}
 use Rattle.ctap_message.specs.Descriptors.{descriptor_types, option_types, has_id_and_type}
 
--- the types of the parameters
+-- The required types of the parameters.
 abbrev pub assertion_types : List (MemberKey × (Tree → Bool))
 assertion_types =
     (Number 0x01, is_text)  -- rpId
@@ -21,8 +22,8 @@ assertion_types =
     ∷ (Number 0x07, is_uint)  -- pinUvAuthProtocol
     ∷ []
 
--- what a tree asks, or the first failing check's status
-abbrev pub assertion_request : Option Tree → Result Asked ℕ
+-- The request of a parameter map, or the status of the first check that fails.
+abbrev pub assertion_request : Option Tree → Result RequestParameters ℕ
 assertion_request t =
     let rp_id = member_as as_text (Number 0x01) t in
     let hash = member_as as_bytes (Number 0x02) t in

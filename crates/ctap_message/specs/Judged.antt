@@ -1,13 +1,14 @@
--- What the code keeps of a request's parameters, and the same checks over it: of the tree that they are, these are the
--- checks of MakeCredential.antt and GetAssertion.antt.
+-- The parameters of a request as the code stores them, and the checks on them. For the parameters of a map these
+-- checks give the same result as those of MakeCredential.antt and GetAssertion.antt.
 use Rattle.std.specs.Prelude.{ℕ, ◌==◌, nat_le, Bool, true, false, not, ◌&&◌, List, [], ◌∷◌, length, Option, is_some}
 use Rattle.std.specs.Prelude.{is_none, unwrap_or, Result}
 use Rattle.ctap_cbor.specs.Tree.{Tree, as_bytes, as_text, as_uint}
 use Rattle.ctap_message.specs.Members.{Number, member, member_as}
-use Rattle.ctap_message.specs.{Checks.if_all_hold, Asked.Asked, Asked.MakeCredential, Asked.GetAssertion}
+use Rattle.ctap_message.specs.{Checks.if_all_hold, Asked.RequestParameters, Asked.MakeCredential, Asked.GetAssertion}
 use Rattle.ctap_message.specs.Fields.{DescriptorList, descriptors_in, Options, options_in, Parameters, parameters_in}
 use Rattle.ctap_message.specs.Fields.{rp_in, User, user_in}
 
+-- The parameters of authenticatorMakeCredential, before the checks.
 pub record MakeParameters : Type 0 where
   pub client_data_hash : Option (List ℕ)
   pub rp_id : Option (List ℕ)
@@ -19,6 +20,7 @@ pub record MakeParameters : Type 0 where
   pub pin_uv_auth_param : Option (List ℕ)
   pub enterprise_attestation : Option ℕ
 
+-- The parameters in a map.
 abbrev pub make_parameters : Option Tree → MakeParameters
 make_parameters t =
     record {
@@ -33,8 +35,9 @@ make_parameters t =
       enterprise_attestation = member_as as_uint (Number 0x0a) t;
     }
 
-abbrev pub make_judged : Bool → Bool → MakeParameters → Result Asked ℕ
-make_judged is_canonical is_typed m =
+-- The request, or the status of the first check that fails.
+abbrev pub validated_make : Bool → Bool → MakeParameters → Result RequestParameters ℕ
+validated_make is_canonical is_typed m =
     if_all_hold
     ((is_canonical, 0x12)
     ∷ (is_typed, 0x11)
@@ -52,6 +55,7 @@ make_judged is_canonical is_typed m =
     (MakeCredential (unwrap_or m.client_data_hash []) (unwrap_or m.rp_id []) (unwrap_or m.user.id [])
     (unwrap_or m.user.name []) (unwrap_or m.options.rk false) m.exclude_list.entries)
 
+-- The parameters of authenticatorGetAssertion, before the checks.
 pub record AssertionParameters : Type 0 where
   pub rp_id : Option (List ℕ)
   pub client_data_hash : Option (List ℕ)
@@ -59,6 +63,7 @@ pub record AssertionParameters : Type 0 where
   pub options : Options
   pub pin_uv_auth_param : Option (List ℕ)
 
+-- The parameters in a map.
 abbrev pub assertion_parameters : Option Tree → AssertionParameters
 assertion_parameters t =
     record {
@@ -69,8 +74,9 @@ assertion_parameters t =
       pin_uv_auth_param = member_as as_bytes (Number 0x06) t;
     }
 
-abbrev pub assertion_judged : Bool → Bool → AssertionParameters → Result Asked ℕ
-assertion_judged is_canonical is_typed a =
+-- The request, or the status of the first check that fails.
+abbrev pub validated_assertion : Bool → Bool → AssertionParameters → Result RequestParameters ℕ
+validated_assertion is_canonical is_typed a =
     if_all_hold
     ((is_canonical, 0x12)
     ∷ (is_typed, 0x11)

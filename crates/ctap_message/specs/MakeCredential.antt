@@ -1,24 +1,25 @@
--- authenticatorMakeCredential (CTAP 2.1, sections 6.1 and 8.2): the types of its parameters, the checks of a request in
--- their order, and what it asks. The order, and that pinUvAuthParam is refused, are this project's choice.
+-- authenticatorMakeCredential (CTAP 2.1, sections 6.1 and 8.2): the types of its parameters, the checks of a request
+-- in order, and the parsed request. The order of the checks and the rejection of pinUvAuthParam are choices of this
+-- project.
 use Prim.Native.String.{String}
 use Rattle.std.specs.Prelude.{ℕ, ◌==◌, nat_le, Bool, true, false, not, ◌&&◌, List, [], ◌∷◌, length, Option, is_some}
 use Rattle.std.specs.Prelude.{is_none, unwrap_or, Result}
 use Rattle.ctap_cbor.specs.Tree.{Tree, is_map, as_bytes, as_text, as_uint, as_flag}
 use Rattle.ctap_message.specs.Members.{MemberKey, Number, Name, member, member_as, entries_of, all_entries, some_entry}
 use Rattle.ctap_message.specs.Members.{is_some_and, is_bytes, is_text, is_uint, array_of, map_of}
-use Rattle.ctap_message.specs.{Checks.if_all_hold, Asked.Asked, Asked.MakeCredential}
+use Rattle.ctap_message.specs.{Checks.if_all_hold, Asked.RequestParameters, Asked.MakeCredential}
 use Rattle.ctap_message.specs.Descriptors.{descriptor_types, option_types, parameter_types, has_id_and_type}
 use Rattle.ctap_message.specs.Descriptors.{has_alg_and_type, asks_es256}
 
--- the types of rp's members
+-- The required types of the members of rp.
 abbrev pub rp_types : List (MemberKey × (Tree → Bool))
 rp_types = (Name "id", is_text) ∷ (Name "name", is_text) ∷ []
 
--- the types of user's members
+-- The required types of the members of user.
 abbrev pub user_types : List (MemberKey × (Tree → Bool))
 user_types = (Name "id", is_bytes) ∷ (Name "name", is_text) ∷ (Name "displayName", is_text) ∷ []
 
--- the types of the parameters
+-- The required types of the parameters.
 abbrev pub make_types : List (MemberKey × (Tree → Bool))
 make_types =
     (Number 0x01, is_bytes)  -- clientDataHash
@@ -33,8 +34,8 @@ make_types =
     ∷ (Number 0x0a, is_uint)  -- enterpriseAttestation
     ∷ []
 
--- what a tree asks, or the first failing check's status
-abbrev pub make_request : Option Tree → Result Asked ℕ
+-- The request of a parameter map, or the status of the first check that fails.
+abbrev pub make_request : Option Tree → Result RequestParameters ℕ
 make_request t =
     let hash = member_as as_bytes (Number 0x01) t in
     let rp_id = member_as as_text (Name "id") (member (Number 0x02) t) in

@@ -1,5 +1,5 @@
--- How a request's parameters are found in the tree of its bytes (CTAP 2.1, section 8): members of maps, entries of
--- arrays, and the types that they are to have.
+-- Finding the parameters of a request in its CBOR item (CTAP 2.1, section 8): members of maps, entries of arrays, and
+-- their required types.
 use Prim.Native.String.{String}
 use Rattle.std.specs.Prelude.{ℕ, pos, ◌==◌, Bool, true, false, ◌&&◌, ◌||◌, List, [], ◌∷◌, Option, Some, None, is_some}
 use Rattle.std.specs.{Prelude.if◌then◌else◌, Prelude.codes, Option.option_or, Option.option_and_then, Str.bytes_eq}
@@ -8,56 +8,56 @@ use Rattle.ctap_cbor.specs.Tree.{is_map, is_array, as_bytes, as_text, as_int, as
 
 -- ---- members and entries
 
--- the pairs of a map
+-- The pairs of a map.
 abbrev pub pairs_of : Option Tree → Pairs
 pairs_of (Some (Map ps)) = ps
 pairs_of _ = no_pairs
 
--- the entries of an array
+-- The entries of an array.
 abbrev pub entries_of : Option Tree → Trees
 entries_of (Some (Array ts)) = ts
 entries_of _ = no_trees
 
--- A key of a map: a number or a name.
+-- A map key: an unsigned integer or a text string.
 pub data MemberKey : Type 0 where
   Number : ℕ → MemberKey
   Name : String → MemberKey
 
--- whether a tree is this key
+-- The tree is this key.
 abbrev pub is_key : MemberKey → Tree → Bool
 is_key (Number n) (Plain (Int (pos m))) = m == n
 is_key (Name name) (Plain (Text s)) = bytes_eq s (codes name)
 is_key key _ = false
 
--- the last one; no canonical map has a key twice
+-- The value of a key, the last one. Canonical maps have no duplicate keys.
 unfoldable pub value_at : MemberKey → Pairs → Option Tree
 value_at key no_pairs = None
 value_at key (pair k v ps) = option_or (value_at key ps) (if is_key key k then Some v else None)
 
--- the value of a map's member
+-- The value of a map's member.
 abbrev pub member : MemberKey → Option Tree → Option Tree
 member key map = value_at key (pairs_of map)
 
--- the same as `kind` takes it
+-- The value of a map's member, converted by `kind`.
 abbrev pub member_as : {A : Type 0} → (Tree → Option A) → MemberKey → Option Tree → Option A
 member_as kind key map = option_and_then kind (member key map)
 
--- Each entry passes.
+-- Each entry passes the test.
 unfoldable pub all_entries : (Tree → Bool) → Trees → Bool
 all_entries test no_trees = true
 all_entries test (tree t ts) = test t && all_entries test ts
 
--- Some entry passes.
+-- Some entry passes the test.
 unfoldable pub some_entry : (Tree → Bool) → Trees → Bool
 some_entry test no_trees = false
 some_entry test (tree t ts) = test t || some_entry test ts
 
--- There is an entry.
+-- The list is not empty.
 abbrev pub has_entries : Trees → Bool
 has_entries no_trees = false
 has_entries (tree t ts) = true
 
--- There is a value, and it passes.
+-- There is a value, and it passes the test.
 abbrev pub is_some_and : {A : Type 0} → (A → Bool) → Option A → Bool
 is_some_and test None = false
 is_some_and test (Some x) = test x
@@ -79,20 +79,20 @@ is_uint t = is_some (as_uint t)
 abbrev pub is_flag : Tree → Bool
 is_flag t = is_some (as_flag t)
 
--- an array of entries of a type
+-- An array whose entries have this type.
 abbrev pub array_of : (Tree → Bool) → Tree → Bool
 array_of type t = is_array t && all_entries type (entries_of (Some t))
 
--- Each pair passes.
+-- Each pair passes the test.
 unfoldable pub all_pairs : (Tree → Tree → Bool) → Pairs → Bool
 all_pairs test no_pairs = true
 all_pairs test (pair k v ps) = test k v && all_pairs test ps
 
--- Under a key that isn't listed a value may be anything.
+-- The value has the type listed for its key. Values of unknown keys may have any type.
 abbrev pub suits : List (MemberKey × (Tree → Bool)) → Tree → Tree → Bool
 suits [] k v = true
 suits (t ∷ ts) k v = if is_key t.0 k then t.1 v else suits ts k v
 
--- a map whose members have the listed types
+-- A map whose members have the listed types.
 abbrev pub map_of : List (MemberKey × (Tree → Bool)) → Tree → Bool
 map_of types t = is_map t && all_pairs (suits types) (pairs_of (Some t))

@@ -1,5 +1,5 @@
--- Why a message isn't a request that is served: the first check that it fails, with what was compared (CTAP 2.1,
--- sections 6.1, 6.2 and 8).
+-- Why a message isn't a supported request: the first check that fails, with the values compared (CTAP 2.1, sections
+-- 6.1, 6.2 and 8).
 use Rattle.std.specs.Prelude.{ℕ, ◌==◌, ◌||◌, nat_le, Bool, true, false, not, List, [], ◌∷◌, length, Option, Some, None, is_some}
 use Rattle.std.specs.Prelude.{is_none, unwrap_or, Result, Ok, Err, if◌then◌else◌}
 use Rattle.ctap_cbor.specs.declared.fault.Kind.{Kind}
@@ -8,13 +8,13 @@ use Rattle.ctap_cbor.specs.Telling.{outcome_of, whole_tree}
 use Rattle.ctap_cbor.specs.Tree.{Tree}
 use Rattle.ctap_message.specs.declared.fault.RequestFault.{RequestFault}
 use Rattle.ctap_message.specs.declared.fault.RequestFault.TheVariants as because
-use Rattle.ctap_message.specs.Asked.{Asked}
+use Rattle.ctap_message.specs.Asked.{RequestParameters}
 use Rattle.ctap_message.specs.Members.{is_some_and, map_of}
 use Rattle.ctap_message.specs.MakeCredential.{make_types}
 use Rattle.ctap_message.specs.GetAssertion.{assertion_types}
 use Rattle.ctap_message.specs.Judged.{MakeParameters, make_parameters, AssertionParameters, assertion_parameters}
 
--- the status that is answered (section 8.2)
+-- The status code of the response (section 8.2).
 abbrev pub status_of : RequestFault → ℕ
 status_of because.Empty = 0x03  -- INVALID_LENGTH
 status_of (because.NoSuchCommand byte) = 0x01  -- INVALID_COMMAND
@@ -32,12 +32,12 @@ status_of because.UpOption = 0x2c  -- INVALID_OPTION
 status_of because.RkOption = 0x2b  -- UNSUPPORTED_OPTION
 status_of because.EnterpriseAttestation = 0x02  -- INVALID_PARAMETER
 
--- the first check that fails, or what is found behind them
+-- The first check that fails, or else the last argument.
 abbrev pub or_first : List (Bool × RequestFault) → Option RequestFault → Option RequestFault
 or_first [] other = other
 or_first (check ∷ checks) other = if check.0 then or_first checks other else Some check.1
 
--- the checks of authenticatorMakeCredential, in their order: those behind the first three required parameters
+-- The checks of authenticatorMakeCredential after those of the first three required parameters, in order.
 abbrev pub fault_of_make : MakeParameters → (hash user_id : List ℕ) → Option RequestFault
 fault_of_make m hash user_id =
     or_first
@@ -54,7 +54,7 @@ fault_of_make m hash user_id =
     ∷ [])
     None
 
--- .. and all of them
+-- All checks of authenticatorMakeCredential, in order.
 abbrev pub make_fault : Bool → MakeParameters → Option RequestFault
 make_fault is_typed m =
     or_first
@@ -65,7 +65,7 @@ make_fault is_typed m =
     ∷ [])
     (fault_of_make m (unwrap_or m.client_data_hash []) (unwrap_or m.user.id []))
 
--- the checks of authenticatorGetAssertion, in their order
+-- The checks of authenticatorGetAssertion, in order.
 abbrev pub assertion_fault : Bool → AssertionParameters → Option RequestFault
 assertion_fault is_typed a =
     let hash_len = length (unwrap_or a.client_data_hash []) in
@@ -81,25 +81,28 @@ assertion_fault is_typed a =
     ∷ [])
     None
 
--- of parameters: where and why they aren't canonical CBOR, or else the first check of their tree
+-- The error of parameters that aren't canonical CBOR, or else the first check that fails.
 abbrev pub fault_after : Option (ℕ × Kind) → Option RequestFault → Option RequestFault
 fault_after (Some f) checked = Some (because.NotCanonical (record { at = f.0; kind = f.1 }))
 fault_after None checked = checked
 
+-- The first check of authenticatorMakeCredential that fails.
 abbrev pub checked_make : Option Tree → Option RequestFault
 checked_make t = make_fault (is_some_and (map_of make_types) t) (make_parameters t)
 
+-- The first check of authenticatorGetAssertion that fails.
 abbrev pub checked_assertion : Option Tree → Option RequestFault
 checked_assertion t = assertion_fault (is_some_and (map_of assertion_types) t) (assertion_parameters t)
 
+-- The error of parameters, from the outcome of decoding them.
 abbrev pub fault_of : Outcome → (Option Tree → Option RequestFault) → Option RequestFault
 fault_of outcome checked = fault_after (result_of outcome) (checked (whole_tree outcome))
 
--- bytes behind a command without parameters (sections 6.3, 6.4, 6.6 and 6.9)
+-- The error of bytes after a command without parameters (sections 6.3, 6.4, 6.6 and 6.9).
 abbrev pub trailing : ℕ → Option RequestFault
 trailing count = if count == 0 then None else Some (because.Trailing count)
 
--- why a message isn't a request that is served
+-- The error of a message, if it isn't a supported request.
 unfoldable pub fault_in : List ℕ → Option RequestFault
 fault_in [] = Some because.Empty
 fault_in (byte ∷ parameters) =
@@ -108,7 +111,7 @@ fault_in (byte ∷ parameters) =
     else if (byte == 0x04) || ((byte == 0x07) || ((byte == 0x08) || (byte == 0x0b))) then trailing (length parameters)
     else Some (because.NoSuchCommand byte)
 
--- the status of a message that is refused
-abbrev pub refused_with : Result Asked ℕ → Option ℕ
+-- The status code of a rejected message.
+abbrev pub refused_with : Result RequestParameters ℕ → Option ℕ
 refused_with (Ok asked) = None
 refused_with (Err status) = Some status

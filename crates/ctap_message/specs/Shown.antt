@@ -1,51 +1,56 @@
--- What the code's requests ask, without where their parts lie in memory.
+-- The code's requests as values of the definitions, without their addresses in memory.
 use Rattle.std.specs.Prelude.{◌≡◌, ℕ, ◌≤◌, length, Option, Some, None, Result, Ok, Err}
 use Rattle.ctap_message.specs.declared.request.Request.{Request}
 use Rattle.ctap_message.specs.declared.request.Request.TheVariants as request
-use Rattle.ctap_message.specs.{declared.status.Status.Status, Asked.Asked}
+use Rattle.ctap_message.specs.{declared.status.Status.Status, Asked.RequestParameters}
 use Rattle.ctap_message.specs.Asked as asks
 use Rattle.ctap_message.specs.declared.fault.RequestFault.{RequestFault}
 use Rattle.ctap_message.specs.RequestFaults.{status_of}
 use Rattle.ctap_message.specs.DescriptorWalk.{list_of, left_of}
 
-abbrev pub asked : Request → Asked
-asked (request.Make m) =
+-- Converts a request of the code to one of the definitions.
+abbrev pub request_of : Request → RequestParameters
+request_of (request.Make m) =
     asks.MakeCredential m.hash.now m.rp_id.now m.user_id.now m.user_name.now m.discoverable (left_of m.exclude)
-asked (request.Assert a) = asks.GetAssertion a.hash.now a.rp_id.now (left_of a.allow) a.presence
-asked request.Info = asks.GetInfo
-asked request.Reset = asks.Reset
-asked request.Next = asks.GetNextAssertion
-asked request.Select = asks.Selection
+request_of (request.Assert a) = asks.GetAssertion a.hash.now a.rp_id.now (left_of a.allow) a.presence
+request_of request.Info = asks.GetInfo
+request_of request.Reset = asks.Reset
+request_of request.Next = asks.GetNextAssertion
+request_of request.Select = asks.Selection
 
-abbrev pub shown : Result Request Status → Result Asked ℕ
-shown (Ok request) = Ok (asked request)
-shown (Err status) = Err status.0
+-- Converts a result of the code, a request or a status, to one of the definitions.
+abbrev pub request_result : Result Request Status → Result RequestParameters ℕ
+request_result (Ok request) = Ok (request_of request)
+request_result (Err status) = Err status.0
 
--- the same, with why a message is refused
-abbrev pub examined : Result Request RequestFault → Result Asked ℕ
-examined (Ok request) = Ok (asked request)
-examined (Err fault) = Err (status_of fault)
+-- Converts a result of the code, a request or an error, to one of the definitions, with the error's status.
+abbrev pub examined_result : Result Request RequestFault → Result RequestParameters ℕ
+examined_result (Ok request) = Ok (request_of request)
+examined_result (Err fault) = Err (status_of fault)
 
+-- The error, if any.
 abbrev pub fault_at : Result Request RequestFault → Option RequestFault
 fault_at (Ok request) = None
 fault_at (Err fault) = Some fault
 
--- the walk over a request's list has all of it before it
+-- The iterator over the request's list is at its beginning.
 abbrev pub HasFreshList : Request → Type 0
 HasFreshList (request.Make m) = list_of m.exclude ≡ left_of m.exclude
 HasFreshList (request.Assert a) = list_of a.allow ≡ left_of a.allow
 HasFreshList _ = Unit {0}
 
+-- The same for a result.
 abbrev pub IsFresh : {E : Type 0} → Result Request E → Type 0
 IsFresh (Ok request) = HasFreshList request
 IsFresh (Err refused) = Unit {0}
 
--- the lengths that the checks ask for
+-- The parameters have the lengths that the checks require.
 abbrev pub HasTheLengths : Request → Type 0
 HasTheLengths (request.Make m) = (length m.hash.now ≡ 32) × (length m.user_id.now ≤ 64)
 HasTheLengths (request.Assert a) = length a.hash.now ≡ 32
 HasTheLengths _ = Unit {0}
 
+-- The same for a result.
 abbrev pub HasLengths : {E : Type 0} → Result Request E → Type 0
 HasLengths (Ok request) = HasTheLengths request
 HasLengths (Err refused) = Unit {0}

@@ -1,6 +1,6 @@
-//! Answers: a status alone, or status 0x00 and a map in canonical CBOR (CTAP 2.1, section 8, "Message Encoding").
+//! Responses: a status alone, or status 0x00 and a map in canonical CBOR (CTAP 2.1, section 8, "Message Encoding").
 //!
-//! What is the same in every answer of a command is a literal, up to what is written next.
+//! The constant bytes of a command's response are literals, up to the next variable part.
 
 ghost use Rattle.std.specs.Prelude.{◌≡◌, ◌+◌, ◌<◌, ◌≤◌, ◌++◌, ◌∷◌, [], length};
 ghost use Rattle.std.specs.Option.{ForSome, option_copied};
@@ -13,10 +13,10 @@ use crate::status::Status;
 use arrayvec::ArrayVec;
 use ctap_cbor::head_into;
 
-/// An answer's message: a status byte, and at success a map after it.
+/// A response: a status byte, and for success usually a map.
 pub type Answer = ArrayVec<u8, 262>;
 
-/// Writes the answer that is a status alone.
+/// Writes a response with only a status.
 pub fn write_status(status: Status, answer: &mut Answer)
     ensures { answer.new.items ≡ spec.refusal status.0 }
 {
@@ -24,10 +24,10 @@ pub fn write_status(status: Status, answer: &mut Answer)
     answer.push(status.0);
 }
 
-/// Writes the answer of authenticatorGetInfo (CTAP 2.1, section 6.4), 81 bytes: status 0x00 and the map `{1:
+/// Writes the response of authenticatorGetInfo (CTAP 2.1, section 6.4), 81 bytes: status 0x00 and the map `{1:
 /// ["FIDO_2_0"], 3: aaguid, 4: {"rk": true, "up": true, "plat": false}, 5: 7609, 9: ["usb"], 10: [{"alg": -7, "type":
 /// "public-key"}]}` in canonical CBOR.
-// It isn't inlined, so that no other turn pays for the space of this answer.
+// Not inlined, so that other turns don't pay for its stack.
 #[inline(never)]
 #[tactic(auto, unfolding(ctap_cbor::specs::Head::head, crate::specs::Answers::info_tree, crate::specs::Answers::info_answer))]
 pub fn write_info(aaguid: &[u8; 16], answer: &mut Answer)
@@ -46,8 +46,8 @@ pub fn write_info(aaguid: &[u8; 16], answer: &mut Answer)
         .unwrap();
 }
 
-/// Writes the answer of authenticatorMakeCredential (CTAP 2.1, section 6.1.2): status 0x00 and the map `{1: "packed",
-/// 2: auth, 3: {"alg": -7, "sig": sig}}` in canonical CBOR, by the authenticator data and the signature.
+/// Writes the response of authenticatorMakeCredential (CTAP 2.1, section 6.1.2): status 0x00 and the map `{1: "packed",
+/// 2: auth, 3: {"alg": -7, "sig": sig}}` in canonical CBOR.
 pub fn write_created(auth: &[u8], sig: &[u8], answer: &mut Answer)
     requires auth { length auth.now ≡ 164 }
     requires sig { length sig.now ≤ 72 }
@@ -64,9 +64,8 @@ pub fn write_created(auth: &[u8], sig: &[u8], answer: &mut Answer)
     put_bytes(answer, sig);
 }
 
-/// Writes the answer of an assertion (CTAP 2.1, sections 6.2.2 and 6.3): status 0x00 and the map `{1: {"id": id,
-/// "type": "public-key"}, 2: auth, 3: sig, 4: {"id": user}, 5: number}` in canonical CBOR, 4 and 5 where they are
-/// given.
+/// Writes the response of an assertion (CTAP 2.1, sections 6.2.2 and 6.3): status 0x00 and the map `{1: {"id": id,
+/// "type": "public-key"}, 2: auth, 3: sig, 4: {"id": user}, 5: number}` in canonical CBOR, 4 and 5 if given.
 pub fn write_assertion(
     id: &[u8; 32],
     auth: &[u8],
@@ -97,7 +96,7 @@ pub fn write_assertion(
     put_number(answer, number);
 }
 
-/// Returns the head of the map, by how many members it has.
+/// Returns the head of the map, by its number of members.
 #[tactic(auto, unfolding(ctap_cbor::specs::Head::head))]
 fn map_head(user: Option<&[u8]>, number: Option<u16>) -> u8
     ensures { head 5 (count_pairs (spec.with_user (option_copied user.entry) (spec.with_number number)) + 1 + 1 + 1)
@@ -110,7 +109,7 @@ fn map_head(user: Option<&[u8]>, number: Option<u16>) -> u8
     }
 }
 
-/// Writes the user, where it is given.
+/// Writes the user, if given.
 fn put_user(answer: &mut Answer, user: Option<&[u8]>)
     requires capacity { length answer.old.items ≤ 191 }
     requires user { ForSome user (λ u. length u.now ≤ 64) }
@@ -124,7 +123,7 @@ fn put_user(answer: &mut Answer, user: Option<&[u8]>)
     }
 }
 
-/// Writes the number of credentials, where it is given.
+/// Writes the number of credentials, if given.
 fn put_number(answer: &mut Answer, number: Option<u16>)
     requires { length answer.old.items ≤ 258 }
     ensures { answer.new.items ≡ answer.old.items ++ pair_texts (spec.with_number number) }

@@ -1,9 +1,9 @@
-//! The commands that are served.
+//! The supported commands.
 
 ghost use Rattle.std.specs.Prelude.{◌≡◌};
 ghost use Rattle.ctap_message.specs.Commands.{named_command};
 
-/// A command that is served, by the first byte of its message (CTAP 2.1, section 8.1, "Commands").
+/// A supported command, the first byte of its message (CTAP 2.1, section 8.1, "Commands").
 #[derive(Clone, Copy, Debug, PartialEq, Eq)]
 pub enum Command {
     /// 0x01, authenticatorMakeCredential.
@@ -21,7 +21,7 @@ pub enum Command {
 }
 
 impl Command {
-    /// Returns the command with this byte, None where none is served.
+    /// Returns the command with this byte, or `None` if it isn't supported.
     pub fn named(byte: u8) -> Option<Command>
         ensures { result ≡ named_command byte }
     {

@@ -2,19 +2,19 @@
 
 ghost use Rattle.std.specs.Prelude.{◌≡◌, ◌-◌, ◌≤◌, MatchResult};
 ghost use Rattle.ctap_cbor.specs.Views.{part_of, head_of};
-ghost use Rattle.ctap_cbor.specs.Reading.{Halts};
+ghost use Rattle.ctap_cbor.specs.Reading.{Fails};
 ghost use Rattle.std.specs.Option.{option_copied};
 ghost use Rattle.ctap_message.specs.Members.{is_text, suits, array_of, map_of, all_entries};
 ghost use Rattle.ctap_message.specs.Walks.{Reads, typed, HasPairs, HasEntries};
 ghost use Rattle.ctap_message.specs.Descriptors.{descriptor_types};
-ghost use Rattle.ctap_message.specs.Fields.{descriptor_in, named_id, is_whole_descriptor};
+ghost use Rattle.ctap_message.specs.Fields.{descriptor_in, id_of_public_key, is_complete_descriptor};
 ghost use Rattle.ctap_message.specs.Collected.{shown_descriptor, descriptor_next, IsPlainName, listing_in, shown_listing, list_in, shown_list};
 
 use crate::descriptors::Descriptors;
 use crate::item::{is_public_key, read_members};
 use ctap_cbor::{Cursor, Entries, Fault, Item, Members, read_array};
 
-/// Entries that are to be texts.
+/// Entries that must be texts.
 #[derive(Drop)]
 struct Texts;
 
@@ -33,12 +33,12 @@ fn read_texts(cursor: &mut Cursor<'_>, level: u8) -> Result<bool, Fault>
     requires high { level ≤ 5 }
     ensures { MatchResult result
         (λ is. Reads (array_of is_text) (5 - level) is cursor.old cursor.new)
-        (λ f. Halts (5 - level) cursor.old cursor.new f.at f.kind) }
+        (λ f. Fails (5 - level) cursor.old cursor.new f.at f.kind) }
 {
     Ok(read_array(&mut Texts, cursor, level)?.unwrap_or(false))
 }
 
-/// What is known of a descriptor.
+/// The members of a descriptor found so far.
 #[derive(Clone, Copy, Drop)]
 pub(crate) struct Descriptor<'a> {
     pub id: Option<&'a [u8]>,
@@ -46,9 +46,9 @@ pub(crate) struct Descriptor<'a> {
 }
 
 impl<'a> Descriptor<'a> {
-    /// Returns the id that it names, where its type is `public-key`.
-    pub fn key_id(&self) -> Option<&'a [u8]>
-        ensures { option_copied result ≡ named_id (shown_descriptor self.now) }
+    /// Returns its ID, if its type is `public-key`.
+    pub fn public_key_id(&self) -> Option<&'a [u8]>
+        ensures { option_copied result ≡ id_of_public_key (shown_descriptor self.now) }
     {
         if is_public_key(self.kind) {
             self.id
@@ -57,14 +57,14 @@ impl<'a> Descriptor<'a> {
         }
     }
 
-    /// Returns whether id and type are there.
+    /// Returns whether ID and type are present.
     fn is_whole(&self) -> bool
-        ensures { result ≡ is_whole_descriptor (shown_descriptor self.now) }
+        ensures { result ≡ is_complete_descriptor (shown_descriptor self.now) }
     {
         self.id.is_some() && self.kind.is_some()
     }
 
-    /// Takes a member that isn't the list of transports. Returns whether it has its type.
+    /// Takes a member other than the list of transports, and returns whether it has its type.
     fn put(&mut self, key: Item<'a>, value: Item<'a>) -> bool
         requires plain { IsPlainName (head_of (part_of key)) }
         ensures plain { IsPlainName (head_of (part_of key.entry)) }
@@ -101,7 +101,7 @@ impl<'a> Members<'a> for Descriptor<'a> {
     }
 }
 
-/// Reads a descriptor. Returns whether it has its type too.
+/// Reads a descriptor, and returns whether it has its type.
 pub(crate) fn read_descriptor<'a>(
     cursor: &mut Cursor<'a>,
     level: u8,
@@ -111,7 +111,7 @@ pub(crate) fn read_descriptor<'a>(
     ensures { MatchResult result
         (λ r. Reads (typed (map_of descriptor_types) descriptor_in) (5 - level) (r.0, shown_descriptor r.1)
         cursor.old cursor.new)
-        (λ f. Halts (5 - level) cursor.old cursor.new f.at f.kind) }
+        (λ f. Fails (5 - level) cursor.old cursor.new f.at f.kind) }
 {
     let mut found = Descriptor {
         id: None,
@@ -121,7 +121,7 @@ pub(crate) fn read_descriptor<'a>(
     Ok((typed, found))
 }
 
-/// What is known of a list of descriptors, entry by entry.
+/// The summary of the entries of a list of descriptors that were read so far.
 #[derive(Clone, Copy, Drop)]
 struct Listing {
     is_whole: bool,
@@ -139,14 +139,14 @@ impl<'a> Entries<'a> for Listing {
     }
 }
 
-/// What is known of a list of descriptors, with a walk over it.
+/// The summary of a list of descriptors, and an iterator over it.
 #[derive(Drop)]
 pub(crate) struct DescriptorList<'a> {
     pub is_whole: bool,
     pub list: Descriptors<'a>,
 }
 
-/// Reads a list of descriptors. Returns whether it has its type too.
+/// Reads a list of descriptors, and returns whether it has its type.
 pub(crate) fn read_list<'a>(
     list: &mut DescriptorList<'a>,
     cursor: &mut Cursor<'a>,
@@ -157,7 +157,7 @@ pub(crate) fn read_list<'a>(
     ensures { MatchResult result
         (λ is. Reads (typed (array_of (map_of descriptor_types)) list_in) (5 - level) (is, shown_list list.new)
         cursor.old cursor.new)
-        (λ f. Halts (5 - level) cursor.old cursor.new f.at f.kind) }
+        (λ f. Fails (5 - level) cursor.old cursor.new f.at f.kind) }
 {
     let from = cursor.place();
     let mut found = Listing {

@@ -1,4 +1,4 @@
-//! The ids that a list of descriptors names, as an iterator over the message's own bytes.
+//! The credential IDs of a list of descriptors, as an iterator over the message's bytes.
 
 ghost use Rattle.std.specs.Prelude.{◌≡◌, ◌<◌, ◌≤◌, MatchOption};
 ghost use Rattle.std.specs.Option.{option_copied};
@@ -6,14 +6,14 @@ ghost use Rattle.std.specs.Iterator.{at_most};
 ghost use Rattle.ctap_cbor.specs.Tree.{Trees, no_trees};
 ghost use Rattle.ctap_message.specs.Members.{has_entries};
 ghost use Rattle.ctap_message.specs.Descriptors.{ids_of};
-ghost use Rattle.ctap_message.specs.DescriptorWalk.{DescriptorWalk, list_of, left_of, IsWhole, walked, NextId, Left, Gives, IsList};
+ghost use Rattle.ctap_message.specs.DescriptorWalk.{DescriptorWalk, list_of, left_of, IsWhole, walked_steps, NextId, Left, YieldsId, IsList};
 
 use crate::descriptor::read_descriptor;
 use ctap_cbor::laws::{bytes_tell, items_are_found, known_bytes, nothing_halts, one_tree_passes};
 use ctap_cbor::{Cursor, Item};
 use std::marker::Model;
 
-/// What is left of a list: a cursor at its next entry, and how many entries there are.
+/// The rest of a list: a cursor at its next entry, and the number of entries left.
 #[derive(Drop)]
 pub(crate) struct ListEntry<'a> {
     cursor: Cursor<'a>,
@@ -21,10 +21,10 @@ pub(crate) struct ListEntry<'a> {
 }
 
 impl<'a> ListEntry<'a> {
-    /// Returns the next id that an entry of type `public-key` has.
+    /// Returns the ID of the next entry of type `public-key`.
     fn next_id(&mut self) -> Option<&'a [u8]>
         requires { (ts : Trees) × Left self.old.cursor self.old.left ts }
-        ensures gives { Gives self.old.cursor self.old.left self.new.cursor self.new.left (option_copied result) }
+        ensures gives { YieldsId self.old.cursor self.old.left self.new.cursor self.new.left (option_copied result) }
         ensures fewer { MatchOption result (self.new.left ≡ 0) (λ _. self.new.left < self.old.left) }
     {
         one_tree_passes();
@@ -34,7 +34,7 @@ impl<'a> ListEntry<'a> {
             let Ok((_, descriptor)) = read_descriptor(&mut self.cursor, 2) else {
                 unreachable!()
             };
-            let id = descriptor.key_id();
+            let id = descriptor.public_key_id();
             if id.is_some() {
                 return id;
             }
@@ -43,17 +43,16 @@ impl<'a> ListEntry<'a> {
     }
 }
 
-/// The ids of a list's entries of type `public-key`, in order, lent from the message.
+/// The IDs of a list's entries of type `public-key`, in order, borrowed from the message.
 ///
-/// The walk is a second look at the list's bytes, with a count of its own: [`Descriptors::steps`]. A list that isn't
-/// there has no entry.
+/// Reads the list's bytes a second time, with a count of its own: [`Descriptors::steps`]. A missing list has no entry.
 #[derive(Drop)]
 pub struct Descriptors<'a> {
     entry: ListEntry<'a>,
     given: bool,
 }
 
-// Clauses see the list's entries, and those that are left.
+// In contracts, this is the list's entries, and the remaining ones.
 impl<'a> Model for Descriptors<'a> {
     ghost use Rattle.ctap_message.specs.DescriptorWalk.{DescriptorWalk, IsWalk};
 
@@ -65,7 +64,7 @@ impl<'a> Model for Descriptors<'a> {
 }
 
 impl<'a> Descriptors<'a> {
-    /// Returns the walk of no list.
+    /// Returns the iterator of a missing list.
     pub(crate) fn none() -> Self
         ensures { IsWhole result no_trees }
     {
@@ -78,7 +77,7 @@ impl<'a> Descriptors<'a> {
         }
     }
 
-    /// Returns a walk of a list with entries, which is in a message.
+    /// Returns the iterator of a list with entries.
     pub(crate) fn over(list: &'a [u8]) -> Self
         requires { (ts : Trees) × IsList list.now ts }
         ensures { (ts : Trees) → IsList list.now ts → IsWhole result ts }
@@ -106,10 +105,10 @@ impl<'a> Descriptors<'a> {
         self.given
     }
 
-    /// Returns the steps of the walk so far. At the end of the list they are those of checking its bytes, without the
-    /// one that finds their end.
+    /// Returns the number of steps so far. At the end of the list it is that of checking its bytes, without the step
+    /// that finds their end.
     pub fn steps(&self) -> u64
-        ensures { result ≡ walked self.now }
+        ensures { result ≡ walked_steps self.now }
     {
         self.entry.cursor.steps()
     }

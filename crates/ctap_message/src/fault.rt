@@ -1,4 +1,4 @@
-//! Why a message isn't a request that is served.
+//! Errors of request parsing.
 
 ghost use Rattle.std.specs.Prelude.{◌≡◌};
 ghost use Rattle.ctap_message.specs.RequestFaults.{status_of};
@@ -6,44 +6,44 @@ ghost use Rattle.ctap_message.specs.RequestFaults.{status_of};
 use crate::status::Status;
 use ctap_cbor::Fault;
 
-/// Why a message isn't a request that is served: the first check that it fails, with what was compared. A parameter is
-/// named by its key (CTAP 2.1, sections 6.1 and 6.2).
+/// A request parsing error: the first check that fails, with the values compared. A parameter is identified by its key
+/// (CTAP 2.1, sections 6.1 and 6.2).
 #[derive(Clone, Copy, Debug, PartialEq, Eq)]
 pub enum RequestFault {
     /// The message has no command byte.
     Empty,
-    /// The command isn't served.
+    /// The command isn't supported.
     NoSuchCommand { byte: u8 },
-    /// The command takes no parameters, and so many bytes follow it.
+    /// The command takes no parameters, and this many bytes follow it.
     Trailing { count: usize },
     /// The parameters aren't in canonical CBOR (section 8).
     NotCanonical(Fault),
-    /// A parameter, or a member inside, is of another type.
+    /// A parameter, or a member inside, has the wrong type.
     WrongType,
-    /// A parameter of a command, or the id inside of rp or user, isn't there.
+    /// A required parameter, or the ID inside of rp or user, is missing.
     Missing { command: u8, parameter: u8 },
-    /// An entry of a list lacks its id, type or alg.
+    /// A list entry lacks its ID, type or algorithm.
     EntryNotWhole { command: u8, parameter: u8 },
-    /// clientDataHash has so many bytes, not 32.
+    /// clientDataHash has this many bytes, not 32.
     HashLength { len: usize },
-    /// The user's id has so many bytes, more than 64.
+    /// The user's id has this many bytes, more than 64.
     UserIdLength { len: usize },
-    /// pinUvAuthParam is there, though no PIN is set.
+    /// pinUvAuthParam is present, though no PIN is set.
     PinUvAuthParam,
     /// No entry of pubKeyCredParams is ES256.
     NoAlgorithm,
     /// The option uv is true.
     UvOption,
-    /// The option up is false, of authenticatorMakeCredential.
+    /// The option up is false in authenticatorMakeCredential.
     UpOption,
-    /// The option rk is there, of authenticatorGetAssertion.
+    /// The option rk is present in authenticatorGetAssertion.
     RkOption,
-    /// enterpriseAttestation is there.
+    /// enterpriseAttestation is present.
     EnterpriseAttestation,
 }
 
 impl RequestFault {
-    /// Returns the status that is answered (CTAP 2.1, section 8.2, "Status codes").
+    /// Returns the status code of the response (CTAP 2.1, section 8.2, "Status codes").
     pub fn status(self) -> Status
         ensures { result.0 ≡ status_of self }
     {

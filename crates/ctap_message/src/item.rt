@@ -1,23 +1,23 @@
-//! Small tests of values, and maps whose members are collected.
+//! Helpers for items and maps.
 
 ghost use Rattle.std.specs.Prelude.{◌≡◌, ◌&&◌, ◌||◌, ◌-◌, ◌≤◌, MatchResult};
 ghost use Rattle.std.specs.Option.{option_copied};
 ghost use Rattle.ctap_cbor.specs.Views.{part_of, head_of};
 ghost use Rattle.ctap_cbor.specs.Tree.{is_map};
-ghost use Rattle.ctap_cbor.specs.Reading.{Halts};
+ghost use Rattle.ctap_cbor.specs.Reading.{Fails};
 ghost use Rattle.ctap_message.specs.Walks.{ReadsMembers};
 ghost use Rattle.ctap_message.specs.Descriptors.{is_public_key as is_known_type};
 
 use ctap_cbor::{Cursor, Fault, Item, Members, read_map};
 
 /// Returns whether an item is a map.
-pub(crate) fn is_a_map(item: Item<'_>) -> bool
+pub(crate) fn expect_map(item: Item<'_>) -> bool
     ensures { result ≡ is_map (head_of (part_of item.entry)) }
 {
     matches!(item, Item::Map(_))
 }
 
-/// Returns whether a credential type is the one that is known.
+/// Returns whether a credential type is `public-key`.
 pub(crate) fn is_public_key(kind: Option<&str>) -> bool
     ensures { result ≡ is_known_type (option_copied kind.entry) }
 {
@@ -27,7 +27,7 @@ pub(crate) fn is_public_key(kind: Option<&str>) -> bool
     }
 }
 
-/// Reads a map's members. Returns whether it is a map and each of them was taken.
+/// Reads a map's members. Returns whether it is a map and all members were accepted.
 pub(crate) fn read_members<'a, M: Members<'a>>(
     members: &mut M,
     cursor: &mut Cursor<'a>,
@@ -37,7 +37,7 @@ pub(crate) fn read_members<'a, M: Members<'a>>(
     requires high { level ≤ 5 }
     ensures { MatchResult result
         (λ taken. ReadsMembers M.Holds (5 - level) taken members.old members.new cursor.old cursor.new)
-        (λ f. Halts (5 - level) cursor.old cursor.new f.at f.kind) }
+        (λ f. Fails (5 - level) cursor.old cursor.new f.at f.kind) }
 {
     Ok(read_map(members, cursor, level)?.unwrap_or(false))
 }

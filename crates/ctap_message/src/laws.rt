@@ -1,9 +1,9 @@
-//! What holds over the definitions alone. Each law is the contract of a function that does nothing, except for calling
-//! the laws that it rests on.
+//! Laws stated over the definitions. Each is the contract of a function that does nothing but call the laws that it
+//! needs.
 
 ghost use Rattle.std.specs.Prelude.{◌≡◌, ℕ, ◌+◌, ◌-◌, ◌*◌, ◌≤◌, List, length, drop, min, Option};
 ghost use Rattle.ctap_cbor.specs.Tree.{Array, Trees, no_trees};
-ghost use Rattle.ctap_message.specs.DescriptorWalk.{DescriptorWalk, list_of, left_of, list_steps, walked};
+ghost use Rattle.ctap_message.specs.DescriptorWalk.{DescriptorWalk, list_of, left_of, list_steps, walked_steps};
 ghost use Rattle.ctap_message.specs.Answered.{AreShort, UserIsShort, NumberIsShort};
 ghost use Rattle.ctap_cbor.specs.Head.{AreBytes};
 ghost use Rattle.ctap_cbor.specs.Grammar.{IsCanonical};
@@ -12,28 +12,29 @@ ghost use Rattle.ctap_message.specs.Answers.{info_tree, info_answer, created_tre
 
 use ctap_cbor::laws as encoding;
 
-/// States that after its status, the answer of authenticatorGetInfo is the canonical CBOR encoding of its map; it has
-/// 81 bytes.
+/// States that the response of authenticatorGetInfo has 81 bytes, and is a status followed by the canonical CBOR
+/// encoding of its map.
 pub fn info_is_canonical()
     ensures canonical { (aaguid : List ℕ) → length aaguid ≡ 16 → AreBytes aaguid
         → IsCanonical (info_tree aaguid) (drop 1 (info_answer aaguid)) }
     ensures len { (aaguid : List ℕ) → length aaguid ≡ 16 → length (info_answer aaguid) ≡ 81 }
 {}
 
-/// States that reading a message takes at most 4 * n + 2 steps for n bytes after its command byte.
+/// States that parsing a message takes at most 4 * n + 2 steps for n bytes after the command byte.
 pub fn steps_are_bounded()
     ensures { (message : List ℕ) → steps_of message ≤ 4 * (length message - 1) + 2 }
 {
     encoding::check_steps_are_bounded();
 }
 
-/// States that after its status, the answer of authenticatorMakeCredential is the canonical CBOR encoding of its map.
+/// States that the response of authenticatorMakeCredential is a status followed by the canonical CBOR encoding of its
+/// map.
 pub fn created_is_canonical()
     ensures { (auth sig : List ℕ) → AreShort auth → AreShort sig
         → IsCanonical (created_tree auth sig) (drop 1 (created_answer auth sig)) }
 {}
 
-/// States that after its status, the answer of an assertion is the canonical CBOR encoding of its map.
+/// States that the response of an assertion is a status followed by the canonical CBOR encoding of its map.
 pub fn assertion_is_canonical()
     ensures { (id auth sig : List ℕ) (user : Option (List ℕ)) (credentials : Option ℕ) → AreShort id → AreShort auth
         → AreShort sig → UserIsShort user → NumberIsShort credentials
@@ -41,11 +42,11 @@ pub fn assertion_is_canonical()
         (drop 1 (assertion_answer id auth sig user credentials)) }
 {}
 
-/// States that a walk over a list of n bytes takes at most 2 * n steps, and at the list's end exactly those of checking
-/// its bytes, without the one that finds their end.
+/// States that iterating over a list of n bytes takes at most 2 * n steps: those of checking its bytes, without the
+/// step that finds their end.
 pub fn walks_are_bounded()
     ensures bound { (ts : Trees) (l : List ℕ) → IsCanonical (Array ts) l → list_steps ts ≤ 2 * length l }
-    ensures ended { (w : DescriptorWalk) → left_of w ≡ no_trees → walked w ≡ min (list_steps (list_of w)) LARGEST }
+    ensures ended { (w : DescriptorWalk) → left_of w ≡ no_trees → walked_steps w ≡ min (list_steps (list_of w)) LARGEST }
 {
     encoding::steps_are_bounded();
 }

@@ -1,4 +1,4 @@
-//! The requests that a host sends to an authenticator, and the answers that it gets (CTAP 2.1, section 6 and
+//! Parses the requests that a host sends to an authenticator, and encodes the responses (CTAP 2.1, section 6 and
 //! section 8, "Message Encoding").
 //!
 //! An example, which the gate runs (`crates/page_tests/src/ctap_message_page.rt`):
@@ -22,33 +22,35 @@
 //! status 0x00 and a map in canonical CBOR.
 //! - [`laws`] has what holds of the definitions themselves.
 //!
-//! The commands authenticatorMakeCredential (0x01), GetAssertion (0x02), GetInfo (0x04), Reset (0x07),
-//! GetNextAssertion (0x08) and Selection (0x0b) are served. Nothing here allocates.
+//! Supported are authenticatorMakeCredential (0x01), GetAssertion (0x02), GetInfo (0x04), Reset (0x07),
+//! GetNextAssertion (0x08) and Selection (0x0b). Nothing here allocates.
 //!
-//! What a message asks is stated in `specs/Requests.antt`, `specs/MakeCredential.antt` and
-//! `specs/GetAssertion.antt`, and what an answer holds in `specs/Answers.antt`.
+//! Requests are specified in `specs/Requests.antt`, `specs/MakeCredential.antt` and `specs/GetAssertion.antt`,
+//! responses in `specs/Answers.antt`.
 #![tactic(auto)]
 
 mod answer;
-mod assert;
 mod command;
 mod descriptor;
 mod descriptors;
 mod fault;
+mod get_assertion;
 mod item;
-mod judge;
 pub mod laws;
-mod make;
+mod make_credential;
 mod options;
 mod parameters;
 mod request;
 mod rp;
 mod status;
 mod user;
+mod validate;
 
 pub use answer::{Answer, write_assertion, write_created, write_info, write_status};
 pub use command::Command;
 pub use descriptors::Descriptors;
 pub use fault::RequestFault;
-pub use request::{AssertRequest, MakeRequest, Request, read_request, request_fault};
+pub use request::{
+    AssertRequest, MakeRequest, Request, parse_request, read_request, request_fault,
+};
 pub use status::Status;

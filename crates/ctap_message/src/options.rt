@@ -7,7 +7,7 @@ ghost use Rattle.ctap_message.specs.Collected.{shown_options};
 
 use ctap_cbor::{Cursor, Fault, Item, Members};
 
-/// What is known of options.
+/// The options found so far.
 #[derive(Clone, Copy, Drop)]
 pub(crate) struct Options {
     pub rk: Option<bool>,

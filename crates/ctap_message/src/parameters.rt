@@ -1,4 +1,4 @@
-//! The parameter pubKeyCredParams: the algorithms that a relying party takes (WebAuthn Level 2, section 5.3).
+//! The parameter pubKeyCredParams: the algorithms that a relying party accepts (WebAuthn Level 2, section 5.3).
 
 ghost use Rattle.ctap_message.specs.Members.{map_of};
 ghost use Rattle.ctap_message.specs.Walks.{HasPairs, HasEntries};
@@ -12,7 +12,7 @@ use ctap_cbor::{Cursor, Entries, Fault, Item, Members};
 /// ES256 as a COSE algorithm.
 const ES256: i128 = -7;
 
-/// What is known of a credential parameter.
+/// The members of a credential parameter found so far.
 #[derive(Clone, Copy, Drop)]
 struct Parameter<'a> {
     pub alg: Option<i128>,
@@ -39,7 +39,7 @@ impl<'a> Members<'a> for Parameter<'a> {
     }
 }
 
-/// What is known of pubKeyCredParams.
+/// The entries of pubKeyCredParams found so far.
 #[derive(Clone, Copy, Drop)]
 pub(crate) struct Parameters {
     pub is_whole: bool,

@@ -1,25 +1,25 @@
-//! What a message asks.
+//! Parsed requests.
 
 ghost use Rattle.std.specs.Prelude.{◌≡◌, ◌≤◌, length, min, option_map};
 ghost use Rattle.ctap_cbor.specs.Telling.{canonical_tree, outcome_of};
 ghost use Rattle.ctap_message.specs.MakeCredential.{make_request};
 ghost use Rattle.ctap_message.specs.GetAssertion.{assertion_request};
-ghost use Rattle.ctap_message.specs.Requests.{read_of, steps_of, alone as alone_of, reading_steps, LARGEST, LONGEST_MESSAGE};
+ghost use Rattle.ctap_message.specs.Requests.{read_of, steps_of, without_parameters as alone_of, reading_steps, LARGEST, LONGEST_MESSAGE};
 ghost use Rattle.ctap_message.specs.RequestFaults.{checked_assertion, checked_make, fault_in, fault_of, refused_with, status_of, trailing};
-ghost use Rattle.ctap_message.specs.Shown.{shown, asked, examined, fault_at, HasFreshList, HasTheLengths, IsFresh, HasLengths};
+ghost use Rattle.ctap_message.specs.Shown.{request_result, request_of, examined_result, fault_at, HasFreshList, HasTheLengths, IsFresh, HasLengths};
 
-use crate::assert::read_assert;
 use crate::command::Command;
 use crate::descriptors::Descriptors;
 use crate::fault::RequestFault;
-use crate::judge::{judge_assert, judge_make};
+use crate::get_assertion::parse_get_assertion;
 use crate::laws::steps_are_bounded;
-use crate::make::read_make;
+use crate::make_credential::parse_make_credential;
 use crate::status::Status;
+use crate::validate::{validate_get_assertion, validate_make_credential};
 use ctap_cbor::laws::whole_readings;
 use ctap_cbor::{Cursor, read_whole};
 
-/// What an authenticatorMakeCredential asks.
+/// The parameters of authenticatorMakeCredential.
 #[derive(Drop)]
 pub struct MakeRequest<'a> {
     /// clientDataHash, of 32 bytes.
@@ -27,26 +27,26 @@ pub struct MakeRequest<'a> {
     pub rp_id: &'a str,
     /// At most 64 bytes.
     pub user_id: &'a [u8],
-    /// Empty where none was given.
+    /// Empty if absent.
     pub user_name: &'a str,
     pub discoverable: bool,
-    /// The credentials of which none may be there.
+    /// excludeList.
     pub exclude: Descriptors<'a>,
 }
 
-/// What an authenticatorGetAssertion asks.
+/// The parameters of authenticatorGetAssertion.
 #[derive(Drop)]
 pub struct AssertRequest<'a> {
     /// clientDataHash, of 32 bytes.
     pub hash: &'a [u8],
     pub rp_id: &'a str,
-    /// The credentials of which one is to be used.
+    /// allowList.
     pub allow: Descriptors<'a>,
-    /// Whether the user's presence is asked for.
+    /// Whether user presence is requested (option `up`).
     pub presence: bool,
 }
 
-/// A request that passed all checks of its command. What it holds is lent from the message.
+/// A request that passed all checks of its command, borrowed from the message.
 #[derive(Drop)]
 pub enum Request<'a> {
     /// authenticatorMakeCredential (CTAP 2.1, section 6.1).
@@ -63,8 +63,8 @@ pub enum Request<'a> {
     Select,
 }
 
-/// Returns what a message asks, its command byte first, or the status of the first check that it fails; and the steps
-/// of reading it.
+/// Parses a message, its command byte first. Returns the request, or the status of the first check that it fails, and
+/// the number of steps.
 ///
 /// | Message | Result | Steps |
 /// |---|---|---|
@@ -75,38 +75,39 @@ pub enum Request<'a> {
 /// | 0x01 or 0x02, canonical parameters | `Make`, `Assert`, or the first failing check's status | twice those of a check |
 /// | 0x01 or 0x02, other parameters | 0x12 | those of a check |
 pub fn read_request<'a>(message: &'a [u8]) -> (Result<Request<'a>, Status>, u64)
-    ensures request { shown result.0 ≡ read_of message.now }
+    ensures request { request_result result.0 ≡ read_of message.now }
     ensures steps { result.1 ≡ min (steps_of message.now) LARGEST }
-    // The count of steps doesn't stop at a message that the transport hands on.
+    // The count of steps is exact for messages that the transport delivers.
     ensures exact { length message.now ≤ LONGEST_MESSAGE → result.1 ≡ steps_of message.now }
-    // Each walk over a list has all of it before it.
+    // Each iterator over a list is at its start.
     ensures fresh { IsFresh result.0 }
     ensures lens { HasLengths result.0 }
 {
-    let (result, steps) = examine(message);
+    let (result, steps) = parse_request(message);
     match result {
         Ok(request) => (Ok(request), steps),
         Err(fault) => (Err(fault.status()), steps),
     }
 }
 
-/// Returns why a message isn't a request that is served, with what was compared: the first check that it fails. None
-/// where it is one.
+/// Returns why a message isn't a supported request, with what was compared: the first check that it fails; or `None`.
 pub fn request_fault(message: &[u8]) -> Option<RequestFault>
     ensures fault { result ≡ fault_in message.now }
     // Its status is the one that [`read_request`] returns.
     ensures status { option_map status_of result ≡ refused_with (read_of message.now) }
 {
-    match examine(message).0 {
+    match parse_request(message).0 {
         Ok(_) => None,
         Err(fault) => Some(fault),
     }
 }
 
-/// Returns what a message asks, or the first check that it fails; and the steps of reading it.
+/// Parses a message as [`read_request`] does. Returns the request, or the first check that it fails with what was
+/// compared, and the number of steps.
 #[tactic(auto, unfolding(crate::specs::Requests::read_of, crate::specs::Requests::steps_of, crate::specs::RequestFaults::fault_in))]
-fn examine<'a>(message: &'a [u8]) -> (Result<Request<'a>, RequestFault>, u64)
-    ensures request { examined result.0 ≡ read_of message.now }
+#[inline(always)]
+pub fn parse_request<'a>(message: &'a [u8]) -> (Result<Request<'a>, RequestFault>, u64)
+    ensures request { examined_result result.0 ≡ read_of message.now }
     ensures fault { fault_at result.0 ≡ fault_in message.now }
     ensures steps { result.1 ≡ min (steps_of message.now) LARGEST }
     ensures exact { length message.now ≤ LONGEST_MESSAGE → result.1 ≡ steps_of message.now }
@@ -128,11 +129,11 @@ fn examine<'a>(message: &'a [u8]) -> (Result<Request<'a>, RequestFault>, u64)
     }
 }
 
-/// Refuses bytes after the command byte of what takes no parameters.
+/// Checks that a command without parameters has none.
 fn alone<'a>(parameters: &[u8], request: Request<'a>) -> Result<Request<'a>, RequestFault>
     requires fresh { HasFreshList request }
     requires lens { HasTheLengths request }
-    ensures request { examined result ≡ alone_of parameters.now (asked request.entry) }
+    ensures request { examined_result result ≡ alone_of parameters.now (request_of request.entry) }
     ensures fault { fault_at result ≡ trailing (length parameters.now) }
     ensures fresh { IsFresh result }
     ensures lens { HasLengths result }
@@ -146,9 +147,9 @@ fn alone<'a>(parameters: &[u8], request: Request<'a>) -> Result<Request<'a>, Req
     }
 }
 
-/// Reads authenticatorMakeCredential: the parameters are checked whole, and then read by the same cursor.
+/// Parses authenticatorMakeCredential: checks the parameters whole, then reads them with the same cursor.
 fn read_make_credential<'a>(parameters: &'a [u8]) -> (Result<Request<'a>, RequestFault>, u64)
-    ensures request { examined result.0 ≡ make_request (canonical_tree parameters.now) }
+    ensures request { examined_result result.0 ≡ make_request (canonical_tree parameters.now) }
     ensures fault { fault_at result.0 ≡ fault_of (outcome_of parameters.now) checked_make }
     ensures steps { result.1 ≡ min (reading_steps parameters.now) LARGEST }
     ensures fresh { IsFresh result.0 }
@@ -160,15 +161,15 @@ fn read_make_credential<'a>(parameters: &'a [u8]) -> (Result<Request<'a>, Reques
         return (Err(RequestFault::NotCanonical(fault)), cursor.steps());
     }
     cursor.rewind();
-    match read_make(&mut cursor) {
-        Ok((typed, make)) => (judge_make(typed, make), cursor.steps()),
+    match parse_make_credential(&mut cursor) {
+        Ok((typed, make)) => (validate_make_credential(typed, make), cursor.steps()),
         Err(_) => unreachable!(),
     }
 }
 
-/// Reads authenticatorGetAssertion: the parameters are checked whole, and then read by the same cursor.
+/// Parses authenticatorGetAssertion: checks the parameters whole, then reads them with the same cursor.
 fn read_get_assertion<'a>(parameters: &'a [u8]) -> (Result<Request<'a>, RequestFault>, u64)
-    ensures request { examined result.0 ≡ assertion_request (canonical_tree parameters.now) }
+    ensures request { examined_result result.0 ≡ assertion_request (canonical_tree parameters.now) }
     ensures fault { fault_at result.0 ≡ fault_of (outcome_of parameters.now) checked_assertion }
     ensures steps { result.1 ≡ min (reading_steps parameters.now) LARGEST }
     ensures fresh { IsFresh result.0 }
@@ -180,8 +181,8 @@ fn read_get_assertion<'a>(parameters: &'a [u8]) -> (Result<Request<'a>, RequestF
         return (Err(RequestFault::NotCanonical(fault)), cursor.steps());
     }
     cursor.rewind();
-    match read_assert(&mut cursor) {
-        Ok((typed, assert)) => (judge_assert(typed, assert), cursor.steps()),
+    match parse_get_assertion(&mut cursor) {
+        Ok((typed, assert)) => (validate_get_assertion(typed, assert), cursor.steps()),
         Err(_) => unreachable!(),
     }
 }

@@ -7,7 +7,7 @@ ghost use Rattle.ctap_message.specs.Collected.{shown_rp};
 
 use ctap_cbor::{Cursor, Fault, Item, Members};
 
-/// What is known of rp.
+/// The members of rp found so far.
 #[derive(Clone, Copy, Drop)]
 pub(crate) struct Rp<'a> {
     pub id: Option<&'a str>,

@@ -7,7 +7,7 @@ ghost use Rattle.ctap_message.specs.Collected.{shown_user};
 
 use ctap_cbor::{Cursor, Fault, Item, Members};
 
-/// What is known of user.
+/// The members of user found so far.
 #[derive(Clone, Copy, Drop)]
 pub(crate) struct User<'a> {
     pub id: Option<&'a [u8]>,

@@ -4,29 +4,29 @@ use Rattle.std.specs.Prelude.{None, is_some}
 use Rattle.byteorder.specs.Endian.{big_bytes}
 use Rattle.fido_authdata.specs.{CoseKey.cose_key_bytes, declared.auth_data.AttestedCredential.AttestedCredential}
 
--- bit 0 is UP, user present, bit 6 AT, attested credential data
+-- The flags: bit 0 is UP (user present), bit 6 is AT (attested credential data included).
 abbrev pub flags_byte : (user_present attested : Bool) → ℕ
 flags_byte user_present attested = bit_or (if user_present then 0x01 else 0x00) (if attested then 0x40 else 0x00)
 
--- attested credential data, section 6.5.1
+-- Attested credential data (section 6.5.1).
 abbrev pub attested_bytes : (aaguid id x y : List ℕ) → List ℕ
 attested_bytes aaguid id x y = aaguid ++ big_bytes 2 (length id) ++ id ++ cose_key_bytes x y
 
--- an assertion's: RP id hash, flags, signature counter
+-- The authenticator data of an assertion: RP ID hash, flags, signature counter.
 abbrev pub assertion_bytes : (rp_hash : List ℕ) (user_present : Bool) (counter : ℕ) → List ℕ
 assertion_bytes rp_hash user_present counter = rp_hash ++ flags_byte user_present false ∷ [] ++ big_bytes 4 counter
 
--- a new credential's, with the counter 0
+-- The authenticator data of a new credential, with signature counter 0.
 abbrev pub created_bytes : (rp_hash aaguid id x y : List ℕ) → List ℕ
 created_bytes rp_hash aaguid id x y =
     rp_hash ++ flags_byte true true ∷ [] ++ big_bytes 4 0 ++ attested_bytes aaguid id x y
 
--- The attested credential data, where there is any.
+-- The attested credential data, if any.
 abbrev pub attested_part : Option AttestedCredential → List ℕ
 attested_part None = []
 attested_part (Some a) = attested_bytes a.aaguid a.id a.x a.y
 
--- The bytes of the fields that an `AuthData` keeps.
+-- The encoding of the code's type `AuthData`.
 abbrev pub kept_bytes : (rp_hash : List ℕ) (user_present : Bool) (counter : ℕ) → Option AttestedCredential → List ℕ
 kept_bytes rp_hash user_present counter attested =
     rp_hash ++ flags_byte user_present (is_some attested) ∷ [] ++ big_bytes 4 counter ++ attested_part attested

@@ -5,10 +5,10 @@ ghost use Rattle.fido_authdata.specs.CoseKey.{cose_key_bytes};
 
 use arrayvec::ArrayVec;
 
-/// How many bytes a COSE key has.
+/// Length of an ES256 COSE key.
 pub const COSE_KEY_LEN: usize = 77;
 
-/// The map's head and its members up to the head of the x coordinate.
+/// The map's head and its members, up to the head of the x coordinate.
 const UP_TO_X: [u8; 10] = [
     0xA5, // a map of five pairs
     0x01, 0x02, // kty (1): EC2 (2)
@@ -17,13 +17,13 @@ const UP_TO_X: [u8; 10] = [
     0x21, 0x58, 0x20, // x (-2): a byte string of 32 bytes
 ];
 
-/// The label of the y coordinate and the head of its bytes.
+/// The label of the y coordinate, and the head of its byte string.
 const UP_TO_Y: [u8; 3] = [
     0x22, 0x58, 0x20, // y (-3): a byte string of 32 bytes
 ];
 
-/// Returns the COSE key of an ES256 public key with these coordinates: the map `{1: 2, 3: -7, -1: 1, -2: x, -3: y}` in
-/// canonical CBOR (RFC 8152, section 13.1.1; CTAP 2.1, section 8).
+/// Encodes an ES256 public key as a COSE key: the map `{1: 2, 3: -7, -1: 1, -2: x, -3: y}` in canonical CBOR (RFC 8152,
+/// section 13.1.1; CTAP 2.1, section 8).
 pub fn cose_key(x: &[u8; 32], y: &[u8; 32]) -> [u8; COSE_KEY_LEN]
     ensures { result ≡ cose_key_bytes x.now y.now }
 {

@@ -1,7 +1,7 @@
 //! Authenticator data, the COSE public key and the bytes that an authenticator signs, for ES256 credentials
 //! (WebAuthn Level 2, sections 6.1, 6.5.1 and 8.2; RFC 8152, section 13.1.1).
 //!
-//! Nothing is hashed or signed here: the SHA-256 hash of the RP id comes in as 32 bytes. Nothing allocates.
+//! This crate neither hashes nor signs: the caller passes the SHA-256 hash of the RP ID. Nothing allocates.
 //!
 //! An example, which the gate runs (`crates/page_tests/src/fido_authdata_page.rt`):
 //!

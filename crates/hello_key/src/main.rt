@@ -1,4 +1,5 @@
-//! A host greets a security key, pings it and registers with it; what the key sends is printed.
+//! A host allocates a channel of a security key with INIT, sends a PING, and registers; the packets that the key
+//! sends are printed.
 #![tactic(auto)]
 
 use authn_core::{NewKey, Presence, Signature};
@@ -12,7 +13,7 @@ const REGISTRATION: &[u8] =
     b"\x01\xa4\x01\x58\x20hhhhhhhhhhhhhhhhhhhhhhhhhhhhhhhh\x02\xa1\x62id\x6bexample.com\
       \x03\xa1\x62id\x41\x01\x04\x81\xa2\x63alg\x26\x64type\x6apublic-key";
 
-/// Hands the key an input, and prints the packets that it sends for it.
+/// Passes an input to the key, and prints the packets that it sends for it.
 fn step(rt: &HostRuntime, key: &mut Session<8>, input: Input) -> io::Result<()> {
     let mut outbox = Outbox::new();
     key.step(0, input, &mut outbox);
@@ -22,7 +23,7 @@ fn step(rt: &HostRuntime, key: &mut Session<8>, input: Input) -> io::Result<()> 
     Ok(())
 }
 
-/// Hands the key the packets of a message.
+/// Passes the packets of a message to the key.
 fn send(rt: &HostRuntime, key: &mut Session<8>, message: Fragments) -> io::Result<()> {
     for packet in message {
         step(rt, key, Input::Packet(packet))?;

@@ -7,20 +7,20 @@ use Rattle.hid_assemble.specs.declared.table.ReplyRow.TheVariants.{CancelsWork, 
 use Rattle.hid_assemble.specs.declared.table.ReplyRow.TheVariants.{InitLength, InitFull, InitNew, InitAgain}
 use Rattle.hid_assemble.specs.declared.table.ReplyRow.TheVariants.{BusyElsewhere, BusyHere, BrokenOff, NoSuchCommand}
 use Rattle.hid_assemble.specs.declared.table.ReplyRow.TheVariants.{BadLength, Short, Long}
-use Rattle.hid_assemble.specs.Table.{LAST_CHANNEL, is_given, is_on, is_elsewhere, initialization_row}
-use Rattle.hid_packet.specs.Limits.{LONGEST_MESSAGE}
+use Rattle.hid_assemble.specs.Table.{MAX_CHANNEL, is_allocated, is_on, is_on_other, init_packet_row}
+use Rattle.hid_packet.specs.Limits.{MAX_MESSAGE_LEN}
 
 unfoldable pub init_row : ℕ → ℕ → ℕ → ReplyRow
 init_row given cid len =
-    cond (not (len == 8)) InitLength (cond (cid == BROADCAST) (cond (given == LAST_CHANNEL) InitFull InitNew) InitAgain)
+    cond (not (len == 8)) InitLength (cond (cid == BROADCAST) (cond (given == MAX_CHANNEL) InitFull InitNew) InitAgain)
 
 unfoldable pub begin_row : Option ℕ → Option ℕ → ℕ → ℕ → ℕ → ReplyRow
 begin_row current work cid cmd len =
-    cond (is_elsewhere current cid || is_elsewhere work cid) BusyElsewhere
+    cond (is_on_other current cid || is_on_other work cid) BusyElsewhere
     (cond (is_on work cid) BusyHere
     (cond (is_on current cid) BrokenOff
     (cond (not (cmd == PING || cmd == CBOR)) NoSuchCommand
-    (cond (nat_lt LONGEST_MESSAGE len || (cmd == CBOR && (len == 0))) BadLength
+    (cond (nat_lt MAX_MESSAGE_LEN len || (cmd == CBOR && (len == 0))) BadLength
     (cond (nat_le len 57) Short Long)))))
 
 kinds : (cancel work strange init length_is broadcast full : Bool) (r : ReplyRow)
@@ -32,9 +32,9 @@ kinds : (cancel work strange init length_is broadcast full : Bool) (r : ReplyRow
 kinds x0 w s i l b f r = search (rules, arith)
 
 pub by_command : (given : ℕ) (current work : Option ℕ) (cid cmd len : ℕ) →
-    initialization_row given current work cid cmd len
+    init_packet_row given current work cid cmd len
     ≡ cond (cmd == CANCEL) (cond (is_on work cid) CancelsWork CancelsNothing)
-    (cond (not (is_given given cid || ((cid == BROADCAST) && (cmd == INIT)))) NoSuchChannel
+    (cond (not (is_allocated given cid || ((cid == BROADCAST) && (cmd == INIT)))) NoSuchChannel
     (cond (cmd == INIT) (init_row given cid len) (begin_row current work cid cmd len)))
-unfolding initialization_row init_row begin_row
+unfolding init_packet_row init_row begin_row
 by_command given current work cid cmd len = grind (arith, nat_tests)

@@ -3,8 +3,8 @@ use Rattle.std.proofs.Common.{◌≡◌, ℕ, false, cond, not, ◌&&◌, ◌||�
 use Rattle.std.proofs.{Common.subst, Common.arith, lemmas.Bool.Decides.nat_tests}
 use Rattle.hid_packet.specs.Commands.{INIT, CANCEL, BROADCAST}
 use Rattle.hid_packet.specs.Packet.{Fields, initialization, continuation, channel_of}
-use Rattle.hid_assemble.specs.{declared.table.ReplyRow.ReplyRow, Table.continuation_row, Table.ruling_of}
-use Rattle.hid_assemble.specs.Table.{Open, Begins, Continues, LAST_CHANNEL, is_given, is_on, initialization_row}
+use Rattle.hid_assemble.specs.{declared.table.ReplyRow.ReplyRow, Table.cont_packet_row, Table.ruling_of}
+use Rattle.hid_assemble.specs.Table.{Open, Begins, Continues, MAX_CHANNEL, is_allocated, is_on, init_packet_row}
 use Rattle.hid_assemble.specs.Assembly.{Assembly, open_after, accepted}
 use Rattle.hid_assemble.proofs.{ByCommand.init_row, ByCommand.begin_row, ByCommand.by_command, Comparing.cond_case}
 
@@ -15,7 +15,7 @@ module _ (at : ℕ) (m : Open) (work : Option ℕ) where
   -- an initialization packet of another channel
   foreign_start : (given cid cmd len : ℕ) (part : List ℕ) → (m.cid == cid) ≡ false
       → open_after (Some m) at (initialization cid cmd len part)
-      (Begins (initialization_row given (Some m.cid) work cid cmd len)) ≡ Some m
+      (Begins (init_packet_row given (Some m.cid) work cid cmd len)) ≡ Some m
   unfolding init_row begin_row open_after
   foreign_start given cid cmd len part other =
       let P : ReplyRow → Type 0 = λ row. open_after (Some m) at (initialization cid cmd len part) (Begins row)
@@ -24,17 +24,17 @@ module _ (at : ℕ) (m : Open) (work : Option ℕ) where
       subst P (sym (by_command given (Some m.cid) work cid cmd len))
       (cond_case P (cmd == CANCEL) _ _
       (λ _. cond_case P (is_on work cid) _ _ (λ _. refl) (λ _. refl))
-      (λ _. cond_case P (not (is_given given cid || ((cid == BROADCAST) && (cmd == INIT)))) _ _ (λ _. refl)
+      (λ _. cond_case P (not (is_allocated given cid || ((cid == BROADCAST) && (cmd == INIT)))) _ _ (λ _. refl)
       (λ _. cond_case P (cmd == INIT) _ _
       (λ _. cond_case P (not (len == 8)) _ _ (λ _. drops)
-      (λ _. cond_case P (cid == BROADCAST) _ _ (λ _. cond_case P (given == LAST_CHANNEL) _ _ (λ _. refl) (λ _. refl))
+      (λ _. cond_case P (cid == BROADCAST) _ _ (λ _. cond_case P (given == MAX_CHANNEL) _ _ (λ _. refl) (λ _. refl))
       (λ _. drops)))
       (λ _. rw other refl))))
 
   foreign_more : (cid number : ℕ) (part : List ℕ) → (m.cid == cid) ≡ false
-      → open_after (Some m) at (continuation cid number part) (Continues (continuation_row (Some m) cid number))
+      → open_after (Some m) at (continuation cid number part) (Continues (cont_packet_row (Some m) cid number))
       ≡ Some m
-  unfolding continuation_row open_after
+  unfolding cont_packet_row open_after
   foreign_more cid number part other = rw other refl
 
   foreign_kept : (given : ℕ) (f : Fields) → (m.cid == channel_of f) ≡ false →
@@ -44,8 +44,8 @@ module _ (at : ℕ) (m : Open) (work : Option ℕ) where
   foreign_kept given (continuation cid number part) other = foreign_more cid number part other
 
   cancel_kept : (given cid len : ℕ) (part : List ℕ) → open_after (Some m) at (initialization cid CANCEL len part)
-      (Begins (initialization_row given (Some m.cid) work cid CANCEL len)) ≡ Some m
-  unfolding initialization_row open_after
+      (Begins (init_packet_row given (Some m.cid) work cid CANCEL len)) ≡ Some m
+  unfolding init_packet_row open_after
   cancel_kept given cid len part =
       cond_case (λ row. open_after (Some m) at (initialization cid CANCEL len part) (Begins row) ≡ Some m)
       (is_on work cid) _ _ (λ _. refl) (λ _. refl)

@@ -6,16 +6,16 @@ use Rattle.hid_assemble.specs.declared.assembler.Contents.{Contents}
 use Rattle.hid_assemble.specs.declared.assembler.Contents.TheVariants.{Open as HoldsOpen, Finished}
 use Rattle.hid_packet.specs.Packet.{initialization}
 use Rattle.hid_assemble.specs.declared.table.ReplyRow.{ReplyRow, TheVariants.Short, TheVariants.Long}
-use Rattle.hid_assemble.specs.Table.{Begins, LAST_CHANNEL, initialization_row, ruling_of}
-use Rattle.hid_assemble.specs.Assembly.{Assembly, IsLawful, OpenIsLawful, open_after, message_after, kept_by, accepted}
+use Rattle.hid_assemble.specs.Table.{Begins, MAX_CHANNEL, init_packet_row, ruling_of}
+use Rattle.hid_assemble.specs.Assembly.{Assembly, IsValidAssembly, OpenIsValid, open_after, message_after, assembly_after_ruling, accepted}
 use Rattle.hid_assemble.specs.Kept.{open_in, finished_in, assembly, IsKept, MayBeHeld}
 
 lawful_in : (given : ℕ) (contents : Contents) (buffer : List ℕ) → length buffer ≡ 7609 → MayBeHeld given contents
-    → OpenIsLawful given (open_in buffer contents) × (length (finished_in buffer contents) ≤ 7609)
+    → OpenIsValid given (open_in buffer contents) × (length (finished_in buffer contents) ≤ 7609)
 lawful_in given x1 buffer size h = search (rules, arith, length-take-le)
 
 pub lawful : (given : ℕ) (contents : Contents) (buffer : List ℕ) (a : Assembly) → assembly given contents buffer ≡ a →
-    IsKept given contents buffer → IsLawful a
+    IsKept given contents buffer → IsValidAssembly a
 unfolding assembly
 lawful given contents buffer a is kept = search (rules, arith, lawful_in)
 
@@ -26,7 +26,7 @@ given-is given contents buffer a is = ap (λ (x : Assembly). x.given) is
 
 -- A channel more was given out.
 pub one_more : (given : ℕ) (contents : Contents) (buffer : List ℕ) → IsKept given contents buffer →
-    given < LAST_CHANNEL → IsKept (given + 1) contents buffer
+    given < MAX_CHANNEL → IsKept (given + 1) contents buffer
 one_more given contents buffer kept few = grind (arith, nat_tests)
 
 -- The data of an initialization packet stands at the buffer's head.
@@ -34,7 +34,7 @@ module _ (given : ℕ) (contents : Contents) (buffer : List ℕ) (a : Assembly) 
     (at cid cmd len size : ℕ) (work : Option ℕ) (part now : List ℕ)
     (full : length part ≡ 57) (e : now ≡ part ++ drop size buffer) where
   abbrev row : ReplyRow → Type 0
-  row r = initialization_row a.given (option_map (λ m. m.cid) a.current) work cid cmd len ≡ r
+  row r = init_packet_row a.given (option_map (λ m. m.cid) a.current) work cid cmd len ≡ r
 
   pub short_state : row Short → len ≤ 57 → assembly given (Finished len) now
       ≡ accepted a at work (initialization cid cmd len part)
@@ -43,7 +43,7 @@ module _ (given : ℕ) (contents : Contents) (buffer : List ℕ) (a : Assembly) 
       let bytes : take len now ≡ take len part = ap (take len) e
       ∙ take-append-le len part (drop size buffer) (omega (arith, fits)) in
       (λ i. record { given = given-is given contents buffer a is i; current = None; finished = bytes i })
-      ∙ sym (ap (λ x. kept_by a at (initialization cid cmd len part) (Begins x)) r)
+      ∙ sym (ap (λ x. assembly_after_ruling a at (initialization cid cmd len part) (Begins x)) r)
 
   pub long_state : row Long →
       assembly given (HoldsOpen (record { cid = cid; cmd = cmd; len = len; kept = 0; last = at })) now
@@ -53,4 +53,4 @@ module _ (given : ℕ) (contents : Contents) (buffer : List ℕ) (a : Assembly) 
       let bytes : take 57 now ≡ part = ap (take 57) e ∙ subst (λ n. take n (part ++ drop size buffer) ≡ part) full
       (take-append_seam part (drop size buffer)) in
       (λ i. record { given = given-is given contents buffer a is i; current = Some (record { cid = cid; cmd = cmd; len = len; bytes = bytes i; kept = 0; last = at }); finished = [] })
-      ∙ sym (ap (λ x. kept_by a at (initialization cid cmd len part) (Begins x)) r)
+      ∙ sym (ap (λ x. assembly_after_ruling a at (initialization cid cmd len part) (Begins x)) r)

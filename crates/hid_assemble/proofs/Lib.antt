@@ -5,5 +5,5 @@ pub mod Keeping
 pub mod Lawful
 pub mod Receiving
 pub mod Foreign
-mod Rows
+mod Examples
 pub mod Turned

@@ -6,16 +6,16 @@ use Rattle.std.proofs.lemmas.Bool.Decides.{nat_tests}
 use Rattle.hid_packet.specs.Commands.{PING, INIT, CBOR, CANCEL, BROADCAST}
 use Rattle.hid_packet.specs.Packet.{Fields, fields, channel, is_initialization, command, message_length, sequence}
 use Rattle.hid_packet.specs.Packet.{initialization_data, continuation_data, initialization, continuation}
-use Rattle.hid_packet.specs.Carries.{Continue, IsLeast, Carries, CarriesMessage}
+use Rattle.hid_packet.specs.Carries.{AreContinuations, IsLeast, Carries, CarriesMessage}
 use Rattle.hid_assemble.specs.declared.table.ReplyRow.TheVariants.{Short, Long}
 use Rattle.hid_assemble.specs.declared.table.Continuation.TheVariants.{Kept, Whole}
-use Rattle.hid_assemble.specs.Table.{Open, Ruling, Begins, Continues, is_given, continuation_row, ruling_of}
+use Rattle.hid_assemble.specs.Table.{Open, Ruling, Begins, Continues, is_allocated, cont_packet_row, ruling_of}
 use Rattle.hid_assemble.proofs.ByCommand.{begin_row, by_command}
-use Rattle.hid_assemble.specs.Assembly.{Assembly, is_overdue, still_open, open_after, message_after, kept_by, accepted}
-use Rattle.hid_assemble.specs.Receiving.{Arrival, packets_of, received_one, received, last_verdict, InTime, ComeInTime}
+use Rattle.hid_assemble.specs.Assembly.{Assembly, is_overdue, still_open, open_after, message_after, assembly_after_ruling, accepted}
+use Rattle.hid_assemble.specs.Receiving.{Arrival, packets_of, received_one, received, last_verdict, InTime, ArriveInTime}
 use Rattle.hid_assemble.specs.{Receiving.IsServed, declared.verdict.Verdict.TheVariants.Finished}
 use Rattle.hid_assemble.specs.Verdicts.{verdict, ruling_verdict}
-use Rattle.hid_packet.specs.Limits.{LONGEST_MESSAGE}
+use Rattle.hid_packet.specs.Limits.{MAX_MESSAGE_LEN}
 
 -- the fields of either kind of packet
 starts : (p : List ℕ) → is_initialization p ≡ true → fields p
@@ -28,9 +28,9 @@ goes p h = rw h refl
 
 -- A ruling that is known says what is kept.
 kept_as : (a : Assembly) (at : ℕ) (f : Fields) (ruling : Ruling) → ruling_of a.given a.current None f ≡ ruling →
-    accepted a at None f ≡ kept_by a at f ruling
+    accepted a at None f ≡ assembly_after_ruling a at f ruling
 unfolding accepted
-kept_as a at f ruling h = ap (kept_by a at f) h
+kept_as a at f ruling h = ap (assembly_after_ruling a at f) h
 
 in_time : (given at since : ℕ) (m : Open) (finished : List ℕ) → m.last ≡ since → at < since + 500
     → ◌≡◌ {A = Assembly} (record { given = given; current = still_open (Some m) at; finished = finished })
@@ -42,13 +42,13 @@ in_time given at since m finished same soon = grind (arith, nat_tests)
 due_row : (given : ℕ) (m : Open) (number : ℕ) (part : List ℕ) (last : Bool) → number ≡ m.kept →
     nat_lt (57 + 59 * (m.kept + 1)) m.len ≡ last
     → ruling_of given (Some m) None (continuation m.cid number part) ≡ Continues (cond last Kept Whole)
-unfolding ruling_of continuation_row
+unfolding ruling_of cont_packet_row
 due_row given m number part last same test = grind (arith, nat_tests)
 
 -- the continuation packets that are left finish the open message
 continues : (arrivals : List Arrival) (given since : ℕ) (m : Open) (finished : List ℕ) → 0 < length arrivals →
     m.last ≡ since → InTime since arrivals
-    → Continue m.cid m.kept (packets_of arrivals) → m.len ≤ 57 + 59 * (m.kept + length arrivals) →
+    → AreContinuations m.cid m.kept (packets_of arrivals) → m.len ≤ 57 + 59 * (m.kept + length arrivals) →
     57 + 59 * (m.kept + length arrivals) < m.len + 59
     → received (record { given = given; current = Some m; finished = finished }) arrivals
     ≡ record { given = given; current = None; finished = take m.len (m.bytes ++ flat_map continuation_data (packets_of arrivals)) }
@@ -85,9 +85,9 @@ continues (x ∷ y ∷ more) given since m finished some last time follow enough
 
 -- the row of an initialization packet where nothing is open
 served_tests : (given cid cmd len : ℕ) → 1 ≤ cid → cid ≤ given → (cmd ≡ 1) ⊎ ((cmd ≡ 16) × (1 ≤ len)) → len ≤ 7609
-    → ((cmd == CANCEL) ≡ false) × (not (is_given given cid || ((cid == BROADCAST) && (cmd == INIT))) ≡ false)
+    → ((cmd == CANCEL) ≡ false) × (not (is_allocated given cid || ((cid == BROADCAST) && (cmd == INIT))) ≡ false)
     × ((cmd == INIT) ≡ false)
-    × (not ((cmd == PING) || (cmd == CBOR)) ≡ false) × ((nat_lt LONGEST_MESSAGE len || ((cmd == CBOR) && (len == 0)))
+    × (not ((cmd == PING) || (cmd == CBOR)) ≡ false) × ((nat_lt MAX_MESSAGE_LEN len || ((cmd == CBOR) && (len == 0)))
     ≡ false)
 served_tests given cid cmd len low high x6 fits = grind (arith, nat_tests)
 
@@ -119,7 +119,7 @@ first_fields p others cid cmd bytes c = grind (arith, nat_tests)
 -- With nothing open, the packets of a message that is admitted finish it with its bytes.
 pub message_finishes : (a : Assembly) (arrivals : List Arrival) (cid cmd : ℕ) (bytes : List ℕ) → a.current ≡ None →
     1 ≤ cid → cid ≤ a.given → IsServed cmd bytes
-    → CarriesMessage (packets_of arrivals) cid cmd bytes → ComeInTime arrivals
+    → CarriesMessage (packets_of arrivals) cid cmd bytes → ArriveInTime arrivals
     → received a arrivals ≡ record { given = a.given; current = None; finished = bytes }
 unfolding received received_one open_after message_after is_overdue
 message_finishes a [] cid cmd bytes none low high served c time = absurd c
@@ -159,7 +159,7 @@ verdict_as a f ruling h = ap (λ r. ruling_verdict a.given a.current None f (mes
 
 continues_verdict : (arrivals : List Arrival) (given since : ℕ) (m : Open) (finished : List ℕ) → 0 < length arrivals →
     m.last ≡ since → InTime since arrivals
-    → Continue m.cid m.kept (packets_of arrivals) → m.len ≤ 57 + 59 * (m.kept + length arrivals) →
+    → AreContinuations m.cid m.kept (packets_of arrivals) → m.len ≤ 57 + 59 * (m.kept + length arrivals) →
     57 + 59 * (m.kept + length arrivals) < m.len + 59
     → last_verdict (record { given = given; current = Some m; finished = finished }) arrivals ≡ Finished m.cid m.cmd
 unfolding last_verdict received_one open_after message_after ruling_verdict
@@ -191,7 +191,7 @@ continues_verdict (x ∷ y ∷ more) given since m finished some last time follo
 
 pub message_told : (a : Assembly) (arrivals : List Arrival) (cid cmd : ℕ) (bytes : List ℕ) → a.current ≡ None →
     1 ≤ cid → cid ≤ a.given → IsServed cmd bytes
-    → CarriesMessage (packets_of arrivals) cid cmd bytes → ComeInTime arrivals
+    → CarriesMessage (packets_of arrivals) cid cmd bytes → ArriveInTime arrivals
     → last_verdict a arrivals ≡ Finished cid cmd
 unfolding last_verdict received_one open_after message_after is_overdue ruling_verdict
 message_told a [] cid cmd bytes none low high served c time = absurd c

@@ -5,13 +5,13 @@ use Rattle.hid_packet.specs.Commands.{PING, INIT, CBOR, CANCEL, BROADCAST}
 use Rattle.hid_assemble.specs.{declared.table.ReplyRow.ReplyRow, Assembly.IsOpenMessage}
 use Rattle.hid_assemble.specs.declared.table.ReplyRow.TheVariants.{InitNew, Short, Long}
 use Rattle.hid_assemble.specs.declared.table.Continuation.{Continuation, TheVariants.Kept, TheVariants.Whole}
-use Rattle.hid_assemble.specs.Table.{LAST_CHANNEL, is_given, is_on, initialization_row, continues}
+use Rattle.hid_assemble.specs.Table.{MAX_CHANNEL, is_allocated, is_on, init_packet_row, continues}
 use Rattle.hid_assemble.proofs.{Comparing.cond_case, ByCommand.init_row, ByCommand.begin_row, ByCommand.by_command}
-use Rattle.hid_packet.specs.Limits.{LONGEST_MESSAGE}
+use Rattle.hid_packet.specs.Limits.{MAX_MESSAGE_LEN}
 
 -- what the row of an initialization packet says of it
 abbrev pub RowSays : (given cid cmd len : ℕ) → ReplyRow → Type 0
-RowSays given cid cmd len InitNew = given < LAST_CHANNEL
+RowSays given cid cmd len InitNew = given < MAX_CHANNEL
 RowSays given cid cmd len Short = len ≤ 57
 RowSays given cid cmd len Long = IsOpenMessage given cid cmd len 0
 RowSays given cid cmd len _ = Unit {0}
@@ -22,17 +22,17 @@ ContinuationSays len kept Kept = 57 + 59 * (kept + 1) < len
 ContinuationSays len kept Whole = len ≤ 57 + 59 * (kept + 1)
 ContinuationSays len kept _ = Unit {0}
 
-free : (given : ℕ) → given ≤ LAST_CHANNEL → (given == LAST_CHANNEL) ≡ false → given < LAST_CHANNEL
+free : (given : ℕ) → given ≤ MAX_CHANNEL → (given == MAX_CHANNEL) ≡ false → given < MAX_CHANNEL
 free given few h = grind (arith, nat_tests)
 
-init_says : (given cid cmd len : ℕ) → given ≤ LAST_CHANNEL → RowSays given cid cmd len (init_row given cid len)
+init_says : (given cid cmd len : ℕ) → given ≤ MAX_CHANNEL → RowSays given cid cmd len (init_row given cid len)
 unfolding init_row
 init_says given cid cmd len few = grind (arith, nat_tests)
 
 served : (cmd : ℕ) → not ((cmd == PING) || (cmd == CBOR)) ≡ false → (cmd ≡ PING) ⊎ (cmd ≡ CBOR)
 served cmd h = grind (arith, nat_tests)
 
-within : (cmd len : ℕ) → (nat_lt LONGEST_MESSAGE len || ((cmd == CBOR) && (len == 0))) ≡ false → len ≤ LONGEST_MESSAGE
+within : (cmd len : ℕ) → (nat_lt MAX_MESSAGE_LEN len || ((cmd == CBOR) && (len == 0))) ≡ false → len ≤ MAX_MESSAGE_LEN
 within cmd len h = grind (arith, nat_tests)
 
 begin_says : (given : ℕ) (current work : Option ℕ) (cid cmd len : ℕ) → 1 ≤ cid → cid ≤ given →
@@ -45,14 +45,14 @@ channel_given : (given cid cmd : ℕ) → not ((nat_le 1 cid && nat_le cid given
     → (cmd == INIT) ≡ false → (1 ≤ cid) × (cid ≤ given)
 channel_given given cid cmd h other = grind (arith, nat_tests)
 
-pub row_says : (given : ℕ) (current work : Option ℕ) (cid cmd len : ℕ) → given ≤ LAST_CHANNEL
-    → RowSays given cid cmd len (initialization_row given current work cid cmd len)
+pub row_says : (given : ℕ) (current work : Option ℕ) (cid cmd len : ℕ) → given ≤ MAX_CHANNEL
+    → RowSays given cid cmd len (init_packet_row given current work cid cmd len)
 row_says given current work cid cmd len few =
     let P = RowSays given cid cmd len in
     subst P (sym (by_command given current work cid cmd len))
     (cond_case P (cmd == CANCEL) _ _
     (λ _. cond_case P (is_on work cid) _ _ (λ _. tt) (λ _. tt))
-    (λ _. cond_case P (not (is_given given cid || ((cid == BROADCAST) && (cmd == INIT)))) _ _ (λ _. tt)
+    (λ _. cond_case P (not (is_allocated given cid || ((cid == BROADCAST) && (cmd == INIT)))) _ _ (λ _. tt)
     (λ known. cond_case P (cmd == INIT) _ _ (λ _. init_says given cid cmd len few)
     (λ other. let on = channel_given given cid cmd known other in
     begin_says given current work cid cmd len on.0 on.1))))

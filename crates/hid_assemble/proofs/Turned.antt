@@ -1,8 +1,8 @@
 -- Noise is what is turned away, and nothing else is.
 use Rattle.std.proofs.Common.{◌≡◌, ℕ, true, List, [], Option, refl, ◌∙◌, arith}
 use Rattle.hid_packet.specs.Packet.{Fields, initialization, continuation}
-use Rattle.hid_assemble.specs.Table.{Open, Ruling, is_noise, ruling_of, continuation_row}
-use Rattle.hid_assemble.specs.Assembly.{Assembly, accepted, kept_by, message_after, open_after}
+use Rattle.hid_assemble.specs.Table.{Open, Ruling, is_noise, ruling_of, cont_packet_row}
+use Rattle.hid_assemble.specs.Assembly.{Assembly, accepted, assembly_after_ruling, message_after, open_after}
 use Rattle.hid_assemble.specs.Verdicts.{is_turned_away, ruling_verdict, verdict}
 
 -- a packet that begins something, under any row
@@ -18,7 +18,7 @@ continues_turned : (g : ℕ) (o : Option Open) (w : Option ℕ) (cid number : �
     → ruling_of g o w (continuation cid number part) ≡ r
     → is_noise r ≡ is_turned_away (ruling_verdict g o w (continuation cid number part)
     (message_after o (continuation cid number part) r) r)
-unfolding ruling_of continuation_row message_after ruling_verdict
+unfolding ruling_of cont_packet_row message_after ruling_verdict
 continues_turned g o w cid number part r e = grind (arith)
 
 pub noise_turned : (a : Assembly) (w : Option ℕ) (f : Fields)
@@ -28,7 +28,7 @@ noise_turned a w (initialization cid cmd len part) = begins_turned a.given a.cur
 noise_turned a w (continuation cid number part) = continues_turned a.given a.current w cid number part _ refl
 
 noise_kept : (a : Assembly) (at : ℕ) (f : Fields) (r : Ruling) → is_noise r ≡ true
-    → kept_by a at f r ≡ record { given = a.given; current = a.current; finished = [] }
+    → assembly_after_ruling a at f r ≡ record { given = a.given; current = a.current; finished = [] }
 unfolding message_after open_after
 noise_kept a at f r h = grind arith
 

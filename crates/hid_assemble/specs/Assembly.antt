@@ -1,47 +1,49 @@
--- What is kept of the packets that came, and what each row of the reply table makes of it (CTAP 2.1, section 11.2.4).
+-- The state of message assembly, and how each row of the reply table changes it (CTAP 2.1, section 11.2.4).
 use Rattle.std.specs.Prelude.{◌≡◌, ℕ, ◌+◌, ◌≤◌, ◌<◌, ◌⊎◌, Bool, false, ◌==◌, nat_le, List, [], ◌++◌, take, length}
 use Rattle.std.specs.Prelude.{Option, Some, None, option_map, if◌then◌else◌}
 use Rattle.hid_packet.specs.Commands.{PING, CBOR}
 use Rattle.hid_packet.specs.Packet.{Fields, channel_of, command_of, length_of, data_of}
-use Rattle.hid_assemble.specs.Table.{Open, Ruling, Begins, Continues, LAST_CHANNEL, ruling_of}
+use Rattle.hid_assemble.specs.Table.{Open, Ruling, Begins, Continues, MAX_CHANNEL, ruling_of}
 use Rattle.hid_assemble.specs.declared.table.ReplyRow.TheVariants.{InitLength, InitNew, InitAgain, BrokenOff, Short}
 use Rattle.hid_assemble.specs.declared.table.ReplyRow.TheVariants.{Long}
 use Rattle.hid_assemble.specs.declared.table.Continuation.TheVariants.{Stray, WrongNumber, Kept, Whole}
-use Rattle.hid_packet.specs.Limits.{data_capacity, INITIALIZATION_DATA, LONGEST_MESSAGE, MESSAGE_TIMEOUT}
+use Rattle.hid_packet.specs.Limits.{data_capacity, INIT_PACKET_DATA, MAX_MESSAGE_LEN, MESSAGE_TIMEOUT}
 
--- A finished message.
+-- A complete message.
 pub record Message : Type 0 where
   pub cid : ℕ
   pub cmd : ℕ
   pub bytes : List ℕ
 
--- How many channels were given out, the open message, and the bytes of the message that the last packet finished.
+-- The number of allocated channels, the incomplete message if any, and the data of the message that the last packet
+-- completed.
 pub record Assembly : Type 0 where
   pub given : ℕ
   pub current : Option Open
   pub finished : List ℕ
 
--- An open message is overdue 500 ms after its last packet (CTAP 2.1, section 11.2.5.2).
+-- A message times out 500 ms after its last packet (CTAP 2.1, section 11.2.5.2).
 unfoldable pub is_overdue : Option Open → ℕ → Bool
 is_overdue None at = false
 is_overdue (Some m) at = nat_le (m.last + MESSAGE_TIMEOUT) at
 
--- the open message, less an overdue one
+-- The incomplete message, unless it timed out.
 abbrev pub still_open : Option Open → ℕ → Option Open
 still_open current at = if is_overdue current at then None else current
 
--- how many data bytes are held of the open message: 57 of its initialization packet, and 59 of each continuation packet
+-- The data bytes stored of the incomplete message: 57 of its initialization packet, and 59 of each continuation packet.
 abbrev pub held_bytes : Option Open → ℕ
 held_bytes None = 0
 held_bytes (Some m) = data_capacity m.kept
 
--- What a packet makes of the channels and of the open message.
-abbrev pub given_after : ℕ → Ruling → ℕ
-given_after given (Begins InitNew) = given + 1
-given_after given _ = given
+-- The number of allocated channels after a packet.
+abbrev pub channels_after : ℕ → Ruling → ℕ
+channels_after given (Begins InitNew) = given + 1
+channels_after given _ = given
 
-abbrev pub begun : ℕ → Fields → Open
-begun at f = record {
+-- The incomplete message that an initialization packet begins.
+abbrev pub open_message : ℕ → Fields → Open
+open_message at f = record {
   cid = channel_of f;
   cmd = command_of f;
   len = length_of f;
@@ -50,8 +52,9 @@ begun at f = record {
   last = at;
 }
 
-abbrev pub grown : ℕ → Fields → Open → Open
-grown at f m = record {
+-- The message with the data of a continuation packet.
+abbrev pub with_continuation : ℕ → Fields → Open → Open
+with_continuation at f m = record {
   cid = m.cid;
   cmd = m.cmd;
   len = m.len;
@@ -60,27 +63,29 @@ grown at f m = record {
   last = at;
 }
 
--- the open message, but not one on this channel
+-- The incomplete message, unless it is on this channel.
 abbrev pub drop_on : Option Open → ℕ → Option Open
 drop_on None cid = None
 drop_on (Some m) cid = if m.cid == cid then None else Some m
 
+-- The incomplete message after a packet.
 unfoldable pub open_after : Option Open → ℕ → Fields → Ruling → Option Open
 open_after current at f (Begins InitLength) = drop_on current (channel_of f)
 open_after current at f (Begins InitAgain) = drop_on current (channel_of f)
 open_after current at f (Begins BrokenOff) = None
 open_after current at f (Begins Short) = None
-open_after current at f (Begins Long) = Some (begun at f)
+open_after current at f (Begins Long) = Some (open_message at f)
 open_after current at f (Begins _) = current
 open_after current at f (Continues Stray) = current
 open_after current at f (Continues WrongNumber) = None
-open_after current at f (Continues Kept) = option_map (grown at f) current
+open_after current at f (Continues Kept) = option_map (with_continuation at f) current
 open_after current at f (Continues Whole) = None
 
--- The message that a packet finishes: its bytes are the first `len` of the joined data.
+-- The message that a packet completes: the first `len` bytes of its packets' data.
 abbrev pub completed : Fields → Open → Message
 completed f m = record { cid = m.cid; cmd = m.cmd; bytes = take m.len (m.bytes ++ data_of f) }
 
+-- The message that a packet completes, if any.
 unfoldable pub message_after : Option Open → Fields → Ruling → Option Message
 message_after current f (Begins Short) = Some (record {
   cid = channel_of f;
@@ -90,39 +95,40 @@ message_after current f (Begins Short) = Some (record {
 message_after current f (Continues Whole) = option_map (completed f) current
 message_after current f _ = None
 
+-- The bytes of a message, or none.
 abbrev pub bytes_of : Option Message → List ℕ
 bytes_of None = []
 bytes_of (Some m) = m.bytes
 
--- What a packet makes of all that is kept.
-abbrev pub kept_by : Assembly → ℕ → Fields → Ruling → Assembly
-kept_by a at f ruling =
+-- The state after a packet, by its row of the reply table.
+abbrev pub assembly_after_ruling : Assembly → ℕ → Fields → Ruling → Assembly
+assembly_after_ruling a at f ruling =
     record {
-      given = given_after a.given ruling;
+      given = channels_after a.given ruling;
       current = open_after a.current at f ruling;
       finished = bytes_of (message_after a.current f ruling);
     }
 
--- What is kept after a packet with these fields.
+-- The state after a packet with these fields.
 unfoldable pub accepted : Assembly → ℕ → Option ℕ → Fields → Assembly
-accepted a at work f = kept_by a at f (ruling_of a.given a.current work f)
+accepted a at work f = assembly_after_ruling a at f (ruling_of a.given a.current work f)
 
--- An open message is a PING or a CBOR message on a channel that was given out, too long for one packet and not yet
--- whole.
+-- An incomplete message: PING or CBOR, on an allocated channel, longer than one packet.
 pub record IsOpenMessage (given cid cmd len kept : ℕ) : Type 0 where
   pub low : 1 ≤ cid
   pub high : cid ≤ given
   pub served : (cmd ≡ PING) ⊎ (cmd ≡ CBOR)
-  pub longer : INITIALIZATION_DATA < len
-  pub longest : len ≤ LONGEST_MESSAGE
+  pub longer : INIT_PACKET_DATA < len
+  pub longest : len ≤ MAX_MESSAGE_LEN
   pub more : data_capacity kept < len
 
-abbrev pub OpenIsLawful : ℕ → Option Open → Type 0
-OpenIsLawful given None = Unit {0}
-OpenIsLawful given (Some m) = IsOpenMessage given m.cid m.cmd m.len m.kept × (length m.bytes ≡ data_capacity m.kept)
+-- The incomplete message, if any, is valid.
+abbrev pub OpenIsValid : ℕ → Option Open → Type 0
+OpenIsValid given None = Unit {0}
+OpenIsValid given (Some m) = IsOpenMessage given m.cid m.cmd m.len m.kept × (length m.bytes ≡ data_capacity m.kept)
 
--- what holds of everything that is kept
-pub record IsLawful (a : Assembly) : Type 0 where
-  pub channels : a.given ≤ LAST_CHANNEL
-  pub current : OpenIsLawful a.given a.current
-  pub short : length a.finished ≤ LONGEST_MESSAGE
+-- The invariant of the state.
+pub record IsValidAssembly (a : Assembly) : Type 0 where
+  pub channels : a.given ≤ MAX_CHANNEL
+  pub current : OpenIsValid a.given a.current
+  pub short : length a.finished ≤ MAX_MESSAGE_LEN

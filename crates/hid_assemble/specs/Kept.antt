@@ -1,11 +1,11 @@
--- What the fields of an `Assembler` mean.
+-- The state that the fields of an `Assembler` represent.
 use Rattle.std.specs.Prelude.{◌≡◌, ℕ, ◌≤◌, List, [], take, length, Option, Some, None}
-use Rattle.hid_assemble.specs.{Table.Open, Table.LAST_CHANNEL, Assembly.Assembly, Assembly.IsOpenMessage}
+use Rattle.hid_assemble.specs.{Table.Open, Table.MAX_CHANNEL, Assembly.Assembly, Assembly.IsOpenMessage}
 use Rattle.hid_assemble.specs.declared.assembler.{OpenMessage.OpenMessage, Contents.Contents}
 use Rattle.hid_assemble.specs.declared.assembler.Contents.TheVariants.{Nothing, Open as HoldsOpen, Finished}
-use Rattle.hid_packet.specs.Limits.{data_capacity, LONGEST_MESSAGE}
+use Rattle.hid_packet.specs.Limits.{data_capacity, MAX_MESSAGE_LEN}
 
--- the open message, whose data bytes are the first of the buffer
+-- The incomplete message of the code's state, whose data is at the beginning of the buffer.
 abbrev pub opened : List ℕ → OpenMessage → Open
 opened buffer m = record {
   cid = m.cid;
@@ -16,16 +16,19 @@ opened buffer m = record {
   last = m.last;
 }
 
+-- The incomplete message in the code's state, if any.
 abbrev pub open_in : List ℕ → Contents → Option Open
 open_in buffer Nothing = None
 open_in buffer (HoldsOpen m) = Some (opened buffer m)
 open_in buffer (Finished len) = None
 
+-- The bytes of the completed message in the code's state, or none.
 abbrev pub finished_in : List ℕ → Contents → List ℕ
 finished_in buffer Nothing = []
 finished_in buffer (HoldsOpen m) = []
 finished_in buffer (Finished len) = take len buffer
 
+-- The state that the code's fields and buffer represent.
 unfoldable pub assembly : ℕ → Contents → List ℕ → Assembly
 assembly given contents buffer = record {
   given = given;
@@ -33,12 +36,14 @@ assembly given contents buffer = record {
   finished = finished_in buffer contents;
 }
 
+-- The code's fields are valid for this number of allocated channels.
 abbrev pub MayBeHeld : ℕ → Contents → Type 0
 MayBeHeld given Nothing = Unit {0}
 MayBeHeld given (HoldsOpen m) = IsOpenMessage given m.cid m.cmd m.len m.kept
-MayBeHeld given (Finished len) = len ≤ LONGEST_MESSAGE
+MayBeHeld given (Finished len) = len ≤ MAX_MESSAGE_LEN
 
+-- The code's state is valid, with this buffer.
 pub record IsKept (given : ℕ) (contents : Contents) (buffer : List ℕ) : Type 0 where
-  pub channels : given ≤ LAST_CHANNEL
-  pub size : length buffer ≡ LONGEST_MESSAGE
+  pub channels : given ≤ MAX_CHANNEL
+  pub size : length buffer ≡ MAX_MESSAGE_LEN
   pub held : MayBeHeld given contents

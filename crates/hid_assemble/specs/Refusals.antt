@@ -1,13 +1,14 @@
--- Why a packet is refused: what each refusing row of the reply table compared, and the number that the ERROR packet
--- carries (CTAP 2.1, section 11.2.9.1.6).
+-- Why a packet is rejected: the values that a row of the reply table compares, and the error code in the ERROR packet
+-- (CTAP 2.1, section 11.2.9.1.6).
 use Rattle.std.specs.Prelude.{ℕ, Option, Some, None, unwrap_or, if◌then◌else◌}
 use Rattle.hid_packet.specs.Packet.{Fields, initialization, continuation}
-use Rattle.hid_assemble.specs.Table.{Open, is_elsewhere}
+use Rattle.hid_assemble.specs.Table.{Open, is_on_other}
 use Rattle.hid_assemble.specs.declared.refusal.Refusal.{Refusal}
 use Rattle.hid_assemble.specs.declared.refusal.Refusal.TheVariants.{NoSuchCommand, InitLength, MessageLength}
 use Rattle.hid_assemble.specs.declared.refusal.Refusal.TheVariants.{WrongNumber, BrokenOff, Overdue, BusyElsewhere}
 use Rattle.hid_assemble.specs.declared.refusal.Refusal.TheVariants.{BusyHere, NoSuchChannel, NoChannelLeft}
 
+-- The error code of an ERROR (CTAP 2.1, section 11.2.9.1.6).
 abbrev pub code_number : Refusal → ℕ
 code_number (NoSuchCommand cmd) = 0x01
 code_number (InitLength len) = 0x03
@@ -20,21 +21,21 @@ code_number BusyHere = 0x06
 code_number (NoSuchChannel given) = 0x0b
 code_number NoChannelLeft = 0x7f
 
--- the number of the continuation packet that is due
+-- The sequence number that the incomplete message expects.
 abbrev pub due_number : Option Open → ℕ
 due_number None = 0
 due_number (Some m) = m.kept
 
--- the moment of the last packet of the open message
+-- The time of the incomplete message's last packet.
 abbrev pub last_of : Option Open → ℕ
 last_of None = 0
 last_of (Some m) = m.last
 
--- the number that a continuation packet has
+-- The sequence number of a continuation packet.
 abbrev pub number_in : Fields → ℕ
 number_in (initialization cid cmd len part) = 0
 number_in (continuation cid number part) = number
 
--- the channel that is busy, for a packet of another one: that of the open message, else that of waiting work
+-- The channel that is busy: that of the incomplete message, or else that of the pending request.
 abbrev pub busy_channel : Option ℕ → Option ℕ → ℕ → ℕ
-busy_channel current work cid = if is_elsewhere current cid then unwrap_or current cid else unwrap_or work cid
+busy_channel current work cid = if is_on_other current cid then unwrap_or current cid else unwrap_or work cid

@@ -1,6 +1,6 @@
--- The reply table: which of its rows a packet falls under (CTAP 2.1, sections 11.2.4, 11.2.5 and 11.2.9, with this
--- project's choices). It looks at the packet's fields, at how many channels were given out, at the open message and at
--- the channel of waiting work.
+-- The reply table: the row that applies to a packet (CTAP 2.1, sections 11.2.4, 11.2.5 and 11.2.9, with choices of
+-- this project). It depends on the packet's fields, the number of allocated channels, the incomplete message, and the
+-- channel of the pending request.
 use Rattle.std.specs.Prelude.{ℕ, ◌+◌, Bool, true, false, not, ◌&&◌, ◌||◌, ◌==◌, nat_le, nat_lt, List, [], ◌∷◌, Option}
 use Rattle.std.specs.Prelude.{Some, None, option_map, if◌then◌else◌}
 use Rattle.hid_packet.specs.Commands.{PING, INIT, CBOR, CANCEL, BROADCAST}
@@ -11,10 +11,10 @@ use Rattle.hid_assemble.specs.declared.table.ReplyRow.TheVariants.{InitLength, I
 use Rattle.hid_assemble.specs.declared.table.ReplyRow.TheVariants.{BusyElsewhere, BusyHere, BrokenOff, NoSuchCommand}
 use Rattle.hid_assemble.specs.declared.table.ReplyRow.TheVariants.{BadLength, Short, Long}
 use Rattle.hid_assemble.specs.declared.table.Continuation.TheVariants.{Stray, WrongNumber, Kept, Whole}
-use Rattle.hid_packet.specs.Limits.{data_capacity, INITIALIZATION_DATA, LONGEST_MESSAGE}
+use Rattle.hid_packet.specs.Limits.{data_capacity, INIT_PACKET_DATA, MAX_MESSAGE_LEN}
 
--- An open message: what its initialization packet said, the data bytes so far, how many continuation packets brought
--- them, and the moment of the last packet.
+-- An incomplete message: the fields of its initialization packet, its data so far, the number of its continuation
+-- packets, and the time of the last packet.
 pub record Open : Type 0 where
   pub cid : ℕ
   pub cmd : ℕ
@@ -23,51 +23,52 @@ pub record Open : Type 0 where
   pub kept : ℕ
   pub last : ℕ
 
--- the last one that is given out
-abbrev pub LAST_CHANNEL : ℕ
-LAST_CHANNEL = 0xffff_fffe
+-- The last channel ID that is allocated.
+abbrev pub MAX_CHANNEL : ℕ
+MAX_CHANNEL = 0xffff_fffe
 
--- Channels 1 to `given` were given out.
-abbrev pub is_given : ℕ → ℕ → Bool
-is_given given cid = nat_le 1 cid && nat_le cid given
+-- Channels 1 to `given` are allocated.
+abbrev pub is_allocated : ℕ → ℕ → Bool
+is_allocated given cid = nat_le 1 cid && nat_le cid given
 
--- there is a number, and it is this one
+-- There is a busy channel, and it is this one.
 abbrev pub is_on : Option ℕ → ℕ → Bool
 is_on None cid = false
 is_on (Some busy) cid = busy == cid
 
--- there is one, and it is another
-abbrev pub is_elsewhere : Option ℕ → ℕ → Bool
-is_elsewhere None cid = false
-is_elsewhere (Some busy) cid = not (busy == cid)
+-- There is a busy channel, and it is another one.
+abbrev pub is_on_other : Option ℕ → ℕ → Bool
+is_on_other None cid = false
+is_on_other (Some busy) cid = not (busy == cid)
 
--- the first row whose test holds
+-- The first row whose test holds, or else the last argument.
 abbrev pub first_row : List (Bool × ReplyRow) → ReplyRow → ReplyRow
 first_row [] else_row = else_row
 first_row (t ∷ ts) else_row = if t.0 then t.1 else first_row ts else_row
 
--- `current` is the channel of the open message, `work` that of waiting work.
-unfoldable pub initialization_row : ℕ → Option ℕ → Option ℕ → ℕ → ℕ → ℕ → ReplyRow
-initialization_row given current work cid cmd len =
+-- The row of the reply table for an initialization packet. `current` is the channel of the incomplete message, `work`
+-- that of the pending request.
+unfoldable pub init_packet_row : ℕ → Option ℕ → Option ℕ → ℕ → ℕ → ℕ → ReplyRow
+init_packet_row given current work cid cmd len =
     let asks_for_channel = (cid == BROADCAST) && (cmd == INIT) in
     first_row
     (((cmd == CANCEL) && is_on work cid, CancelsWork)
     ∷ (cmd == CANCEL, CancelsNothing)
-    ∷ (not (is_given given cid || asks_for_channel), NoSuchChannel)
+    ∷ (not (is_allocated given cid || asks_for_channel), NoSuchChannel)
     ∷ ((cmd == INIT) && not (len == 8), InitLength)
-    ∷ (asks_for_channel && (given == LAST_CHANNEL), InitFull)
+    ∷ (asks_for_channel && (given == MAX_CHANNEL), InitFull)
     ∷ (asks_for_channel, InitNew)
     ∷ (cmd == INIT, InitAgain)
-    ∷ (is_elsewhere current cid || is_elsewhere work cid, BusyElsewhere)
+    ∷ (is_on_other current cid || is_on_other work cid, BusyElsewhere)
     ∷ (is_on work cid, BusyHere)
     ∷ (is_on current cid, BrokenOff)
     ∷ (not (cmd == PING || cmd == CBOR), NoSuchCommand)
-    ∷ (nat_lt LONGEST_MESSAGE len || (cmd == CBOR && (len == 0)), BadLength)
-    ∷ (nat_le len INITIALIZATION_DATA, Short)
+    ∷ (nat_lt MAX_MESSAGE_LEN len || (cmd == CBOR && (len == 0)), BadLength)
+    ∷ (nat_le len INIT_PACKET_DATA, Short)
     ∷ []) Long
 
--- A continuation packet, where a message of `len` bytes is open on the channel `on` and `kept` of its packets were
--- kept.
+-- The kind of a continuation packet, given an incomplete message of `len` bytes on channel `on`, of which `kept`
+-- continuation packets were received.
 abbrev pub continues : (on len kept cid number : ℕ) → Continuation
 continues on len kept cid number =
     if not (on == cid) then Stray
@@ -75,24 +76,25 @@ continues on len kept cid number =
     else if nat_lt (data_capacity (kept + 1)) len then Kept
     else Whole
 
--- the same where a message may be open: without one it is stray
-unfoldable pub continuation_row : Option Open → ℕ → ℕ → Continuation
-continuation_row None cid number = Stray
-continuation_row (Some m) cid number = continues m.cid m.len m.kept cid number
+-- The kind of a continuation packet, which is ignored if there is no incomplete message.
+unfoldable pub cont_packet_row : Option Open → ℕ → ℕ → Continuation
+cont_packet_row None cid number = Stray
+cont_packet_row (Some m) cid number = continues m.cid m.len m.kept cid number
 
--- What a packet with these fields is: under this row, or such a continuation packet.
+-- The classification of a packet: the row of an initialization packet, or the kind of a continuation packet.
 pub data Ruling : Type 0 where
   Begins : ReplyRow → Ruling
   Continues : Continuation → Ruling
 
--- the ruling on a packet, by how many channels were given out, the open message, and the channel of waiting work
+-- The classification of a packet, by the number of allocated channels, the incomplete message, and the channel of the
+-- pending request.
 unfoldable pub ruling_of : ℕ → Option Open → Option ℕ → Fields → Ruling
 ruling_of given current work (initialization cid cmd len part) =
-    Begins (initialization_row given (option_map (λ m. m.cid) current) work cid cmd len)
-ruling_of given current work (continuation cid number part) = Continues (continuation_row current cid number)
+    Begins (init_packet_row given (option_map (λ m. m.cid) current) work cid cmd len)
+ruling_of given current work (continuation cid number part) = Continues (cont_packet_row current cid number)
 
--- A packet is noise, which changes nothing, where it is a CANCEL for which no work waits, where its channel was never
--- given out, where its channel or another is busy, and where it continues no open message.
+-- A packet that changes nothing: a CANCEL without a pending request, a packet on a channel that isn't allocated or
+-- while a channel is busy, or a continuation packet outside any transaction.
 abbrev pub is_noise : Ruling → Bool
 is_noise (Begins CancelsNothing) = true
 is_noise (Begins NoSuchChannel) = true

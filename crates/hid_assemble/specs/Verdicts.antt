@@ -1,4 +1,4 @@
--- What the reply table answers to a packet, and why it refuses one.
+-- The verdict of the reply table on a packet, and the reason if it is rejected.
 use Rattle.std.specs.Prelude.{ℕ, ◌+◌, Bool, true, false, List, take, Option, Some, None, option_map, if◌then◌else◌}
 use Rattle.hid_packet.specs.Commands.{BROADCAST}
 use Rattle.hid_packet.specs.Packet.{Fields, channel_of, command_of, length_of, data_of}
@@ -14,7 +14,7 @@ use Rattle.hid_assemble.specs.declared.table.Continuation.TheVariants.{Stray, Wr
 use Rattle.hid_assemble.specs.declared.verdict.Verdict.{Verdict, TheVariants.GreetAndDrop, TheVariants.CancelWork}
 use Rattle.hid_assemble.specs.declared.verdict.Verdict.TheVariants.{Ignored, Kept, Finished, Refuse, Greet}
 
--- What turns a packet away: silence, or an ERROR that its channel wasn't given out or is busy.
+-- The packet is ignored, or refused with ERROR "invalid channel" or "channel busy".
 abbrev pub is_turned_away : Verdict → Bool
 is_turned_away Ignored = true
 is_turned_away (Refuse cid (because.NoSuchChannel given)) = true
@@ -22,15 +22,16 @@ is_turned_away (Refuse cid (because.BusyElsewhere channel)) = true
 is_turned_away (Refuse cid because.BusyHere) = true
 is_turned_away _ = false
 
+-- The verdict on a packet that completes a message.
 abbrev pub finished_verdict : Option Message → Verdict
 finished_verdict None = Ignored
 finished_verdict (Some m) = Finished m.cid m.cmd
 
--- INIT on a given channel is greeted with that channel; work that waits there must be dropped.
-abbrev pub greeted_again : Option ℕ → ℕ → List ℕ → Verdict
-greeted_again work cid nonce = if is_on work cid then GreetAndDrop cid cid nonce else Greet cid cid nonce
+-- INIT on an allocated channel is answered with the same channel ID, and drops the pending request of that channel.
+abbrev pub init_on_allocated : Option ℕ → ℕ → List ℕ → Verdict
+init_on_allocated work cid nonce = if is_on work cid then GreetAndDrop cid cid nonce else Greet cid cid nonce
 
--- What is answered to a packet that finished this message or none.
+-- The verdict on a packet by its classification, and the message that it completes, if any.
 unfoldable pub ruling_verdict : ℕ → Option Open → Option ℕ → Fields → Option Message → Ruling → Verdict
 ruling_verdict given current work f m (Begins CancelsWork) = CancelWork
 ruling_verdict given current work f m (Begins CancelsNothing) = Ignored
@@ -38,7 +39,7 @@ ruling_verdict given current work f m (Begins NoSuchChannel) = Refuse (channel_o
 ruling_verdict given current work f m (Begins InitLength) = Refuse (channel_of f) (because.InitLength (length_of f))
 ruling_verdict given current work f m (Begins InitFull) = Refuse (channel_of f) because.NoChannelLeft
 ruling_verdict given current work f m (Begins InitNew) = Greet BROADCAST (given + 1) (take 8 (data_of f))
-ruling_verdict given current work f m (Begins InitAgain) = greeted_again work (channel_of f) (take 8 (data_of f))
+ruling_verdict given current work f m (Begins InitAgain) = init_on_allocated work (channel_of f) (take 8 (data_of f))
 ruling_verdict given current work f m (Begins BusyElsewhere) =
     Refuse (channel_of f) (because.BusyElsewhere (busy_channel (option_map (λ m. m.cid) current) work (channel_of f)))
 ruling_verdict given current work f m (Begins BusyHere) = Refuse (channel_of f) because.BusyHere
@@ -54,6 +55,7 @@ ruling_verdict given current work f m (Continues WrongNumber) =
 ruling_verdict given current work f m (Continues KeptOn) = Kept
 ruling_verdict given current work f m (Continues Whole) = finished_verdict m
 
+-- The verdict on a packet.
 unfoldable pub verdict : Assembly → Option ℕ → Fields → Verdict
 verdict a work f =
     let ruling = ruling_of a.given a.current work f in

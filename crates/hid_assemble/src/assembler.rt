@@ -1,26 +1,24 @@
-#![tactic(auto, unfolding(crate::specs::Table::ruling_of, crate::specs::Table::continuation_row, crate::specs::Assembly::accepted, crate::specs::Assembly::is_overdue, crate::specs::Assembly::open_after, crate::specs::Assembly::message_after, crate::specs::Verdicts::verdict, crate::specs::Verdicts::ruling_verdict, crate::specs::Kept::assembly))]
+#![tactic(auto, unfolding(crate::specs::Table::ruling_of, crate::specs::Table::cont_packet_row, crate::specs::Assembly::accepted, crate::specs::Assembly::is_overdue, crate::specs::Assembly::open_after, crate::specs::Assembly::message_after, crate::specs::Verdicts::verdict, crate::specs::Verdicts::ruling_verdict, crate::specs::Kept::assembly))]
 
 ghost use Rattle.std.specs.Prelude.{◌≡◌, ℕ, ◌+◌, ◌*◌, ◌≤◌, ◌<◌, ◌++◌, [], length, take, drop, Option, None, Some, option_map, if◌then◌else◌};
 ghost use Rattle.hid_packet.specs.Packet.{fields, initialization, continuation};
-ghost use Rattle.hid_assemble.specs.Assembly.{IsLawful, is_overdue, still_open, held_bytes, accepted, drop_on};
-ghost use Rattle.hid_assemble.specs.Table.{LAST_CHANNEL, is_noise, is_on, ruling_of};
+ghost use Rattle.hid_assemble.specs.Assembly.{IsValidAssembly, is_overdue, still_open, held_bytes, accepted, drop_on};
+ghost use Rattle.hid_assemble.specs.Table.{MAX_CHANNEL, is_noise, is_on, ruling_of};
 ghost use Rattle.hid_assemble.specs.Refusals.{due_number, last_of, busy_channel};
 ghost use Rattle.hid_assemble.specs.Verdicts.{verdict};
-ghost use Rattle.hid_packet.specs.Limits.{CONTINUATION_DATA, INITIALIZATION_DATA, LONGEST_HELD, LONGEST_MESSAGE};
+ghost use Rattle.hid_packet.specs.Limits.{CONT_PACKET_DATA, INIT_PACKET_DATA, LONGEST_HELD, MAX_MESSAGE_LEN};
 
 use crate::refusal::Refusal;
-use crate::table::{Continuation, ReplyRow, continuation_row, initialization_row};
+use crate::table::{Continuation, ReplyRow, cont_packet_row, init_packet_row};
 use crate::verdict::Verdict;
-use hid_packet::{
-    BROADCAST, CONTINUATION_DATA, INITIALIZATION_DATA, LONGEST_MESSAGE, Packet, View,
-};
+use hid_packet::{BROADCAST, CONT_PACKET_DATA, INIT_PACKET_DATA, MAX_MESSAGE_LEN, Packet, View};
 use std::marker::Model;
 
-/// How long after its last packet an open message is dropped, in milliseconds.
+/// Milliseconds after its last packet at which an open message times out.
 pub const MESSAGE_TIMEOUT: u64 = 500;
 
-/// An open message: what its initialization packet said, how many continuation packets were kept, and
-/// the moment of the last packet.
+/// An open message: the fields of its initialization packet, the number of continuation packets received, and the
+/// timestamp of the last packet.
 #[derive(Clone, Copy)]
 pub(crate) struct OpenMessage {
     pub(crate) cid: u32,
@@ -31,7 +29,7 @@ pub(crate) struct OpenMessage {
 }
 
 impl OpenMessage {
-    /// Returns that which an initialization packet begins, whose data is all that is kept.
+    /// Returns the message that an initialization packet begins.
     fn new(cid: u32, cmd: u8, len: u16, last: u64) -> Self
         ensures { result ≡ record { cid = cid; cmd = cmd; len = len; kept = 0; last = last } }
     {
@@ -45,17 +43,17 @@ impl OpenMessage {
     }
 }
 
-/// What the buffer holds.
+/// The content of the buffer.
 #[derive(Clone, Copy)]
 enum Contents {
     Nothing,
-    /// The data bytes so far of an open message.
+    /// The data bytes of an open message so far.
     Open(OpenMessage),
-    /// The message that the last packet finished, of so many bytes.
+    /// The complete message of the last packet, of this length.
     Finished(u16),
 }
 
-/// Writes the data bytes after those that are held already.
+/// Appends data bytes.
 fn put_data(message: &mut [u8], held: usize, part: &[u8])
     requires { held + length part.now ≤ length message.old }
     ensures { message.new ≡ take held message.old ++ (part.now ++ drop (held + length part.now) message.old) }
@@ -63,7 +61,7 @@ fn put_data(message: &mut [u8], held: usize, part: &[u8])
     message[held..held + part.len()].copy_from_slice(part);
 }
 
-/// Returns what an INIT with this data is answered on the channel `on`: work that waits there must be dropped.
+/// Returns the verdict for an INIT with this data on the channel `on`; a pending request there must be dropped.
 fn greet(on: u32, channel: u32, part: &[u8], working: Option<u32>) -> Verdict
     requires { 8 ≤ length part.now }
     ensures { result ≡ (if is_on working on then Verdict.GreetAndDrop on channel (take 8 part.now)
@@ -84,7 +82,7 @@ fn refuse(cid: u32, why: Refusal) -> Verdict
     Verdict::Refuse { cid, why }
 }
 
-/// Returns why a packet of a channel is refused while another one is busy.
+/// Returns the reason for refusing a packet of a channel while a channel is busy.
 fn busy_elsewhere(current: Option<u32>, working: Option<u32>, cid: u32) -> Refusal
     ensures { result ≡ Refusal.BusyElsewhere (busy_channel current working cid) }
 {
@@ -95,16 +93,17 @@ fn busy_elsewhere(current: Option<u32>, working: Option<u32>, cid: u32) -> Refus
     Refusal::BusyElsewhere { channel }
 }
 
-/// The channels that were given out, and the one message that may be open. A packet is served by
-/// [`accept`](Self::accept); before it, [`pass`](Self::pass) drops a message that is overdue.
+/// The allocated channels, and the one message that may be incomplete. [`accept`](Self::accept) handles a packet;
+/// before it, [`pass`](Self::pass) drops a message that timed out.
 #[derive(Drop)]
 pub struct Assembler {
     given: u32,
     contents: Contents,
-    buffer: [u8; LONGEST_MESSAGE as usize],
+    buffer: [u8; MAX_MESSAGE_LEN as usize],
 }
 
-// Clauses see how many channels were given out, the open message with its bytes, and the finished bytes.
+// In contracts, an assembler is the number of allocated channels, the open message with its bytes, and the bytes of
+// the complete message.
 impl Model for Assembler {
     ghost use Rattle.hid_assemble.specs.Assembly.{Assembly};
     ghost use Rattle.hid_assemble.specs.Kept.{assembly, IsKept};
@@ -117,26 +116,26 @@ impl Model for Assembler {
 }
 
 impl Assembler {
-    /// Returns one without an open message, by which no channel was given out.
+    /// Returns an assembler without an open message or an allocated channel.
     pub fn new() -> Self
         ensures value { result ≡ record { given = 0; current = None; finished = [] } }
     {
         Self::with_given(0)
     }
 
-    /// Returns the same with channels 1 to `given` given out.
+    /// Returns an assembler without an open message, with channels 1 to `given` allocated.
     pub fn with_given(given: u32) -> Self
-        requires { given ≤ LAST_CHANNEL }
+        requires { given ≤ MAX_CHANNEL }
         ensures { result ≡ record { given = given; current = None; finished = [] } }
     {
         Assembler {
             given,
             contents: Contents::Nothing,
-            buffer: [0; LONGEST_MESSAGE as usize],
+            buffer: [0; MAX_MESSAGE_LEN as usize],
         }
     }
 
-    /// Returns whether a message is open whose last packet came 500 ms or more before `at`.
+    /// Returns whether a message is open whose last packet arrived 500 ms or more before `at`.
     pub fn overdue(&self, at: u64) -> bool
         ensures { result ≡ is_overdue self.now.current at }
     {
@@ -152,7 +151,7 @@ impl Assembler {
         ensures dropped { result ≡ (if is_overdue self.old.current at then option_map (λ m. m.cid) self.old.current
             else None) }
         ensures state { self.new ≡ record self.old { current = still_open self.old.current at } }
-        ensures lawful { IsLawful self.new }
+        ensures lawful { IsValidAssembly self.new }
     {
         if !self.overdue(at) {
             return None;
@@ -162,15 +161,14 @@ impl Assembler {
         channel
     }
 
-    /// Serves a packet that came at `at` while work waits on the channel `working`, or none does: it
-    /// says which row of the reply table applies, keeps the packet's data where that row says so, and
-    /// returns or drops what it says. `CancelWork` and `GreetAndDrop` come only where work waits on the
-    /// packet's channel.
+    /// Handles a packet at time `at`, while a request is pending on the channel `working`, or none. Returns the verdict
+    /// of the first row of the reply table that applies, and stores or drops data accordingly. `CancelWork` and
+    /// `GreetAndDrop` only occur if a request is pending on the packet's channel.
     #[tactic(auto, unfolding(crate::specs::Assembly::accepted, crate::specs::Verdicts::verdict))]
     pub fn accept(&mut self, at: u64, packet: &Packet, working: Option<u32>) -> Verdict
         ensures verdict { result ≡ verdict self.old working (fields packet.now.0) }
         ensures state { self.new ≡ accepted self.old at working (fields packet.now.0) }
-        ensures lawful { IsLawful self.new }
+        ensures lawful { IsValidAssembly self.new }
     {
         self.forget_finished();
         match packet.view() {
@@ -184,8 +182,9 @@ impl Assembler {
         }
     }
 
-    /// Returns whether a packet that comes at `at`, while work waits on the channel `working` or none does, is noise:
-    /// after [`pass`](Self::pass) it would change nothing, and its host would be sent an ERROR or nothing.
+    /// Returns whether a packet at time `at` is ignored ("noise" in the theorem), while a request is pending on the
+    /// channel `working` or none: after [`pass`](Self::pass) it would change nothing, and only an ERROR or nothing
+    /// would be sent for it.
     pub fn is_noise(&self, at: u64, packet: &Packet, working: Option<u32>) -> bool
         ensures { result ≡ is_noise (ruling_of self.now.given (still_open self.now.current at) working
             (fields packet.now.0)) }
@@ -194,16 +193,16 @@ impl Assembler {
         match packet.view() {
             View::Start { cid, cmd, len, .. } => {
                 let current = if overdue { None } else { self.open_on() };
-                initialization_row(self.given(), current, working, cid, cmd, len).is_noise()
+                init_packet_row(self.given(), current, working, cid, cmd, len).is_noise()
             }
             View::More { cid, .. } => overdue || self.open_on() != Some(cid),
         }
     }
 
-    /// Forgets the message that the packet before finished.
+    /// Forgets the complete message of the packet before.
     fn forget_finished(&mut self)
         ensures forgotten { self.new ≡ record self.old { finished = [] } }
-        ensures lawful { IsLawful self.new }
+        ensures lawful { IsValidAssembly self.new }
     {
         if let Contents::Finished(_) = self.contents {
             self.contents = Contents::Nothing;
@@ -220,7 +219,7 @@ impl Assembler {
         }
     }
 
-    /// Serves an initialization packet.
+    /// Handles an initialization packet.
     fn begin(
         &mut self,
         at: u64,
@@ -230,12 +229,12 @@ impl Assembler {
         len: u16,
         part: &[u8],
     ) -> Verdict
-        requires data { length part.now ≡ INITIALIZATION_DATA }
+        requires data { length part.now ≡ INIT_PACKET_DATA }
         requires forgotten { self.old.finished ≡ [] }
         ensures verdict { result ≡ verdict self.old working (initialization cid cmd len part.now) }
         ensures state { self.new ≡ accepted self.old at working (initialization cid cmd len part.now) }
     {
-        match initialization_row(self.given, self.open_on(), working, cid, cmd, len) {
+        match init_packet_row(self.given, self.open_on(), working, cid, cmd, len) {
             ReplyRow::CancelsWork => Verdict::CancelWork,
             ReplyRow::CancelsNothing => Verdict::Ignored,
             ReplyRow::NoSuchChannel => refuse(cid, Refusal::NoSuchChannel { given: self.given }),
@@ -274,9 +273,9 @@ impl Assembler {
         }
     }
 
-    /// Serves a continuation packet.
+    /// Handles a continuation packet.
     fn go_on(&mut self, at: u64, cid: u32, number: u8, part: &[u8]) -> Verdict
-        requires data { length part.now ≡ CONTINUATION_DATA }
+        requires data { length part.now ≡ CONT_PACKET_DATA }
         requires forgotten { self.old.finished ≡ [] }
         ensures verdict { (working : Option ℕ) → result ≡ verdict self.old working (continuation cid number part.now) }
         ensures state { (working : Option ℕ) → self.new
@@ -286,7 +285,7 @@ impl Assembler {
         let Contents::Open(mut message) = self.contents else {
             return Verdict::Ignored;
         };
-        match continuation_row(&message, cid, number) {
+        match cont_packet_row(&message, cid, number) {
             Continuation::Stray => Verdict::Ignored,
             Continuation::WrongNumber => {
                 self.contents = Contents::Nothing;
@@ -316,10 +315,10 @@ impl Assembler {
         }
     }
 
-    /// Returns the bytes of the message that the last [`accept`](Self::accept) finished, none where it finished none.
+    /// Returns the message that the last [`accept`](Self::accept) completed; empty if none.
     pub fn message(&self) -> &[u8]
         ensures bytes { result.now ≡ self.now.finished }
-        ensures limit { length self.now.finished ≤ LONGEST_MESSAGE }
+        ensures limit { length self.now.finished ≤ MAX_MESSAGE_LEN }
     {
         match self.contents {
             Contents::Finished(len) => &self.buffer[..usize::from(len)],
@@ -327,15 +326,15 @@ impl Assembler {
         }
     }
 
-    /// Returns how many data bytes are held of the open message, 0 without one.
+    /// Returns the number of data bytes of the open message, 0 without one.
     pub fn held(&self) -> u16
-        ensures lawful { IsLawful self.now }
+        ensures lawful { IsValidAssembly self.now }
         ensures bytes { result ≡ held_bytes self.now.current }
         ensures limit { held_bytes self.now.current ≤ LONGEST_HELD }
     {
         match self.contents {
             Contents::Open(message) => {
-                (INITIALIZATION_DATA + CONTINUATION_DATA * usize::from(message.kept)) as u16
+                (INIT_PACKET_DATA + CONT_PACKET_DATA * usize::from(message.kept)) as u16
             }
             Contents::Nothing | Contents::Finished(_) => 0,
         }
@@ -351,7 +350,7 @@ impl Assembler {
         }
     }
 
-    /// Returns the number of the continuation packet that is due, 0 where no message is open.
+    /// Returns the expected sequence number, 0 without an open message.
     fn due(&self) -> u8
         ensures { result ≡ due_number self.now.current }
     {
@@ -361,7 +360,7 @@ impl Assembler {
         }
     }
 
-    /// Returns the moment of the last packet of the open message, 0 where no message is open.
+    /// Returns the timestamp of the open message's last packet, 0 without one.
     pub fn last(&self) -> u64
         ensures { result ≡ last_of self.now.current }
     {
@@ -371,10 +370,10 @@ impl Assembler {
         }
     }
 
-    /// Returns how many channels were given out.
+    /// Returns the number of allocated channels.
     pub fn given(&self) -> u32
         ensures count { result ≡ self.now.given }
-        ensures limit { self.now.given ≤ LAST_CHANNEL }
+        ensures limit { self.now.given ≤ MAX_CHANNEL }
     {
         self.given
     }

@@ -1,4 +1,4 @@
-//! What holds over the definitions alone. Each law is the contract of a function that does nothing.
+//! Laws stated over the definitions. Each is the contract of a function that does nothing.
 
 ghost use Rattle.std.specs.Prelude.{◌≡◌, ℕ, ◌≤◌, true, [], List, Option, None, Some};
 ghost use Rattle.hid_packet.specs.Commands.{CANCEL};
@@ -7,24 +7,24 @@ ghost use Rattle.hid_packet.specs.Carries.{CarriesMessage};
 ghost use Rattle.hid_assemble.specs.Table.{Open, is_noise, ruling_of};
 ghost use Rattle.hid_assemble.specs.Verdicts.{is_turned_away, verdict};
 ghost use Rattle.hid_assemble.specs.Assembly.{Assembly, accepted};
-ghost use Rattle.hid_assemble.specs.Receiving.{Arrival, packets_of, received, last_verdict, ComeInTime, IsServed};
+ghost use Rattle.hid_assemble.specs.Receiving.{Arrival, packets_of, received, last_verdict, ArriveInTime, IsServed};
 ghost use Rattle.hid_assemble.specs.declared.verdict.Verdict.TheVariants.{Finished};
 
-/// States that with nothing open, the packets of a message on a channel that was given out, each less than 500 ms after
-/// the one before, finish with just the message's bytes, where its command is served.
+/// States that the packets of a supported message on an allocated channel, less than 500 ms apart, complete it with
+/// exactly the message's bytes, if no message was open before.
 pub fn packets_of_a_message_finish_it()
     ensures told { (a : Assembly) (arrivals : List Arrival) (cid cmd : ℕ) (bytes : List ℕ) → a.current ≡ None
         → 1 ≤ cid → cid ≤ a.given → IsServed cmd bytes
-        → CarriesMessage (packets_of arrivals) cid cmd bytes → ComeInTime arrivals
+        → CarriesMessage (packets_of arrivals) cid cmd bytes → ArriveInTime arrivals
         → last_verdict a arrivals ≡ Finished cid cmd }
     ensures bytes { (a : Assembly) (arrivals : List Arrival) (cid cmd : ℕ) (bytes : List ℕ) → a.current ≡ None
         → 1 ≤ cid → cid ≤ a.given → IsServed cmd bytes
-        → CarriesMessage (packets_of arrivals) cid cmd bytes → ComeInTime arrivals
+        → CarriesMessage (packets_of arrivals) cid cmd bytes → ArriveInTime arrivals
         → received a arrivals ≡ record { given = a.given; current = None; finished = bytes } }
 {}
 
-/// States that a packet is noise exactly where it is turned away: silently, or by an ERROR that its channel wasn't
-/// given out or is busy. Noise leaves the channels and the open message as they are.
+/// States that a packet is ignored ("noise") if and only if nothing is sent for it, or only an ERROR "invalid channel"
+/// or "channel busy". It leaves the channels and the open message unchanged.
 pub fn noise_is_turned_away()
     ensures answer { (a : Assembly) (work : Option ℕ) (f : Fields)
         → is_noise (ruling_of a.given a.current work f) ≡ is_turned_away (verdict a work f) }
@@ -33,7 +33,7 @@ pub fn noise_is_turned_away()
         → accepted a at work f ≡ record { given = a.given; current = a.current; finished = [] } }
 {}
 
-/// States that no packet of another channel changes an open message, whatever it is, and no CANCEL does.
+/// States that no packet of another channel, and no CANCEL, changes an open message.
 pub fn an_open_message_is_left_alone()
     ensures foreign { (a : Assembly) (at : ℕ) (work : Option ℕ) (f : Fields) (m : Open) → a.current ≡ Some m
         → (channel_of f ≡ m.cid → ⊥)

@@ -1,6 +1,5 @@
-//! The channels of CTAPHID and the reassembly of messages: the reply table, which says what becomes of
-//! each packet, and the time-out of a message that isn't finished (CTAP 2.1, sections 11.2.4 and 11.2.5).
-//! Nothing here allocates.
+//! The channels of CTAPHID and the reassembly of messages: the reply table, which determines the verdict on each
+//! packet, and the time-out of incomplete messages (CTAP 2.1, sections 11.2.4 and 11.2.5). Nothing here allocates.
 //!
 //! An example, which the gate runs (`crates/page_tests/src/hid_assemble_page.rt`):
 //!
@@ -26,5 +25,5 @@ mod verdict;
 
 pub use assembler::{Assembler, MESSAGE_TIMEOUT};
 pub use refusal::Refusal;
-pub use table::{Continuation, LAST_CHANNEL, ReplyRow};
+pub use table::{Continuation, MAX_CHANNEL, ReplyRow};
 pub use verdict::Verdict;

@@ -5,30 +5,30 @@ ghost use Rattle.hid_assemble.specs.Refusals.{code_number};
 /// Why a packet is refused or a message dropped, with what was compared.
 #[derive(Clone, Copy, Debug, PartialEq, Eq)]
 pub enum Refusal {
-    /// The command isn't served.
+    /// The command isn't supported.
     NoSuchCommand { cmd: u8 },
     /// An INIT whose length isn't 8.
     InitLength { len: u16 },
     /// A message that is too long, or CBOR without a command byte.
     MessageLength { cmd: u8, len: u16 },
-    /// Another continuation packet than the one that is due.
+    /// A continuation packet with another sequence number than the expected one.
     WrongNumber { came: u8, due: u8 },
-    /// A packet that begins a message, where this continuation packet is due on its channel.
+    /// An initialization packet while a continuation packet with this sequence number is expected on its channel.
     BrokenOff { due: u8 },
-    /// The open message's last packet came at `last`; at `at` the time for the next is over.
+    /// The open message timed out: its last packet arrived at `last`, and the time is now `at`.
     Overdue { last: u64, at: u64 },
-    /// Another channel has an open message or work.
+    /// Another channel has an open message or a pending request.
     BusyElsewhere { channel: u32 },
-    /// Work waits on this channel.
+    /// A request is pending on this channel.
     BusyHere,
-    /// The channel isn't among those that were given out, 1 to `given`.
+    /// The channel isn't allocated: these are 1 to `given`.
     NoSuchChannel { given: u32 },
-    /// No channel is left to be given out.
+    /// No channel is left to allocate.
     NoChannelLeft,
 }
 
 impl Refusal {
-    /// Returns the byte that the ERROR packet carries (CTAP 2.1, section 11.2.9.1.6).
+    /// Returns the data byte of the ERROR packet (CTAP 2.1, section 11.2.9.1.6).
     pub fn code(self) -> u8
         ensures { result ≡ code_number self }
     {

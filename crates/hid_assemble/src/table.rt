@@ -4,47 +4,46 @@ ghost use Rattle.hid_assemble.specs.Table.{Begins};
 
 use crate::assembler::OpenMessage;
 use hid_packet::command::{CANCEL, CBOR, INIT, PING};
-use hid_packet::{BROADCAST, CONTINUATION_DATA, INITIALIZATION_DATA, LONGEST_MESSAGE};
+use hid_packet::{BROADCAST, CONT_PACKET_DATA, INIT_PACKET_DATA, MAX_MESSAGE_LEN};
 
-/// The channel that is given out last.
-pub const LAST_CHANNEL: u32 = 0xffff_fffe;
+/// The last channel to be allocated.
+pub const MAX_CHANNEL: u32 = 0xffff_fffe;
 
 /// The rows of the reply table for an initialization packet. The first that applies decides.
 #[derive(Clone, Copy, Debug, PartialEq, Eq)]
 pub enum ReplyRow {
-    /// CANCEL where work waits on its channel: the work ends.
+    /// CANCEL with a pending request on its channel: the request ends.
     CancelsWork,
     /// Any other CANCEL: nothing changes or is sent.
     CancelsNothing,
-    /// The channel was never given out, and isn't asked for.
+    /// The channel isn't allocated, and the packet doesn't ask for one.
     NoSuchChannel,
     /// INIT with a wrong length: its channel's open message is dropped.
     InitLength,
     /// No channel is left.
     InitFull,
-    /// The next channel is given out.
+    /// The next channel is allocated.
     InitNew,
-    /// INIT on a given channel: its open message and its work are dropped.
+    /// INIT on an allocated channel: its open message and its request are dropped.
     InitAgain,
-    /// Another channel has an open message or work.
+    /// Another channel has an open message or a pending request.
     BusyElsewhere,
-    /// Work waits on this channel.
+    /// A request is pending on this channel.
     BusyHere,
     /// A message is open on this channel: it is dropped.
     BrokenOff,
-    /// A command that isn't served.
+    /// A command that isn't supported.
     NoSuchCommand,
     /// Too long, or CBOR without a command byte.
     BadLength,
-    /// The message is whole in one packet.
+    /// The message is complete in one packet.
     Short,
     /// The message is open from now on.
     Long,
 }
 
 impl ReplyRow {
-    /// Returns whether a packet under this row is noise, which changes nothing. Other rows may change nothing too,
-    /// where there is nothing to change.
+    /// Returns whether a packet under this row is noise, which changes nothing. Other rows may change nothing, too.
     pub(crate) fn is_noise(self) -> bool
         ensures { result ≡ spec.is_noise (Begins self) }
     {
@@ -58,22 +57,22 @@ impl ReplyRow {
     }
 }
 
-/// What a continuation packet is to the open message.
+/// How a continuation packet relates to the open message.
 #[derive(Clone, Copy, Debug, PartialEq, Eq)]
 pub enum Continuation {
     /// No message is open on its channel.
     Stray,
-    /// Another packet than the one that is due: the message is dropped.
+    /// Another sequence number than the expected one: the message is dropped.
     WrongNumber,
-    /// The packet that is due: its data is kept.
+    /// The expected packet: its data is stored.
     Kept,
-    /// The packet that is due, and the message is whole.
+    /// The expected packet, which completes the message.
     Whole,
 }
 
 /// Returns the row of an initialization packet.
-#[tactic(auto, unfolding(crate::specs::Table::initialization_row))]
-pub(crate) fn initialization_row(
+#[tactic(auto, unfolding(crate::specs::Table::init_packet_row))]
+pub(crate) fn init_packet_row(
     given: u32,
     current: Option<u32>,
     working: Option<u32>,
@@ -81,7 +80,7 @@ pub(crate) fn initialization_row(
     cmd: u8,
     len: u16,
 ) -> ReplyRow
-    ensures { result ≡ spec.initialization_row given current working cid cmd len }
+    ensures { result ≡ spec.init_packet_row given current working cid cmd len }
 {
     let is_given = 1 <= cid && cid <= given;
     let asks_for_channel = cid == BROADCAST && cmd == INIT;
@@ -93,7 +92,7 @@ pub(crate) fn initialization_row(
         ReplyRow::NoSuchChannel
     } else if cmd == INIT && len != 8 {
         ReplyRow::InitLength
-    } else if asks_for_channel && given == LAST_CHANNEL {
+    } else if asks_for_channel && given == MAX_CHANNEL {
         ReplyRow::InitFull
     } else if asks_for_channel {
         ReplyRow::InitNew
@@ -109,17 +108,17 @@ pub(crate) fn initialization_row(
         ReplyRow::BrokenOff
     } else if cmd != PING && cmd != CBOR {
         ReplyRow::NoSuchCommand
-    } else if len > LONGEST_MESSAGE || (cmd == CBOR && len == 0) {
+    } else if len > MAX_MESSAGE_LEN || (cmd == CBOR && len == 0) {
         ReplyRow::BadLength
-    } else if usize::from(len) <= INITIALIZATION_DATA {
+    } else if usize::from(len) <= INIT_PACKET_DATA {
         ReplyRow::Short
     } else {
         ReplyRow::Long
     }
 }
 
-/// Returns what a continuation packet is to this open message.
-pub(crate) fn continuation_row(message: &OpenMessage, cid: u32, number: u8) -> Continuation
+/// Returns how a continuation packet relates to this open message.
+pub(crate) fn cont_packet_row(message: &OpenMessage, cid: u32, number: u8) -> Continuation
     ensures { result ≡ spec.continues message.now.cid message.now.len message.now.kept cid number }
 {
     let kept = usize::from(message.kept);
@@ -127,7 +126,7 @@ pub(crate) fn continuation_row(message: &OpenMessage, cid: u32, number: u8) -> C
         Continuation::Stray
     } else if number != message.kept {
         Continuation::WrongNumber
-    } else if INITIALIZATION_DATA + CONTINUATION_DATA * (kept + 1) < usize::from(message.len) {
+    } else if INIT_PACKET_DATA + CONT_PACKET_DATA * (kept + 1) < usize::from(message.len) {
         Continuation::Kept
     } else {
         Continuation::Whole

@@ -8,8 +8,8 @@ use Rattle.std.proofs.Math.{ListN.drop_of_length-le, Seq.take-append_seam}
 use Rattle.byteorder.specs.{Endian.big_bytes, Numbers.big_number-reads_back}
 use Rattle.hid_packet.specs.Packet.{channel, is_initialization, command, message_length, initialization_data, sequence}
 use Rattle.hid_packet.specs.Packet.{continuation_data}
-use Rattle.hid_packet.specs.Message.{padded, initialization_packet, continuation_packet, continuation_packets, written}
-use Rattle.hid_packet.specs.Carries.{Continue, IsLeast, joined, Carries, CarriesMessage}
+use Rattle.hid_packet.specs.Message.{padded_packet, initialization_packet, continuation_packet, continuation_packets, message_packets}
+use Rattle.hid_packet.specs.Carries.{AreContinuations, IsLeast, joined_data, Carries, CarriesMessage}
 
 -- data bytes and the zeros after them fill a packet
 all_data : (k : ℕ) (part : List ℕ) → length part ≤ k → take k (part ++ replicate (k - length part) 0) ≡ part
@@ -19,34 +19,34 @@ all_data k part short = grind (arith, length-append, length-replicate, take_all)
 -- The fields of the packets that are written.
 module _ (cid cmd len : ℕ) (part : List ℕ) where
   channel-initialization : cid < 2 ^ 32 → channel (initialization_packet cid cmd len part) ≡ cid
-  unfolding channel initialization_packet padded
+  unfolding channel initialization_packet padded_packet
   channel-initialization fits =
       let zeros = replicate (64 - length (big_bytes 4 cid ++ (cmd + 128) ∷ [] ++ big_bytes 2 len ++ part)) 0 in
       big_number-reads_back 4 cid ((cmd + 128) ∷ [] ++ big_bytes 2 len ++ part ++ zeros) fits
 
   is_initialization-initialization : is_initialization (initialization_packet cid cmd len part) ≡ true
-  unfolding is_initialization initialization_packet padded
+  unfolding is_initialization initialization_packet padded_packet
   is_initialization-initialization = above (cmd + 128) (omega arith)
     where
       above : (n : ℕ) → 128 ≤ n → nat_le 128 n ≡ true
       above n h = grind (arith, nat_tests)
 
   command-initialization : command (initialization_packet cid cmd len part) ≡ cmd
-  unfolding command initialization_packet padded
+  unfolding command initialization_packet padded_packet
   command-initialization = less cmd
     where
       less : (n : ℕ) → n + 128 - 128 ≡ n
       less n = omega arith
 
   message_length-initialization : len < 2 ^ 16 → message_length (initialization_packet cid cmd len part) ≡ len
-  unfolding message_length initialization_packet padded
+  unfolding message_length initialization_packet padded_packet
   message_length-initialization fits =
       let zeros = replicate (64 - length (big_bytes 4 cid ++ (cmd + 128) ∷ [] ++ big_bytes 2 len ++ part)) 0 in
       big_number-reads_back 2 len (part ++ zeros) fits
 
   data-initialization : length part ≤ 57 → initialization_data (initialization_packet cid cmd len part) ≡ part
       ++ replicate (57 - length part) 0
-  unfolding initialization_data initialization_packet padded
+  unfolding initialization_data initialization_packet padded_packet
   data-initialization short =
       let rest : 64 - length (big_bytes 4 cid ++ (cmd + 128) ∷ [] ++ big_bytes 2 len ++ part) ≡ 57 - length part =
       omega arith in
@@ -54,25 +54,25 @@ module _ (cid cmd len : ℕ) (part : List ℕ) where
 
 module _ (cid number : ℕ) (part : List ℕ) where
   channel-continuation : cid < 2 ^ 32 → channel (continuation_packet cid number part) ≡ cid
-  unfolding channel continuation_packet padded
+  unfolding channel continuation_packet padded_packet
   channel-continuation fits =
       big_number-reads_back 4 cid (number ∷ part ++ replicate (64 - length (big_bytes 4 cid ++ number ∷ [] ++ part)) 0)
       fits
 
   is_initialization-continuation : number < 128 → is_initialization (continuation_packet cid number part) ≡ false
-  unfolding is_initialization continuation_packet padded
+  unfolding is_initialization continuation_packet padded_packet
   is_initialization-continuation h = below number h
     where
       below : (n : ℕ) → n < 128 → nat_le 128 n ≡ false
       below n h = grind (arith, nat_tests)
 
   sequence-continuation : sequence (continuation_packet cid number part) ≡ number
-  unfolding sequence continuation_packet padded
+  unfolding sequence continuation_packet padded_packet
   sequence-continuation = refl
 
   data-continuation : length part ≤ 59 → continuation_data (continuation_packet cid number part) ≡ part
       ++ replicate (59 - length part) 0
-  unfolding continuation_data continuation_packet padded
+  unfolding continuation_data continuation_packet padded_packet
   data-continuation short =
       let rest : 64 - length (big_bytes 4 cid ++ number ∷ [] ++ part) ≡ 59 - length part = omega arith in
       ap (λ k. take 59 (part ++ replicate k 0)) rest ∙ all_data 59 part short
@@ -106,7 +106,7 @@ data_continuations (suc most) cid number (b ∷ bytes) fits =
     (_, ap₂ ◌++◌ part rest.1 ∙ fill_up 59 rest.0 all)
 
 continues_all : (most cid number : ℕ) (bytes : List ℕ) → cid < 2 ^ 32 → number + most ≤ 128
-    → Continue cid number (continuation_packets most cid number bytes)
+    → AreContinuations cid number (continuation_packets most cid number bytes)
 unfolding continuation_packets
 continues_all zero cid number bytes fits below = tt
 continues_all (suc most) cid number [] fits below = tt
@@ -133,7 +133,7 @@ length-continuation_packets (suc most) cid number (b ∷ bytes) fits =
 
 -- The data of the written packets, joined, are the message, and zeros after it.
 pub data_written : (cid cmd : ℕ) (bytes : List ℕ) → length bytes ≤ 7609
-    → (further : ℕ) × (joined (initialization_packet cid cmd (length bytes) (take 57 bytes))
+    → (further : ℕ) × (joined_data (initialization_packet cid cmd (length bytes) (take 57 bytes))
     (continuation_packets 128 cid 0 (drop 57 bytes)) ≡ bytes ++ replicate further 0)
 data_written cid cmd bytes short =
     let part = data-initialization cid cmd (length bytes) (take 57 bytes) (omega (arith, length-take 57 bytes)) in
@@ -178,15 +178,15 @@ pub one_message : (packets : List (List ℕ)) (c d k l : ℕ) (a b : List ℕ) �
 one_message x0 c d k l a b x y = search (rules, arith)
 
 pub fewest_written : (cid cmd : ℕ) (bytes : List ℕ) → length bytes ≤ 7609 →
-    IsLeast (length (written cid cmd bytes) - 1) (length bytes)
-unfolding written
+    IsLeast (length (message_packets cid cmd bytes) - 1) (length bytes)
+unfolding message_packets
 fewest_written cid cmd bytes short =
     subst (λ n. IsLeast n (length bytes)) (omega arith) (least_continuations cid bytes short)
 
 -- as many as `packets_for` counts
 pub length-written : (cid cmd count : ℕ) (bytes : List ℕ) → length bytes ≤ 7609 → 1 ≤ count →
-    IsLeast (count - 1) (length bytes) → length (written cid cmd bytes) ≡ count
-unfolding written
+    IsLeast (count - 1) (length bytes) → length (message_packets cid cmd bytes) ≡ count
+unfolding message_packets
 length-written cid cmd count bytes short some least = grind (arith, least_continuations, one_least)
 
 -- one continuation packet for each 59 bytes after the first 57, rounded up
@@ -201,6 +201,6 @@ few_continuations (suc most) cid number [] = omega arith
 few_continuations (suc most) cid number (b ∷ bytes) =
     let rest = few_continuations most cid (number + 1) (drop 59 (b ∷ bytes)) in omega arith
 
-pub few_written : (cid cmd : ℕ) (bytes : List ℕ) → length (written cid cmd bytes) ≤ 129
-unfolding written
+pub few_written : (cid cmd : ℕ) (bytes : List ℕ) → length (message_packets cid cmd bytes) ≤ 129
+unfolding message_packets
 few_written cid cmd bytes = let rest = few_continuations 128 cid 0 (drop 57 bytes) in omega arith

@@ -7,4 +7,4 @@ pub mod Carrying
 pub mod Bytes
 pub mod Whole
 pub mod Only
-mod Rows
+mod Examples

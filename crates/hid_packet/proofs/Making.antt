@@ -3,8 +3,8 @@ use Rattle.std.proofs.Common.{◌≡◌, ℕ, ◌+◌, ◌-◌, ◌≤◌, min, 
 use Rattle.std.proofs.Common.{subst, ◌∙◌, ap, ap₂, arith, length-append, append_assoc, length-take-le}
 use Rattle.std.proofs.Math.Seq.{take-append_seam}
 use Rattle.std.proofs.lemmas.{List.drop-take, List.take-take, Slice.drop-append-drop}
-use Rattle.hid_packet.specs.Message.{padded, initialization_packet, continuation_packet, continuation_packets}
-use Rattle.hid_packet.specs.{Queue.MayCome, declared.fragments.NextPacket.NextPacket}
+use Rattle.hid_packet.specs.Message.{padded_packet, initialization_packet, continuation_packet, continuation_packets}
+use Rattle.hid_packet.specs.{Queue.HasPacketLeft, declared.fragments.NextPacket.NextPacket}
 use Rattle.hid_packet.specs.Remaining.{packets_left, CanCarry}
 use Rattle.hid_packet.specs.declared.fragments.NextPacket.TheVariants.{Initialization, Continuation}
 use Rattle.hid_packet.proofs.Writing.{filled, first_taken, next_taken}
@@ -12,7 +12,7 @@ use Rattle.hid_packet.proofs.Writing.{filled, first_taken, next_taken}
 -- bytes that are written after a header in what is left of 64 zeros
 pub placed : (header out bytes packet : List ℕ) (h n : ℕ) → length header ≡ h → length bytes ≡ n →
     out ≡ header ++ drop h (replicate 64 0)
-    → packet ≡ take h out ++ (bytes ++ drop (h + n) out) → packet ≡ padded (header ++ bytes)
+    → packet ≡ take h out ++ (bytes ++ drop (h + n) out) → packet ≡ padded_packet (header ++ bytes)
 placed header out bytes packet h n hs ns o p =
     grind (arith, append_assoc, drop-append-drop, filled, length-append, take-append_seam)
 
@@ -38,14 +38,14 @@ first_made cid cmd left n due ring after packet is there least p e =
 
 -- a continuation packet was made
 pub next_made : (cid number left n : ℕ) (due : NextPacket) (ring after packet : List ℕ) → due ≡ Continuation number →
-    left ≤ length ring → MayCome due left → n ≡ min 59 left
+    left ≤ length ring → HasPacketLeft due left → n ≡ min 59 left
     → packet ≡ continuation_packet cid number (take n ring) → after ≡ drop n ring
     → packets_left cid due (take left ring) ≡ packet ∷ continuation_packets (128 - (number + 1)) cid (number + 1)
     (take (left - n) after)
 next_made cid number left n due ring after packet is there may least p e =
     let len : length (take left ring) ≡ left = length-take-le left ring there in
     let le : n ≤ left = omega arith in
-    let come = subst (λ d. MayCome d left) is may in
+    let come = subst (λ d. HasPacketLeft d left) is may in
     let fits = subst (λ d. CanCarry d (take left ring)) (sym is) (omega (arith, come.1)) in
     next_taken cid number n due (take left ring) (take n (take left ring)) (drop n (take left ring)) packet _ refl is
     fits (omega (arith, come.0)) (least ∙ ap (min 59) (sym len)) refl refl

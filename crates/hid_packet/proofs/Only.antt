@@ -5,8 +5,8 @@ use Rattle.std.proofs.lemmas.{Bool.Decides.nat_tests, List.take_at, List.drop_at
 use Rattle.std.proofs.lemmas.List.{take-append-drop, take_all, length-take, length-replicate, drop_more, drop-drop}
 use Rattle.byteorder.specs.Endian.{big_bytes, big_number}
 use Rattle.hid_packet.specs.Packet.{channel, is_initialization, command, message_length, sequence, initialization_data}
-use Rattle.hid_packet.specs.{Packet.continuation_data, Carries.Continue, Carries.IsLeast, Carries.CarriesMessage}
-use Rattle.hid_packet.specs.Message.{padded, initialization_packet, continuation_packet, continuation_packets, written}
+use Rattle.hid_packet.specs.{Packet.continuation_data, Carries.AreContinuations, Carries.IsLeast, Carries.CarriesMessage}
+use Rattle.hid_packet.specs.Message.{padded_packet, initialization_packet, continuation_packet, continuation_packets, message_packets}
 use Rattle.hid_packet.specs.Padding.{IsPacket, ArePackets, FurtherDataIsZero}
 use Rattle.hid_packet.proofs.{Bytes.bytes_of_number, Bytes.bytes-drop, Carrying.fill_up}
 use Rattle.hid_packet.proofs.Writing.{one_continuation, no_continuation}
@@ -52,7 +52,7 @@ module _ (packet : List ℕ) (whole : IsPacket packet) where
   only_initialization : (part : List ℕ) → is_initialization packet ≡ true →
       initialization_data packet ≡ part ++ replicate (57 - length part) 0
       → packet ≡ initialization_packet (channel packet) (command packet) (message_length packet) part
-  unfolding initialization_packet padded
+  unfolding initialization_packet padded_packet
   only_initialization part begins is =
       let front = big_bytes 4 (channel packet) ++ (command packet + 128) ∷ [] ++ big_bytes 2 (message_length packet) in
       let zeros : 57 - length part ≡ 64 - length (front ++ part) = omega arith in
@@ -60,7 +60,7 @@ module _ (packet : List ℕ) (whole : IsPacket packet) where
 
   only_continuation : (part : List ℕ) → continuation_data packet ≡ part ++ replicate (59 - length part) 0
       → packet ≡ continuation_packet (channel packet) (sequence packet) part
-  unfolding continuation_packet padded
+  unfolding continuation_packet padded_packet
   only_continuation part is =
       let front = big_bytes 4 (channel packet) ++ sequence packet ∷ [] in
       let zeros : 59 - length part ≡ 64 - length (front ++ part) = omega arith in
@@ -92,7 +92,7 @@ module _ (k n : ℕ) (front back bytes : List ℕ) (full : length front ≡ k) (
 
 -- the continuation packets
 only_continuations : (most cid number n : ℕ) (bytes : List ℕ) (others : List (List ℕ)) → ArePackets others →
-    Continue cid number others
+    AreContinuations cid number others
     → length others ≤ most → 59 * length others < length bytes + 59 →
     flat_map continuation_data others ≡ bytes ++ replicate n 0
     → others ≡ continuation_packets most cid number bytes
@@ -110,8 +110,8 @@ only_continuations most cid number n bytes (packet ∷ others) whole continues f
     ap₂ ◌∷◌ one more ∙ sym (one_continuation most cid number bytes (omega arith) (omega arith))
 
 pub only_written : (packets : List (List ℕ)) (cid cmd : ℕ) (bytes : List ℕ) → CarriesMessage packets cid cmd bytes
-    → ArePackets packets → FurtherDataIsZero bytes packets → packets ≡ written cid cmd bytes
-unfolding written
+    → ArePackets packets → FurtherDataIsZero bytes packets → packets ≡ message_packets cid cmd bytes
+unfolding message_packets
 only_written [] cid cmd bytes carried whole zeros = absurd carried
 only_written (first ∷ others) cid cmd bytes carried whole zeros =
     let full = length-initialization_data first whole.0 in

@@ -6,16 +6,16 @@ use Rattle.std.proofs.Common.{append_assoc, append-nil, length-take-le}
 use Rattle.std.specs.List.{AllByRecursion, refill, remove}
 use Rattle.std.proofs.Math.Seq.{drop-length, take-length}
 use Rattle.std.proofs.lemmas.List.{take-append-le, drop-append-le, take_all, drop_all}
-use Rattle.hid_packet.specs.Message.{continuation_packets, initialization_packet, written}
-use Rattle.hid_packet.specs.Queue.{held_by, packets_by, waiting, MayCome, IsDue, IsHeld, IsQueued}
-use Rattle.hid_packet.specs.declared.entry.Queued.{Queued, TheVariants.Whole, TheVariants.Part}
+use Rattle.hid_packet.specs.Message.{continuation_packets, initialization_packet, message_packets}
+use Rattle.hid_packet.specs.Queue.{held_by, packets_by, waiting, HasPacketLeft, IsDue, IsHeld, IsQueued}
+use Rattle.hid_packet.specs.declared.queued.Queued.{Queued, TheVariants.Whole, TheVariants.Part}
 use Rattle.hid_packet.{specs.declared.fragments.NextPacket.NextPacket, proofs.Carrying.fewest_written}
 use Rattle.hid_packet.specs.declared.fragments.NextPacket.TheVariants.{Initialization, Continuation}
 
 -- a short message has its initialization packet alone
 pub short_written : (cid cmd : ℕ) (bytes : List ℕ) → length bytes ≤ 57 →
-    written cid cmd bytes ≡ initialization_packet cid cmd (length bytes) bytes ∷ []
-unfolding written continuation_packets
+    message_packets cid cmd bytes ≡ initialization_packet cid cmd (length bytes) bytes ∷ []
+unfolding message_packets continuation_packets
 short_written cid cmd bytes short = search (rules, arith, drop_all, take_all)
 
 -- continuation packets hold their bytes, 59 each
@@ -34,19 +34,19 @@ pub record Fills (e : Queued) (bytes : List ℕ) : Type 0 where
   pub some : 1 ≤ length (packets_by e bytes)
   pub enough : held_by e ≤ 64 * length (packets_by e bytes)
 
-pub first_written : (cid cmd : ℕ) (bytes : List ℕ) → 1 ≤ length (written cid cmd bytes)
-unfolding written
+pub first_written : (cid cmd : ℕ) (bytes : List ℕ) → 1 ≤ length (message_packets cid cmd bytes)
+unfolding message_packets
 first_written cid cmd bytes = omega arith
 
 pub entry_fills : (e : Queued) (bytes : List ℕ) → IsDue e → length bytes ≡ held_by e → Fills e bytes
 entry_fills Whole bytes due len = record { some = omega arith; enough = omega arith }
 entry_fills (Part message) bytes due len = go message.due refl due
   where
-    go : (d : NextPacket) → message.due ≡ d → MayCome d message.left → Fills (Part message) bytes
+    go : (d : NextPacket) → message.due ≡ d → HasPacketLeft d message.left → Fills (Part message) bytes
     go (Initialization cmd) is may =
         let one = first_written message.cid cmd bytes in
         let least = fewest_written message.cid cmd bytes (omega (arith, may.1)) in
-        let bound : length bytes ≤ 64 * length (written message.cid cmd bytes) =
+        let bound : length bytes ≤ 64 * length (message_packets message.cid cmd bytes) =
         elim least [ inl a ↦ omega (arith, a.0) | inr b ↦ omega (arith, b.0) ] in
         record { some = rw is one; enough = rw is (omega (arith, bound)) }
     go (Continuation number) is may = search (rules, arith, continuations_hold)

@@ -2,13 +2,13 @@
 use Rattle.std.proofs.Common.{ℕ, ◌+◌, ◌-◌, ◌<◌, ◌≤◌, suc, zero, List, [], ◌∷◌, ◌++◌, length, take, drop, arith}
 use Rattle.std.proofs.{Common.length-append, lemmas.List.length-take, lemmas.List.length-replicate}
 use Rattle.byteorder.specs.Endian.{big_bytes}
-use Rattle.hid_packet.specs.Message.{padded, initialization_packet, continuation_packet, continuation_packets, written}
+use Rattle.hid_packet.specs.Message.{padded_packet, initialization_packet, continuation_packet, continuation_packets, message_packets}
 use Rattle.hid_packet.specs.Padding.{AreBytes, IsPacket, ArePackets, FurtherDataIsZero}
 use Rattle.hid_packet.proofs.Bytes.{bytes-append, bytes-take, bytes-drop, bytes-zeros, bytes-big_bytes}
 use Rattle.hid_packet.proofs.Carrying.{data_written}
 
-whole_padded : (bytes : List ℕ) → length bytes ≤ 64 → AreBytes bytes → IsPacket (padded bytes)
-unfolding padded
+whole_padded : (bytes : List ℕ) → length bytes ≤ 64 → AreBytes bytes → IsPacket (padded_packet bytes)
+unfolding padded_packet
 whole_padded bytes fits all = grind (arith, bytes-append, bytes-zeros, length-append, length-replicate)
 
 whole_initialization : (cid cmd len : ℕ) (part : List ℕ) → cmd < 128 → length part ≤ 57 → AreBytes part →
@@ -39,8 +39,8 @@ whole_continuations (suc most) cid number (b ∷ bytes) below all =
       whole_continuations most cid (number + 1) (drop 59 (b ∷ bytes)) (omega arith) (bytes-drop 59 (b ∷ bytes) all),
     )
 
-pub whole_written : (cid cmd : ℕ) (bytes : List ℕ) → cmd < 128 → AreBytes bytes → ArePackets (written cid cmd bytes)
-unfolding written
+pub whole_written : (cid cmd : ℕ) (bytes : List ℕ) → cmd < 128 → AreBytes bytes → ArePackets (message_packets cid cmd bytes)
+unfolding message_packets
 whole_written cid cmd bytes low all = (
   whole_initialization cid cmd (length bytes) (take 57 bytes) low (omega (arith, length-take 57 bytes))
       (bytes-take 57 bytes all),
@@ -48,6 +48,6 @@ whole_written cid cmd bytes low all = (
 )
 
 pub zeros_written : (cid cmd : ℕ) (bytes : List ℕ) → length bytes ≤ 7609 →
-    FurtherDataIsZero bytes (written cid cmd bytes)
-unfolding written
+    FurtherDataIsZero bytes (message_packets cid cmd bytes)
+unfolding message_packets
 zeros_written = data_written

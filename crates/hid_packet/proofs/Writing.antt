@@ -2,13 +2,13 @@
 use Rattle.std.proofs.Common.{rules, ◌≡◌, ℕ, ◌+◌, ◌-◌, ◌<◌, suc, zero, min, List, [], ◌∷◌, ◌++◌, length, take, drop}
 use Rattle.std.proofs.Common.{replicate, refl, arith}
 use Rattle.std.proofs.lemmas.List.{drop-replicate, take_min, drop_min}
-use Rattle.hid_packet.specs.Message.{padded, initialization_packet, continuation_packet, continuation_packets, written}
+use Rattle.hid_packet.specs.Message.{padded_packet, initialization_packet, continuation_packet, continuation_packets, message_packets}
 use Rattle.hid_packet.specs.{Remaining.packets_left, Remaining.CanCarry, declared.fragments.NextPacket.NextPacket}
 use Rattle.hid_packet.specs.declared.fragments.NextPacket.TheVariants.{Initialization, Continuation}
 
 -- bytes in front of what is left of 64 zeros
-pub filled : (bytes : List ℕ) (n : ℕ) → length bytes ≡ n → bytes ++ drop n (replicate 64 0) ≡ padded bytes
-unfolding padded
+pub filled : (bytes : List ℕ) (n : ℕ) → length bytes ≡ n → bytes ++ drop n (replicate 64 0) ≡ padded_packet bytes
+unfolding padded_packet
 filled bytes n e = rw (drop-replicate {X = ℕ}, e) refl
 
 -- one continuation packet more
@@ -30,7 +30,7 @@ pub first_taken : (cid cmd n : ℕ) (due : NextPacket) (rest front back packet :
     → packets_left cid due rest ≡ now → due ≡ Initialization cmd → n ≡ min 57 (length rest) → front ≡ take n rest →
     back ≡ drop n rest
     → packet ≡ initialization_packet cid cmd (length rest) front → now ≡ packet ∷ continuation_packets 128 cid 0 back
-unfolding written
+unfolding message_packets
 first_taken cid cmd n due rest front back packet now left is least f b p = grind (arith, drop_min, take_min)
 
 -- What is left of a message after a continuation packet.

@@ -1,38 +1,38 @@
--- What it is that packets carry a message (CTAP 2.1, section 11.2.4, "Message and packet structure").
+-- When a list of packets carries a message (CTAP 2.1, section 11.2.4, "Message and packet structure").
 use Rattle.std.specs.Prelude.{◌≡◌, ℕ, ◌+◌, ◌≤◌, ◌<◌, ◌⊎◌, true, false, List, [], ◌∷◌, ◌++◌, length, take, flat_map}
 use Rattle.hid_packet.specs.Packet.{channel, is_initialization, command, message_length, sequence, initialization_data}
 use Rattle.hid_packet.specs.Packet.{continuation_data}
-use Rattle.hid_packet.specs.Limits.{CONTINUATION_DATA, INITIALIZATION_DATA, LONGEST_MESSAGE, data_capacity}
+use Rattle.hid_packet.specs.Limits.{CONT_PACKET_DATA, INIT_PACKET_DATA, MAX_MESSAGE_LEN, data_capacity}
 
--- These are continuation packets on the channel, numbered one after the other from `number` on.
-abbrev pub Continue : ℕ → ℕ → List (List ℕ) → Type 0
-Continue cid number [] = Unit {0}
-Continue cid number (packet ∷ packets) =
+-- Continuation packets on this channel with consecutive sequence numbers from `number` on.
+abbrev pub AreContinuations : ℕ → ℕ → List (List ℕ) → Type 0
+AreContinuations cid number [] = Unit {0}
+AreContinuations cid number (packet ∷ packets) =
     (is_initialization packet ≡ false) × (channel packet ≡ cid) × (sequence packet ≡ number)
-    × Continue cid (number + 1) packets
+    × AreContinuations cid (number + 1) packets
 
--- The least number of continuation packets with which so many bytes fit.
+-- `count` is the least number of continuation packets for `len` bytes.
 abbrev pub IsLeast : (count len : ℕ) → Type 0
-IsLeast count len = ((len ≤ INITIALIZATION_DATA) × (count ≡ 0))
-    ⊎ ((len ≤ data_capacity count) × (data_capacity count < len + CONTINUATION_DATA))
+IsLeast count len = ((len ≤ INIT_PACKET_DATA) × (count ≡ 0))
+    ⊎ ((len ≤ data_capacity count) × (data_capacity count < len + CONT_PACKET_DATA))
 
--- the data of a message's packets, joined
-abbrev pub joined : List ℕ → List (List ℕ) → List ℕ
-joined first others = initialization_data first ++ flat_map continuation_data others
+-- The data of the packets, concatenated.
+abbrev pub joined_data : List ℕ → List (List ℕ) → List ℕ
+joined_data first others = initialization_data first ++ flat_map continuation_data others
 
--- An initialization packet and the packets after it carry a message: the first names the channel, the command and the
--- length, the others continue it, they are as few as can be, and the bytes are the beginning of the joined data.
+-- The packets carry this message: an initialization packet with its channel, command and length, and continuation
+-- packets with consecutive sequence numbers, whose data begins with its bytes.
 pub record Carries (first : List ℕ) (others : List (List ℕ)) (cid cmd : ℕ) (bytes : List ℕ) : Type 0 where
-  pub short : length bytes ≤ LONGEST_MESSAGE
+  pub short : length bytes ≤ MAX_MESSAGE_LEN
   pub begins : is_initialization first ≡ true
   pub on : channel first ≡ cid
   pub asks : command first ≡ cmd
   pub counts : message_length first ≡ length bytes
-  pub continues : Continue cid 0 others
+  pub continues : AreContinuations cid 0 others
   pub least : IsLeast (length others) (length bytes)
-  pub joins : bytes ≡ take (length bytes) (joined first others)
+  pub joins : bytes ≡ take (length bytes) (joined_data first others)
 
--- A list of packets carries a message.
+-- A non-empty list of packets carries this message.
 abbrev pub CarriesMessage : List (List ℕ) → ℕ → ℕ → List ℕ → Type 0
 CarriesMessage [] cid cmd bytes = ⊥
 CarriesMessage (first ∷ others) cid cmd bytes = Carries first others cid cmd bytes

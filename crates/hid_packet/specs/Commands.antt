@@ -19,6 +19,6 @@ KEEPALIVE = 0x3b
 abbrev pub ERROR : ℕ
 ERROR = 0x3f
 
--- the channel on which a host asks for its own
+-- The broadcast channel, on which a host requests a channel ID.
 abbrev pub BROADCAST : ℕ
 BROADCAST = 0xffff_ffff

@@ -4,78 +4,78 @@ use Rattle.std.specs.Prelude.{◌≡◌, ℕ, ◌-◌, Bool, ◌&&◌, ◌==◌,
 use Rattle.std.specs.Prelude.{if◌then◌else◌}
 use Rattle.byteorder.specs.Endian.{big_number}
 use Rattle.hid_packet.specs.declared.packet.View.{View, TheVariants.Start, TheVariants.More}
-use Rattle.hid_packet.specs.Limits.{CONTINUATION_DATA, INITIALIZATION_DATA}
+use Rattle.hid_packet.specs.Limits.{CONT_PACKET_DATA, INIT_PACKET_DATA}
 
--- bytes 0 to 3
+-- The channel ID: bytes 0 to 3.
 unfoldable pub channel : List ℕ → ℕ
 channel packet = big_number 4 packet
 
--- bit 7 of byte 4; other packets are continuation packets
+-- An initialization packet: bit 7 of byte 4 is set.
 unfoldable pub is_initialization : List ℕ → Bool
 is_initialization packet = nat_le 128 (slice_index packet 4)
 
--- an initialization packet's command
+-- The command of an initialization packet, without bit 7.
 unfoldable pub command : List ℕ → ℕ
 command packet = slice_index packet 4 - 128
 
--- bytes 5 and 6: the whole message's length
+-- The message length BCNT of an initialization packet: bytes 5 and 6.
 unfoldable pub message_length : List ℕ → ℕ
 message_length packet = big_number 2 (drop 5 packet)
 
--- bytes 7 to 63
+-- The data of an initialization packet: bytes 7 to 63.
 unfoldable pub initialization_data : List ℕ → List ℕ
-initialization_data packet = take INITIALIZATION_DATA (drop 7 packet)
+initialization_data packet = take INIT_PACKET_DATA (drop 7 packet)
 
--- a continuation packet's number
+-- The sequence number of a continuation packet: byte 4.
 unfoldable pub sequence : List ℕ → ℕ
 sequence packet = slice_index packet 4
 
--- bytes 5 to 63
+-- The data of a continuation packet: bytes 5 to 63.
 unfoldable pub continuation_data : List ℕ → List ℕ
-continuation_data packet = take CONTINUATION_DATA (drop 5 packet)
+continuation_data packet = take CONT_PACKET_DATA (drop 5 packet)
 
--- an initialization packet with this command
+-- An initialization packet with this command.
 abbrev pub is_command : ℕ → List ℕ → Bool
 is_command asked packet = is_initialization packet && (command packet == asked)
 
--- The fields of either kind of packet, together.
+-- The fields of an initialization or continuation packet.
 pub data Fields : Type 0 where
   initialization : (channel command length : ℕ) (data_bytes : List ℕ) → Fields
   continuation : (channel sequence : ℕ) (data_bytes : List ℕ) → Fields
 
--- the fields of a packet
+-- The fields of a packet.
 abbrev pub fields : List ℕ → Fields
 fields packet =
     if is_initialization packet
     then initialization (channel packet) (command packet) (message_length packet) (initialization_data packet)
     else continuation (channel packet) (sequence packet) (continuation_data packet)
 
--- the channel of either kind
+-- The channel ID.
 abbrev pub channel_of : Fields → ℕ
 channel_of (initialization cid cmd len part) = cid
 channel_of (continuation cid number part) = cid
 
--- the command, 0 of a continuation packet, which has none
+-- The command of an initialization packet, or 0.
 abbrev pub command_of : Fields → ℕ
 command_of (initialization cid cmd len part) = cmd
 command_of (continuation cid number part) = 0
 
--- the length, 0 of a continuation packet, which has none
+-- The message length of an initialization packet, or 0.
 abbrev pub length_of : Fields → ℕ
 length_of (initialization cid cmd len part) = len
 length_of (continuation cid number part) = 0
 
--- the data of either kind
+-- The data bytes.
 abbrev pub data_of : Fields → List ℕ
 data_of (initialization cid cmd len part) = part
 data_of (continuation cid number part) = part
 
--- The data bytes fill the packet: 57 of an initialization packet, 59 of a continuation packet.
+-- The data has the packet's full length: 57 bytes, or 59 in a continuation packet.
 abbrev pub FillsPacket : Fields → Type 0
-FillsPacket (initialization cid cmd len part) = length part ≡ INITIALIZATION_DATA
-FillsPacket (continuation cid number part) = length part ≡ CONTINUATION_DATA
+FillsPacket (initialization cid cmd len part) = length part ≡ INIT_PACKET_DATA
+FillsPacket (continuation cid number part) = length part ≡ CONT_PACKET_DATA
 
--- the same fields, as a `View` lends them
+-- The fields of the code's type `View`.
 abbrev pub shown : View → Fields
 shown (Start cid cmd len part) = initialization cid cmd len part.now
 shown (More cid seq part) = continuation cid seq part.now

@@ -1,23 +1,26 @@
--- Packets of 64 bytes, and what is in their data bytes after the message (CTAP 2.1, section 11.2.4, "Message and
--- packet structure").
+-- Packets of 64 bytes, and their data after the end of the message, which is zero (CTAP 2.1, section 11.2.4, "Message
+-- and packet structure").
 use Rattle.std.specs.Prelude.{◌≡◌, ℕ, ◌<◌, List, [], ◌∷◌, ◌++◌, length, replicate}
 use Rattle.std.specs.List.{AllByRecursion}
-use Rattle.hid_packet.specs.Carries.{joined}
+use Rattle.hid_packet.specs.Carries.{joined_data}
 
+-- Each number is below 256.
 abbrev pub AreBytes : List ℕ → Type 0
 AreBytes bytes = AllByRecursion (λ byte. byte < 256) bytes
 
+-- A packet: 64 bytes.
 abbrev pub IsPacket : List ℕ → Type 0
 IsPacket packet = (length packet ≡ 64) × AreBytes packet
 
+-- Each is a packet.
 abbrev pub ArePackets : List (List ℕ) → Type 0
 ArePackets packets = AllByRecursion IsPacket packets
 
--- the data bytes of the packets of a message, joined
+-- The data of a message's packets, concatenated.
 abbrev pub data_bytes : List (List ℕ) → List ℕ
 data_bytes [] = []
-data_bytes (first ∷ others) = joined first others
+data_bytes (first ∷ others) = joined_data first others
 
--- The data bytes are those of the message, and all further ones are zero.
+-- The packets' data is the message's bytes, followed by zeros.
 abbrev pub FurtherDataIsZero : (bytes : List ℕ) (packets : List (List ℕ)) → Type 0
 FurtherDataIsZero bytes packets = (further : ℕ) × (data_bytes packets ≡ bytes ++ replicate further 0)

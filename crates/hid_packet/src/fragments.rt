@@ -1,11 +1,11 @@
 ghost use Rattle.std.specs.Prelude.{◌≡◌, ℕ, ◌+◌, ◌-◌, ◌<◌, ◌≤◌, ◌++◌, ◌∷◌, [], List, length, take, drop};
 ghost use Rattle.byteorder.specs.Endian.{big_bytes};
-ghost use Rattle.hid_packet.specs.Message.{written, initialization_packet, continuation_packet};
+ghost use Rattle.hid_packet.specs.Message.{message_packets, initialization_packet, continuation_packet};
 ghost use Rattle.hid_packet.specs.Carries.{IsLeast};
-ghost use Rattle.hid_packet.specs.Limits.{CONTINUATION_DATA, INITIALIZATION_DATA, LONGEST_MESSAGE};
+ghost use Rattle.hid_packet.specs.Limits.{CONT_PACKET_DATA, INIT_PACKET_DATA, MAX_MESSAGE_LEN};
 ghost use Rattle.std.specs.Iterator.{YieldsFirstBy, item_count};
 
-use crate::limit::{CONTINUATION_DATA, INITIALIZATION_DATA};
+use crate::limits::{CONT_PACKET_DATA, INIT_PACKET_DATA};
 use crate::packet::Packet;
 use byteorder::{BigEndian, ByteOrder};
 use std::marker::Model;
@@ -13,16 +13,16 @@ use std::marker::Model;
 /// Returns the number of packets that carry a message of `len` bytes: 1 for at most 57, else 1 and the least number of
 /// continuation packets of 59 data bytes that hold the rest, so at most 129.
 pub fn packets_for(len: u16) -> u16
-    requires { len ≤ LONGEST_MESSAGE }
+    requires { len ≤ MAX_MESSAGE_LEN }
     ensures some { 1 ≤ result }
     ensures least { IsLeast (result - 1) len }
-    ensures written { (cid cmd : ℕ) (bytes : List ℕ) → length bytes ≡ len → length (written cid cmd bytes) ≡ result }
+    ensures written { (cid cmd : ℕ) (bytes : List ℕ) → length bytes ≡ len → length (message_packets cid cmd bytes) ≡ result }
 {
     // Rounded up: one continuation packet for each 59 bytes after the first 57.
     1 + (len + 1) / 59
 }
 
-/// Writes bytes from a place on.
+/// Writes bytes at an offset.
 pub(crate) fn put_at(out: &mut [u8], place: usize, bytes: &[u8])
     requires { place + length bytes.now ≤ length out.old }
     ensures { out.new ≡ take place out.old ++ (bytes.now ++ drop (place + length bytes.now) out.old) }
@@ -30,8 +30,8 @@ pub(crate) fn put_at(out: &mut [u8], place: usize, bytes: &[u8])
     out[place..place + bytes.len()].copy_from_slice(bytes);
 }
 
-/// Writes an initialization packet with these data bytes; what is after them stays.
-pub(crate) fn put_initialization(out: &mut [u8], cid: u32, cmd: u8, len: u16, part: &[u8])
+/// Writes an initialization packet with these data bytes. The bytes after them are unchanged.
+pub(crate) fn write_init_packet(out: &mut [u8], cid: u32, cmd: u8, len: u16, part: &[u8])
     requires command { cmd < 128 }
     requires space { 7 + length part.now ≤ length out.old }
     ensures { out.new ≡ (((big_bytes 4 cid ++ (cmd + 128) ∷ []) ++ big_bytes 2 len) ++ part.now)
@@ -43,8 +43,8 @@ pub(crate) fn put_initialization(out: &mut [u8], cid: u32, cmd: u8, len: u16, pa
     put_at(out, 7, part);
 }
 
-/// Writes a continuation packet with these data bytes; what is after them stays.
-pub(crate) fn put_continuation(out: &mut [u8], cid: u32, number: u8, part: &[u8])
+/// Writes a continuation packet with these data bytes. The bytes after them are unchanged.
+pub(crate) fn write_cont_packet(out: &mut [u8], cid: u32, number: u8, part: &[u8])
     requires { 5 + length part.now ≤ length out.old }
     ensures { out.new ≡ ((big_bytes 4 cid ++ number ∷ []) ++ part.now) ++ drop (5 + length part.now) out.old }
 {
@@ -56,25 +56,25 @@ pub(crate) fn put_continuation(out: &mut [u8], cid: u32, number: u8, part: &[u8]
 /// Returns the initialization packet with these data bytes, and zeros after them.
 fn initialization(cid: u32, cmd: u8, len: u16, part: &[u8]) -> Packet
     requires command { cmd < 128 }
-    requires fits { length part.now ≤ INITIALIZATION_DATA }
+    requires fits { length part.now ≤ INIT_PACKET_DATA }
     ensures { result.0 ≡ initialization_packet cid cmd len part.now }
 {
     let mut packet = [0; 64];
-    put_initialization(&mut packet, cid, cmd, len, part);
+    write_init_packet(&mut packet, cid, cmd, len, part);
     Packet(packet)
 }
 
 /// Returns the continuation packet with these data bytes, and zeros after them.
 fn continuation(cid: u32, number: u8, part: &[u8]) -> Packet
-    requires { length part.now ≤ CONTINUATION_DATA }
+    requires { length part.now ≤ CONT_PACKET_DATA }
     ensures { result.0 ≡ continuation_packet cid number part.now }
 {
     let mut packet = [0; 64];
-    put_continuation(&mut packet, cid, number, part);
+    write_cont_packet(&mut packet, cid, number, part);
     Packet(packet)
 }
 
-/// The packet that is to be made next.
+/// The next packet.
 #[derive(Clone, Copy)]
 pub(crate) enum NextPacket {
     /// The initialization packet, with this command.
@@ -92,7 +92,7 @@ pub struct Fragments<'a> {
     rest: &'a [u8],
 }
 
-// Clauses see the packets that are left.
+// In contracts, this is the list of the remaining packets.
 impl<'a> Model for Fragments<'a> {
     ghost use Rattle.std.specs.Prelude.{ℕ, List};
     ghost use Rattle.hid_packet.specs.Remaining.{packets_left, CanCarry};
@@ -108,9 +108,9 @@ impl<'a> Fragments<'a> {
     /// Returns the packets of the message `bytes` with the command `cmd` on the channel `cid`: those that
     /// [`packets_for`] counts.
     pub fn new(cid: u32, cmd: u8, bytes: &'a [u8]) -> Self
-        requires short { length bytes.now ≤ LONGEST_MESSAGE }
+        requires short { length bytes.now ≤ MAX_MESSAGE_LEN }
         requires command { cmd < 128 }
-        ensures { result ≡ written cid cmd bytes.now }
+        ensures { result ≡ message_packets cid cmd bytes.now }
     {
         Fragments {
             cid,
@@ -131,14 +131,14 @@ impl<'a> Iterator for Fragments<'a> {
         let left: &'a [u8] = self.rest;
         match self.due {
             NextPacket::Initialization(cmd) => {
-                let (part, rest) = left.split_at(INITIALIZATION_DATA.min(left.len()));
+                let (part, rest) = left.split_at(INIT_PACKET_DATA.min(left.len()));
                 self.due = NextPacket::Continuation(0);
                 self.rest = rest;
                 Some(initialization(self.cid, cmd, left.len() as u16, part))
             }
             NextPacket::Continuation(_) if left.is_empty() => None,
             NextPacket::Continuation(number) => {
-                let (part, rest) = left.split_at(CONTINUATION_DATA.min(left.len()));
+                let (part, rest) = left.split_at(CONT_PACKET_DATA.min(left.len()));
                 self.due = NextPacket::Continuation(number + 1);
                 self.rest = rest;
                 Some(continuation(self.cid, number, part))

@@ -1,40 +1,39 @@
-//! What holds over the definitions alone: which packets carry a message, and which are written for it.
-//! Each law is the contract of a function that does nothing.
+//! Laws stated over the definitions: which packets carry a message, and which are written for it. Each is the contract
+//! of a function that does nothing.
 
 ghost use Rattle.std.specs.Prelude.{◌≡◌, ℕ, ◌-◌, ◌^◌, ◌<◌, ◌≤◌, List, length};
-ghost use Rattle.hid_packet.specs.Message.{written};
+ghost use Rattle.hid_packet.specs.Message.{message_packets};
 ghost use Rattle.hid_packet.specs.Carries.{IsLeast, CarriesMessage};
 ghost use Rattle.hid_packet.specs.Padding.{AreBytes, ArePackets, FurtherDataIsZero};
-ghost use Rattle.hid_packet.specs.Limits.{LONGEST_MESSAGE};
+ghost use Rattle.hid_packet.specs.Limits.{MAX_MESSAGE_LEN};
 
-/// States that the packets that are written for a message carry it.
+/// States that the packets written for a message carry it.
 pub fn written_packets_carry_their_message()
-    ensures { (cid cmd : ℕ) (bytes : List ℕ) → cid < 2 ^ 32 → length bytes ≤ LONGEST_MESSAGE
-        → CarriesMessage (written cid cmd bytes) cid cmd bytes }
+    ensures { (cid cmd : ℕ) (bytes : List ℕ) → cid < 2 ^ 32 → length bytes ≤ MAX_MESSAGE_LEN
+        → CarriesMessage (message_packets cid cmd bytes) cid cmd bytes }
 {}
 
-/// States that the packets that are written for a message are one initialization packet and the least number of
-/// continuation packets, at most 129 packets in all, and there is only one least number.
+/// States that the packets written for a message are one initialization packet and the least possible number of
+/// continuation packets, at most 129 packets in all.
 pub fn written_packets_are_the_fewest()
-    ensures least { (cid cmd : ℕ) (bytes : List ℕ) → length bytes ≤ LONGEST_MESSAGE
-        → IsLeast (length (written cid cmd bytes) - 1) (length bytes) }
-    ensures few { (cid cmd : ℕ) (bytes : List ℕ) → length (written cid cmd bytes) ≤ 129 }
+    ensures least { (cid cmd : ℕ) (bytes : List ℕ) → length bytes ≤ MAX_MESSAGE_LEN
+        → IsLeast (length (message_packets cid cmd bytes) - 1) (length bytes) }
+    ensures few { (cid cmd : ℕ) (bytes : List ℕ) → length (message_packets cid cmd bytes) ≤ 129 }
     ensures one { (a b len : ℕ) → IsLeast a len → IsLeast b len → a ≡ b }
 {}
 
-/// States that the packets that are written for a message have 64 bytes, and their data bytes after the message are
-/// zero.
+/// States that the packets written for a message have 64 bytes, and are padded with zeros after the message.
 pub fn written_packets_end_in_zeros()
-    ensures packets { (cid cmd : ℕ) (bytes : List ℕ) → cmd < 128 → AreBytes bytes → ArePackets (written cid cmd bytes) }
-    ensures zeros { (cid cmd : ℕ) (bytes : List ℕ) → length bytes ≤ LONGEST_MESSAGE
-        → FurtherDataIsZero bytes (written cid cmd bytes) }
+    ensures packets { (cid cmd : ℕ) (bytes : List ℕ) → cmd < 128 → AreBytes bytes → ArePackets (message_packets cid cmd bytes) }
+    ensures zeros { (cid cmd : ℕ) (bytes : List ℕ) → length bytes ≤ MAX_MESSAGE_LEN
+        → FurtherDataIsZero bytes (message_packets cid cmd bytes) }
 {}
 
-/// States that no other packets of 64 bytes carry the message with zeros after it.
+/// States that no other packets of 64 bytes carry the message padded with zeros.
 pub fn written_packets_are_the_only_ones()
     ensures { (packets : List (List ℕ)) (cid cmd : ℕ) (bytes : List ℕ)
         → CarriesMessage packets cid cmd bytes → ArePackets packets → FurtherDataIsZero bytes packets
-        → packets ≡ written cid cmd bytes }
+        → packets ≡ message_packets cid cmd bytes }
 {}
 
 /// States that a list of packets carries at most one message.

@@ -25,15 +25,15 @@
 #![tactic(auto)]
 
 pub mod command;
-mod entry;
 mod fragments;
 pub mod laws;
-mod limit;
+mod limits;
 mod outbox;
 mod packet;
+mod queued;
 mod ring;
 
 pub use fragments::{Fragments, packets_for};
-pub use limit::{CONTINUATION_DATA, INITIALIZATION_DATA, LONGEST_MESSAGE, OUTBOX_CAPACITY};
+pub use limits::{CONT_PACKET_DATA, INIT_PACKET_DATA, MAX_MESSAGE_LEN, OUTBOX_CAPACITY};
 pub use outbox::Outbox;
 pub use packet::{BROADCAST, PACKET_SIZE, Packet, View};

@@ -2,22 +2,22 @@ ghost use Rattle.std.specs.Prelude.{◌≡◌, ℕ, ◌+◌, ◌<◌, ◌≤◌,
 ghost use Rattle.std.specs.Iterator.{YieldsFirstBy, item_count};
 ghost use Rattle.std.specs.List.{remove};
 ghost use Rattle.arrayvec.specs.ArrayVec.{array_vec_len};
-ghost use Rattle.hid_packet.specs.Message.{written};
+ghost use Rattle.hid_packet.specs.Message.{message_packets};
 ghost use Rattle.hid_packet.specs.Queue.{waiting, IsHeld};
-ghost use Rattle.hid_packet.specs.Limits.{LONGEST_MESSAGE, OUTBOX_CAPACITY};
+ghost use Rattle.hid_packet.specs.Limits.{MAX_MESSAGE_LEN, OUTBOX_CAPACITY};
 
-use crate::entry::{Queued, QueuedMessage};
-use crate::fragments::{NextPacket, packets_for, put_initialization};
-use crate::limit::{INITIALIZATION_DATA, OUTBOX_CAPACITY};
+use crate::fragments::{NextPacket, packets_for, write_init_packet};
+use crate::limits::{INIT_PACKET_DATA, OUTBOX_CAPACITY};
 use crate::packet::Packet;
+use crate::queued::{Queued, QueuedMessage};
 use crate::ring::Ring;
 use arrayvec::ArrayVec;
 use std::marker::Model;
 
 type Entries = ArrayVec<Queued, OUTBOX_CAPACITY>;
 
-/// The packets that wait to be sent, first in, first out, at most [`OUTBOX_CAPACITY`] of them. It keeps a message's
-/// bytes and makes its packets as they are taken. It allocates nothing.
+/// A queue of packets to send, at most [`OUTBOX_CAPACITY`] of them. It stores messages, and creates their packets as
+/// they are taken. Allocates nothing.
 #[derive(Drop)]
 pub struct Outbox {
     entries: Entries,
@@ -25,7 +25,7 @@ pub struct Outbox {
     len: usize,
 }
 
-// Clauses see the waiting packets' bytes, the packet that is sent first in front.
+// In contracts, this is the list of the queued packets, in order.
 impl Model for Outbox {
     ghost use Rattle.std.specs.Prelude.{ℕ, List};
     ghost use Rattle.hid_packet.specs.Queue.{waiting, IsQueued};
@@ -37,7 +37,7 @@ impl Model for Outbox {
     ghost invariant = { λ o. IsQueued o.entries.items o.ring o.len };
 }
 
-/// Takes the first entry out. It is most often the only one.
+/// Removes the first entry, which is most often the only one.
 fn drop_first(entries: &mut Entries)
     requires { 1 ≤ array_vec_len entries.old }
     ensures { entries.new.items ≡ remove entries.old.items 0 }
@@ -49,7 +49,7 @@ fn drop_first(entries: &mut Entries)
     }
 }
 
-/// Takes the next packet of the first entry; with its last packet the entry is gone.
+/// Takes the next packet of the first entry, and removes the entry with its last packet.
 fn take_first(entry: Queued, entries: &mut Entries, ring: &mut Ring) -> Packet
     requires first { (more : List Queued) × (entries.old.items ≡ entry ∷ more) }
     requires held { IsHeld entries.old.items ring.old }
@@ -76,7 +76,7 @@ fn take_first(entry: Queued, entries: &mut Entries, ring: &mut Ring) -> Packet
 }
 
 impl Outbox {
-    /// Returns an outbox with no packet.
+    /// Returns an empty outbox.
     pub fn new() -> Self
         ensures { result ≡ [] }
     {
@@ -87,7 +87,7 @@ impl Outbox {
         }
     }
 
-    /// Returns how many packets wait.
+    /// Returns the number of packets.
     pub fn len(&self) -> usize
         ensures count { result ≡ length self.now }
         ensures limit { length self.now ≤ OUTBOX_CAPACITY }
@@ -95,21 +95,21 @@ impl Outbox {
         self.len
     }
 
-    /// Returns whether no packet waits.
+    /// Returns whether it is empty.
     pub fn is_empty(&self) -> bool
         ensures { IsTrue result ↔ (self.now ≡ []) }
     {
         self.len() == 0
     }
 
-    /// Takes the first packet, if one waits.
+    /// Removes and returns the first packet, if any.
     pub fn pop(&mut self) -> Option<Packet>
         ensures { MatchOption result ((self.old ≡ []) × (self.new ≡ [])) (λ packet. self.old ≡ packet.0 ∷ self.new) }
     {
         self.next()
     }
 
-    /// Puts a packet after those that wait.
+    /// Appends a packet.
     pub fn put_packet(&mut self, packet: Packet)
         requires { length self.old < OUTBOX_CAPACITY }
         ensures { self.new ≡ self.old ++ packet.0 ∷ [] }
@@ -119,19 +119,19 @@ impl Outbox {
         self.len += 1;
     }
 
-    /// Puts the packets of the message `bytes`, with the command `cmd` on the channel `cid`, after
-    /// those that wait. Bytes after the message are zero.
+    /// Appends the packets of the message `bytes`, with the command `cmd` on the channel `cid`. Bytes after the message
+    /// are zero.
     pub fn put_message(&mut self, cid: u32, cmd: u8, bytes: &[u8])
-        requires short { length bytes.now ≤ LONGEST_MESSAGE }
+        requires short { length bytes.now ≤ MAX_MESSAGE_LEN }
         requires command { cmd < 128 }
-        requires space { length self.old + length (written cid cmd bytes.now) ≤ OUTBOX_CAPACITY }
-        ensures { self.new ≡ self.old ++ written cid cmd bytes.now }
+        requires space { length self.old + length (message_packets cid cmd bytes.now) ≤ OUTBOX_CAPACITY }
+        ensures { self.new ≡ self.old ++ message_packets cid cmd bytes.now }
     {
         let left = bytes.len() as u16;
-        if bytes.len() <= INITIALIZATION_DATA {
-            // Its packet is made now, since to keep few bytes and make it later takes longer.
+        if bytes.len() <= INIT_PACKET_DATA {
+            // Its packet is created now, since storing few bytes for later takes longer.
             let mut packet = [0; 64];
-            put_initialization(&mut packet, cid, cmd, left, bytes);
+            write_init_packet(&mut packet, cid, cmd, left, bytes);
             return self.put_packet(Packet(packet));
         }
         let due = NextPacket::Initialization(cmd);
@@ -142,7 +142,7 @@ impl Outbox {
     }
 }
 
-/// Takes the packets, the first one first.
+/// Takes the packets, in order.
 impl Iterator for Outbox {
     type Item = Packet;
 

@@ -6,7 +6,7 @@ use byteorder::{BigEndian, ByteOrder};
 /// The size of a packet, in bytes.
 pub const PACKET_SIZE: usize = 64;
 
-/// The channel on which a host asks for a channel of its own.
+/// The broadcast channel, on which a host asks for a channel of its own.
 pub const BROADCAST: u32 = 0xffff_ffff;
 
 /// A CTAPHID packet, the unit that crosses USB in either direction: any 64 bytes.
@@ -20,7 +20,7 @@ impl Default for Packet {
     }
 }
 
-/// The fields of a packet (CTAP 2.1, section 11.2.4). Its data bytes are lent from it.
+/// The fields of a packet (CTAP 2.1, section 11.2.4). Its data bytes are borrowed from it.
 #[derive(Clone, Copy, Debug)]
 pub enum View<'a> {
     /// An initialization packet: the channel, the command without bit 7, the length of the whole

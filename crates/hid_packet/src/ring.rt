@@ -3,13 +3,13 @@ ghost use Rattle.std.specs.Prelude.{◌≡◌, ◌+◌, ◌-◌, ◌*◌, ◌%�
 ghost use Rattle.hid_packet.specs.Limits.{RING_SIZE};
 
 use crate::fragments::put_at;
-use crate::limit::OUTBOX_CAPACITY;
+use crate::limits::OUTBOX_CAPACITY;
 use std::marker::Model;
 
-/// The most bytes that wait: 64 for each packet of a full outbox.
+/// Capacity in bytes: 64 for each packet of a full outbox.
 const RING_SIZE: usize = 64 * OUTBOX_CAPACITY;
 
-/// Bytes that wait, first in, first out, at most `RING_SIZE` of them.
+/// A queue of at most `RING_SIZE` bytes.
 #[derive(Drop)]
 pub(crate) struct Ring {
     bytes: [u8; RING_SIZE],
@@ -17,7 +17,7 @@ pub(crate) struct Ring {
     len: usize,
 }
 
-// Clauses see the waiting bytes.
+// In contracts, this is the list of the queued bytes.
 impl Model for Ring {
     ghost use Rattle.std.specs.Prelude.{◌≡◌, ℕ, ◌<◌, ◌≤◌, List, length};
     ghost use Rattle.hid_packet.specs.Queue.{window};
@@ -30,7 +30,7 @@ impl Model for Ring {
     ghost invariant = { λ r. (r.first < RING_SIZE) × (r.len ≤ RING_SIZE) × (length r.bytes ≡ RING_SIZE) };
 }
 
-/// Returns the place in the ring, counted from its front again after its end.
+/// Returns the index in the ring, wrapping around at its end.
 fn wrapped(place: usize) -> usize
     requires { place < 2 * RING_SIZE }
     ensures { result ≡ place % RING_SIZE }
@@ -43,7 +43,7 @@ fn wrapped(place: usize) -> usize
 }
 
 impl Ring {
-    /// Returns a ring in which no byte waits.
+    /// Returns an empty ring.
     pub(crate) fn new() -> Self
         ensures { result ≡ [] }
     {
@@ -54,7 +54,7 @@ impl Ring {
         }
     }
 
-    /// Puts bytes after those that wait, from the first place on where the ring ends.
+    /// Appends bytes, wrapping around at the ring's end.
     pub(crate) fn put(&mut self, bytes: &[u8])
         requires { length self.old + length bytes.now ≤ RING_SIZE }
         ensures { self.new ≡ self.old ++ bytes.now }
@@ -71,7 +71,7 @@ impl Ring {
         put_at(&mut self.bytes, 0, back);
     }
 
-    /// Takes the first bytes, as many as `out` has, from the first place on where the ring ends.
+    /// Removes the first bytes, as many as `out` has, wrapping around at the ring's end.
     pub(crate) fn take(&mut self, out: &mut [u8])
         requires { length out.old ≤ length self.old }
         ensures taken { out.new ≡ take (length out.old) self.old }

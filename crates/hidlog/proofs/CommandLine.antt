@@ -19,13 +19,13 @@ use Rattle.clap.specs.Simple.{built, entered, help_shape, names_of, rows_at, sha
 use Rattle.clap.specs.Matches.{first_value, matched_of, raw_values}
 use Rattle.clap.specs.declared.builder.command.Command.{Command, TheViews.out-Command as fields_of}
 use Rattle.clap.specs.declared.parser.matches.{ArgMatches.ArgMatches, Found.Found}
-use Rattle.hidlog.specs.declared.command_line.{CommandOptions.CommandOptions, Form.TheVariants.Lines}
-use Rattle.hidlog.specs.declared.command_line.Manner.{TheVariants.ByTerminal}
-use Rattle.hidlog.specs.declared.grammar.{CommandEntry.CommandEntry, CommandParameter.CommandParameter}
-use Rattle.hidlog.specs.CommandLine.{Ask, command, command_for, rule_for, ask_of, asked_by, grammar}
+use Rattle.hidlog.specs.declared.args.{CommandOptions.CommandOptions, Form.TheVariants.Lines}
+use Rattle.hidlog.specs.declared.args.Verbosity.{TheVariants.ByTerminal}
+use Rattle.hidlog.specs.declared.cli.{CommandEntry.CommandEntry, CommandParameter.CommandParameter}
+use Rattle.hidlog.specs.CommandLine.{Task, command, command_for, rule_for, ask_of, asked_by, grammar}
 use Rattle.hidlog.specs.CommandLine.{answers_to, logs_of, play, check, show, task_for, texts_of}
 use Rattle.clap.specs.declared.error.kind.ErrorKind.TheVariants as kind
-use Rattle.session_log.specs.declared.command.LogCommand.TheVariants as playing
+use Rattle.session_log.specs.declared.command.ReplayMode.TheVariants as playing
 
 -- the rules of which clap's clauses speak
 is_simple_grammar : is_simple_and_free grammar ≡ true
@@ -312,13 +312,13 @@ plain_options = record
     { load = None; save = None; log = None; all = false; json = false; wide = false; form = Lines; manner = ByTerminal }
 
 -- What a word after the program's name asks for, is what the two words ask for.
-plain_asks : (program name : Text) (ask : Ask) → task_for name plain_options [] ≡ Some ask →
+plain_asks : (program name : Text) (ask : Task) → task_for name plain_options [] ≡ Some ask →
     asked_by (program ∷ name ∷ []) ≡ Some (ask, ByTerminal)
 plain_asks program name ask is =
     go (bytes_eq name (codes "replay")) (bytes_eq name (codes "live")) (bytes_eq name (codes "check"))
     (bytes_eq name (codes "quiet")) (bytes_eq name (codes "show")) refl refl refl refl refl is
   where
-    named : (word : Text) (task : Ask) → bytes_eq name word ≡ true →
+    named : (word : Text) (task : Task) → bytes_eq name word ≡ true →
         asked_by (program ∷ word ∷ []) ≡ Some (task, ByTerminal) → Some task ≡ Some ask
         → asked_by (program ∷ name ∷ []) ≡ Some (ask, ByTerminal)
     named word task same asked so =
@@ -341,7 +341,7 @@ plain_asks program name ask is =
     go false false false false false is_a is_b is_c is_d is_e so = cc
 
 -- The same of a list of two words.
-pub alone_asks : (words : List (Bor (List ℕ))) (d : Bor (List ℕ)) (ask : Ask) → 2 ≤ length words → length words < 3
+pub alone_asks : (words : List (Bor (List ℕ))) (d : Bor (List ℕ)) (ask : Task) → 2 ≤ length words → length words < 3
     → task_for (get_or words 1 d).now plain_options [] ≡ Some ask → asked_by (texts_of words) ≡ Some (ask, ByTerminal)
 alone_asks [] d ask two below is = absurd (omega (arith, two))
 alone_asks (program ∷ []) d ask two below is = absurd (omega (arith, two))

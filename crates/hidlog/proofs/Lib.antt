@@ -1,6 +1,6 @@
 pub mod CommandLine
 pub mod Asked
-mod Rows
+mod Examples
 pub mod Unread
 pub mod Over
 pub mod Compared

@@ -1,46 +1,46 @@
--- Which words ask for what, by the rules of `clap`.
+-- The task that a command line specifies, by the rules of `clap`.
 use Rattle.std.specs.Prelude.{◌≡◌, ℕ, Bool, true, false, List, [], ◌∷◌, Option, Some, None, codes, option_map}
 use Rattle.std.specs.Prelude.{option_and_then, unwrap_or, map, if◌then◌else◌}
 use Rattle.std.specs.{Borrow.Bor, Option.option_map_or, Str.bytes_eq}
 use Rattle.clap.specs.Simple.{App, Shape, new_rule, new_shape, subcommand_of}
 use Rattle.clap.specs.{Kinds.Kinds, Faults.fault_of, Walk.Row, Walk.Rule, Walk.all_of, Walk.first_of}
 use Rattle.clap.specs.declared.builder.action.ArgAction.TheVariants.{Append, SetTrue}
-use Rattle.hidlog.specs.declared.command_line.{Form.Form, Manner.Manner, CommandOptions.CommandOptions}
-use Rattle.hidlog.specs.declared.command_line.{Invocation.Invocation, ProgramTask.ProgramTask}
-use Rattle.hidlog.specs.declared.command_line.Form.TheVariants.{Json, JsonSummary, Lines, Summary}
-use Rattle.hidlog.specs.declared.grammar.{CommandEntry.CommandEntry, CommandParameter.CommandParameter}
-use Rattle.hidlog.specs.declared.grammar.ParameterForm.{ParameterForm, TheVariants.Flag, TheVariants.Log, TheVariants.Logs, TheVariants.PathOption}
-use Rattle.hidlog.specs.declared.command_line.Manner.TheVariants.{ByTerminal, Explained, Fixed}
-use Rattle.hidlog.specs.declared.command_line.ProgramTask.TheVariants.{Play, Check, Show}
-use Rattle.session_log.specs.declared.command.LogCommand.{LogCommand}
-use Rattle.session_log.specs.declared.command.LogCommand.TheVariants as playing
+use Rattle.hidlog.specs.declared.args.{Form.Form, Verbosity.Verbosity, CommandOptions.CommandOptions}
+use Rattle.hidlog.specs.declared.args.{Invocation.Invocation, Action.Action}
+use Rattle.hidlog.specs.declared.args.Form.TheVariants.{Json, JsonSummary, Lines, Summary}
+use Rattle.hidlog.specs.declared.cli.{CommandEntry.CommandEntry, CommandParameter.CommandParameter}
+use Rattle.hidlog.specs.declared.cli.ParameterForm.{ParameterForm, TheVariants.Flag, TheVariants.Log, TheVariants.Logs, TheVariants.PathOption}
+use Rattle.hidlog.specs.declared.args.Verbosity.TheVariants.{ByTerminal, Explained, Fixed}
+use Rattle.hidlog.specs.declared.args.Action.TheVariants.{Play, Check, Show}
+use Rattle.session_log.specs.declared.command.ReplayMode.{ReplayMode}
+use Rattle.session_log.specs.declared.command.ReplayMode.TheVariants as playing
 
 -- ---- the grammar
 
--- an option with a value, the path of a snapshot
+-- An option with a value: the path of a snapshot.
 abbrev pub path_option : List ℕ → Rule
 path_option name = record (new_rule name) { long = Some name; value_names = 1 }
 
--- an option without a value
+-- An option without a value.
 abbrev pub flag : List ℕ → Rule
 flag name = record (new_rule name) { long = Some name; action = Some SetTrue }
 
--- the path of a log, and those of any number of logs
+-- The path of a log, and the paths of any number of logs.
 abbrev pub log_path : Rule
 log_path = record (new_rule (codes "log")) { value_names = 1 }
 
 abbrev pub log_paths : Rule
 log_paths = record (new_rule (codes "log")) { value_names = 1; action = Some Append }
 
--- the two words that each command takes on its texts, and then its logs
+-- The two options on the output that each command takes, and then its logs.
 abbrev pub worded : Rule → List Rule
 worded logs = flag (codes "explain") ∷ flag (codes "plain") ∷ logs ∷ []
 
--- a command with these options
+-- A command with these options.
 abbrev pub command : List ℕ → List Rule → Shape
 command name options = record (new_shape name) { rules = options }
 
--- what may come after a command's name, as clap has it
+-- The arguments that clap accepts after a command's name.
 abbrev pub rule_as : ParameterForm → List ℕ → Rule
 rule_as PathOption word = path_option word
 rule_as Flag word = flag word
@@ -53,7 +53,7 @@ rule_for parameter = rule_as parameter.form parameter.word.now
 abbrev pub command_for : CommandEntry → Shape
 command_for entry = command entry.word.now (map rule_for entry.parameters.now)
 
--- the five commands, of which one is required; clap adds `help` and `--version`
+-- The five commands, of which one is required; clap adds `help` and `--version`.
 abbrev pub grammar : App
 grammar = record {
   top = record (new_shape (codes "hidlog")) { has_version = true; subcommand_required = true; is_leaf = false };
@@ -66,18 +66,17 @@ grammar = record {
       ∷ [];
 }
 
--- the kinds that clap's answer to these words may have: what is wrong with them, help or the version; none where they
--- are a command line
+-- The kinds of clap's error for these arguments, which include help and the version; none if they are valid.
 unfoldable pub answers_to : List (List ℕ) → Kinds
 answers_to words = fault_of grammar words
 
 -- ---- what is asked
 
--- what words ask for, with the paths that they have
-pub data Ask : Type 0 where
-  play : (command : LogCommand) (load save log : Option (List ℕ)) → Ask
-  check : (load : Option (List ℕ)) (all json : Bool) (logs : List (List ℕ)) → Ask
-  show : (form : Form) (wide : Bool) (log : Option (List ℕ)) → Ask
+-- The task that the arguments specify, with the paths of snapshots and logs.
+pub data Task : Type 0 where
+  play : (command : ReplayMode) (load save log : Option (List ℕ)) → Task
+  check : (load : Option (List ℕ)) (all json : Bool) (logs : List (List ℕ)) → Task
+  show : (form : Form) (wide : Bool) (log : Option (List ℕ)) → Task
 
 abbrev pub path_of : Option (Bor (List ℕ)) → Option (List ℕ)
 path_of = option_map (λ path. path.now)
@@ -86,42 +85,42 @@ path_of = option_map (λ path. path.now)
 abbrev pub texts_of : List (Bor (List ℕ)) → List (List ℕ)
 texts_of words = map (λ word. word.now) words
 
--- what a task asks for, with the paths of all logs
-abbrev pub asks : ProgramTask → (logs : List (List ℕ)) → Ask
-asks (Play p) logs = play p.command (path_of p.load) (path_of p.save) (path_of p.log)
-asks (Check load all json) logs = check (path_of load) all json logs
-asks (Show form wide log) logs = show form wide (path_of log)
+-- Converts a task of the code to one of the definitions, with the paths of all logs.
+abbrev pub task_of : Action → (logs : List (List ℕ)) → Task
+task_of (Play p) logs = play p.command (path_of p.load) (path_of p.save) (path_of p.log)
+task_of (Check load all json) logs = check (path_of load) all json logs
+task_of (Show form wide log) logs = show form wide (path_of log)
 
--- whether an option without a value was found
+-- Whether an option without a value is present.
 abbrev pub is_set : List ℕ → List Row → Bool
 is_set name found = option_map_or (λ text. bytes_eq text (codes "true")) (first_of name found) false
 
--- the form that is asked for
+-- The requested output form.
 abbrev pub form_of : List Row → Form
 form_of found =
     if is_set (codes "json") found then if is_set (codes "summary") found then JsonSummary else Json
     else if is_set (codes "summary") found then Summary else Lines
 
--- for whom texts are worded: `--plain` is stronger than `--explain`
-abbrev pub manner_of : List Row → Manner
-manner_of found = if is_set (codes "plain") found then Fixed
+-- The level of detail: `--plain` overrides `--explain`.
+abbrev pub verbosity_of : List Row → Verbosity
+verbosity_of found = if is_set (codes "plain") found then Fixed
     else if is_set (codes "explain") found then Explained else ByTerminal
 
--- whether a text is for people, which goes to a terminal or elsewhere
-abbrev pub explains : Manner → (is_terminal : Bool) → Bool
+-- Whether texts are explained, given whether they go to a terminal: by default only there.
+abbrev pub explains : Verbosity → (is_terminal : Bool) → Bool
 explains Explained is_terminal = true
 explains Fixed is_terminal = false
 explains ByTerminal is_terminal = is_terminal
 
--- the paths of logs that were found
+-- The paths of the logs.
 abbrev pub logs_of : List Row → List (List ℕ)
 logs_of found = unwrap_or (all_of (codes "log") found) []
 
--- what the code found to be asked
-abbrev pub asked_as : Invocation → Ask × Manner
-asked_as asked = (asks asked.task (texts_of asked.logs.items), asked.manner)
+-- Converts the code's arguments to a task and a level of detail of the definitions.
+abbrev pub task_and_verbosity : Invocation → Task × Verbosity
+task_and_verbosity asked = (task_of asked.task (texts_of asked.logs.items), asked.manner)
 
--- these options are those that were found
+-- These are the parsed options.
 abbrev pub AreFound : CommandOptions → List Row → Type 0
 AreFound options found = (path_of options.load ≡ first_of (codes "load") found)
     × (path_of options.save ≡ first_of (codes "save") found)
@@ -130,10 +129,10 @@ AreFound options found = (path_of options.load ≡ first_of (codes "load") found
     × (options.json ≡ is_set (codes "json") found)
     × (options.wide ≡ is_set (codes "wide") found)
     × (options.form ≡ form_of found)
-    × (options.manner ≡ manner_of found)
+    × (options.manner ≡ verbosity_of found)
 
--- what a command asks for, by its name, its options and the paths of all logs
-abbrev pub task_for : List ℕ → CommandOptions → (logs : List (List ℕ)) → Option Ask
+-- The task of a command, by its name, its options and the paths of all logs.
+abbrev pub task_for : List ℕ → CommandOptions → (logs : List (List ℕ)) → Option Task
 task_for name options logs =
     if bytes_eq name (codes "replay") then
     Some (play playing.Replay (path_of options.load) (path_of options.save) (path_of options.log))
@@ -145,8 +144,8 @@ task_for name options logs =
     else if bytes_eq name (codes "show") then Some (show options.form options.wide (path_of options.log))
     else None
 
--- what a command asks for, by its name and what was found for its options
-abbrev pub task_by : List ℕ → List Row → Option Ask
+-- The task of a command, by its name and its parsed options.
+abbrev pub task_by : List ℕ → List Row → Option Task
 task_by name found =
     if bytes_eq name (codes "replay") then Some (play playing.Replay (first_of (codes "load") found)
     (first_of (codes "save") found) (first_of (codes "log") found))
@@ -160,18 +159,19 @@ task_by name found =
     (first_of (codes "log") found))
     else None
 
--- a command that was met, and what was found for its options
-abbrev pub ask_of : List ℕ × List Row → Option (Ask × Manner)
-ask_of (name, found) = option_map (λ ask. (ask, manner_of found)) (task_by name found)
+-- The task and the level of detail of a command with its parsed options.
+abbrev pub ask_of : List ℕ × List Row → Option (Task × Verbosity)
+ask_of (name, found) = option_map (λ ask. (ask, verbosity_of found)) (task_by name found)
 
-abbrev pub unless : Kinds → Option (Ask × Manner) → Option (Ask × Manner)
+abbrev pub unless : Kinds → Option (Task × Verbosity) → Option (Task × Verbosity)
 unless [] ask = ask
 unless (kind ∷ kinds) ask = None
 
--- what the words ask for, of which the first is the program's name; nothing where they are no command line
-unfoldable pub asked_by : List (List ℕ) → Option (Ask × Manner)
+-- The task and the level of detail that the arguments specify, or None if the arguments are invalid. The first
+-- argument is the program's name.
+unfoldable pub asked_by : List (List ℕ) → Option (Task × Verbosity)
 asked_by words = unless (answers_to words) (option_and_then ask_of (subcommand_of grammar words))
 
--- The log that a path names: none, and `-`, name that on standard input.
+-- The log at a path: no path and `-` mean standard input.
 abbrev pub named : Option (List ℕ) → Option (List ℕ)
 named = option_and_then (λ path. if bytes_eq path (codes "-") then None else Some path)

@@ -1,58 +1,59 @@
--- What is printed of a fault, and the exit status after it.
+-- The message for a fault, and its exit status.
 use Rattle.std.specs.Prelude.{◌≡◌, ℕ, Bool, List, [], Option, Result, Ok, Err}
 use Rattle.session_log.specs.Command.{Status}
 use Rattle.hidlog.specs.declared.fault.ProgramFault.{ProgramFault}
-use Rattle.hidlog.specs.declared.fault.ProgramFault.TheVariants.{Memory, Log, UnreadLog, UnreadSnapshot}
-use Rattle.hidlog.specs.declared.fault.ProgramFault.TheVariants.{RefusedSnapshot, UnsavedSnapshot}
-use Rattle.hidlog.specs.Program.{Ended, IsGiven, IsTold, cannot_read, cannot_read_log, cannot_write, no_memory, refused}
+use Rattle.hidlog.specs.declared.fault.ProgramFault.TheVariants.{Memory, Log, LogOpenError, SnapshotReadError}
+use Rattle.hidlog.specs.declared.fault.ProgramFault.TheVariants.{RefusedSnapshot, SnapshotWriteError}
+use Rattle.hidlog.specs.Program.{Ended, IsWrittenTo, IsReported, cannot_read, cannot_read_log, cannot_write, no_memory, refused}
 
 -- the exit status
 abbrev pub code_of : ProgramFault → ℕ
 code_of (Log fault) = 1
-code_of (UnreadLog path error) = 1
+code_of (LogOpenError path error) = 1
 code_of _ = 2
 
--- The text. No clause says that of a log's fault.
+-- The message. That of a log's fault is not specified here.
 abbrev pub text_of : ProgramFault → List ℕ
 text_of Memory = no_memory
 text_of (Log fault) = []
-text_of (UnreadLog path error) = cannot_read_log
-text_of (UnreadSnapshot path error) = cannot_read
+text_of (LogOpenError path error) = cannot_read_log
+text_of (SnapshotReadError path error) = cannot_read
 text_of (RefusedSnapshot path fault bytes) = refused fault
-text_of (UnsavedSnapshot path unwritten) = cannot_write
+text_of (SnapshotWriteError path unwritten) = cannot_write
 
--- What is told of a fault: the log's own text; or a text alone; or a text and then, where faults are explained, a
--- reason.
+-- The text that is reported for a fault: the message of a log fault, which is specified elsewhere; or a message; or a
+-- message that is followed, with explanations, by a reason.
 pub data FaultText : Type 0 where
   of_log : FaultText
   alone : (code : ℕ) (text : List ℕ) → FaultText
   reasoned : (code : ℕ) (text : List ℕ) → FaultText
 
-abbrev pub told_of : ProgramFault → FaultText
-told_of Memory = alone 2 no_memory
-told_of (Log fault) = of_log
-told_of (UnreadLog path error) = reasoned 1 cannot_read_log
-told_of (UnreadSnapshot path error) = reasoned 2 cannot_read
-told_of (RefusedSnapshot path fault bytes) = reasoned 2 (refused fault)
-told_of (UnsavedSnapshot path unwritten) = reasoned 2 cannot_write
+abbrev pub fault_message_of : ProgramFault → FaultText
+fault_message_of Memory = alone 2 no_memory
+fault_message_of (Log fault) = of_log
+fault_message_of (LogOpenError path error) = reasoned 1 cannot_read_log
+fault_message_of (SnapshotReadError path error) = reasoned 2 cannot_read
+fault_message_of (RefusedSnapshot path fault bytes) = reasoned 2 (refused fault)
+fault_message_of (SnapshotWriteError path unwritten) = reasoned 2 cannot_write
 
--- what the work on a log came to: its end, or a fault
-abbrev pub Came : Type 0
-Came = Result (Unit {0}) FaultText
+-- The result of working on a log: its end, or a fault.
+abbrev pub RunResult : Type 0
+RunResult = Result (Unit {0}) FaultText
 
-abbrev pub came_of : {A : Type 0} → Result A ProgramFault → Came
-came_of (Ok x) = Ok tt
-came_of (Err fault) = Err (told_of fault)
+abbrev pub result_of : {A : Type 0} → Result A ProgramFault → RunResult
+result_of (Ok x) = Ok tt
+result_of (Err fault) = Err (fault_message_of fault)
 
--- the same of what playing a log came to
-abbrev pub came_from : Ended → Came
-came_from (Ok x) = Ok tt
-came_from (Err fault) = Err of_log
+-- The same for the result of playing a log.
+abbrev pub result_from : Ended → RunResult
+result_from (Ok x) = Ok tt
+result_from (Err fault) = Err of_log
 
--- A fault was told, and nothing else. The exit status is its own. A pair is a target before and after the call.
-abbrev pub Tells : {F : Type 0} → (explained : Bool) → (F → Option (List ℕ)) → (F → ℕ) → FaultText → Status → (F × F) →
+-- The fault was reported, and nothing else. The exit status is that of the fault. A pair is a target before and after
+-- the call.
+abbrev pub WritesFault : {F : Type 0} → (explained : Bool) → (F → Option (List ℕ)) → (F → ℕ) → FaultText → Status → (F × F) →
     Type 0
-Tells explained said unsaid of_log status faults = status ≡ Err 1
-Tells explained said unsaid (alone code text) status faults = (status ≡ Err code) × IsGiven said unsaid faults text
-Tells explained said unsaid (reasoned code text) status faults =
-    (status ≡ Err code) × IsTold explained said unsaid faults text
+WritesFault explained parsed unsaid of_log status faults = status ≡ Err 1
+WritesFault explained parsed unsaid (alone code text) status faults = (status ≡ Err code) × IsWrittenTo parsed unsaid faults text
+WritesFault explained parsed unsaid (reasoned code text) status faults =
+    (status ≡ Err code) × IsReported explained parsed unsaid faults text

@@ -1,9 +1,9 @@
--- What is said of the files, the log, the output and the faults that the program is run with.
+-- The program's environment: its files, log, output and error output.
 use Rattle.std.specs.Prelude.{◌<◌, ◌-◌, ◌^◌, ℕ, Bool, List, Option}
 use Rattle.hidlog.specs.declared.host.Host.{Host}
 
--- The words of `Files` (src/files.rt), of `Logs` (src/logs.rt) over `Source`, of `Output` (src/held.rt) over `Target`,
--- and of a `Target` for the texts of faults.
+-- The ghost functions of `Files` (src/files.rt), of `Logs` (src/logs.rt) over `Source`, of `Output`
+-- (src/buffered_output.rt) over `Target`, and of a `Target` for error messages.
 pub record Model (D I O F : Type 0) : Type 1 where
   pub holds : D → List ℕ → List ℕ → Type 0
   pub unreadable : D → List ℕ → Type 0
@@ -18,10 +18,10 @@ pub record Model (D I O F : Type 0) : Type 1 where
   pub taken : O → Option (List ℕ)
   pub unput : O → ℕ
   pub waits : O → List ℕ
-  pub said : F → Option (List ℕ)
+  pub parsed : F → Option (List ℕ)
   pub unsaid : F → ℕ
 
--- One failure more of each part can be counted.
+-- Each part can count one more failure.
 abbrev pub CanFail : {D I O F : Type 0} → Model D I O F → Host D I O F → Type 0
 CanFail model host = (model.unread host.input < 2 ^ 64 - 1) × (model.unput host.output < 2 ^ 64 - 1)
     × (model.unsaid host.faults < 2 ^ 64 - 1)

@@ -1,26 +1,27 @@
--- Several logs that are compared, one after the other. A pair is a source before and after.
+-- Comparing several logs, one after the other. A pair is a source before and after.
 use Rattle.std.specs.Prelude.{◌≡◌, ℕ, List, [], ◌∷◌, Option, Some, None, MatchOption}
 use Rattle.std.specs.Io.KnownBytes.{Consumes}
 use Rattle.cred_table.specs.declared.row.Row.{Row}
-use Rattle.session_log.specs.Check.{begun, check_history}
-use Rattle.session_log.specs.{Command.start_with, Streams.IsAllRead, Log.fault_of, Log.playing}
-use Rattle.hidlog.specs.{CommandLine.named, Model.Model, Saved.Opens}
+use Rattle.session_log.specs.Check.{first_comparison, check_history}
+use Rattle.session_log.specs.{Command.start_with, Streams.IsAtEndOfInput, Log.fault_of, Log.play_all}
+use Rattle.hidlog.specs.{CommandLine.named, Model.Model, Saved.OpenSource}
 
 module _ {D I O F : Type 0} (model : Model D I O F) where
-  -- All of a log was read, and it is what a key sends that begins with the credentials of the snapshot at the path.
+  -- The whole log was read, and its packets are those that a key sends that starts with the credentials of the
+  -- snapshot at the path.
   abbrev pub IsSame : Option (List ℕ) → D → (I × I) → Type 0
-  IsSame load files input = (rows : List Row) × (bytes : List ℕ) × Opens model.holds files load rows
+  IsSame load files input = (rows : List Row) × (bytes : List ℕ) × OpenSource model.holds files load rows
       × Consumes (model.left input.0) (model.left input.1) bytes
-      × (fault_of (check_history (start_with rows)) (playing (check_history (start_with rows)) (begun []) bytes) ≡ None)
-      × IsAllRead model.left model.ended input.1
+      × (fault_of (check_history (start_with rows)) (play_all (check_history (start_with rows)) (first_comparison []) bytes) ≡ None)
+      × IsAtEndOfInput model.left model.ended input.1
 
-  -- The log at the path is, read from its front; or that on standard input.
+  -- The same for the log at this path, or for standard input.
   abbrev pub IsSameAt : Option (List ℕ) → D → (log : List ℕ) → (I × I) → Type 0
   IsSameAt load files log input = (start : I)
       × MatchOption (named (Some log)) (Unit {0}) (λ path. model.opened input.0 path start)
       × IsSame load files (start, input.1)
 
-  -- Each of these logs is, one after the other.
+  -- The same for each of these logs, one after the other.
   abbrev pub AreSame : Option (List ℕ) → D → (logs : List (List ℕ)) → (I × I) → Type 0
   AreSame load files [] input = input.1 ≡ input.0
   AreSame load files (log ∷ logs) input =

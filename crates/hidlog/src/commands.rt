@@ -4,31 +4,31 @@ ghost use Rattle.session_log.specs.Command.{start_with};
 ghost use Rattle.token_session.specs.Meters.{session_of};
 ghost use Rattle.hidlog.specs.CommandLine.{named, path_of};
 ghost use Rattle.hidlog.specs.Commands.{Begins, RunsCommand, RunsOn, looked_at};
-ghost use Rattle.hidlog.specs.Fault.{came_of, reasoned, told_of};
+ghost use Rattle.hidlog.specs.Fault.{result_of, reasoned, fault_message_of};
 ghost use Rattle.hidlog.specs.Model.{CanFail};
 ghost use Rattle.hidlog.specs.Program.{cannot_read_log};
 ghost use Rattle.hidlog.specs.Saved.{FailsToSave};
 
+use crate::buffered_output::{Output, flush_then};
 use crate::fault::ProgramFault;
 use crate::files::Files;
-use crate::held::{Output, settled};
 use crate::host::{Host, Modeled};
 use crate::logs::Logs;
-use crate::remarks::ComparisonEnd;
+use crate::notes::CheckEnd;
 use crate::snapshots::{hold, load, look, save_rows};
-use session_log::{CAPACITY, LogCommand, Target};
+use session_log::{CAPACITY, ReplayMode, Target};
 use token_session::Session;
 
-/// A command that plays a log, with the paths of the snapshots and of the log.
+/// A command that plays a log, with the paths of snapshots and log.
 #[derive(Clone, Copy)]
 pub struct Play<'a> {
-    pub command: LogCommand,
+    pub command: ReplayMode,
     pub load: Option<&'a str>,
     pub save: Option<&'a str>,
     pub log: Option<&'a str>,
 }
 
-/// Begins at the front of the log. Returns its path, where it isn't on standard input.
+/// Opens the log, and returns its path unless it is standard input.
 pub fn open_log<'a, L: Logs>(
     input: &mut L,
     log: Option<&'a str>,
@@ -36,7 +36,7 @@ pub fn open_log<'a, L: Logs>(
     ensures path { IfOk result (λ path. path_of path ≡ named (path_of log.entry)) }
     ensures opened { OnOk result (MatchOption (named (path_of log.entry)) (input.new ≡ input.old)
         (λ path. L.opened input.old path input.new)) }
-    ensures fails { IfErr result (λ fault. (told_of fault ≡ reasoned 1 cannot_read_log)
+    ensures fails { IfErr result (λ fault. (fault_message_of fault ≡ reasoned 1 cannot_read_log)
         × IsSomeAnd (named (path_of log.entry)) (L.unopenable input.old) × (input.new ≡ input.old)) }
     ensures counted { L.failed input.new ≡ L.failed input.old }
 {
@@ -46,15 +46,15 @@ pub fn open_log<'a, L: Logs>(
     };
     match input.open(Some(path)) {
         Ok(()) => Ok(Some(path)),
-        Err(error) => Err(ProgramFault::UnreadLog(path, error)),
+        Err(error) => Err(ProgramFault::LogOpenError(path, error)),
     }
 }
 
-// A session takes 29 kB. Each command makes one in a frame of its own, where it isn't copied, so that only one is on the
-// stack at a time.
+// A session takes 29 kB. Each command creates one in a stack frame of its own, so that it isn't copied and only one is
+// on the stack at a time.
 
-/// Returns the program's session at its start, without credentials.
-// By this function it is made where its caller keeps it. Of a call of `Session::bare` in its place there is a copy.
+/// Returns the program's initial session, without credentials.
+// Through this function it is created in the caller's place; calling `Session::bare` instead would copy it.
 pub fn fresh() -> Session<CAPACITY>
     ensures { result ≡ session_of (start_with []) [] }
 {
@@ -62,21 +62,21 @@ pub fn fresh() -> Session<CAPACITY>
 }
 
 impl<D: Files, L: Logs, O: Output, E: Target> Host<D, L, O, E> {
-    /// Plays the log, which is open, on a session of its own, and saves the credentials that the session has after it,
-    /// where there is a path for them. Returns how the log ended.
+    /// Plays the open log on a new session, saves the credentials afterwards if a path is given, and returns how the
+    /// log ended.
     #[inline(never)]
     fn play_open<'a>(
         &mut self,
         play: &Play<'a>,
         log: Option<&str>,
         is_held: bool,
-    ) -> Result<ComparisonEnd, ProgramFault<'a>>
+    ) -> Result<CheckEnd, ProgramFault<'a>>
         requires { CanFail ⟦<Self as Modeled>⟧.model self.old }
         ensures { Begins ⟦<Self as Modeled>⟧.model (path_of play.now.load)
             (λ start. ((self.new ≡ self.old) × FailsToSave D.unwritable self.old.files
-            (looked_at play.now.command (path_of play.now.save)) (came_of result))
-            ⊎ RunsOn ⟦<Self as Modeled>⟧.model play.now.command (path_of play.now.save) (came_of result) self.old self.new start)
-            (came_of result) self.old self.new }
+            (looked_at play.now.command (path_of play.now.save)) (result_of result))
+            ⊎ RunsOn ⟦<Self as Modeled>⟧.model play.now.command (path_of play.now.save) (result_of result) self.old self.new start)
+            (result_of result) self.old self.new }
     {
         let session = &mut fresh();
         if let Err(fault) = load(session, &self.files, play.load) {
@@ -88,7 +88,7 @@ impl<D: Files, L: Logs, O: Output, E: Target> Host<D, L, O, E> {
         let answer = play
             .command
             .play(session, &mut self.input, &mut self.output);
-        if let Err(fault) = settled(&mut self.output, answer) {
+        if let Err(fault) = flush_then(&mut self.output, answer) {
             return Err(ProgramFault::Log(fault));
         }
         match save_rows(
@@ -99,18 +99,17 @@ impl<D: Files, L: Logs, O: Output, E: Target> Host<D, L, O, E> {
             is_held,
             session,
         ) {
-            Ok(()) => Ok(ComparisonEnd::of(session)),
+            Ok(()) => Ok(CheckEnd::of(session)),
             Err(fault) => Err(fault),
         }
     }
 
-    /// Plays the log on a session of its own, and saves the credentials that the session has after it, where there is a
-    /// path for them. Where that is the path of those that it begins with, no other program saves to it meanwhile. Returns
-    /// how the log ended.
-    pub fn play_log<'a>(&mut self, play: &Play<'a>) -> Result<ComparisonEnd, ProgramFault<'a>>
+    /// Plays the log on a session of its own, saves the credentials afterwards if there is a path for them, and returns
+    /// how the log ended. If both snapshots have the same path, it is locked meanwhile.
+    pub fn play_log<'a>(&mut self, play: &Play<'a>) -> Result<CheckEnd, ProgramFault<'a>>
         requires { CanFail ⟦<Self as Modeled>⟧.model self.old }
         ensures { RunsCommand ⟦<Self as Modeled>⟧.model play.now.command (path_of play.now.load) (path_of play.now.save)
-            (path_of play.now.log) (came_of result) self.old self.new }
+            (path_of play.now.log) (result_of result) self.old self.new }
     {
         let log = match open_log(&mut self.input, play.log) {
             Ok(log) => log,

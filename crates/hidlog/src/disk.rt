@@ -1,4 +1,4 @@
-//! The disk, path by path, and its files that are open.
+//! The disk, path by path, and its open files.
 ghost use Rattle.std.specs.Prelude.{◌≡◌, ◌≤◌, ℕ, Bool, true, false, List, None, Option, Some, is_some, length, take, IfOk, IfSome, OnOk};
 ghost use Rattle.hidlog.specs.Streams.{over};
 
@@ -6,36 +6,35 @@ use std::fs::{self, File, Metadata, OpenOptions, TryLockError};
 use std::io::{self, Error, ErrorKind, Read, Write};
 use std::os::unix::fs::{FileExt, FileTypeExt, MetadataExt};
 
-/// A file that is open.
+/// An open file.
 pub trait Place {
-    /// It is the one at a path.
+    /// This is the file at a path.
     ghost is_at: { List ℕ → Self → Type 0 };
 
-    /// Whether it is known which bytes files have.
+    /// Whether the content of files is known.
     ghost is_known: { Bool };
 
-    /// The bytes that it has, where they are known.
+    /// Its content, if known.
     ghost bytes: { Self → Option (List ℕ) };
 
-    /// Writes a piece whole, from a place on that isn't behind the end.
+    /// Writes all bytes at an offset that is at most the file's length.
     fn put_at(&mut self, piece: &[u8], at: u64) -> io::Result<()>
         ensures bytes { OnOk result (IfSome (bytes self.old) (λ has. at ≤ length has → bytes self.new ≡ Some (over has at piece.now))) }
         ensures place { (path : List ℕ) → is_at path self.old → is_at path self.new };
 
-    /// Cuts it to so many bytes, where it has more, and hands what was written to it to the disk. Not each system of
-    /// files can do the latter.
+    /// Truncates the file to `len` bytes if longer, and syncs it to disk. Some file systems cannot sync.
     fn cut(&mut self, size: u64) -> io::Result<()>
         ensures bytes { OnOk result (IfSome (bytes self.old) (λ has. size ≤ length has → bytes self.new ≡ Some (take size has))) }
         ensures place { (path : List ℕ) → is_at path self.old → is_at path self.new };
 }
 
-/// What is at a path that may be written to.
+/// The kind of object at a writable path.
 #[derive(Clone, Copy)]
 pub enum Found {
     Nothing,
     File,
     Pipe,
-    /// A device, or a link that leads nowhere.
+    /// A device, or a dangling link.
     Other,
 }
 
@@ -43,39 +42,38 @@ pub enum Found {
 pub trait Disk {
     type File: Place + Drop;
 
-    /// The file at a path has these bytes, or more, where they are as many as this.
+    /// These are the bytes of the file at a path; if there are as many as the limit, the file may have more.
     ghost holds: { Self → List ℕ → ℕ → List ℕ → Type 0 };
 
-    /// These bytes were handed to what is at a path and isn't a file.
+    /// These bytes were written to an object at a path that isn't a regular file.
     ghost handed: { List ℕ → List ℕ → Type 0 };
 
-    /// Reads a file from its front, up to so many bytes.
+    /// Reads at most `most` bytes of a file, from its start.
     fn read(&self, path: &str, most: u64) -> io::Result<Vec<u8>>
         ensures { IfOk result (λ bytes. holds self.now path.now most bytes.items) };
 
-    /// Looks at what is at a path. A folder is refused, and so are the log and the file that standard output goes to.
+    /// Examines a path. A directory is refused, and so are the log and the file that is standard output.
     fn look(&self, path: &str, log: Option<&str>) -> io::Result<Found>;
 
-    /// Returns the number of the file at a path on its system of files, or 0.
+    /// Returns the inode number of the file at a path, or 0.
     fn number(&self, path: &str) -> u64;
 
     /// Returns whether two paths lead to one file.
     fn is_same(&self, path: &str, other: &str) -> bool;
 
-    /// Opens a file to write over it, and returns how many bytes it has. No other program writes to it meanwhile: that
-    /// is so already where this program holds it.
+    /// Opens a file for overwriting, and returns its length. It is locked against other programs, unless this program
+    /// already holds the lock.
     fn open(&self, path: &str, is_held: bool) -> io::Result<(Self::File, u64)>
         ensures place { IfOk result (λ opened. Self.File.is_at path.now opened.0) }
         ensures size { IfOk result (λ opened. IfSome (Self.File.bytes opened.0) (λ has. length has ≡ opened.1)) }
         ensures known { IfOk result (λ opened. Self.File.is_known ≡ true → is_some (Self.File.bytes opened.0) ≡ true) };
 
-    /// Makes a new file of these bytes, to the disk. What is at the path already is kept, a link too, and the error
-    /// is `AlreadyExists`.
+    /// Creates a file with these bytes and syncs it. Fails with `AlreadyExists` if the path exists, even as a link.
     fn create(&self, path: &str, bytes: &[u8]) -> io::Result<Self::File>
         ensures place { IfOk result (λ file. Self.File.is_at path.now file) }
         ensures known { IfOk result (λ file. Self.File.is_known ≡ true → Self.File.bytes file ≡ Some bytes.now) };
 
-    /// Renames a file that is open, over what is at the path.
+    /// Renames an open file, replacing any file at the path.
     fn rename(&self, file: Self::File, from: &str, to: &str) -> io::Result<Self::File>
         ensures place { IfOk result (λ moved. Self.File.is_at to.now moved) }
         ensures bytes { IfOk result (λ moved. Self.File.bytes moved ≡ Self.File.bytes file) };
@@ -83,12 +81,12 @@ pub trait Disk {
     /// Removes a file.
     fn remove(&self, path: &str) -> io::Result<()>;
 
-    /// Writes bytes to what is at a path and isn't a file.
+    /// Writes bytes to an object at a path that isn't a regular file.
     fn hand(&self, path: &str, bytes: &[u8], found: Found) -> io::Result<()>
         ensures { OnOk result (handed path.now bytes.now) };
 }
 
-/// The files of the system. No clause says what they hold.
+/// The system's files. No clause states their content.
 impl Place for File {
     ghost is_at = { λ _ _. Unit {0} };
 
@@ -115,11 +113,11 @@ impl Place for File {
     }
 }
 
-/// The disk of the system. No clause says what it holds.
+/// The system's disk. No clause states its content.
 #[derive(Clone, Copy)]
 pub struct HostDisk<'a>(pub &'a HostRuntime);
 
-/// The system's number for a folder.
+/// The system's error number for a directory, EISDIR.
 const EISDIR: i32 = 21;
 
 /// Returns whether a file is the one at a path.
@@ -168,7 +166,7 @@ impl Disk for HostDisk<'_> {
             return Ok(if is_pipe { Found::Pipe } else { Found::Other });
         }
         let message = if is_at(self.0, log.unwrap_or("/dev/stdin"), &found) {
-            "it is the log, which would be lost"
+            "it is the input log"
         } else if is_at(self.0, "/dev/stdout", &found) {
             "it is the file that standard output goes to"
         } else {
@@ -193,7 +191,7 @@ impl Disk for HostDisk<'_> {
 
     fn open(&self, path: &str, is_held: bool) -> io::Result<(File, u64)> {
         let file = OpenOptions::new().write(true).open(self.0, path)?;
-        // Not each system of files has locks.
+        // Not every file system has locks.
         if !is_held && let Err(TryLockError::WouldBlock) = file.try_lock() {
             let message = "another program is writing to it";
             return Err(Error::new(ErrorKind::WouldBlock, message));
@@ -228,7 +226,7 @@ impl Disk for HostDisk<'_> {
         let Found::Pipe = found else {
             return fs::write(self.0, path, bytes);
         };
-        // It never waits for a reader: where there is none, it fails.
+        // Never waits for a reader: without one, it fails.
         let both = OpenOptions::new()
             .read(true)
             .write(true)

@@ -1,28 +1,28 @@
-//! What can go wrong, as a value until it is printed.
+//! Errors of the program, as values until they are printed.
 ghost use Rattle.std.specs.Prelude.{◌≡◌, ◌⊎◌};
 
-use crate::files::{COPY, DAMAGED, HELD, Unwritten};
-use crate::texts::write_shown;
+use crate::escape::write_display;
+use crate::files::{COPY, DAMAGED, HELD, SaveError};
 use cred_table::SnapshotFault;
 use session_log::{CAPACITY, LogFault};
-use session_show::{Pen, Written, write_escaped};
+use session_show::{TextBuf, Written, write_escaped};
 use std::io::{self, ErrorKind};
 
-/// What ended the work on a log, with the path that it is about.
+/// An error that ended the work on a log, with its path.
 #[derive(Drop)]
 pub enum ProgramFault<'a> {
-    /// Memory was refused.
+    /// Out of memory.
     Memory,
-    /// The log has this fault.
+    /// An error in the log.
     Log(LogFault),
-    /// The log can't be opened.
-    UnreadLog(&'a str, io::Error),
-    /// The snapshot can't be read.
-    UnreadSnapshot(&'a str, io::Error),
-    /// The snapshot of these bytes is refused.
+    /// The log cannot be opened.
+    LogOpenError(&'a str, io::Error),
+    /// The snapshot cannot be read.
+    SnapshotReadError(&'a str, io::Error),
+    /// The snapshot with these bytes is refused.
     RefusedSnapshot(&'a str, SnapshotFault, Vec<u8>),
-    /// The snapshot can't be written.
-    UnsavedSnapshot(&'a str, Unwritten),
+    /// The snapshot cannot be written.
+    SnapshotWriteError(&'a str, SaveError),
 }
 
 impl ProgramFault<'_> {
@@ -34,12 +34,12 @@ impl ProgramFault<'_> {
         ensures either { (result ≡ 1) ⊎ (result ≡ 2) }
     {
         match self {
-            ProgramFault::Log(_) | ProgramFault::UnreadLog(..) => 1,
+            ProgramFault::Log(_) | ProgramFault::LogOpenError(..) => 1,
             _ => 2,
         }
     }
 
-    /// Returns the text. That of a log's fault is its own.
+    /// Returns the message. Log errors have their own.
     pub fn text(&self) -> &'static [u8]
         ensures { result.now ≡ text_of self.now }
     {
@@ -48,8 +48,8 @@ impl ProgramFault<'_> {
             ProgramFault::Memory | ProgramFault::RefusedSnapshot(_, SnapshotFault::Memory, _) => {
                 b"hidlog: no memory\n"
             }
-            ProgramFault::UnreadLog(..) => b"hidlog: cannot read log\n",
-            ProgramFault::UnreadSnapshot(..) => b"hidlog: cannot read snapshot\n",
+            ProgramFault::LogOpenError(..) => b"hidlog: cannot read log\n",
+            ProgramFault::SnapshotReadError(..) => b"hidlog: cannot read snapshot\n",
             ProgramFault::RefusedSnapshot(_, SnapshotFault::NotSnapshot, _) => {
                 b"hidlog: snapshot refused: 1\n"
             }
@@ -59,13 +59,13 @@ impl ProgramFault<'_> {
             ProgramFault::RefusedSnapshot(_, SnapshotFault::RowBroken(_), _) => {
                 b"hidlog: snapshot refused: 3\n"
             }
-            ProgramFault::UnsavedSnapshot(..) => b"hidlog: cannot write snapshot\n",
+            ProgramFault::SnapshotWriteError(..) => b"hidlog: cannot write snapshot\n",
         }
     }
 
-    /// Returns what is said of it also where faults aren't explained.
+    /// Returns the message that is written even without explanations.
     pub fn notice(&self) -> Option<Notice> {
-        let ProgramFault::UnreadSnapshot(_, error) = self else {
+        let ProgramFault::SnapshotReadError(_, error) = self else {
             return None;
         };
         match error.kind() {
@@ -76,100 +76,99 @@ impl ProgramFault<'_> {
     }
 }
 
-/// A line about a fault, without the path that it is about.
+/// An error message in one line, without the path.
 #[derive(Clone, Copy)]
 pub enum Notice {
     /// Another program holds the snapshot.
     Held,
-    /// The snapshot's bytes aren't those of its sums.
+    /// The snapshot's bytes don't match its checksums.
     Damaged,
 }
 
 impl Written for Notice {
-    fn write(&self, pen: &mut Pen) {
-        pen.text("  ");
-        pen.text(match self {
+    fn write(&self, buf: &mut TextBuf) {
+        buf.text("  ");
+        buf.text(match self {
             Notice::Held => HELD,
             Notice::Damaged => DAMAGED,
         });
-        pen.text("\n");
+        buf.text("\n");
     }
 }
 
-/// Why there is a fault, for people: a line.
+/// The details of an error, in one line.
 #[derive(Clone, Copy)]
-pub struct FaultReason<'a> {
+pub struct ErrorDetail<'a> {
     pub fault: &'a ProgramFault<'a>,
-    /// The path that it is about.
+    /// Its path.
     pub path: &'a str,
-    /// The number of the copy of a write that was cut off, if one is beside the snapshot.
+    /// The number of an interrupted write's copy beside the snapshot, if any.
     pub copy: Option<u64>,
 }
 
-/// Writes why a snapshot of these bytes is refused.
-fn write_refusal(pen: &mut Pen, fault: SnapshotFault, bytes: &[u8]) {
+/// Writes why a snapshot with these bytes is refused.
+fn write_refusal(buf: &mut TextBuf, fault: SnapshotFault, bytes: &[u8]) {
     match fault {
-        SnapshotFault::TooMany => pen.form(
-            b"it has more than %d credentials",
-            &[Some(CAPACITY as u64)],
-        ),
-        SnapshotFault::RowBroken(place) => pen.form(
-            b"credential %d is broken, or is there twice",
+        SnapshotFault::TooMany => buf.format(b"more than %d credentials", &[Some(CAPACITY as u64)]),
+        SnapshotFault::RowBroken(place) => buf.format(
+            b"credential %d is invalid or a duplicate",
             &[Some(place.saturating_add(1) as u64)],
         ),
         SnapshotFault::NotSnapshot | SnapshotFault::Memory => match bytes {
-            [] => pen.text("it is empty"),
+            [] => buf.text("it is empty"),
             [0xA2, 0x01, 0x01 | 0x02, ..] => {
-                pen.text("it begins as a snapshot, and is cut off or changed");
+                buf.text("the snapshot is truncated or corrupt");
             }
-            [0xA2, 0x01, version @ 0x03..=0x17, ..] => pen.form(
-                b"it is of version %d, and 1 and 2 are read",
+            [0xA2, 0x01, version @ 0x03..=0x17, ..] => buf.format(
+                b"unsupported version %d (supported: 1, 2)",
                 &[Some(u64::from(*version))],
             ),
-            _ => pen.text("it is no snapshot"),
+            _ => buf.text("it is not a snapshot"),
         },
     }
 }
 
 /// Writes the path of a copy of a snapshot.
-fn write_copy_path(pen: &mut Pen, path: &[u8], number: u64) {
-    write_escaped(pen, path);
-    pen.text(COPY);
+fn write_copy_path(buf: &mut TextBuf, path: &[u8], number: u64) {
+    write_escaped(buf, path);
+    buf.text(COPY);
     if number > 0 {
-        pen.form(b".%d", &[Some(number)]);
+        buf.format(b".%d", &[Some(number)]);
     }
 }
 
-impl Written for FaultReason<'_> {
-    fn write(&self, pen: &mut Pen) {
+impl Written for ErrorDetail<'_> {
+    fn write(&self, buf: &mut TextBuf) {
         let path = self.path.as_bytes();
-        pen.text("  ");
-        write_escaped(pen, path);
-        pen.text(": ");
-        // What is said before the path of the copy, and the copy's number.
+        buf.text("  ");
+        write_escaped(buf, path);
+        buf.text(": ");
+        // The text before the path of the copy, and the copy's number.
         let mut copied = None;
         match self.fault {
             ProgramFault::Memory | ProgramFault::Log(_) => {}
-            ProgramFault::UnreadLog(_, error)
-            | ProgramFault::UnreadSnapshot(_, error)
-            | ProgramFault::UnsavedSnapshot(_, Unwritten::Kept(error)) => write_shown(pen, error),
-            ProgramFault::RefusedSnapshot(_, fault, bytes) => write_refusal(pen, *fault, bytes),
-            ProgramFault::UnsavedSnapshot(_, Unwritten::Broken(error)) => {
-                write_shown(pen, error);
-                pen.text("; it may be broken now");
+            ProgramFault::LogOpenError(_, error)
+            | ProgramFault::SnapshotReadError(_, error)
+            | ProgramFault::SnapshotWriteError(_, SaveError::Kept(error)) => write_display(
+                buf, error,
+            ),
+            ProgramFault::RefusedSnapshot(_, fault, bytes) => write_refusal(buf, *fault, bytes),
+            ProgramFault::SnapshotWriteError(_, SaveError::Broken(error)) => {
+                write_display(buf, error);
+                buf.text("; it may be corrupt");
             }
-            ProgramFault::UnsavedSnapshot(_, Unwritten::Copied(error, number)) => {
-                write_shown(pen, error);
+            ProgramFault::SnapshotWriteError(_, SaveError::Copied(error, number)) => {
+                write_display(buf, error);
                 copied = Some((
-                    "; it may be broken now, and the new snapshot is whole in ",
+                    "; it may be corrupt, and the new snapshot is whole in ",
                     *number,
                 ));
             }
-            ProgramFault::UnsavedSnapshot(_, Unwritten::Left(error, number)) => {
-                pen.text("it is saved, but its copy ");
-                write_copy_path(pen, path, *number);
-                pen.text(" couldn't be removed: ");
-                write_shown(pen, error);
+            ProgramFault::SnapshotWriteError(_, SaveError::Left(error, number)) => {
+                buf.text("saved, but its backup ");
+                write_copy_path(buf, path, *number);
+                buf.text(" couldn't be removed: ");
+                write_display(buf, error);
             }
         }
         if let Some(number) = self.copy {
@@ -179,9 +178,9 @@ impl Written for FaultReason<'_> {
             ));
         }
         if let Some((text, number)) = copied {
-            pen.text(text);
-            write_copy_path(pen, path, number);
+            buf.text(text);
+            write_copy_path(buf, path, number);
         }
-        pen.text("\n");
+        buf.text("\n");
     }
 }

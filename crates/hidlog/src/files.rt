@@ -8,90 +8,90 @@ use crate::sums::{SUMS, SumLine, are_sums};
 use std::alloc::Global;
 use std::io::{self, Error, ErrorKind};
 
-/// Why a file wasn't written, and what it holds then.
+/// Why a file wasn't written, and its content then.
 #[derive(Drop)]
-pub enum Unwritten {
-    /// It holds what it held.
+pub enum SaveError {
+    /// Its content is unchanged.
     Kept(Error),
-    /// It may hold some of the bytes. All of them are in the copy of this number beside it.
+    /// It may have some of the bytes. All of them are in the copy with this number beside it.
     Copied(Error, u64),
-    /// It may hold some of the bytes, and there is no copy.
+    /// It may have some of the bytes, and there is no copy.
     Broken(Error),
-    /// It holds the bytes. The copy of this number beside it couldn't be removed.
+    /// It has the bytes. The copy with this number beside it couldn't be removed.
     Left(Error, u64),
 }
 
 /// Files, by their paths.
 pub trait Files {
-    /// A file that no other program may load and then save to.
+    /// A file locked against other programs that load and then save it.
     type Held: Drop;
 
     /// The file at a path has these bytes.
     ghost holds: { Self → List ℕ → List ℕ → Type 0 };
 
-    /// The file at a path can't be read.
+    /// The file at a path cannot be read.
     ghost unreadable: { Self → List ℕ → Type 0 };
 
-    /// These bytes were written to the file at a path, in place of what it had.
+    /// These bytes replaced the content of the file at a path.
     ghost written: { Self → List ℕ → List ℕ → Self → Type 0 };
 
-    /// They couldn't be. The file may have some of them.
+    /// They couldn't be written. The file may have some of them.
     ghost unwritten: { Self → List ℕ → List ℕ → Self → Type 0 };
 
-    /// The file at a path can't be written to.
+    /// The file at a path cannot be written.
     ghost unwritable: { Self → List ℕ → Type 0 };
 
-    /// Reads a file whole.
+    /// Reads a whole file.
     fn read(&self, path: &str) -> io::Result<Vec<u8>>
         ensures { MatchResult result (λ bytes. holds self.now path.now bytes.items)
             (λ error. (error_kind error ≡ ErrorKind.OutOfMemory) ⊎ unreadable self.now path.now) };
 
-    /// Holds the file that is read at a path, where it is the one to be written to at another one, until what is
-    /// returned is dropped. Fails where another program holds it.
+    /// Locks the file at a path, if it is also the one to be written, until the result is dropped. Fails if another
+    /// program holds the lock.
     fn hold(&self, path: &str, save: &str) -> io::Result<Option<Self::Held>>
         ensures { IfErr result (λ _. unreadable self.now path.now) };
 
-    /// Looks whether a file can be written to, as far as that is seen before it is. The log is none that may be.
+    /// Checks whether a file can be written, as far as possible without writing. The log is refused.
     fn look(&self, path: &str, log: Option<&str>, is_held: bool) -> io::Result<()>
         ensures { IfErr result (λ _. unwritable self.now path.now) };
 
-    /// Returns the number of the copy of a write that was cut off, if one is beside the file at a path.
+    /// Returns the number of an interrupted write's copy beside a file, if any.
     fn copy(&self, path: &str) -> Option<u64>;
 
-    /// Writes a file whole and in place, but not over the log.
+    /// Writes a whole file in place, but not over the log.
     fn write(
         &mut self,
         path: &str,
         bytes: &[u8],
         log: Option<&str>,
         is_held: bool,
-    ) -> Result<(), Unwritten>
+    ) -> Result<(), SaveError>
         ensures { MatchResult result (λ _. written self.old path.now bytes.now self.new)
             (λ _. unwritten self.old path.now bytes.now self.new) };
 }
 
-/// The files of a disk, with what paths are allocated by. No clause says why one can't be read or written.
+/// The files of a disk, with the allocator of paths. No clause states why one cannot be read or written.
 #[derive(Drop)]
 pub struct HostFiles<D>(pub D, pub Global);
 
-/// How many bytes of a snapshot are read: many more than the longest one has, so that one of a key with more capacity
-/// is refused as such.
+/// Maximum number of bytes of a snapshot that are read: many more than the longest one, so that one of a key with more
+/// capacity is refused as such.
 const MOST: u64 = 1 << 20;
 
-/// The system's number for a path where nothing is.
+/// The system's error number for a missing path, ENOENT.
 const ENOENT: i32 = 2;
 
-/// What is behind the path of a file in that of a copy beside it. Behind it there is a dot and a number, if not 0.
+/// The suffix of a copy beside a file, followed by a dot and a number if not 0.
 pub const COPY: &str = ".hidlog-copy";
 
-/// How many copies may be beside a file. A name that is taken isn't used: what has it may be anybody's.
+/// Maximum number of copies beside a file. A name that exists isn't used: the file may be anyone's.
 const COPIES: u64 = 100;
 
-/// What is behind the path of a file in that of its sums (src/sums.rt): a line of the bytes that it has, or is about to
-/// have, and in front of it, if they were whole, one of those that it had before.
+/// The suffix of a file's checksums (src/sums.rt): a line for the content that it has or is about to have, preceded by
+/// a line for its previous content if that was intact.
 const SUMS_OF: &str = ".hidlog-sum";
 
-/// Returns the path of the sums of a file.
+/// Returns the path of a file's checksums.
 fn sums_path(alloc: Global, path: &str) -> io::Result<String> {
     Ok(format!(in alloc; "{path}{SUMS_OF}")?)
 }
@@ -104,14 +104,14 @@ fn copy_path(alloc: Global, path: &str, number: u64) -> io::Result<String> {
     Ok(format!(in alloc; "{path}{COPY}.{number}")?)
 }
 
-/// Why a file that another program holds can't be loaded, where that is written over.
+/// The reason why a file that is loaded and then saved to cannot be loaded: another program has locked it.
 pub const HELD: &str = "another program has loaded it, and is going to save to it";
 
-/// Why a file can't be loaded whose bytes aren't those of its sums. An error has at most 80 bytes.
+/// The reason why a file whose bytes don't match its checksums cannot be loaded. At most 80 bytes.
 pub const DAMAGED: &str =
     "its bytes don't match its .hidlog-sum: it is damaged; else remove that file";
 
-/// A file that was made beside another one.
+/// A file that was created beside another one.
 #[derive(Drop)]
 struct Beside<F> {
     file: F,
@@ -119,7 +119,7 @@ struct Beside<F> {
     number: u64,
 }
 
-/// Makes a file of these bytes beside a path, under the first name of a copy that nothing has.
+/// Creates a file with these bytes beside a path, under the first free name of a copy.
 fn make_beside<D: Disk>(
     files: &HostFiles<D>,
     path: &str,
@@ -146,7 +146,7 @@ fn make_beside<D: Disk>(
     ))
 }
 
-/// Returns the error of a file under the name of sums that can't be read, or has none.
+/// Returns the error of a checksum file that cannot be read or has none.
 fn not_sums(kind: ErrorKind) -> Error {
     match kind {
         ErrorKind::InvalidInput => Error::new(
@@ -157,7 +157,7 @@ fn not_sums(kind: ErrorKind) -> Error {
     }
 }
 
-/// Returns the sums of a file, if there are any.
+/// Returns a file's checksums, if any.
 fn sums_of<D: Disk>(files: &HostFiles<D>, path: &str) -> io::Result<Option<Vec<u8>>> {
     let name = sums_path(files.1, path)?;
     match files.0.look(name.as_str(), None) {
@@ -170,10 +170,10 @@ fn sums_of<D: Disk>(files: &HostFiles<D>, path: &str) -> io::Result<Option<Vec<u
                 kind => Err(not_sums(kind)),
             },
         },
-        // A pipe would be waited for.
+        // Opening a pipe would block.
         Ok(_) => Err(not_sums(ErrorKind::InvalidInput)),
         Err(error) => match error.kind() {
-            // No file can have so long a name.
+            // No file can have a name of this length.
             ErrorKind::InvalidFilename => Ok(None),
             ErrorKind::OutOfMemory => Err(error),
             ErrorKind::IsADirectory => Err(not_sums(ErrorKind::InvalidInput)),
@@ -182,9 +182,9 @@ fn sums_of<D: Disk>(files: &HostFiles<D>, path: &str) -> io::Result<Option<Vec<u
     }
 }
 
-/// Writes the sums of the file of this number that is about to be written: of these bytes, and of those that it has,
-/// unless they are damaged. So whichever it has after a write that was cut off, it can be loaded. A file that has no sums
-/// may go without them.
+/// Writes the checksums of the file with this inode number that is about to be written: of the new bytes, and of its
+/// content unless that is damaged. So it can be loaded with either after an interrupted write. A file without checksums
+/// may stay without.
 fn write_sums<D: Disk>(
     files: &HostFiles<D>,
     path: &str,
@@ -213,8 +213,8 @@ fn write_sums<D: Disk>(
     }
 }
 
-/// Writes over a file that is open and has so many bytes, to the disk, and cuts it to what was written. What the file
-/// is too short for is written first, so that a full disk leaves the old bytes.
+/// Overwrites an open file of this length, truncates it to the new length and syncs it. What exceeds its length is
+/// written first, so that a full disk leaves the old bytes.
 fn write_over<F: Place>(file: &mut F, old: u64, bytes: &[u8]) -> io::Result<()>
     ensures bytes { OnOk result (IfSome (F.bytes file.old) (λ has. length has ≡ old → F.bytes file.new ≡ Some bytes.now)) }
     ensures place { (path : List ℕ) → F.is_at path file.old → F.is_at path file.new }
@@ -230,8 +230,7 @@ fn write_over<F: Place>(file: &mut F, old: u64, bytes: &[u8]) -> io::Result<()>
     file.cut(bytes.len() as u64)
 }
 
-/// Writes a file beside a path to the disk, and then renames it to another path: whatever happens meanwhile, what is
-/// there is whole.
+/// Writes and syncs a file beside a path, then renames it to another path: at any time, what is there is complete.
 fn write_beside<D: Disk>(
     files: &HostFiles<D>,
     path: &str,
@@ -248,7 +247,7 @@ fn write_beside<D: Disk>(
     written
 }
 
-/// Writes a file where none is, with its sums.
+/// Writes a new file, with its checksums.
 fn write_new<D: Disk>(files: &HostFiles<D>, path: &str, bytes: &[u8]) -> io::Result<D::File>
     ensures { IfOk result (λ file. IsWritten D.File.is_at D.File.is_known D.File.bytes path.now bytes.now file) }
 {
@@ -264,20 +263,20 @@ fn write_new<D: Disk>(files: &HostFiles<D>, path: &str, bytes: &[u8]) -> io::Res
     written
 }
 
-/// Writes over a file. Until that is done a copy of the bytes is beside it, if the folder allows that; where it fails,
-/// the file gets back what it held.
+/// Overwrites a file. Meanwhile a copy of the bytes is beside it, if the directory allows that; if the write fails, the
+/// file gets its old content back.
 fn replace<D: Disk>(
     files: &HostFiles<D>,
     path: &str,
     bytes: &[u8],
     is_held: bool,
-) -> Result<D::File, Unwritten>
+) -> Result<D::File, SaveError>
     ensures { IfOk result (λ file. IsWritten D.File.is_at D.File.is_known D.File.bytes path.now bytes.now file) }
 {
     let disk = &files.0;
     let (mut file, size) = match disk.open(path, is_held) {
         Ok(opened) => opened,
-        Err(error) => return Err(Unwritten::Kept(error)),
+        Err(error) => return Err(SaveError::Kept(error)),
     };
     let old = disk.read(path, u64::MAX).ok();
     let had = match &old {
@@ -285,7 +284,7 @@ fn replace<D: Disk>(
         None => None,
     };
     if let Err(error) = write_sums(files, path, disk.number(path), had, bytes) {
-        return Err(Unwritten::Kept(error));
+        return Err(SaveError::Kept(error));
     }
     let copy = make_beside(files, path, bytes).ok();
     if let Err(error) = write_over(&mut file, size, bytes) {
@@ -294,16 +293,16 @@ fn replace<D: Disk>(
             None => false,
         };
         return Err(match (is_back, &copy) {
-            (true, None) => Unwritten::Kept(error),
-            (true, Some(copy)) if disk.remove(copy.name.as_str()).is_ok() => Unwritten::Kept(error),
-            (_, Some(copy)) => Unwritten::Copied(error, copy.number),
-            (false, None) => Unwritten::Broken(error),
+            (true, None) => SaveError::Kept(error),
+            (true, Some(copy)) if disk.remove(copy.name.as_str()).is_ok() => SaveError::Kept(error),
+            (_, Some(copy)) => SaveError::Copied(error, copy.number),
+            (false, None) => SaveError::Broken(error),
         });
     }
     if let Some(copy) = &copy
         && let Err(error) = disk.remove(copy.name.as_str())
     {
-        return Err(Unwritten::Left(error, copy.number));
+        return Err(SaveError::Left(error, copy.number));
     }
     Ok(file)
 }
@@ -330,7 +329,7 @@ impl<D: Disk> Files for HostFiles<D> {
             Ok((file, _)) => Ok(Some(file)),
             Err(error) => {
                 if !matches!(error.kind(), ErrorKind::WouldBlock) {
-                    // Why else it can't be written to is said once it is to be.
+                    // Other errors are reported when the file is written.
                     return Ok(None);
                 }
                 Err(Error::new(ErrorKind::WouldBlock, HELD))
@@ -339,7 +338,7 @@ impl<D: Disk> Files for HostFiles<D> {
     }
 
     fn read(&self, path: &str) -> io::Result<Vec<u8>> {
-        // It may be written meanwhile, and its sums before it.
+        // The file may be written meanwhile, after its checksums.
         for _ in 0..3 {
             let bytes = self.0.read(path, MOST)?;
             let Some(sums) = sums_of(self, path)? else {
@@ -384,7 +383,7 @@ impl<D: Disk> Files for HostFiles<D> {
         if path.is_empty() {
             return Err(Error::from_raw_os_error(ENOENT));
         }
-        // Where no file is, one can be made if another one can be beside it.
+        // Whether a missing file can be created is tested by creating another file beside it.
         let made = make_beside(self, path, b"")?;
         self.0.remove(made.name.as_str())
     }
@@ -395,11 +394,11 @@ impl<D: Disk> Files for HostFiles<D> {
         bytes: &[u8],
         log: Option<&str>,
         is_held: bool,
-    ) -> Result<(), Unwritten> {
+    ) -> Result<(), SaveError> {
         match self.0.look(path, log) {
             Ok(Found::Nothing) => match write_new(self, path, bytes) {
                 Ok(_) => Ok(()),
-                Err(error) => Err(Unwritten::Kept(error)),
+                Err(error) => Err(SaveError::Kept(error)),
             },
             Ok(Found::File) => match replace(self, path, bytes, is_held) {
                 Ok(_) => Ok(()),
@@ -407,9 +406,9 @@ impl<D: Disk> Files for HostFiles<D> {
             },
             Ok(found) => match self.0.hand(path, bytes, found) {
                 Ok(()) => Ok(()),
-                Err(error) => Err(Unwritten::Kept(error)),
+                Err(error) => Err(SaveError::Kept(error)),
             },
-            Err(error) => Err(Unwritten::Kept(error)),
+            Err(error) => Err(SaveError::Kept(error)),
         }
     }
 }

@@ -1,17 +1,17 @@
-//! What a person reads of a packet in which a log differs from what the key sends.
-use crate::objects::write_difference;
-use crate::pieces::after;
-use crate::sides::{write_first, write_sides};
-use crate::wish::{FaultLine, Wish};
+//! The explanation of a packet that differs between the log and the key.
+use crate::diff::{write_diff, write_first_difference};
+use crate::json_report::write_difference;
+use crate::report_options::{FaultLine, ReportOptions};
+use crate::split::after;
 use hid_packet::command::{CBOR, KEEPALIVE};
 use hid_packet::{Packet, View};
 use memchr::memmem;
 use session_show::status::{
     CREDENTIAL_EXCLUDED, KEY_STORE_FULL, NO_CREDENTIALS, OK, OPERATION_DENIED,
 };
-use session_show::{Awaited, Difference, Pen, Transaction, Written};
+use session_show::{AwaitedReply, Difference, TextBuf, Transaction, Written};
 
-/// What changes no credentials of a key.
+/// Commands that change no credentials.
 const KEEPING: [&str; 6] = [
     "INIT",
     "PING",
@@ -22,45 +22,45 @@ const KEEPING: [&str; 6] = [
 ];
 
 const NO_SNAPSHOT: &str =
-    "this key may lack a credential that the log's key had: was the log recorded with --load?";
+    "the log's key may have had more credentials: was it recorded with --load?";
 
 const OTHER_SNAPSHOT: &str =
-    "this key may lack a credential that the log's key had: is the snapshot of --load another key's?";
+    "the log's key may have had other credentials: is --load the right snapshot?";
 
-/// What is known of a difference: its transaction, what the log has, what the key sends, and why.
+/// A difference: its transaction, the log's packet, the key's packet, and the reason.
 #[derive(Drop)]
-pub struct DifferenceTexts {
+pub struct DifferenceReport {
     pub transaction: Option<Transaction>,
     pub logged: Vec<u8>,
     pub sent: Vec<u8>,
     pub reason: Vec<u8>,
-    /// Whether the packets are for a request that can name a credential which the log's key had before the log.
-    pub can_name_former: bool,
+    /// Whether the packets belong to a request that may name a credential from before the log.
+    pub may_name_prior_credential: bool,
 }
 
-/// A difference as lines or an object.
+/// A difference as lines or as a JSON object.
 #[derive(Clone, Copy)]
 pub struct Finding<'a> {
-    pub wish: &'a Wish<'a>,
+    pub wish: &'a ReportOptions<'a>,
     pub difference: &'a Difference,
-    /// Whether it is the first one, whose fault was said before.
+    /// Whether this is the first difference, which was reported as an error before.
     pub is_first: bool,
-    /// Whether the keys may have other credentials by what differed before it.
+    /// Whether the keys' credentials may differ because of earlier differences.
     pub has_changed: bool,
-    pub texts: &'a DifferenceTexts,
+    pub texts: &'a DifferenceReport,
 }
 
-/// What a packet of the key is, as far as that says whether it goes on with a request.
+/// The kind of a key's reply to a request.
 #[derive(Clone, Copy)]
 enum Reply {
-    /// An answer of this status.
+    /// A response with this status.
     Status(u8),
     /// A KEEPALIVE.
     Waits,
     Other,
 }
 
-/// Returns what a packet of the key is.
+/// Returns the kind of reply that a packet is.
 fn reply_in(packet: &Option<Packet>) -> Reply {
     let Some(packet) = packet else {
         return Reply::Other;
@@ -78,11 +78,11 @@ fn reply_in(packet: &Option<Packet>) -> Reply {
 }
 
 impl Finding<'_> {
-    /// Returns what may be done, where this key may lack a credential that the log's key had before the log: it goes on
-    /// where that one excludes a credential, or finds none where that one goes on.
+    /// Returns a hint if this key may lack a credential that the log's key had before the log: it continues where that
+    /// one excludes a credential, or finds none where that one continues.
     pub fn hint(&self) -> Option<&'static str> {
         let difference = self.difference;
-        // Both packets are there, on one channel.
+        // Both packets exist, on the same channel.
         let Some((4.., _, _)) = difference.byte() else {
             return None;
         };
@@ -92,22 +92,22 @@ impl Finding<'_> {
                 Reply::Status(CREDENTIAL_EXCLUDED),
                 Reply::Status(OPERATION_DENIED | KEY_STORE_FULL),
             ) => true,
-            // It is past the excludeList only where it waits for a new key.
+            // The key has checked the excludeList only if it waits for a new key pair.
             (Reply::Status(CREDENTIAL_EXCLUDED), Reply::Waits) => {
-                matches!(difference.awaited, Some(Awaited::Key))
+                matches!(difference.awaited, Some(AwaitedReply::Key))
             }
             _ => false,
         };
         match self.wish.load {
-            _ if self.has_changed || !may_lack || !self.texts.can_name_former => None,
+            _ if self.has_changed || !may_lack || !self.texts.may_name_prior_credential => None,
             Some(_) => Some(OTHER_SNAPSHOT),
             None => Some(NO_SNAPSHOT),
         }
     }
 
-    /// Returns whether the keys may have other credentials after it, for which no snapshot has to be missing. Where a
-    /// hint is said, a snapshot may be missing all the same.
-    pub fn may_change_credentials(&self) -> bool {
+    /// Returns whether this difference means that the two keys may have different credentials from here on, for a
+    /// reason other than a missing snapshot: false if the command changes no credentials, or if there is a hint.
+    pub fn can_change_credentials(&self) -> bool {
         let Some(transaction) = &self.texts.transaction else {
             return true;
         };
@@ -116,37 +116,37 @@ impl Finding<'_> {
 }
 
 impl Written for Finding<'_> {
-    /// Describes it: its transaction, the packets and messages, and where they differ first.
-    fn write(&self, pen: &mut Pen) {
+    /// Writes the difference: its transaction, the packets and messages, and where they differ first.
+    fn write(&self, buf: &mut TextBuf) {
         let wish = self.wish;
         let difference = self.difference;
         let texts = self.texts;
         if wish.is_json {
-            write_difference(pen, self);
+            write_difference(buf, self);
             return;
         }
         if !self.is_first {
             let fault = difference.fault();
-            FaultLine { wish, fault }.write(pen);
+            FaultLine { wish, fault }.write(buf);
         }
         if !wish.explains {
             return;
         }
         if let Some(transaction) = &texts.transaction {
-            pen.text("  in ");
-            transaction.write(pen);
-            pen.text("\n");
+            buf.text("  in ");
+            transaction.write(buf);
+            buf.text("\n");
         }
-        write_sides(pen, difference, &texts.logged, &texts.sent);
-        // What a message's own lines say isn't said again.
+        write_diff(buf, difference, &texts.logged, &texts.sent);
+        // Details that the message's own lines show aren't repeated.
         if memmem::find(&texts.sent, after(&texts.reason, 2)).is_none() {
-            pen.bytes(&texts.reason);
+            buf.bytes(&texts.reason);
         }
-        write_first(pen, difference, &texts.logged, &texts.sent);
+        write_first_difference(buf, difference, &texts.logged, &texts.sent);
         if let Some(hint) = self.hint() {
-            pen.text("  ");
-            pen.text(hint);
-            pen.text("\n");
+            buf.text("  ");
+            buf.text(hint);
+            buf.text("\n");
         }
     }
 }

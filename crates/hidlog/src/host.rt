@@ -1,42 +1,42 @@
-//! What the program is run with: its files, its log, its output and its faults.
+//! The program's environment: files, log, output and error stream.
 ghost use Rattle.std.specs.Prelude.{◌<◌, ◌-◌, ◌^◌, Err};
 ghost use Rattle.hidlog.specs.Model.{Model};
 
-use crate::fault::{FaultReason, ProgramFault};
+use crate::buffered_output::Output;
+use crate::fault::{ErrorDetail, ProgramFault};
 use crate::files::Files;
-use crate::held::Output;
 use crate::logs::Logs;
-use crate::process::{tell, tell_why};
-use session_log::{Target, tell_fault};
+use crate::process::{report_error, tell};
+use session_log::{Target, write_error};
 use std::alloc::Global;
 
 /// Which of the program's streams are terminals.
 #[derive(Clone, Copy)]
-pub struct Terminals {
+pub struct TerminalFlags {
     /// Standard output.
     pub output: bool,
     /// Standard error.
     pub faults: bool,
 }
 
-/// What the program is run with.
+/// The program's environment.
 #[derive(Drop)]
 pub struct Host<D, L, O, E> {
-    /// Those of the snapshots.
+    /// The snapshot files.
     pub files: D,
-    /// The log that is read.
+    /// The log.
     pub input: L,
-    /// What the result is written to.
+    /// The output.
     pub output: O,
-    /// What the texts of faults are written to.
+    /// The stream for errors.
     pub faults: E,
     pub alloc: Global,
-    pub terminals: Terminals,
-    /// The columns of the terminal that faults are written to; none where they go elsewhere.
+    pub terminals: TerminalFlags,
+    /// The width of the terminal that errors are written to; `None` if they go elsewhere.
     pub width: Option<usize>,
 }
 
-/// A host, with all that its parts say of themselves.
+/// An environment, with the laws of its parts.
 pub trait Modeled {
     type Files;
 
@@ -72,38 +72,38 @@ impl<D: Files, L: Logs, O: Output, E: Target> Modeled for Host<D, L, O, E> {
       taken = O.taken;
       unput = O.failed;
       waits = O.waits;
-      said = E.taken;
+      parsed = E.taken;
       unsaid = E.failed;
     } };
 }
 
 impl<D: Files, L: Logs, O: Output, E: Target> Host<D, L, O, E> {
     ghost use Rattle.hidlog.specs.Commands.{Reports};
-    ghost use Rattle.hidlog.specs.Fault.{code_of, told_of};
+    ghost use Rattle.hidlog.specs.Fault.{code_of, fault_message_of};
 
-    /// Writes the text of a fault and, where it is explained, its reason.
+    /// Writes an error message, with its reason if explained.
     pub fn tell(&mut self, fault: &ProgramFault<'_>, explains: bool)
         requires { E.failed self.old.faults < 2 ^ 64 - 1 }
-        ensures { Reports ⟦<Self as Modeled>⟧.model explains (Err (told_of fault.now)) (Err (code_of fault.now)) self.old self.new }
+        ensures { Reports ⟦<Self as Modeled>⟧.model explains (Err (fault_message_of fault.now)) (Err (code_of fault.now)) self.old self.new }
     {
         match fault {
-            ProgramFault::Log(fault) => tell_fault(&mut self.faults, fault),
+            ProgramFault::Log(fault) => write_error(&mut self.faults, fault),
             ProgramFault::Memory => tell(&mut self.faults, fault.text()),
-            ProgramFault::UnreadLog(path, _)
-            | ProgramFault::UnreadSnapshot(path, _)
+            ProgramFault::LogOpenError(path, _)
+            | ProgramFault::SnapshotReadError(path, _)
             | ProgramFault::RefusedSnapshot(path, _, _)
-            | ProgramFault::UnsavedSnapshot(path, _) => {
+            | ProgramFault::SnapshotWriteError(path, _) => {
                 let is_unread = matches!(
                     fault,
-                    ProgramFault::UnreadSnapshot(..) | ProgramFault::RefusedSnapshot(..)
+                    ProgramFault::SnapshotReadError(..) | ProgramFault::RefusedSnapshot(..)
                 );
                 let copy = if explains && is_unread {
                     self.files.copy(path)
                 } else {
                     None
                 };
-                let why = FaultReason { fault, path, copy };
-                tell_why(&mut self.faults, explains, fault.text(), &why);
+                let why = ErrorDetail { fault, path, copy };
+                report_error(&mut self.faults, explains, fault.text(), &why);
             }
         }
     }

@@ -3,9 +3,9 @@ ghost use Rattle.std.specs.Prelude.{◌≡◌, ℕ, false, List, [], IfOk, IfSom
 ghost use Rattle.std.specs.Io.KnownBytes.{prepend_known};
 ghost use Rattle.hidlog.specs.Streams.{unread};
 
-use crate::held::{Ahead, LastLines};
-use crate::recent::Recent;
-use crate::seen::Seen;
+use crate::buffered_output::{LineBoundaries, Lookahead};
+use crate::recent_bytes::RecentBytes;
+use crate::source_stats::SourceStats;
 use session_log::{Failed, FromRead, Source};
 use std::alloc::Global;
 use std::cell::Cell;
@@ -13,54 +13,53 @@ use std::fs::{self, File};
 use std::io::{self, BufReader, Chain, Cursor, Error, IsTerminal, Read, Stdin, Write};
 use std::mem;
 
-/// A source that can be pointed at a file.
+/// A source that can open a file.
 pub trait Logs: Source {
-    /// The log once more.
+    /// The log, read again.
     type Again: Source + Drop;
 
-    /// The source after it was pointed at the file at a path: nothing of it was read.
+    /// The source after opening the file at a path, before anything was read.
     ghost opened: { Self → List ℕ → Self → Type 0 };
 
-    /// The file at a path can't be opened.
+    /// The file at a path cannot be opened.
     ghost unopenable: { Self → List ℕ → Type 0 };
 
-    /// Begins at the front of the file at a path, or reads standard input from now on. Where a file can't be opened,
-    /// the source stays as it is.
+    /// Opens the file at a path, or standard input. If that fails, the source stays as it is.
     fn open(&mut self, path: Option<&str>) -> io::Result<()>
         ensures opens { IfSome path.entry (λ path. MatchResult result (λ _. opened self.old path.now self.new)
             (λ _. unopenable self.old path.now × (self.new ≡ self.old))) }
         ensures counted { Self.failed self.new ≡ Self.failed self.old };
 
-    /// Returns what is known of how the log was read.
+    /// Returns the state of reading the log.
     fn state(&self) -> LogState<'_>;
 
-    /// Returns the log from its front once more, where it is a file. Where the rest may be taken, it also returns one
-    /// that can't be read twice, as a pipe, if what was read of it is short. What is left of that is read by what is
-    /// returned, and no more by this one.
+    /// Returns the log from its start, if it is a file. With `takes_rest`, also returns a log that cannot be read
+    /// twice, such as a pipe, if the part that was read is short; the result then reads the rest in place of this
+    /// source.
     fn again(&mut self, takes_rest: bool) -> Option<Self::Again>
         ensures counted { Self.failed self.new ≡ Self.failed self.old }
         ensures kept { takes_rest ≡ false → self.new ≡ self.old };
 }
 
-/// What is known of a log that is read.
+/// The state of reading a log.
 #[derive(Clone, Copy)]
 pub struct LogState<'a> {
-    /// What it is called: its path, where it has one.
+    /// Its name: the path, if any.
     pub name: &'a str,
-    /// The lines that were read last, without the front of one that is remembered in part.
+    /// The lines that were read last, without the first part of a line that is only partly kept.
     pub lines: &'a [u8],
     /// The error at which reading failed.
     pub failure: Option<&'a Error>,
-    /// What was seen of the log so far.
-    pub seen: &'a Seen,
+    /// Statistics of the log so far.
+    pub seen: &'a SourceStats,
 }
 
-/// What a log is read by.
-pub trait Opens: Read + Drop {
-    /// The file at a path is read by it, from its front.
+/// A source of a log.
+pub trait OpenSource: Read + Drop {
+    /// It reads the file at a path, from its start.
     ghost is_at: { List ℕ → Self → Type 0 };
 
-    /// Opens a file that isn't a folder, or standard input. Returns how many bytes it has, where it can be read again.
+    /// Opens a file that isn't a directory, or standard input, and returns its length if it can be read again.
     fn open(rt: &HostRuntime, path: Option<&str>) -> io::Result<(Self, Option<u64>)>
         ensures { IfOk result (λ opened. IfSome path.entry (λ path. is_at path.now opened.0)) };
 }
@@ -87,8 +86,8 @@ impl<I: Read, F: Read> Read for Stream<I, F> {
     }
 }
 
-/// The streams of the system. No clause says what they hold.
-impl Opens for Stream<Stdin, File> {
+/// The system's streams. No clause states their content.
+impl OpenSource for Stream<Stdin, File> {
     ghost is_at = { λ _ _. Unit {0} };
 
     fn open(rt: &HostRuntime, path: Option<&str>) -> io::Result<(Self, Option<u64>)> {
@@ -115,8 +114,8 @@ impl Opens for Stream<Stdin, File> {
     }
 }
 
-/// What was kept of a log, and after it what was left to read.
-pub type FromFront<S> = FromRead<BufReader<Chain<Cursor<Vec<u8>>, S>>>;
+/// The stored beginning of a log, followed by the unread rest.
+pub type RewoundSource<S> = FromRead<BufReader<Chain<Cursor<Vec<u8>>, S>>>;
 
 /// The log of the process.
 pub type ProcessLog<'a> = HostLog<'a, Stream<Stdin, File>>;
@@ -124,18 +123,18 @@ pub type ProcessLog<'a> = HostLog<'a, Stream<Stdin, File>>;
 /// The path of standard input.
 const STANDARD_INPUT: &str = "/dev/stdin";
 
-/// The system's number for a folder.
+/// The system's error number for a directory, EISDIR.
 const EISDIR: i32 = 21;
 
-/// What is said where a terminal is read.
-const AWAITED: &[u8] = b"hidlog: reads a log from the terminal, up to Ctrl-D\n";
+/// The note when a terminal is read.
+const AWAITED: &[u8] = b"hidlog: reading a log from the terminal; end it with Ctrl-D\n";
 
-/// What is said of a log to a person at a terminal while it is read.
+/// The progress shown at a terminal while a log is read.
 #[derive(Clone, Copy, Default)]
-pub struct Audience {
-    /// What is awaited.
+pub struct ProgressMode {
+    /// Whether a note says that input is awaited.
     pub is_told: bool,
-    /// How much of a long log was read.
+    /// Whether the progress of a long log is shown.
     pub sees_progress: bool,
 }
 
@@ -146,31 +145,31 @@ pub struct HostLog<'a, S> {
     /// The path of the file that was opened.
     path: Option<String>,
     stream: S,
-    /// The error at which reading it failed.
+    /// The error at which reading failed.
     failure: Option<Error>,
-    /// Whether what is awaited is said, to a person.
+    /// Whether a note at the terminal says that input is awaited.
     is_told: bool,
-    /// Whether it is still to be said of this log.
+    /// Whether that note is still to be written for this log.
     is_awaited: bool,
-    /// What a log is kept in that can't be read again, where it may have to be.
+    /// The allocator for a log that cannot be read again, if it may have to be.
     keeps: Option<Global>,
-    seen: Seen,
-    recent: Recent,
-    /// Those of what was read last, and what of them isn't handed on yet, which the output looks at.
-    last: LastLines,
-    ahead: &'a Cell<Ahead>,
+    seen: SourceStats,
+    recent: RecentBytes,
+    /// The recent bytes, and those of them not yet consumed, which the output examines.
+    last: LineBoundaries,
+    ahead: &'a Cell<Lookahead>,
     ended: bool,
     failures: u64,
 }
 
-impl<'a, S: Opens> HostLog<'a, S> {
-    /// Returns the log on standard input, or that there is no memory. Where `is_kept`, a log that can't be read again
-    /// is kept, if it is short. A person reads what the audience says.
+impl<'a, S: OpenSource> HostLog<'a, S> {
+    /// Returns the log on standard input, or an allocation error. With `is_kept`, a short log that cannot be read
+    /// again is kept. `audience` says what is shown at a terminal.
     pub fn new(
         rt: &'a HostRuntime,
         is_kept: bool,
-        audience: Audience,
-        ahead: &'a Cell<Ahead>,
+        audience: ProgressMode,
+        ahead: &'a Cell<Lookahead>,
     ) -> io::Result<Self>
         ensures { IfOk result (λ log. ⟦<HostLog<'a, S> as Source>⟧.failed log ≡ 0) }
     {
@@ -184,9 +183,9 @@ impl<'a, S: Opens> HostLog<'a, S> {
             is_told: audience.is_told,
             is_awaited: audience.is_told,
             keeps,
-            seen: Seen::new(audience.sees_progress, size, keeps),
-            recent: Recent::new(rt.alloc())?,
-            last: LastLines::of(b""),
+            seen: SourceStats::new(audience.sees_progress, size, keeps),
+            recent: RecentBytes::new(rt.alloc())?,
+            last: LineBoundaries::of(b""),
             ahead,
             ended: false,
             failures: 0,
@@ -194,8 +193,8 @@ impl<'a, S: Opens> HostLog<'a, S> {
     }
 }
 
-impl<S: Opens> Source for HostLog<'_, S> {
-    // What was read and not handed on, and then what the stream has left.
+impl<S: OpenSource> Source for HostLog<'_, S> {
+    // Bytes that were read but not consumed, then the rest of the stream.
     ghost left = { λ s. prepend_known (unread s.recent.held.items s.recent.at s.recent.end) (S.remaining s.stream) };
 
     ghost ended = { λ s. s.ended };
@@ -217,10 +216,10 @@ impl<S: Opens> Source for HostLog<'_, S> {
             }
             let read = recent.unread();
             self.seen.take(rt, read);
-            self.last = LastLines::of(read);
+            self.last = LineBoundaries::of(read);
         }
         let last = self.last;
-        // The next of these lines, except one that begins here, begins what is handed on after this.
+        // The next of these lines, except one that begins here, is the beginning of the next bytes to consume.
         let behind = recent.unread().len().saturating_sub(1);
         let most = last.next(behind).0.saturating_add(1);
         let n = recent.take(most, out);
@@ -234,8 +233,8 @@ impl<S: Opens> Source for HostLog<'_, S> {
     }
 }
 
-impl<S: Opens> Logs for HostLog<'_, S> {
-    type Again = FromFront<S>;
+impl<S: OpenSource> Logs for HostLog<'_, S> {
+    type Again = RewoundSource<S>;
 
     ghost opened = { λ _ path s. S.is_at path s.stream
         × (unread s.recent.held.items s.recent.at s.recent.end ≡ []) };
@@ -249,13 +248,13 @@ impl<S: Opens> Logs for HostLog<'_, S> {
             Some(path) => Some(String::from_str(alloc, path)?),
             None => None,
         };
-        self.recent = Recent::new(alloc)?;
+        self.recent = RecentBytes::new(alloc)?;
         self.is_awaited = self.is_told && path.is_none();
         self.path = path;
         self.stream = stream;
         self.failure = None;
-        self.seen = Seen::new(self.seen.progress.is_said, size, self.keeps);
-        self.ahead.set(Ahead::Nothing);
+        self.seen = SourceStats::new(self.seen.progress.is_shown, size, self.keeps);
+        self.ahead.set(Lookahead::Nothing);
         self.ended = false;
         Ok(())
     }
@@ -272,7 +271,7 @@ impl<S: Opens> Logs for HostLog<'_, S> {
         }
     }
 
-    fn again(&mut self, takes_rest: bool) -> Option<FromFront<S>> {
+    fn again(&mut self, takes_rest: bool) -> Option<RewoundSource<S>> {
         let alloc = self.rt.alloc();
         let is_file = self.seen.progress.size.is_some();
         if !is_file && !takes_rest {

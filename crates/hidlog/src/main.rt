@@ -6,59 +6,59 @@ ghost use Rattle.hidlog.specs.CommandLine.{texts_of};
 ghost use Rattle.hidlog.specs.Commands.{Plays};
 ghost use Rattle.hidlog.specs.Model.{CanFail};
 
-mod command_line;
+mod args;
+mod buffered_output;
+mod check_files;
+mod cli;
 mod commands;
-mod differing;
+mod diff;
+mod differences;
 mod disk;
+mod escape;
 mod fault;
 mod files;
 mod finding;
-mod grammar;
-mod held;
 mod host;
+mod json_report;
 mod logs;
-mod objects;
+mod notes;
 mod parse_hint;
-mod pieces;
 mod process;
 mod program;
 mod progress;
-mod recent;
-mod remarks;
-mod screen;
-mod seen;
-mod several;
-mod sides;
+mod recent_bytes;
+mod remember_error;
+mod report_options;
 mod snapshots;
-mod streams;
+mod source_stats;
+mod split;
 mod sums;
 mod terminal;
-mod texts;
-mod wish;
+mod terminal_output;
 
-use differing::tell_differences;
+use buffered_output::{BufferedOutput, Lookahead, Output};
+use check_files::{report_cause, report_note};
+use differences::report_differences;
 use disk::HostDisk;
+use escape::StreamFailure;
 use files::{Files, HostFiles};
-use held::{Ahead, HeldOutput, Output};
 use host::{Host, Modeled};
 use logs::{Logs, ProcessLog};
-use process::{no_memory, say, tell, words_of};
+use process::{no_memory, program_args, say, tell};
 use program::RunOutcome;
-use screen::Screen;
+use remember_error::RememberError;
 use session_log::{LogFault, Target, ToWrite};
-use several::{note_one, say_cause};
 use std::cell::Cell;
 use std::io::{self, Printer, Stderr};
 use std::process::ExitCode;
-use streams::Noting;
-use terminal::surroundings_of;
-use texts::StreamFailure;
+use terminal::terminal_info;
+use terminal_output::Screen;
 
 impl<D: Files, L: Logs, O: Output, E: Target> Host<D, L, O, E> {
-    /// Returns what more is said of a log that isn't one of several: what differs, where that is explained or all
-    /// differences are wished for; and, explained, why a line of the log is none or why reading it failed and, where
-    /// nothing is wrong, what may be.
-    fn more_of(&mut self, outcome: &RunOutcome<'_>) -> Vec<u8>
+    /// Returns what is reported about a single log besides its result: its differences, if texts are explained or all
+    /// differences were requested; and, if texts are explained, why a line isn't a log line, why reading failed, or
+    /// what may be wrong.
+    fn further_report(&mut self, outcome: &RunOutcome<'_>) -> Vec<u8>
         ensures { self.new ≡ record self.old { input = self.new.input } }
     {
         let mut more = Vec::new(self.alloc);
@@ -71,37 +71,37 @@ impl<D: Files, L: Logs, O: Output, E: Target> Host<D, L, O, E> {
                 if let Some(ending) = &outcome.ending
                     && let Some(wish) = &outcome.wish
                 {
-                    note_one(&self.files, wish, &mut self.input, ending, &mut target);
+                    report_note(&self.files, wish, &mut self.input, ending, &mut target);
                 }
             }
             Some(LogFault::Differs { .. }) => {
                 if let Some(wish) = &outcome.wish {
                     let again = self.input.again(true);
-                    tell_differences(&self.files, wish, again, outcome.fault, &mut target);
+                    report_differences(&self.files, wish, again, outcome.fault, &mut target);
                 }
             }
             Some(fault) => {
                 if outcome.explains {
                     let state = self.input.state();
-                    say_cause(&state, Some(state.name), fault, &mut target);
+                    report_cause(&state, Some(state.name), fault, &mut target);
                 }
             }
         }
         more
     }
 
-    /// Runs the program on these words, and says more of what came of it.
+    /// Runs the program with these arguments, and reports the result.
     fn play<'a>(&mut self, words: &'a [&'a str]) -> RunOutcome<'a>
         requires { CanFail ⟦<Self as Modeled>⟧.model self.old }
         ensures status { IfErr result.status (λ code. (code ≡ 1) ⊎ (code ≡ 2)) }
-        // What the words ask for is done. After that one text may be written to the faults, and nothing else.
+        // The action is complete. At most one text is written to standard error after it.
         ensures played { Plays ⟦<Self as Modeled>⟧.model (texts_of words.now) result.status self.old self.new }
     {
         let outcome = self.run(words);
         if self.faults.failures() > 0 || self.output.failures() > 0 {
             return outcome;
         }
-        let more = self.more_of(&outcome);
+        let more = self.further_report(&outcome);
         tell(&mut self.faults, more.as_slice());
         outcome
     }
@@ -111,12 +111,12 @@ impl<D: Files, L: Logs, O: Output, E: Target> Host<D, L, O, E> {
 fn play_to<'a>(
     rt: &HostRuntime,
     words: &'a [&'a str],
-    writer: &mut Noting<Printer<'_, HostRuntime>>,
-    errors: &mut Noting<Stderr>,
+    writer: &mut RememberError<Printer<'_, HostRuntime>>,
+    errors: &mut RememberError<Stderr>,
 ) -> RunOutcome<'a> {
     let alloc = rt.alloc();
-    let around = surroundings_of(rt, words);
-    let ahead = Cell::new(Ahead::Nothing);
+    let around = terminal_info(rt, words);
+    let ahead = Cell::new(Lookahead::Nothing);
     let mut faults = ToWrite::new(errors);
     let Ok(input) = ProcessLog::new(rt, around.is_check, around.audience, &ahead) else {
         return RunOutcome::of(Err(no_memory(&mut faults)), false);
@@ -129,7 +129,7 @@ fn play_to<'a>(
     let mut host = Host {
         files: HostFiles(HostDisk(rt), alloc),
         input,
-        output: HeldOutput {
+        output: BufferedOutput {
             inner: screen,
             ahead: &ahead,
             holding: around.holding,
@@ -144,14 +144,14 @@ fn play_to<'a>(
     host.play(words)
 }
 
-/// Runs the program on what its process hands to it, and says why the output failed, if faults can be written.
+/// Runs the program on its process, and reports if the output failed.
 fn main(rt: HostRuntime) -> ExitCode {
-    let mut errors = Noting {
+    let mut errors = RememberError {
         inner: rt.stderr(),
         failure: None,
     };
     let mut faults = ToWrite::new(&mut errors);
-    let texts = match words_of(&rt, &mut faults) {
+    let texts = match program_args(&rt, &mut faults) {
         Ok(texts) => texts,
         Err(status) => return ExitCode::from(status),
     };
@@ -161,7 +161,7 @@ fn main(rt: HostRuntime) -> ExitCode {
             return ExitCode::from(no_memory(&mut faults));
         }
     }
-    let mut writer = Noting {
+    let mut writer = RememberError {
         inner: io::writer(&rt),
         failure: None,
     };

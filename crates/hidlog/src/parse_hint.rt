@@ -1,20 +1,20 @@
-//! Why a line isn't a log line: what is there, and what is expected instead.
-use crate::pieces::{DIGITS, Pieces, after, count_in_front, len_before};
+//! Explains why a line isn't a log line: the bytes found, and those expected.
+use crate::split::{DIGITS, Pieces, after, count_leading, find_byte};
 use session_log::read_line;
-use session_show::{Pen, Written};
+use session_show::{TextBuf, Written};
 
-/// The bytes of the longest line of a log.
+/// Maximum length of a log line in bytes.
 const LONGEST: usize = 255;
 
 const BYTE_ORDER_MARK: &[u8] = &[0xEF, 0xBB, 0xBF];
 
-/// The first bytes of files that aren't logs, and what reads them.
+/// The first bytes of other kinds of files, and the command that reads them.
 static OTHER_FILES: [(&[u8], &str); 11] = [
     (&[0xD4, 0xC3, 0xB2, 0xA1], PCAP),
     (&[0xA1, 0xB2, 0xC3, 0xD4], PCAP),
     (&[0x4D, 0x3C, 0xB2, 0xA1], PCAP),
     (&[0xA1, 0xB2, 0x3C, 0x4D], PCAP),
-    // A pcapng file has a line feed in front of these.
+    // A pcapng file has a line feed before these.
     (
         b"\r\r",
         "  this is a pcapng capture: hidlog import FILE reads it\n",
@@ -37,10 +37,10 @@ const JSON: &str = "  this is JSON, not a log\n";
 const UTF_16: &str =
     "  this is UTF-16, as PowerShell writes it: a log is UTF-8 (iconv -f UTF-16 -t UTF-8)\n";
 
-/// What lines begin with.
+/// The first bytes of log lines.
 const LETTERS: &[u8] = b"<>tpks";
 
-/// The largest moment.
+/// The largest timestamp.
 const LARGEST: &[u8] = b"18446744073709551615";
 
 /// A hexadecimal digit, in a form.
@@ -56,7 +56,7 @@ const KEY: &[u8] = b"\
     ................................................................ \
     ................................................................";
 
-/// The forms of what comes after the moment of a line with each of these letters.
+/// The formats after the timestamp of a line that begins with each of these letters.
 static FORMS: [&[&[u8]]; 6] = [
     &[PACKET],
     &[PACKET],
@@ -66,7 +66,7 @@ static FORMS: [&[&[u8]]; 6] = [
     &[b"no", SIGNATURE],
 ];
 
-/// Returns how many bytes in front fit a form.
+/// Returns how many bytes at the start fit a format.
 fn fitting(fields: &[u8], form: &[u8]) -> usize {
     let len = fields.len().min(form.len());
     for place in 0..len {
@@ -83,12 +83,12 @@ fn fitting(fields: &[u8], form: &[u8]) -> usize {
     len
 }
 
-/// Returns how many bytes in front fit a log line. The one after them fits none.
+/// Returns how many bytes at the start fit a log line.
 fn fitting_len(line: &[u8]) -> usize {
     let Some(letter) = line.first() else {
         return 0;
     };
-    let Some(forms) = FORMS.get(len_before(LETTERS, *letter)) else {
+    let Some(forms) = FORMS.get(find_byte(LETTERS, *letter)) else {
         return 0;
     };
     if !after(line, 1).starts_with(b" ") {
@@ -103,11 +103,11 @@ fn fitting_len(line: &[u8]) -> usize {
         {
             most = LARGEST.len();
         }
-        // A moment has no zero in front.
+        // A timestamp has no leading zero.
         if fields.starts_with(b"0") {
             most = 1;
         }
-        let moment = count_in_front(fields, DIGITS).min(most);
+        let moment = count_leading(fields, DIGITS).min(most);
         front = moment.saturating_add(2);
         fields = after(fields, moment);
         if moment == 0 || forms.is_empty() || !fields.starts_with(b" ") {
@@ -123,10 +123,10 @@ fn fitting_len(line: &[u8]) -> usize {
     front.saturating_add(most)
 }
 
-/// What is expected where a line stops being a log line: a form, and its number.
+/// The bytes expected where a line stops being a log line.
 type Expected = (&'static [u8], Option<u64>);
 
-/// Returns how many hexadecimal digits are in front.
+/// Returns the number of hexadecimal digits at the start.
 fn digits_in_front(text: &[u8]) -> u64 {
     for place in 0..text.len() {
         if !text[place].is_ascii_hexdigit() {
@@ -136,7 +136,7 @@ fn digits_in_front(text: &[u8]) -> u64 {
     text.len() as u64
 }
 
-/// Returns what is expected of the field behind the time, or of a packet of the key, from its first byte on.
+/// Returns the form expected of the field after the timestamp, or of a packet from the key, from its first byte on.
 fn expected_in_field(letter: u8, field: &[u8]) -> Expected {
     let digits = digits_in_front(field);
     let is_whole = digits == field.len() as u64;
@@ -160,9 +160,9 @@ fn expected_in_field(letter: u8, field: &[u8]) -> Expected {
     }
 }
 
-/// Returns what is expected of a time and what is behind it, from the time's first byte on.
+/// Returns the form expected of a timestamp and the rest of the line.
 fn expected_in_timed(letter: u8, fields: &[u8], place: usize) -> Expected {
-    let digits = count_in_front(fields, DIGITS);
+    let digits = count_leading(fields, DIGITS);
     if place < digits && fields.starts_with(b"0") {
         return (b"a time has no leading zero\n", None);
     }
@@ -179,7 +179,7 @@ fn expected_in_timed(letter: u8, fields: &[u8], place: usize) -> Expected {
     }
 }
 
-/// The first byte of a line that fits no log line; or that the line ends too early.
+/// The first byte that doesn't fit a log line, or that the line ends too early.
 #[derive(Clone, Copy)]
 pub struct ParseHint<'a> {
     line: &'a [u8],
@@ -187,7 +187,7 @@ pub struct ParseHint<'a> {
 }
 
 impl ParseHint<'_> {
-    /// Returns what is said of the kind of file that begins so, if it is known.
+    /// Returns the hint for a kind of file that begins so, if known.
     fn other_file(&self) -> Option<&'static str> {
         for (magic, text) in &OTHER_FILES {
             if self.line.starts_with(magic) {
@@ -197,7 +197,7 @@ impl ParseHint<'_> {
         None
     }
 
-    /// Returns what is expected there.
+    /// Returns the form expected at this position.
     fn expected(&self) -> Expected {
         let [letter, rest @ ..] = self.line else {
             return (b"expected a log line\n", None);
@@ -213,50 +213,50 @@ impl ParseHint<'_> {
         }
     }
 
-    /// Writes what the byte is that fits no log line.
-    fn write_byte(&self, pen: &mut Pen, byte: u8) {
+    /// Writes the byte that doesn't fit.
+    fn write_byte(&self, buf: &mut TextBuf, byte: u8) {
         let number = Some(self.place.saturating_add(1) as u64);
         match byte {
-            b'\r' => pen.form(b"  byte %d is a carriage return: ", &[number]),
+            b'\r' => buf.format(b"  byte %d is a carriage return: ", &[number]),
             b' '..=b'~' => {
-                pen.form(b"  byte %d is '", &[number]);
-                pen.bytes(&[byte]);
-                pen.text("': ");
+                buf.format(b"  byte %d is '", &[number]);
+                buf.bytes(&[byte]);
+                buf.text("': ");
             }
-            _ => pen.form(b"  byte %d is 0x%x: ", &[number, Some(u64::from(byte))]),
+            _ => buf.format(b"  byte %d is 0x%x: ", &[number, Some(u64::from(byte))]),
         }
     }
 }
 
 impl Written for ParseHint<'_> {
-    fn write(&self, pen: &mut Pen) {
+    fn write(&self, buf: &mut TextBuf) {
         if let Some(text) = self.other_file() {
-            pen.text(text);
+            buf.text(text);
             return;
         }
         let rest = after(self.line, self.place);
         if self.place == 0 && rest.starts_with(BYTE_ORDER_MARK) {
-            pen.text("  byte 1 begins a byte order mark: a log has none\n");
+            buf.text("  byte 1 is a byte order mark, which a log must not have\n");
             return;
         }
         match rest {
-            [] => pen.form(b"  it ends after byte %d: ", &[Some(self.place as u64)]),
-            [byte, ..] => self.write_byte(pen, *byte),
+            [] => buf.format(b"  it ends after byte %d: ", &[Some(self.place as u64)]),
+            [byte, ..] => self.write_byte(buf, *byte),
         }
         if let [b'\r', ..] = rest {
-            pen.text("lines end with a line feed alone (tr -d '\\r' drops the others)\n");
+            buf.text("lines end with a line feed alone (tr -d '\\r' drops the others)\n");
             return;
         }
         let (form, number) = self.expected();
         match number {
-            Some(_) => pen.form(form, &[number]),
-            None => pen.bytes(form),
+            Some(_) => buf.format(form, &[number]),
+            None => buf.bytes(form),
         }
     }
 }
 
-/// Returns why the first line that is none of a log isn't one, if there is such a line. Of one that is too long nothing
-/// is said but which other kind of file begins so.
+/// Returns why the first invalid line isn't a log line, if there is one. For a line that is too long, only the kind of
+/// file is named.
 pub fn first_parse_hint(lines: &[u8]) -> Option<ParseHint<'_>> {
     let lines = Pieces {
         rest: lines,

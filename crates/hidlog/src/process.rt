@@ -1,39 +1,38 @@
-//! What the program's process hands to it.
+//! The program's process: arguments and standard error.
 ghost use Rattle.std.specs.Prelude.{◌≡◌, ◌<◌, ◌-◌, ◌^◌, ◌⊎◌, ℕ, List, IfErr, OnOk, OnErr};
-ghost use Rattle.hidlog.specs.Program.{IsGiven, IsTold, no_memory as no_memory_text, not_text};
+ghost use Rattle.hidlog.specs.Program.{IsWrittenTo, IsReported, no_memory as no_memory_text, not_text};
 
-use crate::fault::FaultReason;
+use crate::fault::ErrorDetail;
 use session_log::{Target, put_all};
-use session_show::{Pen, Wording, Written, put_written};
+use session_show::{Detail, TextBuf, Written, put_parts};
 use std::env;
 use std::io::ErrorKind;
 
-/// The text of a write that failed.
+/// The message for a failed write.
 pub const WRITING_FAILED: &[u8] = b"hidlog: writing failed\n";
 
-/// Writes a text to the faults. One that can't be written is dropped.
+/// Writes a text to standard error. Errors are ignored.
 pub fn tell<E: Target>(faults: &mut E, text: &[u8])
     requires { E.failed faults.old < 2 ^ 64 - 1 }
-    ensures { IsGiven E.taken E.failed (faults.old, faults.new) text.now }
+    ensures { IsWrittenTo E.taken E.failed (faults.old, faults.new) text.now }
 {
     let _ = put_all(faults, text);
 }
 
-/// Writes what has a text to the faults, unless too many writes failed. What can't be written is dropped. Returns
-/// whether all was written.
+/// Writes a text to standard error, unless too many writes failed. Returns whether all was written.
 pub fn say<E: Target, W: Written>(faults: &mut E, what: &W) -> bool
-    ensures { E.failed faults.old < 2 ^ 64 - 1 → (text : List ℕ) × IsGiven E.taken E.failed (faults.old, faults.new) text }
+    ensures { E.failed faults.old < 2 ^ 64 - 1 → (text : List ℕ) × IsWrittenTo E.taken E.failed (faults.old, faults.new) text }
 {
     if faults.failures() == u64::MAX {
         return false;
     }
-    put_written(faults, &mut Pen::new(Wording::Explained), what).is_ok()
+    put_parts(faults, &mut TextBuf::new(Detail::Explained), what).is_ok()
 }
 
-/// Writes a text to the faults and, where it is explained, the line that says why.
-pub fn tell_why<E: Target>(faults: &mut E, explains: bool, text: &[u8], why: &FaultReason<'_>)
+/// Writes a text to standard error and, explained, the line with the reason.
+pub fn report_error<E: Target>(faults: &mut E, explains: bool, text: &[u8], why: &ErrorDetail<'_>)
     requires { E.failed faults.old < 2 ^ 64 - 1 }
-    ensures { IsTold explains E.taken E.failed (faults.old, faults.new) text.now }
+    ensures { IsReported explains E.taken E.failed (faults.old, faults.new) text.now }
 {
     if !explains {
         tell(faults, text);
@@ -44,24 +43,24 @@ pub fn tell_why<E: Target>(faults: &mut E, explains: bool, text: &[u8], why: &Fa
     }
 }
 
-/// Writes that memory was refused. The exit status, 2.
+/// Writes that memory ran out. Returns the exit status, 2.
 pub fn no_memory<E: Target>(faults: &mut E) -> u8
     requires { E.failed faults.old < 2 ^ 64 - 1 }
     ensures status { result ≡ 2 }
-    ensures told { IsGiven E.taken E.failed (faults.old, faults.new) no_memory_text }
+    ensures told { IsWrittenTo E.taken E.failed (faults.old, faults.new) no_memory_text }
 {
     tell(faults, b"hidlog: no memory\n");
     2
 }
 
-/// Returns the program's arguments, the first of them its name. Where one isn't UTF-8, or memory is refused, that is
-/// written, and an error holds the exit status, 2.
-pub fn words_of<E: Target>(rt: &HostRuntime, faults: &mut E) -> Result<Vec<String>, u8>
+/// Returns the program's arguments, with its name first. If one isn't UTF-8, or memory runs out, that is written, and
+/// the error is the exit status, 2.
+pub fn program_args<E: Target>(rt: &HostRuntime, faults: &mut E) -> Result<Vec<String>, u8>
     requires { E.failed faults.old < 2 ^ 64 - 1 }
     ensures silent { OnOk result (faults.new ≡ faults.old) }
     ensures status { IfErr result (λ code. code ≡ 2) }
-    ensures told { OnErr result (IsGiven E.taken E.failed (faults.old, faults.new) no_memory_text
-        ⊎ IsGiven E.taken E.failed (faults.old, faults.new) not_text) }
+    ensures told { OnErr result (IsWrittenTo E.taken E.failed (faults.old, faults.new) no_memory_text
+        ⊎ IsWrittenTo E.taken E.failed (faults.old, faults.new) not_text) }
 {
     match env::args(rt) {
         Ok(words) => match words.collect(rt.alloc()) {

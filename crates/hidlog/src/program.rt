@@ -1,50 +1,50 @@
-//! The program over any files, log, output and faults.
+//! The program over any files, log, output and error stream.
 ghost use Rattle.std.specs.Prelude.{◌≡◌, ◌<◌, ◌-◌, ◌^◌, ◌⊎◌, ◌∷◌, ℕ, List, [], false, true, None, Some, Result, IfErr, OnOk, codes};
 ghost use Rattle.clap.specs.Words.{kind_of};
 ghost use Rattle.session_log.specs.Streams.{PutsLine};
 ghost use Rattle.hidlog.specs.CommandLine.{check, show as shown, path_of, texts_of};
-ghost use Rattle.hidlog.specs.Fault.{came_of};
+ghost use Rattle.hidlog.specs.Fault.{result_of};
 ghost use Rattle.hidlog.specs.Model.{CanFail};
 ghost use Rattle.hidlog.specs.Program.{IsWhole};
-ghost use Rattle.session_log.specs.declared.command.LogCommand.TheVariants.{Check as comparing};
-ghost use Rattle.session_show.specs.declared.wording.Wording.TheVariants.{Fixed as fixed};
+ghost use Rattle.session_log.specs.declared.command.ReplayMode.TheVariants.{Check as comparing};
+ghost use Rattle.session_show.specs.declared.detail.Detail.TheVariants.{Fixed as fixed};
 ghost use Rattle.hidlog.specs.Commands.{Answers, Does, DoesCommand, Explains, Reads, Reports, ShowsIn, ShowsLog, wording_for};
 
-use crate::command_line::{Form, ProgramTask, task_of};
+use crate::args::{Action, Form, parse_args};
+use crate::buffered_output::{Output, flush_then};
 use crate::commands::{Play, open_log};
+use crate::escape::EscapedText;
 use crate::fault::{Notice, ProgramFault};
 use crate::files::Files;
-use crate::held::{Output, settled};
 use crate::host::{Host, Modeled};
 use crate::logs::Logs;
+use crate::notes::CheckEnd;
 use crate::process::{WRITING_FAILED, no_memory, say, tell};
-use crate::remarks::ComparisonEnd;
-use crate::texts::EscapedLines;
-use crate::wish::Wish;
+use crate::report_options::ReportOptions;
 use clap::Error;
 use clap::error::ErrorKind;
-use session_log::{LogCommand, LogFault, Target, put_all};
-use session_show::{LogForm, LogWriter, explain, put_json_fault, show, write_log};
+use session_log::{LogFault, ReplayMode, Target, put_all};
+use session_show::{LogWriter, OutputFormat, explain, put_json_fault, show, write_log};
 
-/// What came of the words, with what more may be said of a log that isn't one of several.
+/// The result of an action, with what else can be reported of a single log.
 #[derive(Drop)]
 pub struct RunOutcome<'a> {
-    /// An error holds the exit status.
+    /// The error is the exit status.
     pub status: Result<(), u8>,
-    /// Whether faults are explained.
+    /// Whether errors are explained.
     pub explains: bool,
-    /// The log's fault.
+    /// The log's error.
     pub fault: Option<LogFault>,
-    /// What is said of another fault, where faults aren't explained.
+    /// The message of another error, if errors aren't explained.
     pub notice: Option<Notice>,
-    /// How the log ended that has none.
-    pub ending: Option<ComparisonEnd>,
-    /// How differences are said, where the log was compared.
-    pub wish: Option<Wish<'a>>,
+    /// The state at the end of a log without an error.
+    pub ending: Option<CheckEnd>,
+    /// How differences are reported, if the log was checked.
+    pub wish: Option<ReportOptions<'a>>,
 }
 
 impl RunOutcome<'_> {
-    /// Returns that of a status, of which no more is said.
+    /// Returns the result with only a status.
     pub fn of(status: Result<(), u8>, explains: bool) -> Self
         ensures { result.status ≡ status }
     {
@@ -70,11 +70,11 @@ fn put_text<O: Target>(output: &mut O, text: &[u8]) -> Result<(), LogFault>
     }
 }
 
-/// Writes the log in a form, also one with a fault, up to there. As JSON, the last object is that of the fault; what is
-/// open at the log's end is before it.
+/// Writes the log in a format, up to its fault if any. In JSON the last object is the fault's, after those of open
+/// transactions.
 #[inline(never)]
 fn show_form<L: Logs, O: Target>(
-    form: LogForm,
+    form: OutputFormat,
     input: &mut L,
     output: &mut O,
 ) -> Result<(), LogFault>
@@ -98,7 +98,7 @@ fn show_form<L: Logs, O: Target>(
             if log_writer.put(output).is_err() || output.failures() == u64::MAX {
                 return Err(LogFault::Write);
             }
-            if !matches!(form, LogForm::Table) {
+            if !matches!(form, OutputFormat::Table) {
                 let _ = put_json_fault(output, &fault);
             }
             Err(fault)
@@ -106,7 +106,7 @@ fn show_form<L: Logs, O: Target>(
     }
 }
 
-/// Shows the log in a form, line by line in words.
+/// Shows the log in a format, line by line.
 fn show_in<L: Logs, O: Target>(
     form: Form,
     is_worded: bool,
@@ -121,15 +121,15 @@ fn show_in<L: Logs, O: Target>(
     match (form, is_worded) {
         (Form::Lines, false) => show(input, output),
         (Form::Lines, true) => explain(input, output),
-        (Form::Summary, _) => show_form(LogForm::Table, input, output),
-        (Form::JsonSummary, _) => show_form(LogForm::Summary, input, output),
-        (Form::Json, _) => show_form(LogForm::Objects, input, output),
+        (Form::Summary, _) => show_form(OutputFormat::Table, input, output),
+        (Form::JsonSummary, _) => show_form(OutputFormat::Summary, input, output),
+        (Form::Json, _) => show_form(OutputFormat::Objects, input, output),
     }
 }
 
 impl<D: Files, L: Logs, O: Output, E: Target> Host<D, L, O, E> {
-    /// Writes what clap answers: help to the output, what is wrong with the words to the faults. The status is 2 except
-    /// for help that was written.
+    /// Writes clap's help to the output, or its error to standard error. The status is 0 for help that was written,
+    /// else 2.
     fn answer_words(&mut self, error: &Error) -> Result<(), u8>
         requires { CanFail ⟦<Self as Modeled>⟧.model self.old }
         ensures status { IfErr result (λ code. (code ≡ 1) ⊎ (code ≡ 2)) }
@@ -142,12 +142,12 @@ impl<D: Files, L: Logs, O: Output, E: Target> Host<D, L, O, E> {
             return Err(no_memory(&mut self.faults));
         };
         if error.use_stderr() {
-            // What they have that can't be seen is escaped.
-            say(&mut self.faults, &EscapedLines(text.as_bytes()));
+            // Invisible characters in arguments are escaped.
+            say(&mut self.faults, &EscapedText(text.as_bytes()));
             return Err(2);
         }
         let answer = put_text(&mut self.output, text.as_bytes());
-        if settled(&mut self.output, answer).is_err() {
+        if flush_then(&mut self.output, answer).is_err() {
             tell(&mut self.faults, WRITING_FAILED);
             return Err(2);
         }
@@ -164,18 +164,18 @@ impl<D: Files, L: Logs, O: Output, E: Target> Host<D, L, O, E> {
     ) -> Result<(), ProgramFault<'a>>
         requires { CanFail ⟦<Self as Modeled>⟧.model self.old }
         ensures { Reads ⟦<Self as Modeled>⟧.model (path_of log.entry)
-            (λ read. ShowsLog ⟦<Self as Modeled>⟧.model form (wording_for is_worded) (came_of result) read self.new)
-            (came_of result) self.old self.new }
+            (λ read. ShowsLog ⟦<Self as Modeled>⟧.model form (wording_for is_worded) (result_of result) read self.new)
+            (result_of result) self.old self.new }
     {
         open_log(&mut self.input, log)?;
         let answer = show_in(form, is_worded, &mut self.input, &mut self.output);
-        match settled(&mut self.output, answer) {
+        match flush_then(&mut self.output, answer) {
             Ok(()) => Ok(()),
             Err(fault) => Err(ProgramFault::Log(fault)),
         }
     }
 
-    /// Reports what the work on a log came to.
+    /// Reports the result of work on a log.
     fn conclude<'a, A>(
         &mut self,
         came: &Result<A, ProgramFault<'_>>,
@@ -183,7 +183,7 @@ impl<D: Files, L: Logs, O: Output, E: Target> Host<D, L, O, E> {
     ) -> RunOutcome<'a>
         requires { E.failed self.old.faults < 2 ^ 64 - 1 }
         ensures status { IfErr result.status (λ code. (code ≡ 1) ⊎ (code ≡ 2)) }
-        ensures reports { Reports ⟦<Self as Modeled>⟧.model explains (came_of came.now) result.status self.old self.new }
+        ensures reports { Reports ⟦<Self as Modeled>⟧.model explains (result_of came.now) result.status self.old self.new }
     {
         let Err(fault) = came else {
             return RunOutcome::of(Ok(()), explains);
@@ -199,7 +199,7 @@ impl<D: Files, L: Logs, O: Output, E: Target> Host<D, L, O, E> {
         outcome
     }
 
-    /// Plays a log, and reports what that came to.
+    /// Plays a log and reports the result.
     fn run_command<'a>(&mut self, play: &Play<'_>, explains: bool) -> RunOutcome<'a>
         requires { CanFail ⟦<Self as Modeled>⟧.model self.old }
         ensures status { IfErr result.status (λ code. (code ≡ 1) ⊎ (code ≡ 2)) }
@@ -212,15 +212,15 @@ impl<D: Files, L: Logs, O: Output, E: Target> Host<D, L, O, E> {
         outcome
     }
 
-    /// Compares the log at a path, or that on standard input.
-    fn check_log<'a>(&mut self, wish: Wish<'a>, log: Option<&'a str>) -> RunOutcome<'a>
+    /// Checks the log at a path, or on standard input.
+    fn check_log<'a>(&mut self, wish: ReportOptions<'a>, log: Option<&'a str>) -> RunOutcome<'a>
         requires { CanFail ⟦<Self as Modeled>⟧.model self.old }
         ensures status { IfErr result.status (λ code. (code ≡ 1) ⊎ (code ≡ 2)) }
         ensures does { DoesCommand ⟦<Self as Modeled>⟧.model comparing (path_of wish.entry.load) None (path_of log.entry)
             wish.entry.explains result.status self.old self.new }
     {
         let play = Play {
-            command: LogCommand::Check,
+            command: ReplayMode::Check,
             load: wish.load,
             save: None,
             log,
@@ -230,9 +230,8 @@ impl<D: Files, L: Logs, O: Output, E: Target> Host<D, L, O, E> {
         outcome
     }
 
-    /// Compares the logs at these paths, or that on standard input where there is none. Of several it is said which is
-    /// meant.
-    fn check_logs<'a>(&mut self, wish: Wish<'a>, logs: &[&'a str]) -> RunOutcome<'a>
+    /// Checks the logs at these paths, or standard input if there are none. With several, each report names its log.
+    fn check_logs<'a>(&mut self, wish: ReportOptions<'a>, logs: &[&'a str]) -> RunOutcome<'a>
         requires { CanFail ⟦<Self as Modeled>⟧.model self.old }
         ensures status { IfErr result.status (λ code. (code ≡ 1) ⊎ (code ≡ 2)) }
         ensures does { Does ⟦<Self as Modeled>⟧.model (check (path_of wish.entry.load) wish.entry.is_all wish.entry.is_json
@@ -246,29 +245,29 @@ impl<D: Files, L: Logs, O: Output, E: Target> Host<D, L, O, E> {
         }
     }
 
-    /// Runs the program on these words, the first of them being its own name. The exit status is 1 for a fault of the
-    /// log, 2 for words that are no command, for a snapshot's file, and for refused memory outside the log. Its text
-    /// was given to the faults, if that could be.
+    /// Runs the program with these arguments, its name first. The exit status is 1 for a fault of the log, 2 for
+    /// invalid arguments, for a snapshot's file, and for lack of memory outside the log. The text was written to
+    /// standard error, if possible.
     pub fn run<'a>(&mut self, words: &'a [&'a str]) -> RunOutcome<'a>
         requires { CanFail ⟦<Self as Modeled>⟧.model self.old }
         ensures status { IfErr result.status (λ code. (code ≡ 1) ⊎ (code ≡ 2)) }
-        // What the words ask for is done.
+        // The action is complete.
         ensures answered { Answers ⟦<Self as Modeled>⟧.model (texts_of words.now) result.status self.old self.new }
     {
         let alloc = self.alloc;
-        let asked = match task_of(alloc, words) {
+        let asked = match parse_args(alloc, words) {
             Ok(asked) => asked,
             Err(error) => return RunOutcome::of(self.answer_words(&error), false),
         };
         let explains = asked.manner.explains(self.terminals.faults);
         match asked.task {
-            ProgramTask::Play(play) => self.run_command(&play, explains),
-            ProgramTask::Check {
+            Action::Play(play) => self.run_command(&play, explains),
+            Action::Check {
                 load,
                 is_all,
                 is_json,
             } => {
-                let wish = Wish {
+                let wish = ReportOptions {
                     alloc,
                     explains,
                     load,
@@ -280,8 +279,8 @@ impl<D: Files, L: Logs, O: Output, E: Target> Host<D, L, O, E> {
                 };
                 self.check_logs(wish, &asked.logs)
             }
-            // Whether lines are whole is a matter of the output.
-            ProgramTask::Show { form, wide: _, log } => {
+            // Whether lines are truncated depends on the output.
+            Action::Show { form, wide: _, log } => {
                 let is_worded = asked.manner.explains(self.terminals.output);
                 let came = self.show_log(form, is_worded, log);
                 self.conclude(&came, explains)

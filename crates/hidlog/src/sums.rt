@@ -1,23 +1,22 @@
-//! The sums beside a snapshot, by which a damaged one is seen.
+//! The checksums beside a snapshot, which reveal damage.
 
 use sha2::{Digest, Sha256};
 
-/// How many hexadecimal digits a SHA-256 sum has.
+/// Number of hexadecimal digits of a SHA-256 sum.
 const DIGITS: usize = 64;
 
-/// How many bytes a line has: the sum of a file's bytes, a blank, the file's number on its system of files as 16
-/// hexadecimal digits, and a line feed.
+/// Length of a line: the sum, a space, the file's inode number as 16 hexadecimal digits, and a line feed.
 const LINE: usize = 82;
 
-/// How many bytes sums have: a line, or two.
+/// Maximum length: two lines.
 pub const SUMS: usize = 2 * LINE;
 
-/// The line of a file's bytes.
+/// The line for a file's content.
 #[derive(Clone, Copy)]
 pub struct SumLine([u8; LINE]);
 
 impl SumLine {
-    /// Returns the line of these bytes, in the file of this number.
+    /// Returns the line for these bytes, in the file with this inode number.
     pub fn of(bytes: &[u8], file: u64) -> Self {
         let mut line = [b'\n'; LINE];
         line[DIGITS] = b' ';
@@ -33,19 +32,18 @@ impl SumLine {
         self.0.as_slice()
     }
 
-    /// Returns whether it is one of these.
+    /// Returns whether the line is one of these.
     pub fn is_in(&self, sums: &[u8]) -> bool {
         sums.starts_with(self.text()) || sums.ends_with(self.text())
     }
 
-    /// Returns whether these are of its file. Where another file was put in the place of theirs, they say nothing of
-    /// that.
+    /// Returns whether these lines are for its file. If another file replaced it, they don't apply.
     pub fn is_of(&self, sums: &[u8]) -> bool {
         sums.ends_with(&self.0[DIGITS..])
     }
 }
 
-/// Returns whether a text is a line of a sum, or two.
+/// Returns whether a text is one or two checksum lines.
 pub fn are_sums(text: &[u8]) -> bool {
     if text.len() != LINE && text.len() != SUMS {
         return false;

@@ -4,16 +4,16 @@ use Rattle.std.proofs.Common.{refl, arith, sym, ap, ◌∙◌, append_assoc, len
 use Rattle.std.proofs.{Common.take-append-drop, lemmas.Int.to_z_pos, lemmas.List.drop-append-le}
 use Rattle.session_log.specs.declared.fault.LogFault.{LogFault}
 use Rattle.token_session.specs.{Meters.SessionState, declared.cause.Causes.Causes as TwoCauses}
-use Rattle.hidlog_c.specs.{declared.outcome.CallOutcome.CallOutcome, Changed.SavesLen, Key.DeviceState, Key.no_causes}
+use Rattle.hidlog_c.specs.{declared.outcome.CResult.CResult, Changed.SavesLen, Key.DeviceState, Key.no_causes}
 use Rattle.hidlog_c.specs.{Lines.ArePlayed, Lines.PlaysOn, Numbers.outcome_of}
 
 -- the status of an outcome is a small number
-status_small : (answer : Result (Unit {0}) LogFault) (outcome : CallOutcome) (written : ℕ)
+status_small : (answer : Result (Unit {0}) LogFault) (outcome : CResult) (written : ℕ)
     → outcome ≡ outcome_of answer written → outcome.status ≤ 1
-status_small (Ok x) outcome written is = let e = ap (λ (o : CallOutcome). o.status) is in omega (arith, e)
-status_small (Err f) outcome written is = let e = ap (λ (o : CallOutcome). o.status) is in omega (arith, e)
+status_small (Ok x) outcome written is = let e = ap (λ (o : CResult). o.status) is in omega (arith, e)
+status_small (Err f) outcome written is = let e = ap (λ (o : CResult). o.status) is in omega (arith, e)
 
-pub status_as : (s t : SessionState) (log out : List ℕ) (outcome : CallOutcome) → ArePlayed s t log out outcome
+pub status_as : (s t : SessionState) (log out : List ℕ) (outcome : CResult) → ArePlayed s t log out outcome
     → to_z w32 outcome.status ≡ pos outcome.status
 status_as s t log out outcome played =
     let small = status_small played.0 outcome outcome.written played.1 in
@@ -21,7 +21,7 @@ status_as s t log out outcome played =
 
 -- what lines do, they do to the device in which the session is
 pub plays_on : (aaguid : List ℕ) (s t : SessionState) (waiting : List (List ℕ)) (causes : TwoCauses) (log : List ℕ)
-    (out : List ℕ × List ℕ) (outcome : CallOutcome × CallOutcome) (result : ℤ) → waiting ≡ [] → ArePlayed s t log out.1 outcome.1
+    (out : List ℕ × List ℕ) (outcome : CResult × CResult) (result : ℤ) → waiting ≡ [] → ArePlayed s t log out.1 outcome.1
     → result ≡ pos outcome.1.status
     → PlaysOn (record { aaguid = aaguid; session = s; waiting = waiting; causes = causes }) waiting
     (Some (record { aaguid = aaguid; session = t; waiting = waiting; causes = no_causes })) log out outcome result

@@ -3,25 +3,25 @@ use Rattle.std.proofs.Common.{◌≡◌, ◌+◌, ◌<◌, ◌≤◌, ℕ, Bool,
 use Rattle.std.proofs.Common.{Some, Result, Ok, Err, OnOk, inl, inr, if◌then◌else◌, ap, ◌∙◌, sym, refl, subst, arith}
 use Rattle.std.proofs.lemmas.List.{append_cancel_right}
 use Rattle.session_log.specs.declared.fault.LogFault.{LogFault, TheVariants.Memory}
-use Rattle.session_log.specs.declared.{command.LogCommand.LogCommand, source.SliceIn.SliceIn}
+use Rattle.session_log.specs.declared.{command.ReplayMode.ReplayMode, source.SliceIn.SliceIn}
 use Rattle.session_log.specs.declared.fault.LogFault.TheVariants.{BadLine, TooLong, Differs, Read, Write, TooManyLines}
 use Rattle.session_log.specs.Ending.{Ending, Done, Refused, Unread, Unwritten, ending_of, read_fails, write_fails}
-use Rattle.session_log.specs.Replay.{Finds, IsShown, Makes, Reaches, ReadsTo}
+use Rattle.session_log.specs.Replay.{Finds, IsShown, PlaysWholeLog, Reaches, ReadsTo}
 use Rattle.cred_table.specs.declared.row.Row.{Row}
-use Rattle.session_log.specs.Check.{Compared, begun, check_history}
-use Rattle.session_log.specs.{Command.IsCounted, Command.PlaysLog, World.World, Streams.IsAllRead, Streams.Moves}
+use Rattle.session_log.specs.Check.{Compared, first_comparison, check_history}
+use Rattle.session_log.specs.{Command.IsCounted, Command.PlaysLog, World.World, Streams.IsAtEndOfInput, Streams.Moves}
 use Rattle.session_log.specs.Session.{history, live_history, quiet_history}
-use Rattle.session_log.specs.declared.command.LogCommand.TheVariants.{Check, Live, Quiet, Replay}
+use Rattle.session_log.specs.declared.command.ReplayMode.TheVariants.{Check, Live, Quiet, Replay}
 use Rattle.token_session.specs.{Meters.SessionState, declared.input.Timed.Timed}
 use Rattle.hidlog_c.specs.Commands.{IsWritten, PlaysSlice, PlaysSliceIn}
-use Rattle.hidlog_c.specs.{declared.lent.Lent.Lent, Switched.start_with}
+use Rattle.hidlog_c.specs.{declared.buffer_target.BufferTarget.BufferTarget, Switched.start_with}
 
 -- to what begins with the name of a borrow a text was appended
 appended : (old new : ℕ) (none front text : List ℕ) → none ≡ [] → new ∷ front ≡ (old ∷ none) ++ text → front ≡ text
 appended old new none front text e q = ap (drop 1) (q ∙ ap (λ l. (old ∷ l) ++ text) e)
 
-same_log : (begun log : List ℕ) → Some begun ≡ Some log → begun ≡ log
-same_log begun log e = cc
+same_log : (first_comparison log : List ℕ) → Some first_comparison ≡ Some log → first_comparison ≡ log
+same_log first_comparison log e = cc
 
 unread : (b : Bool) → 0 ≡ (if b then 0 + 1 else 0) → b ≡ false
 unread true e = absurd (omega arith)
@@ -38,7 +38,7 @@ left reader = Some reader.rest.now
 abbrev ended : SliceIn → Bool
 ended reader = reader.ended
 
-abbrev taken : Lent → Option (List ℕ)
+abbrev taken : BufferTarget → Option (List ℕ)
 taken writer = Some (writer.buffer.ghost_name ∷ take writer.len writer.buffer.now)
 
 -- that all was read, in other words
@@ -72,42 +72,42 @@ on_all (Err f) so h = tt
 -- the
 -- bytes that were read and of the text. A pair is the reader before and after the call, or the writer.
 pub written : {S : Type 0} (world : World S) (s : S) (answer : Result (Unit {0}) LogFault) (log : List ℕ)
-    (reader : SliceIn × SliceIn) (writer : Lent × Lent) (Q : List ℕ → List ℕ → Ending → Type 0) (P : List ℕ → List ℕ
+    (reader : SliceIn × SliceIn) (writer : BufferTarget × BufferTarget) (Q : List ℕ → List ℕ → Ending → Type 0) (P : List ℕ → List ℕ
     → List ℕ → Ending → Type 0) → ((bytes rest text : List ℕ) → Q bytes text (ending_of answer)
     → Finds world s bytes (rest ≡ []) (ending_of answer) → P bytes rest text (ending_of answer))
     → Some reader.0.rest.now ≡ Some log → take writer.0.len writer.0.buffer.now ≡ []
     → Moves (left reader.0) (left reader.1) (taken writer.0) (taken writer.1) (λ bytes text. Q bytes text
-    (ending_of answer)) → ReadsTo world s (left reader.0) (left reader.1) (IsAllRead left ended reader.1)
-    (ending_of answer) → OnOk answer (IsAllRead left ended reader.1) → 0 ≡
+    (ending_of answer)) → ReadsTo world s (left reader.0) (left reader.1) (IsAtEndOfInput left ended reader.1)
+    (ending_of answer) → OnOk answer (IsAtEndOfInput left ended reader.1) → 0 ≡
     (if read_fails (ending_of answer) then 0 + 1 else 0) → writer.1.failures ≡
     (if write_fails (ending_of answer) then writer.0.failures + 1 else writer.0.failures)
     → IsWritten log writer.1.buffer.now writer.1.len answer P
 written world s answer log reader writer Q P so given none (bytes, text, reads, writes, q) reach whole unfailed counted
     =
-    let begun = reader.0.rest.now in
+    let first_comparison = reader.0.rest.now in
     let rest = reader.1.rest.now in
     let out = take writer.1.len writer.1.buffer.now in
     let is : out ≡ text = appended writer.0.buffer.ghost_name writer.1.buffer.ghost_name _ out text none writes in
     record {
       bytes = bytes;
       rest = rest;
-      log_is = sym (same_log begun log given) ∙ reads;
+      log_is = sym (same_log first_comparison log given) ∙ reads;
       all = on_all answer (λ all. all.1) whole;
       readable = unread (read_fails (ending_of answer)) unfailed;
       fits = writer.1.fits;
       full = λ fails. writer.1.full
           (failed_once (write_fails (ending_of answer)) writer.0.failures writer.1.failures counted fails);
       does = subst (λ t. P bytes rest t (ending_of answer)) (sym is)
-          (so bytes rest text q (finds world s begun bytes rest _ (ending_of answer) reads (λ all. all.1) reach));
+          (so bytes rest text q (finds world s first_comparison bytes rest _ (ending_of answer) reads (λ all. all.1) reach));
     }
 
 -- What follows from a log that was played in some world follows from what a command did.
-pub by_command : (command : LogCommand) (rows : List Row) {I O : Type 0} (left : I → Option (List ℕ)) (unread : I → ℕ)
+pub by_command : (command : ReplayMode) (rows : List Row) {I O : Type 0} (left : I → Option (List ℕ)) (unread : I → ℕ)
     (ended : I → Bool) (taken : O → Option (List ℕ)) (unwritten : O → ℕ) (answer : Result (Unit {0}) LogFault)
     (s : SessionState) (input : I × I) (output : O × O) (Q : (List ℕ → List ℕ → List ℕ → Ending → Type 0) → Type 0)
     → ((S : Type 0) (world : World S) (x later : S) → Moves (left input.0) (left input.1) (taken output.0)
-    (taken output.1) (λ bytes text. Makes world x later bytes text (ending_of answer))
-    → ReadsTo world x (left input.0) (left input.1) (IsAllRead left ended input.1) (ending_of answer)
+    (taken output.1) (λ bytes text. PlaysWholeLog world x later bytes text (ending_of answer))
+    → ReadsTo world x (left input.0) (left input.1) (IsAtEndOfInput left ended input.1) (ending_of answer)
     → IsCounted left unread ended unwritten answer input output → Q (PlaysSliceIn world x)) → PlaysLog command
     (start_with rows) [] left unread ended taken unwritten answer s input output → Q (PlaysSlice command rows)
 by_command Replay rows left unread ended taken unwritten answer s input output Q so p =
@@ -115,6 +115,6 @@ by_command Replay rows left unread ended taken unwritten answer s input output Q
 by_command Live rows left unread ended taken unwritten answer s input output Q so p =
     so (List Timed) (live_history (start_with rows)) [] p.0 p.2 p.3 p.4
 by_command Check rows left unread ended taken unwritten answer s input output Q so p =
-    so (Compared (List Timed)) (check_history (start_with rows)) (begun []) p.0 p.2 p.3 p.4
+    so (Compared (List Timed)) (check_history (start_with rows)) (first_comparison []) p.0 p.2 p.3 p.4
 by_command Quiet rows left unread ended taken unwritten answer s input output Q so p =
     so (List Timed) (quiet_history (start_with rows)) [] p.0 p.2 p.3 p.4

@@ -1,9 +1,9 @@
--- What a log is played on.
+-- The credentials that a command's session starts with.
 use Rattle.std.specs.Prelude.{◌≡◌, ℕ, List, [], Ok}
 use Rattle.cred_table.specs.{declared.row.Row.Row, Snapshots.Loads}
 use Rattle.hidlog_c.specs.declared.capacity.TheConstants.{CAPACITY}
 
--- These are the rows of the snapshot; where it is empty there are none.
+-- The rows are those of the snapshot; an empty snapshot has none.
 abbrev pub Opens : List ℕ → List Row → Type 0
 Opens [] rows = rows ≡ []
 Opens snapshot rows = Loads CAPACITY snapshot (Ok tt) rows

@@ -1,4 +1,4 @@
--- Why a key refused its last input, in numbers of C (hidlog.h, enum hidlog_cause_code).
+-- Why a key refused its last input, as the numbers of enum hidlog_cause_code in hidlog.h.
 use Rattle.std.specs.Prelude.{◌≡◌, ◌≤◌, ℕ, ℤ, pos, List, length, Bool, true, false, Option, Some, None}
 use Rattle.std.specs.Prelude.{if◌then◌else◌, nat_eq}
 use Rattle.ctap_cbor.specs.Faults.{number_of}
@@ -11,7 +11,7 @@ use Rattle.authn_core.specs.declared.refusal.Refusal.TheVariants as command
 use Rattle.token_session.specs.declared.cause.Cause.{Cause, TheVariants.Transport, TheVariants.Request, TheVariants.Command}
 use Rattle.token_session.specs.declared.cause.Causes.{Causes as TwoCauses}
 use Rattle.hidlog_c.specs.declared.causes.CauseReport.{CauseReport}
-use Rattle.hidlog_c.specs.declared.fault.TheConstants.{BAD_ARGUMENT, NOT_MADE}
+use Rattle.hidlog_c.specs.declared.fault.TheConstants.{ERR_INVALID_ARGUMENT, ERR_NOT_INITIALIZED}
 use Rattle.hidlog_c.specs.Key.{DeviceState}
 
 abbrev pub plain : ℕ → ℕ → CauseReport
@@ -76,7 +76,7 @@ report_of (Transport why) = transport_report why
 report_of (Request why) = request_report why
 report_of (Command why) = command_report why
 
--- what time dropped before the input was served, or the input itself
+-- The cause of a message that timed out before the input was processed.
 abbrev pub time_cause_of : Option TransportRefusal → Option Cause
 time_cause_of None = None
 time_cause_of (Some overdue) = Some (Transport overdue)
@@ -85,21 +85,21 @@ abbrev pub cause_at : TwoCauses → (is_input : Bool) → Option Cause
 cause_at causes true = causes.input
 cause_at causes false = time_cause_of causes.time
 
--- The cause is written, with as much of its sentence as there is space for; without one all stays as it is.
+-- The cause is stored, with as much of its sentence as fits. Without a cause nothing is written.
 abbrev pub ReportsOne : Option Cause → CauseReport × CauseReport → List ℕ × List ℕ → ℤ → Type 0
 ReportsOne None report out result = (report.1 ≡ report.0) × (out.1 ≡ out.0) × (result ≡ pos 0)
 ReportsOne (Some cause) report out result = (report.1 ≡ report_of cause)
     × ((n : ℕ) × (n ≤ length out.1) × (result ≡ pos n))
 
--- 0 asks for what time dropped, 1 for the input
+-- 0 selects the cause of a timeout, 1 that of the input.
 abbrev pub which_of : ℕ → Option Bool
 which_of which = if nat_eq which 0 then Some false else if nat_eq which 1 then Some true else None
 
 abbrev pub ReportsWhich : Option Bool → TwoCauses → CauseReport × CauseReport → List ℕ × List ℕ → ℤ → Type 0
-ReportsWhich None causes report out result = (report.1 ≡ report.0) × (out.1 ≡ out.0) × (result ≡ BAD_ARGUMENT)
+ReportsWhich None causes report out result = (report.1 ≡ report.0) × (out.1 ≡ out.0) × (result ≡ ERR_INVALID_ARGUMENT)
 ReportsWhich (Some is_input) causes report out result = ReportsOne (cause_at causes is_input) report out result
 
--- A pair is what the caller's memory has before and after the call.
+-- A pair is the caller's memory before and after the call.
 abbrev pub ReportsCause : Option DeviceState → (which : ℕ) → CauseReport × CauseReport → List ℕ × List ℕ → ℤ → Type 0
-ReportsCause None which report out result = (report.1 ≡ report.0) × (out.1 ≡ out.0) × (result ≡ NOT_MADE)
+ReportsCause None which report out result = (report.1 ≡ report.0) × (out.1 ≡ out.0) × (result ≡ ERR_NOT_INITIALIZED)
 ReportsCause (Some d) which report out result = ReportsWhich (which_of which) d.causes report out result

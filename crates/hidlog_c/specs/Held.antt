@@ -2,6 +2,6 @@
 use Rattle.std.specs.Prelude.{Option, None, if◌then◌else◌, nat_eq}
 use Rattle.hidlog_c.specs.{Key.DeviceState, declared.key.KeyHandle.KeyHandle}
 
--- the device of a key that is made
+-- The device of an initialized key.
 abbrev pub held : KeyHandle → Option DeviceState
 held k = if nat_eq k.state 1 then k.memory.device else None

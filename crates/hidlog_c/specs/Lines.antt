@@ -1,49 +1,50 @@
--- Lines of a log that are played on the session of a key.
+-- Log lines that are played on a key's session.
 use Rattle.std.specs.Prelude.{◌≡◌, ℕ, ℤ, pos, List, [], ◌∷◌, Option, Some, None, Result}
 use Rattle.authn_core.specs.Turn.{Start}
 use Rattle.token_session.specs.{declared.input.Timed.Timed, Meters.SessionState, Meters.StandsAfter}
 use Rattle.session_log.specs.{declared.fault.LogFault.LogFault, Ending.Ending}
 use Rattle.session_log.specs.{Replay.Finds, Replay.Plays, Replay.Writes, Session.live_history, Session.live_machine}
-use Rattle.hidlog_c.specs.declared.fault.TheConstants.{NOT_MADE, PACKETS_WAIT}
-use Rattle.hidlog_c.specs.{declared.outcome.CallOutcome.CallOutcome, Commands.IsWritten, Key.DeviceState, Key.no_causes}
+use Rattle.hidlog_c.specs.declared.fault.TheConstants.{ERR_NOT_INITIALIZED, ERR_PACKETS_QUEUED}
+use Rattle.hidlog_c.specs.{declared.outcome.CResult.CResult, Commands.IsWritten, Key.DeviceState, Key.no_causes}
 use Rattle.hidlog_c.specs.Numbers.{outcome_of}
 
--- The lines were played from one state of the session to another, as `live` plays them: `bytes` of them were read,
--- which is all but `rest`, and this text was written.
+-- The lines were played as `live` plays them, from one state of the session to another: `bytes` of them were read,
+-- all but `rest`, and this text was written.
 abbrev pub LinesDo : SessionState → SessionState → (bytes rest text : List ℕ) → Ending → Type 0
 LinesDo s t bytes rest text ending = Plays live_machine s t bytes text ending
     × Finds live_machine s bytes (rest ≡ []) ending
 
--- The same of a history and a longer one.
+-- The same, for a history and its extension by the lines.
 abbrev pub HistoryDoes : Start → List Timed → List Timed → (bytes rest text : List ℕ) → Ending → Type 0
 HistoryDoes start h later bytes rest text ending = Writes (live_history start) h later bytes text ending
     × Finds (live_history start) h bytes (rest ≡ []) ending
 
--- After each history after which the session is, it is after the longer one, and what the history names was written.
+-- For each history that leads to the session's state before: the lines extend it to one that leads to the state
+-- after, and the text that is defined for that history was written.
 abbrev pub FollowsLines : SessionState → SessionState → (log out : List ℕ) → (written : ℕ) → Result (Unit {0}) LogFault
     → Type 0
 FollowsLines s t log out written answer = (start : Start) (h : List Timed) → StandsAfter s start h
     → (later : List Timed) × StandsAfter t start later × IsWritten log out written answer (HistoryDoes start h later)
 
-abbrev pub ArePlayed : SessionState → SessionState → (log out : List ℕ) → CallOutcome → Type 0
+abbrev pub ArePlayed : SessionState → SessionState → (log out : List ℕ) → CResult → Type 0
 ArePlayed s t log out outcome = (answer : Result (Unit {0}) LogFault) × (outcome ≡ outcome_of answer outcome.written)
     × IsWritten log out outcome.written answer (LinesDo s t) × FollowsLines s t log out outcome.written answer
 
--- The device with another session, for which no packet waits.
+-- The device with another session, no queued packet and no cause.
 abbrev pub played_to : DeviceState → SessionState → DeviceState
 played_to d t = record { aaguid = d.aaguid; session = t; waiting = []; causes = no_causes }
 
--- A key takes lines while no packet waits. A pair is the caller's memory before and after the call.
+-- A key takes lines if no packet is queued. A pair is the caller's memory before and after the call.
 abbrev pub PlaysOn : DeviceState → List (List ℕ) → Option DeviceState → (log : List ℕ) → (List ℕ × List ℕ)
-    → (CallOutcome × CallOutcome) → ℤ → Type 0
+    → (CResult × CResult) → ℤ → Type 0
 PlaysOn d [] after log out outcome result = (t : SessionState) × (after ≡ Some (played_to d t))
     × ArePlayed d.session t log out.1 outcome.1 × (result ≡ pos outcome.1.status)
 PlaysOn d (packet ∷ more) after log out outcome result =
-    (after ≡ Some d) × (out.1 ≡ out.0) × (outcome.1 ≡ outcome.0) × (result ≡ PACKETS_WAIT)
+    (after ≡ Some d) × (out.1 ≡ out.0) × (outcome.1 ≡ outcome.0) × (result ≡ ERR_PACKETS_QUEUED)
 
 abbrev pub TakesLines : (before after : Option DeviceState) → (log : List ℕ) → (List ℕ × List ℕ) →
-    (CallOutcome × CallOutcome)
+    (CResult × CResult)
     → ℤ → Type 0
 TakesLines None after log out outcome result =
-    (after ≡ None) × (out.1 ≡ out.0) × (outcome.1 ≡ outcome.0) × (result ≡ NOT_MADE)
+    (after ≡ None) × (out.1 ≡ out.0) × (outcome.1 ≡ outcome.0) × (result ≡ ERR_NOT_INITIALIZED)
 TakesLines (Some d) after log out outcome result = PlaysOn d d.waiting after log out outcome result

@@ -1,12 +1,12 @@
--- The outcome of a command in numbers.
+-- The result of a command as numbers.
 use Rattle.std.specs.Prelude.{ℕ, Result, Ok, Err}
 use Rattle.cred_table.specs.{declared.fault.SnapshotFault.SnapshotFault, Numbers.refusal_number}
 use Rattle.session_log.specs.declared.fault.LogFault.{LogFault, TheVariants.Memory}
 use Rattle.session_log.specs.Numbers.{fault_number}
 use Rattle.session_log.specs.declared.fault.LogFault.TheVariants.{BadLine, TooLong, Differs, Read, Write, TooManyLines}
-use Rattle.hidlog_c.specs.declared.outcome.CallOutcome.{CallOutcome}
+use Rattle.hidlog_c.specs.declared.outcome.CResult.{CResult}
 
--- the line that a fault names, and the packet; 0 where it names none
+-- The line of a fault, and the packet; 0 if it has none.
 abbrev pub line_of : LogFault → ℕ
 line_of (BadLine n) = n
 line_of (TooLong n) = n
@@ -20,8 +20,8 @@ abbrev pub packet_of : LogFault → ℕ
 packet_of (Differs line packet) = packet
 packet_of _ = 0
 
--- a command with this answer, which wrote so many bytes
-abbrev pub outcome_of : {A : Type 0} → Result A LogFault → ℕ → CallOutcome
+-- The result of a command with this answer that wrote this many bytes.
+abbrev pub outcome_of : {A : Type 0} → Result A LogFault → ℕ → CResult
 outcome_of (Ok x) written = record { status = 0; fault = 0; line = 0; packet = 0; written = written }
 outcome_of (Err f) written = record {
   status = 1;
@@ -31,6 +31,6 @@ outcome_of (Err f) written = record {
   written = written;
 }
 
--- a snapshot that was refused, where nothing was written
-abbrev pub refused : SnapshotFault → CallOutcome
+-- The result for a refused snapshot: nothing was written.
+abbrev pub refused : SnapshotFault → CResult
 refused f = record { status = 2; fault = refusal_number f; line = 0; packet = 0; written = 0 }

@@ -1,10 +1,10 @@
--- What memory of the caller's holds.
+-- The contents of the caller's memory.
 use Rattle.std.specs.{Borrow.Fml, Borrow.full_share, Ptr.lies_at, Ptr.room_at}
 use Rattle.std.specs.Prelude.{Option, Some, None}
 use denote.RawPtr.{Ptr}
 use Rattle.hidlog_c.specs.{contracts.device.Device.the_row as device_row, Key.DeviceState}
 
--- bytes of its size lie there that nothing else uses, or a device does
+-- The memory at this address has a device, or else is unused and large enough for one.
 abbrev pub holds : Ptr → Option DeviceState → Fml
 holds p None = room_at device_row p
 holds p (Some d) = lies_at device_row full_share p d

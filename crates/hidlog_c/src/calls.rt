@@ -1,5 +1,5 @@
-//! The calls on a key, as functions of C (hidlog.h). Each returns a number of its own, or a fault below 0 that leaves
-//! the key as it was (fault.rt).
+//! The functions on a key in C (hidlog.h). Each returns its result, or an error below 0 that leaves the key as it was
+//! (fault.rt).
 ghost use Rattle.std.specs.Prelude.{◌≡◌, None, Some, option_map};
 ghost use Rattle.token_session.specs.declared.input.Input.TheVariants as inputs;
 ghost use prog.Memory.{capped, size};
@@ -17,16 +17,19 @@ ghost use Rattle.hidlog_c.specs.Switched.{Makes};
 use crate::capacity::CAPACITY;
 use crate::causes::CauseReport;
 use crate::device::Device;
-use crate::fault::{ALREADY_MADE, NO_MEMORY, NOT_MADE, NOT_SNAPSHOT, ROW_BROKEN, TOO_MANY_ROWS};
+use crate::fault::{
+    ERR_ALREADY_INITIALIZED, ERR_BAD_CREDENTIAL, ERR_FULL, ERR_NOT_A_SNAPSHOT, ERR_NOT_INITIALIZED,
+    NO_MEMORY,
+};
 use crate::key::KeyHandle;
-use crate::outcome::CallOutcome;
-use crate::reports::{Credential, MetersReport, NeedReport};
+use crate::outcome::CResult;
+use crate::structs::{CNeed, CStats, Credential};
 use authn_core::{NewKey, Presence, Signature};
 use cred_table::SnapshotFault;
 use hid_packet::Packet;
 use token_session::Input;
 
-/// Returns the reply that a number says.
+/// Returns the presence reply of a number.
 fn presence_of(presence: u32) -> Option<Presence>
     ensures { result ≡ presence_of presence }
 {
@@ -38,7 +41,7 @@ fn presence_of(presence: u32) -> Option<Presence>
     }
 }
 
-/// Returns how many bytes a key takes.
+/// Returns the size of a key in bytes.
 #[unsafe(no_mangle)]
 pub extern "C" fn hidlog_key_size() -> usize
     ensures { result ≡ capped (size (layout device_row)) }
@@ -46,7 +49,7 @@ pub extern "C" fn hidlog_key_size() -> usize
     std::mem::size_of::<Device>()
 }
 
-/// Returns how many credentials a key has capacity for.
+/// Returns the number of credentials that a key has capacity for.
 #[unsafe(no_mangle)]
 pub extern "C" fn hidlog_key_capacity() -> usize
     ensures { result ≡ CAPACITY }
@@ -54,9 +57,9 @@ pub extern "C" fn hidlog_key_capacity() -> usize
     CAPACITY
 }
 
-/// Makes a key that is switched on at `at`, with the credentials of the snapshot, or with none where it is empty.
+/// Initializes a key that powers up at `at`, with the credentials of the snapshot; none if it is empty.
 #[unsafe(no_mangle)]
-pub extern "C" fn hidlog_key_make(
+pub extern "C" fn hidlog_key_init(
     key: &mut KeyHandle,
     aaguid: &[u8; 16],
     at: u64,
@@ -64,19 +67,19 @@ pub extern "C" fn hidlog_key_make(
 ) -> i32
     ensures { Makes (held key.old) (held key.new) aaguid.now at snapshot.now result }
 {
-    if key.is_made() {
-        return ALREADY_MADE;
+    if key.is_initialized() {
+        return ERR_ALREADY_INITIALIZED;
     }
     match key.make(*aaguid, at, snapshot) {
         Ok(()) => 0,
-        Err(SnapshotFault::NotSnapshot) => NOT_SNAPSHOT,
-        Err(SnapshotFault::TooMany) => TOO_MANY_ROWS,
-        Err(SnapshotFault::RowBroken(_)) => ROW_BROKEN,
+        Err(SnapshotFault::NotSnapshot) => ERR_NOT_A_SNAPSHOT,
+        Err(SnapshotFault::TooMany) => ERR_FULL,
+        Err(SnapshotFault::RowBroken(_)) => ERR_BAD_CREDENTIAL,
         Err(SnapshotFault::Memory) => NO_MEMORY,
     }
 }
 
-/// Lets time pass to `at`, in milliseconds. Returns how many packets wait to be sent.
+/// Advances the time to `at`, in milliseconds. Returns the number of queued packets.
 #[unsafe(no_mangle)]
 pub extern "C" fn hidlog_key_tick(key: &mut KeyHandle, at: u64) -> i32
     ensures { Answers (held key.old) (held key.new) (record { at = at; input = inputs.Tick }) result }
@@ -84,26 +87,26 @@ pub extern "C" fn hidlog_key_tick(key: &mut KeyHandle, at: u64) -> i32
     key.take(at, Input::Tick)
 }
 
-/// Takes a packet that came from a host at `at`. Returns how many packets wait to be sent.
+/// Takes a host packet at `at`. Returns the number of queued packets.
 #[unsafe(no_mangle)]
-pub extern "C" fn hidlog_key_packet(key: &mut KeyHandle, at: u64, packet: &[u8; 64]) -> i32
+pub extern "C" fn hidlog_key_write_packet(key: &mut KeyHandle, at: u64, packet: &[u8; 64]) -> i32
     ensures { Answers (held key.old) (held key.new)
         (record { at = at; input = inputs.Packet (record { 0 = packet.now }) }) result }
 {
     key.take(at, Input::Packet(Packet(*packet)))
 }
 
-/// Takes the next packet to send, and returns how many wait after it.
+/// Takes the next queued packet, and returns the number left.
 #[unsafe(no_mangle)]
-pub extern "C" fn hidlog_key_next(key: &mut KeyHandle, packet: &mut [u8; 64]) -> i32
+pub extern "C" fn hidlog_key_read_packet(key: &mut KeyHandle, packet: &mut [u8; 64]) -> i32
     ensures { Sends (held key.old) (held key.new) (packet.old, packet.new) result }
 {
     key.next(packet)
 }
 
-/// Takes the reply of a test of user presence: 0 the user consents, 1 refuses, 2 didn't answer in time.
+/// Provides user presence: 0 granted, 1 denied, 2 timed out.
 #[unsafe(no_mangle)]
-pub extern "C" fn hidlog_key_presence(key: &mut KeyHandle, at: u64, presence: u32) -> i32
+pub extern "C" fn hidlog_key_provide_presence(key: &mut KeyHandle, at: u64, presence: u32) -> i32
     ensures { AnswersWord (held key.old) (held key.new) at (option_map inputs.Presence (presence_of presence)) result }
 {
     match presence_of(presence) {
@@ -112,9 +115,9 @@ pub extern "C" fn hidlog_key_presence(key: &mut KeyHandle, at: u64, presence: u3
     }
 }
 
-/// Takes a new key pair for the credential that is being made: its id, and the point of its public key.
+/// Provides a key pair for the new credential: its ID and the public key's coordinates.
 #[unsafe(no_mangle)]
-pub extern "C" fn hidlog_key_new_key(
+pub extern "C" fn hidlog_key_provide_key_pair(
     key: &mut KeyHandle,
     at: u64,
     id: &[u8; 32],
@@ -132,17 +135,21 @@ pub extern "C" fn hidlog_key_new_key(
     key.take(at, Input::Key(Some(new_key)))
 }
 
-/// Takes it that no key pair can be made.
+/// Refuses a key pair.
 #[unsafe(no_mangle)]
-pub extern "C" fn hidlog_key_no_key(key: &mut KeyHandle, at: u64) -> i32
+pub extern "C" fn hidlog_key_refuse_key_pair(key: &mut KeyHandle, at: u64) -> i32
     ensures { Answers (held key.old) (held key.new) (record { at = at; input = inputs.Key None }) result }
 {
     key.take(at, Input::Key(None))
 }
 
-/// Takes a signature over the bytes to sign, 1 to 72 bytes.
+/// Provides a signature over the bytes to sign, of 1 to 72 bytes.
 #[unsafe(no_mangle)]
-pub extern "C" fn hidlog_key_signature(key: &mut KeyHandle, at: u64, signature: &[u8]) -> i32
+pub extern "C" fn hidlog_key_provide_signature(
+    key: &mut KeyHandle,
+    at: u64,
+    signature: &[u8],
+) -> i32
     ensures { AnswersWord (held key.old) (held key.new) at (signature_input signature.now) result }
 {
     match Signature::new(signature) {
@@ -151,48 +158,48 @@ pub extern "C" fn hidlog_key_signature(key: &mut KeyHandle, at: u64, signature: 
     }
 }
 
-/// Takes it that no signature can be made.
+/// Refuses a signature.
 #[unsafe(no_mangle)]
-pub extern "C" fn hidlog_key_no_signature(key: &mut KeyHandle, at: u64) -> i32
+pub extern "C" fn hidlog_key_refuse_signature(key: &mut KeyHandle, at: u64) -> i32
     ensures { Answers (held key.old) (held key.new) (record { at = at; input = inputs.Signature None }) result }
 {
     key.take(at, Input::Signature(None))
 }
 
-/// Plays lines of a log, and writes what `live` writes for each to the front of `out`.
+/// Plays lines of a log, and writes what `live` writes for each to the start of `out`.
 #[unsafe(no_mangle)]
-pub extern "C" fn hidlog_key_lines(
+pub extern "C" fn hidlog_key_replay_lines(
     key: &mut KeyHandle,
     log: &[u8],
     out: &mut [u8],
-    outcome: &mut CallOutcome,
+    outcome: &mut CResult,
 ) -> i32
     ensures { TakesLines (held key.old) (held key.new) log.now (out.old, out.new) (outcome.old, outcome.new) result }
 {
     key.play(log, out, outcome)
 }
 
-/// Returns how many packets wait.
+/// Returns the number of queued packets.
 #[unsafe(no_mangle)]
-pub extern "C" fn hidlog_key_waiting(key: &mut KeyHandle) -> i32
+pub extern "C" fn hidlog_key_queued_packets(key: &mut KeyHandle) -> i32
     ensures same { held key.new ≡ held key.old }
     ensures count { result ≡ count_or waiting_packets (held key.old) }
 {
     key.waiting()
 }
 
-/// Writes what the key needs of its caller before its work goes on, and returns its kind.
+/// Writes what the key needs from its caller, and returns its kind.
 #[unsafe(no_mangle)]
-pub extern "C" fn hidlog_key_need(key: &mut KeyHandle, need: &mut NeedReport) -> i32
+pub extern "C" fn hidlog_key_get_need(key: &mut KeyHandle, need: &mut CNeed) -> i32
     ensures same { held key.new ≡ held key.old }
     ensures need { ReportsNeed (held key.old) (need.old, need.new) result }
 {
     key.need(need)
 }
 
-/// Writes why the key refused its last input, in numbers and as a sentence of UTF-8 to the front of `out`: `which` is 0
-/// for what time dropped before the input was served, 1 for the input. Returns how many bytes of the sentence it wrote, 0
-/// where nothing was refused.
+/// Writes why the key refused its last input, as numbers and as a UTF-8 sentence at the start of `out`. `which` is 1
+/// for the input, 0 for what the passage of time dropped before it. Returns the number of bytes written, 0 if nothing
+/// was refused.
 #[unsafe(no_mangle)]
 pub extern "C" fn hidlog_key_cause(
     key: &mut KeyHandle,
@@ -206,18 +213,18 @@ pub extern "C" fn hidlog_key_cause(
     key.cause(which, cause, out)
 }
 
-/// Returns how many credentials the key holds.
+/// Returns the number of credentials.
 #[unsafe(no_mangle)]
-pub extern "C" fn hidlog_key_credentials(key: &mut KeyHandle) -> i32
+pub extern "C" fn hidlog_key_credential_count(key: &mut KeyHandle) -> i32
     ensures same { held key.new ≡ held key.old }
     ensures count { result ≡ count_or credential_count (held key.old) }
 {
     key.credentials()
 }
 
-/// Writes the credential at a place, from 0, in order of making.
+/// Writes the credential at an index, from 0, in order of creation.
 #[unsafe(no_mangle)]
-pub extern "C" fn hidlog_key_credential(
+pub extern "C" fn hidlog_key_get_credential(
     key: &mut KeyHandle,
     place: usize,
     credential: &mut Credential,
@@ -228,65 +235,69 @@ pub extern "C" fn hidlog_key_credential(
     key.credential(place, credential)
 }
 
-/// Returns how many assertions wait for authenticatorGetNextAssertion.
+/// Returns the number of assertions pending for authenticatorGetNextAssertion.
 #[unsafe(no_mangle)]
-pub extern "C" fn hidlog_key_pending(key: &mut KeyHandle) -> i32
+pub extern "C" fn hidlog_key_pending_assertions(key: &mut KeyHandle) -> i32
     ensures same { held key.new ≡ held key.old }
     ensures count { result ≡ count_or pending_assertions (held key.old) }
 {
     key.pending()
 }
 
-/// Writes what the session has held and served.
+/// Writes the session's statistics.
 #[unsafe(no_mangle)]
-pub extern "C" fn hidlog_key_meters(key: &mut KeyHandle, meters: &mut MetersReport) -> i32
+pub extern "C" fn hidlog_key_get_stats(key: &mut KeyHandle, meters: &mut CStats) -> i32
     ensures same { held key.new ≡ held key.old }
     ensures meters { ReportsMeters (held key.old) (meters.old, meters.new) result }
 {
     key.meters(meters)
 }
 
-/// Puts a credential after the others, in the place of one with the same id. That begins a new session at `at`.
+/// Adds a credential, replacing one with the same ID. Begins a new session at `at`.
 #[unsafe(no_mangle)]
-pub extern "C" fn hidlog_key_add(key: &mut KeyHandle, at: u64, credential: &Credential) -> i32
+pub extern "C" fn hidlog_key_add_credential(
+    key: &mut KeyHandle,
+    at: u64,
+    credential: &Credential,
+) -> i32
     ensures { Adds (held key.old) (held key.new) at credential.now result }
 {
     key.add(at, credential)
 }
 
-/// Takes out the credential with an id. That begins a new session at `at`.
+/// Removes the credential with an ID. Begins a new session at `at`.
 #[unsafe(no_mangle)]
-pub extern "C" fn hidlog_key_remove(key: &mut KeyHandle, at: u64, id: &[u8; 32]) -> i32
+pub extern "C" fn hidlog_key_remove_credential(key: &mut KeyHandle, at: u64, id: &[u8; 32]) -> i32
     ensures { Removes (held key.old) (held key.new) at id.now result }
 {
     key.remove(at, id)
 }
 
-/// Takes out all credentials. That begins a new session at `at`.
+/// Removes all credentials. Begins a new session at `at`.
 #[unsafe(no_mangle)]
-pub extern "C" fn hidlog_key_clear(key: &mut KeyHandle, at: u64) -> i32
+pub extern "C" fn hidlog_key_clear_credentials(key: &mut KeyHandle, at: u64) -> i32
     ensures { Clears (held key.old) (held key.new) at result }
 {
     key.clear(at)
 }
 
-/// Writes a snapshot of the credentials to the front of `out`, and returns how many bytes it has.
+/// Writes a snapshot of the credentials to the start of `out`, and returns its length.
 #[unsafe(no_mangle)]
-pub extern "C" fn hidlog_key_save(key: &mut KeyHandle, out: &mut [u8]) -> i32
+pub extern "C" fn hidlog_key_save_snapshot(key: &mut KeyHandle, out: &mut [u8]) -> i32
     ensures same { held key.new ≡ held key.old }
     ensures saves { SavesKey (held key.old) (out.old, out.new) result }
 {
     key.save(out)
 }
 
-/// Ends the key. Its memory is the caller's again.
+/// Destroys the key. Its memory belongs to the caller again.
 #[unsafe(no_mangle)]
-pub extern "C" fn hidlog_key_free(key: &mut KeyHandle) -> i32
+pub extern "C" fn hidlog_key_destroy(key: &mut KeyHandle) -> i32
     ensures none { held key.new ≡ None }
     ensures made { result ≡ count_or (λ d. 0) (held key.old) }
 {
-    if !key.is_made() {
-        return NOT_MADE;
+    if !key.is_initialized() {
+        return ERR_NOT_INITIALIZED;
     }
     key.free();
     0

@@ -1,8 +1,7 @@
-//! How many credentials a key of this library has capacity for. release/build.sh makes the library a second time, with 256
-//! in this one line, and has it proved anew.
+//! The capacity of keys. release/build.sh builds and proves the library a second time with 256 on this one line.
 
-/// The most credentials, and the most pending assertions.
+/// Maximum number of credentials, and of pending assertions.
 pub const CAPACITY: usize = 64;
 
-/// How many bytes the longest snapshot may have: 13, and 283 for each credential.
-pub const SNAPSHOT_LONGEST: usize = 13 + 283 * CAPACITY;
+/// Maximum length of a snapshot in bytes: 13, and 283 for each credential.
+pub const SNAPSHOT_MAX_LEN: usize = 13 + 283 * CAPACITY;

@@ -1,4 +1,4 @@
-//! Why a key refused its last input, in a struct of C and as a sentence.
+//! Why a key refused its last input, as a C struct and as a sentence.
 ghost use Rattle.std.specs.Prelude.{◌≡◌, ◌≤◌, ◌<◌, length};
 ghost use Rattle.hidlog_c.specs.Causes.{cause_at, report_of, request_report, command_report, transport_report, which_of};
 
@@ -6,7 +6,7 @@ use authn_core::Refusal;
 use ctap_cbor::Fault;
 use ctap_message::RequestFault;
 use hid_assemble::Refusal as TransportRefusal;
-use session_show::{Pen, Wording, write_cause};
+use session_show::{Detail, TextBuf, write_cause};
 use token_session::{Cause, Causes};
 
 /// Why a key refused something.
@@ -15,9 +15,9 @@ use token_session::{Cause, Causes};
 pub struct CauseReport {
     /// enum hidlog_cause_code of hidlog.h.
     pub code: u32,
-    /// The code of the ERROR packet, or the status that was answered.
+    /// The code of the ERROR packet, or the status of the response.
     pub status: u32,
-    /// What was compared, 0 where there is nothing.
+    /// The values that were compared, or 0.
     pub first: u64,
     pub second: u64,
 }
@@ -115,7 +115,7 @@ pub fn report_of(cause: Cause) -> CauseReport
     }
 }
 
-/// Returns whether a number of C asks for the cause of the input, and not for what time dropped before it.
+/// Returns whether a C number selects the cause of the input's refusal (1), not that of a timeout before it (0).
 pub fn which_of(which: u32) -> Option<bool>
     ensures { result ≡ which_of which }
 {
@@ -126,7 +126,7 @@ pub fn which_of(which: u32) -> Option<bool>
     }
 }
 
-/// Returns the cause of what time dropped before the last input, or of the input itself.
+/// Returns the cause of the timeout that was handled before the last input, or the cause of the input's own refusal.
 pub fn cause_at(causes: &Causes, is_input: bool) -> Option<Cause>
     ensures { result ≡ cause_at causes.now is_input }
 {
@@ -139,14 +139,14 @@ pub fn cause_at(causes: &Causes, is_input: bool) -> Option<Cause>
     }
 }
 
-/// Writes the sentence of a cause, or its front, to the front of `out`. Returns how many bytes it wrote.
+/// Writes the sentence of a cause, as far as it fits, to the start of `out`, and returns the number of bytes written.
 pub fn put_sentence(cause: Cause, out: &mut [u8]) -> usize
     ensures front { result ≤ length out.new }
     ensures few { result < 10000 }
 {
-    let mut pen = Pen::new(Wording::Explained);
-    write_cause(&mut pen, cause);
-    let text = pen.part();
+    let mut buf = TextBuf::new(Detail::Explained);
+    write_cause(&mut buf, cause);
+    let text = buf.part();
     let n = text.len().min(out.len());
     out[..n].copy_from_slice(&text[..n]);
     n

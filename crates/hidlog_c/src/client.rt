@@ -1,25 +1,25 @@
-//! The WebAuthn client as functions of C. Each call is a function of its inputs: nothing is kept between two calls.
+//! The WebAuthn client as C functions. Each call is a function of its inputs: no state is kept between calls.
 
 use webauthn_client::{
     Abilities, Ceremony, Client, DomError, Message, Rejection, Response, Verification,
 };
 
-/// What a call reports beside its result.
+/// Values that a call returns in addition to its result.
 #[repr(C)]
 #[derive(Clone, Copy)]
 pub struct ClientReport {
-    /// The timeout of the options in milliseconds.
+    /// The options' timeout in milliseconds.
     pub timeout_ms: u32,
     /// Whether the response claims user verification: 0 or 1.
     pub is_verified: u32,
-    /// At an error: the length of the member's name at the front of `out`.
+    /// For an error: length of the member's name at the start of `out`.
     pub member_len: u32,
-    /// At an error: the length of the reason behind it.
+    /// For an error: length of the reason after it.
     pub reason_len: u32,
 }
 
 /// `out` is too small.
-const TOO_SMALL: i64 = -100;
+const ERR_BUFFER_TOO_SMALL: i64 = -100;
 
 /// Returns the number of a DOM error (enum hidlog_client_error).
 fn number_of(error: DomError) -> i64 {
@@ -35,13 +35,13 @@ fn number_of(error: DomError) -> i64 {
     }
 }
 
-/// Copies bytes to the front of a buffer, and returns how many, or [`TOO_SMALL`].
+/// Copies bytes to the front of a buffer, and returns how many, or [`ERR_BUFFER_TOO_SMALL`].
 fn put(bytes: &[u8], out: &mut [u8]) -> i64 {
     let Ok(length) = i64::try_from(bytes.len()) else {
-        return TOO_SMALL;
+        return ERR_BUFFER_TOO_SMALL;
     };
     let Some((front, _)) = out.split_at_mut_checked(bytes.len()) else {
-        return TOO_SMALL;
+        return ERR_BUFFER_TOO_SMALL;
     };
     front.copy_from_slice(bytes);
     length
@@ -67,7 +67,7 @@ fn reject(rejection: Rejection, report: &mut ClientReport, out: &mut [u8]) -> i6
     number_of(rejection.error)
 }
 
-/// Returns abilities by their bits (enum hidlog_client_ability).
+/// Returns the authenticator's abilities of these bits (enum hidlog_client_ability).
 fn abilities_of(bits: u32) -> Abilities {
     let verification = if bits & 1 != 0 {
         Verification::Verified
@@ -83,7 +83,7 @@ fn abilities_of(bits: u32) -> Abilities {
     }
 }
 
-/// Returns the ceremony: 0 creates a credential, another number gets an assertion.
+/// Returns the ceremony: 0 creates a credential, other numbers get an assertion.
 fn ceremony_of(ceremony: u32) -> Ceremony {
     if ceremony == 0 {
         Ceremony::Create

@@ -1,37 +1,37 @@
-//! The faults of a call on a key, as C sees them: each is below 0. A call that fails leaves the key as it was.
+//! The errors of a call on a key: each is below 0. A call that fails leaves the key as it was.
 
-/// The key was never made, or it was freed.
-pub const NOT_MADE: i32 = -1;
+/// The key is not initialized, or was destroyed.
+pub const ERR_NOT_INITIALIZED: i32 = -1;
 
-/// The key is made already.
-pub const ALREADY_MADE: i32 = -2;
+/// The key is already initialized.
+pub const ERR_ALREADY_INITIALIZED: i32 = -2;
 
-/// Packets wait: they are taken before the next input.
-pub const PACKETS_WAIT: i32 = -3;
+/// Packets are queued: read them before the next input.
+pub const ERR_PACKETS_QUEUED: i32 = -3;
 
-/// No packet waits.
-pub const NO_PACKET: i32 = -4;
+/// No packet is queued.
+pub const ERR_NO_PACKET: i32 = -4;
 
-/// An argument isn't one of those that there are.
-pub const BAD_ARGUMENT: i32 = -5;
+/// Invalid argument.
+pub const ERR_INVALID_ARGUMENT: i32 = -5;
 
 /// The buffer is too small.
-pub const TOO_SMALL: i32 = -6;
+pub const ERR_BUFFER_TOO_SMALL: i32 = -6;
 
-/// Work waits: a reply of the caller is needed before the key can begin anew.
-pub const WORK_WAITS: i32 = -7;
+/// The key is busy: it needs a reply before a new session can begin.
+pub const ERR_BUSY: i32 = -7;
 
-/// Another credential is discoverable, with the same RP and user handle.
-pub const CLASHES: i32 = -8;
+/// Another discoverable credential has the same RP and user handle.
+pub const ERR_DUPLICATE_USER: i32 = -8;
 
-/// The bytes are no snapshot.
-pub const NOT_SNAPSHOT: i32 = -17;
+/// The bytes are not a snapshot.
+pub const ERR_NOT_A_SNAPSHOT: i32 = -17;
 
-/// There would be more credentials than a key holds.
-pub const TOO_MANY_ROWS: i32 = -18;
+/// More credentials than the key has capacity for.
+pub const ERR_FULL: i32 = -18;
 
-/// A row of the snapshot doesn't hold what a row holds.
-pub const ROW_BROKEN: i32 = -19;
+/// A credential of the snapshot is invalid.
+pub const ERR_BAD_CREDENTIAL: i32 = -19;
 
-/// The allocator refused memory. No call of C allocates, so this is never returned.
+/// Out of memory. No C call allocates, so this is never returned.
 pub const NO_MEMORY: i32 = -20;

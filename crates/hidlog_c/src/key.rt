@@ -1,18 +1,18 @@
-//! A key that C holds.
+//! A key for C.
 ghost use Rattle.std.specs.Prelude.{◌≡◌, ◌≢◌, ◌<◌, None};
 
 use crate::memory::Memory;
 
-/// The state of a key that was never made.
-pub const EMPTY: u32 = 0;
+/// The state of a key that was never initialized.
+pub const STATE_ZERO: u32 = 0;
 
-/// The state of a key that is made.
-pub const MADE: u32 = 1;
+/// The state of an initialized key.
+pub const STATE_INITIALIZED: u32 = 1;
 
-/// The state of a key that was freed.
-pub const FREED: u32 = 2;
+/// The state of a destroyed key.
+pub const STATE_DESTROYED: u32 = 2;
 
-/// A key: a device in memory of the caller's. A struct of zeros with that memory is a key that was never made.
+/// A key: a device in the caller's memory. A zeroed struct with that memory is a key that was never initialized.
 #[repr(C)]
 pub struct KeyHandle {
     pub memory: Memory,

@@ -3,28 +3,32 @@ ghost use Rattle.std.specs.Prelude.{◌≡◌, [], take, Option};
 ghost use Rattle.hidlog_c.specs.Commands.{IsWritten};
 ghost use Rattle.hidlog_c.specs.Lines.{ArePlayed, FollowsLines, LinesDo};
 
+use crate::buffer_target::BufferTarget;
 use crate::capacity::CAPACITY;
-use crate::lent::Lent;
-use crate::outcome::CallOutcome;
-use session_log::{LogFault, SliceIn, live_lines};
+use crate::outcome::CResult;
+use session_log::{LogFault, SliceIn, play_live_lines};
 use token_session::Session;
 
-/// Plays the lines. The target stays over its buffer.
-fn play(session: &mut Session<CAPACITY>, log: &[u8], writer: &mut Lent<'_>) -> Result<(), LogFault>
+/// Plays the lines. The target still writes to the same buffer afterwards.
+fn play(
+    session: &mut Session<CAPACITY>,
+    log: &[u8],
+    writer: &mut BufferTarget<'_>,
+) -> Result<(), LogFault>
     requires none { writer.old.len ≡ 0 }
     requires unfailed { writer.old.failures ≡ 0 }
     ensures same_reference { writer.new.buffer.ghost_name ≡ writer.old.buffer.ghost_name }
     ensures does { IsWritten log.now writer.new.buffer.now writer.new.len result (LinesDo session.old session.new) }
     ensures history { FollowsLines session.old session.new log.now writer.new.buffer.now writer.new.len result }
 {
-    live_lines(&mut SliceIn::new(log), writer, session)
+    play_live_lines(&mut SliceIn::new(log), writer, session)
 }
 
-/// Plays the lines, and writes what [`live_lines`] writes for them to the front of `out`.
-pub fn play_lines(session: &mut Session<CAPACITY>, log: &[u8], out: &mut [u8]) -> CallOutcome
+/// Plays the lines, and writes the output of [`play_live_lines`] to the start of `out`.
+pub fn play_lines(session: &mut Session<CAPACITY>, log: &[u8], out: &mut [u8]) -> CResult
     ensures { ArePlayed session.old session.new log.now out.new result }
 {
-    let mut writer = Lent::new(out);
+    let mut writer = BufferTarget::new(out);
     let answer = play(session, log, &mut writer);
-    CallOutcome::new(answer, writer.len())
+    CResult::new(answer, writer.len())
 }

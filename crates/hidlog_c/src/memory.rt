@@ -1,11 +1,11 @@
-//! Memory of the caller's.
+//! The caller's memory.
 ghost use Rattle.std.specs.Prelude.{Option};
 ghost use Rattle.hidlog_c.specs.Owned.{holds};
 ghost use Rattle.hidlog_c.specs.Key.{DeviceState};
 
 use std::marker::Model;
 
-/// Memory of the caller's, which holds a device or is free to take one.
+/// The caller's memory, with a device or without.
 #[repr(C)]
 pub struct Memory {
     pub(crate) at: *mut u8,

@@ -1,27 +1,27 @@
-//! What a command answers to C.
+//! The result of a command in C.
 ghost use Rattle.std.specs.Prelude.{◌≡◌};
 ghost use Rattle.hidlog_c.specs.Numbers.{line_of, outcome_of, packet_of, refused};
 
 use cred_table::SnapshotFault;
 use session_log::LogFault;
 
-/// What came of a command.
+/// The result of a command.
 #[derive(Clone, Copy)]
 #[repr(C)]
-pub struct CallOutcome {
-    /// 0 where the command was done to its end, 1 at a fault of the log, 2 where the snapshot was refused.
+pub struct CResult {
+    /// 0 for success, 1 for a fault of the log, 2 for a refused snapshot.
     pub status: u32,
-    /// The number of the log's fault, or of the snapshot's refusal; 0 where there is none.
+    /// The number of the log fault or snapshot error; 0 if there is none.
     pub fault: u32,
-    /// The line that the fault names, 0 where it names none.
+    /// The fault's line, or 0.
     pub line: u64,
-    /// The packet that differs, counted from 1; 0 at any other fault.
+    /// The packet that differs, from 1; 0 for other faults.
     pub packet: u64,
-    /// How many bytes were written to the buffer's front.
+    /// Number of bytes written to the buffer.
     pub written: u64,
 }
 
-/// Returns the line and the packet that a fault names, 0 where it names none.
+/// Returns the line and the packet of a fault, 0 without.
 fn place_of(fault: &LogFault) -> (u64, u64)
     ensures line { result.0 ≡ line_of fault.now }
     ensures packet { result.1 ≡ packet_of fault.now }
@@ -36,12 +36,12 @@ fn place_of(fault: &LogFault) -> (u64, u64)
     }
 }
 
-impl CallOutcome {
-    /// Returns that of a command with this answer, which wrote so many bytes.
+impl CResult {
+    /// Returns the result of a command that returned this and wrote `len` bytes.
     pub fn new<A: Drop>(answer: Result<A, LogFault>, written: usize) -> Self
         ensures { result ≡ outcome_of answer written }
     {
-        let mut outcome = CallOutcome {
+        let mut outcome = CResult {
             status: 0,
             fault: 0,
             line: 0,
@@ -56,11 +56,11 @@ impl CallOutcome {
         outcome
     }
 
-    /// Returns that of a snapshot that was refused.
+    /// Returns the result for a refused snapshot.
     pub fn refused(fault: SnapshotFault) -> Self
         ensures { result ≡ refused fault }
     {
-        CallOutcome {
+        CResult {
             status: 2,
             fault: u32::from(fault.number()),
             line: 0,

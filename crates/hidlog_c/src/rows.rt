@@ -1,13 +1,13 @@
-//! A credential of C as a row.
+//! Converts C credentials to rows.
 ghost use Rattle.std.specs.Prelude.{◌≡◌, ◌≤◌, ◌<◌, length, take, option_map, IfSome, IfNone};
 ghost use Rattle.hidlog_c.specs.Changed.{Says, SaysNone};
 
-use crate::reports::Credential;
+use crate::structs::Credential;
 use arrayvec::ArrayVec;
 use cred_table::{Name, Row};
 use std::str;
 
-/// Returns the first bytes of an array, where it has so many.
+/// Returns the first `len` bytes of an array, if it has as many.
 fn front(bytes: &[u8; 64], len: u32) -> Option<&[u8]>
     ensures front { IfSome result (λ front. (front.now ≡ take len bytes.now) × (len ≤ 64)) }
     ensures none { IfNone result (64 < len) }
@@ -15,13 +15,13 @@ fn front(bytes: &[u8; 64], len: u32) -> Option<&[u8]>
     bytes.get(..len as usize)
 }
 
-/// Returns the row that a credential says, where it says one.
+/// Returns the row of a credential, if it is valid.
 pub fn row_of(credential: &Credential) -> Option<Row>
     ensures says { IfSome result (λ row. Says credential.now row) }
     ensures none { IfNone result (SaysNone credential.now) }
 {
-    let user = front(&credential.user, credential.user_len)?;
-    let name = front(&credential.name, credential.name_len)?;
+    let user = front(&credential.user, credential.user_id_len)?;
+    let name = front(&credential.name, credential.user_name_len)?;
     let discoverable = match credential.discoverable {
         0 => false,
         1 => true,

@@ -5,7 +5,7 @@ use cred_table::Store;
 use ctap_message::Answer;
 
 #[test]
-fn the_page(rt: HostRuntime) {
+fn documented_example(rt: HostRuntime) {
     let mut core = Core::<Store<4>, 4>::new(Config { aaguid: [0; 16] }, Store::new(), 0);
     // authenticatorSelection on channel 1 waits for the user's presence, and is then answered.
     let mut answer = Answer::new();

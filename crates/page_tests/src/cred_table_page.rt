@@ -4,7 +4,7 @@ use cred_table::{Row, Store, Table, load, save};
 use std::test::Fail;
 
 #[test]
-fn the_page(rt: HostRuntime) -> Result<(), Fail> {
+fn documented_example(rt: HostRuntime) -> Result<(), Fail> {
     let mut table = Store::<4>::new();
     table.put(Row {
         rp: [0xa3; 32],

@@ -7,7 +7,7 @@ use std::test::Fail;
 const MESSAGE: &[u8] = b"\xa2\x01\x63usb\x02\x81\xf5";
 
 #[test]
-fn the_page_checks_and_reads(rt: HostRuntime) -> Result<(), Fail> {
+fn example_checks_and_decodes(rt: HostRuntime) -> Result<(), Fail> {
     assert!(rt; check(MESSAGE).result.is_ok());
     let mut cursor = Cursor::new(MESSAGE);
     assert!(rt; cursor.item(1)? == Item::Map(2));
@@ -20,7 +20,7 @@ fn the_page_checks_and_reads(rt: HostRuntime) -> Result<(), Fail> {
 }
 
 #[test]
-fn the_page_writes_and_decodes(rt: HostRuntime) -> Result<(), Fail> {
+fn example_encodes_and_decodes(rt: HostRuntime) -> Result<(), Fail> {
     let mut buffer = [0; 2];
     let mut sink = Sink::new(&mut buffer);
     sink.array(1);

@@ -3,7 +3,7 @@
 use ctap_message::{Answer, Request, Status, read_request, write_info};
 
 #[test]
-fn the_page(rt: HostRuntime) {
+fn documented_example(rt: HostRuntime) {
     let (request, steps) = read_request(b"\x04");
     let info = matches!(request, Ok(Request::Info));
     let mut answer = Answer::new();

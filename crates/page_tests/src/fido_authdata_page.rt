@@ -3,7 +3,7 @@
 use fido_authdata::{AuthData, to_sign};
 
 #[test]
-fn the_page(rt: HostRuntime) {
+fn documented_example(rt: HostRuntime) {
     let data = AuthData::assertion(&[0xa3; 32], true, 1);
     let bytes = data.bytes();
     assert!(rt; bytes.len() == 37);

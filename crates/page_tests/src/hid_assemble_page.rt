@@ -6,7 +6,7 @@ use hid_packet::command::PING;
 use hid_packet::laws::written_packets_are_the_fewest;
 
 #[test]
-fn the_page(rt: HostRuntime) {
+fn documented_example(rt: HostRuntime) {
     let mut assembler = Assembler::with_given(1);
     let mut outbox = Outbox::new();
     written_packets_are_the_fewest();

@@ -4,7 +4,7 @@ use hid_packet::laws::written_packets_are_the_fewest;
 use hid_packet::{Outbox, View, command};
 
 #[test]
-fn the_page(rt: HostRuntime) {
+fn documented_example(rt: HostRuntime) {
     let mut outbox = Outbox::new();
     written_packets_are_the_fewest(); // so there is capacity
     outbox.put_message(1, command::PING, b"hello");

@@ -1,5 +1,5 @@
 //! The examples on the libraries' pages, as tests. They are apart, as in Cargo's folder `tests/`, since a check of a
-//! crate's tests proves the whole crate once more. Other tests of the libraries run without a proof (tests/rows).
+//! crate's tests proves the whole crate once more. Other tests of the libraries run without a proof (tests/unit).
 #![tactic(auto)]
 
 #[cfg(test)]

@@ -4,7 +4,7 @@ use session_log::{SliceIn, SliceOut, replay};
 use token_session::Session;
 
 #[test]
-fn the_page(rt: HostRuntime) {
+fn documented_example(rt: HostRuntime) {
     let mut session = Session::<8>::bare([0; 16], 0);
     let mut reader = SliceIn::new(b"# 5 ms pass\nt 5\n");
     let mut text = [0; 256];

@@ -4,7 +4,7 @@ use hid_packet::{BROADCAST, Fragments, Outbox, View, command};
 use token_session::{Input, Session};
 
 #[test]
-fn the_page(rt: HostRuntime) {
+fn documented_example(rt: HostRuntime) {
     let mut key = Session::<8>::bare([0; 16], 0);
     for packet in Fragments::new(BROADCAST, command::INIT, b"nonce...") {
         let mut outbox = Outbox::new();

@@ -7,12 +7,12 @@ use Rattle.hex.specs.Hex.{decode_sized, encode_lower}
 use Rattle.hex.proofs.HexLemmas.{decode_sized-encode_lower, length-encode_with, IsOk-decode_sized}
 use Rattle.hid_packet.specs.declared.packet.Packet.{Packet}
 use Rattle.token_session.specs.{declared.input.Meters.Meters, Meters.SessionState}
-use Rattle.session_log.specs.{declared.line.Line.Line, Lines.lines, Said.said, Replay.IsDone, Session.RepeatsIn}
+use Rattle.session_log.specs.{declared.line.Line.Line, Lines.lines, Parsed.parsed, Replay.IsDone, Session.RepeatsIn}
 use Rattle.session_log.specs.declared.line.Line.TheVariants.{Sent, Count, Input, Comment}
-use Rattle.session_log.specs.Log.{Played, prefixed, played, playing, log_of, log, last_text, text_by, after, after_by}
+use Rattle.session_log.specs.Log.{Played, with_text_before, played, play_all, log_of, log, last_text, text_by, state_after, state_after_parsed}
 use Rattle.session_log.specs.{Sent.SendsPackets, Sent.AllSend, Sent.FitsMeters, Needs.need_lines, Needs.is_need_line}
 use Rattle.session_log.specs.Text.{IsPacket, ArePackets, ended, sent_text, meters_line}
-use Rattle.session_log.specs.World.{World, Course, replaying, living}
+use Rattle.session_log.specs.World.{World, Course, replay_world, live_world}
 use Rattle.session_log.proofs.Feeds.{feedless, AreLines, feedless-append, AreLines-append, lines_joined}
 use Rattle.session_log.proofs.Feeds.{lines_are_lines, decimal_feedless, hex_feedless, IsSound, sound_line, sound_first}
 use Rattle.session_log.proofs.Spelled.{count_rest, spelled_is_read}
@@ -52,7 +52,7 @@ counts_of m =
 sent_digits : (packet : List ℕ) → IsPacket packet → decode_sized (encode_lower packet) 64 ≡ Ok packet
 sent_digits packet h = decode_sized-encode_lower packet 64 h.0 h.1
 
-sent_said : (packet : List ℕ) → IsPacket packet → said (sent_line packet) ≡ Some (Sent (record { 0 = packet }))
+sent_said : (packet : List ℕ) → IsPacket packet → parsed (sent_line packet) ≡ Some (Sent (record { 0 = packet }))
 sent_said packet h = search (arith, spelled_is_read, sent_digits)
 
 sent_sound : (packet : List ℕ) → IsPacket packet → IsSound (sent_line packet)
@@ -73,8 +73,8 @@ add_zero n = omega arith
 
 module _ {S : Type 0} {w : World S} {counts : S → Meters} (is : IsLogging w counts) where
   pub sound_step : (m : ℕ) (s : S) (line : List ℕ) (more : List (List ℕ)) (l : Option Line) → m < 2 ^ 32 → IsSound line
-      → said line ≡ l → played w m s (line ∷ more)
-      ≡ prefixed (text_by w s line l) (played w (m + 1) (after_by w s l) more)
+      → parsed line ≡ l → played w m s (line ∷ more)
+      ≡ with_text_before (text_by w s line l) (played w (m + 1) (state_after_parsed w s l) more)
   sound_step m s line more l few sound e = search (arith, played_sound, said_fault)
 
   pub sents_again : (m : ℕ) (s : S) (packets rest : List (List ℕ)) → ArePackets packets → m + length packets ≤ 2 ^ 32
@@ -87,33 +87,33 @@ module _ {S : Type 0} {w : World S} {counts : S → Meters} (is : IsLogging w co
 -- the lines that v writes for a line, without their line feeds
 pub record WritesLines {S : Type 0} (v : World S) (wrote : S → List ℕ → Option Line → List (List ℕ)) : Type 0 where
   pub texts : (s : S) (line : List ℕ) (l : Option Line) → text_by v s line l ≡ flat_map ended (wrote s line l)
-  pub are : (s : S) (line : List ℕ) (l : Option Line) → said line ≡ l → feedless line ≡ true → SendsPackets v s l
+  pub are : (s : S) (line : List ℕ) (l : Option Line) → parsed line ≡ l → feedless line ≡ true → SendsPackets v s l
       → AreLines (wrote s line l)
 
 abbrev pub written : {S : Type 0} (v : World S) → (S → List ℕ → Option Line → List (List ℕ)) → S → List (List ℕ)
     → List (List ℕ)
 written v wrote s [] = []
-written v wrote s (line ∷ more) = wrote s line (said line) ++ written v wrote (after v s line) more
+written v wrote s (line ∷ more) = wrote s line (parsed line) ++ written v wrote (state_after v s line) more
 
 module _ {S : Type 0} {v : World S} {wrote : S → List ℕ → Option Line → List (List ℕ)} (g : WritesLines v wrote) where
   pub written_text : (n : ℕ) (s : S) (ls : List (List ℕ)) → (played v n s ls).fault ≡ None
       → (played v n s ls).text ≡ flat_map ended (written v wrote s ls)
   written_text n s [] h = refl
   written_text n s (line ∷ more) h =
-      let later = written_text (n + 1) (after v s line) more in
+      let later = written_text (n + 1) (state_after v s line) more in
       search (arith, played_sound, sound_first, g.texts, flat_map-append)
 
   pub written_are : (s : S) (ls : List (List ℕ)) → AreLines ls → AllSend v s ls → AreLines (written v wrote s ls)
   written_are s [] h sends = tt
   written_are s (line ∷ more) h sends =
-      search (arith, AreLines-append, written, written_are (after v s line) more h.1 sends.1)
+      search (arith, AreLines-append, written, written_are (state_after v s line) more h.1 sends.1)
 
 -- what v writes for a line, w gives again
 abbrev pub Repeats : {S : Type 0} (v w : World S) → (S → List ℕ → Option Line → List (List ℕ)) → Type 0
 Repeats {S} v w wrote = (m : ℕ) (s : S) (line : List ℕ) (l : Option Line) (rest : List (List ℕ)) → IsSound line
-    → said line ≡ l → SendsPackets v s l → m + length (wrote s line l) ≤ 2 ^ 32
+    → parsed line ≡ l → SendsPackets v s l → m + length (wrote s line l) ≤ 2 ^ 32
     → played w m s (wrote s line l ++ rest)
-    ≡ prefixed (text_by v s line l) (played w (m + length (wrote s line l)) (after_by v s l) rest)
+    ≡ with_text_before (text_by v s line l) (played w (m + length (wrote s line l)) (state_after_parsed v s l) rest)
 
 pub record GivesAgain {S : Type 0} (v w : World S) (wrote : S → List ℕ → Option Line → List (List ℕ)) : Type 0 where
   pub writes : WritesLines v wrote
@@ -123,18 +123,18 @@ module _ {S : Type 0} {v w : World S} {wrote : S → List ℕ → Option Line �
   where
     lines_again : (n m : ℕ) (s : S) (ls rest : List (List ℕ)) → (played v n s ls).fault ≡ None → AllSend v s ls
         → m + length (written v wrote s ls) ≤ 2 ^ 32 → played w m s (written v wrote s ls ++ rest)
-        ≡ prefixed (played v n s ls).text (played w (m + length (written v wrote s ls)) (played v n s ls).state rest)
+        ≡ with_text_before (played v n s ls).text (played w (m + length (written v wrote s ls)) (played v n s ls).state rest)
     lines_again n m s [] rest h sends few = ap (λ (k : ℕ). played w k s rest) (add_zero m)
     lines_again n m s (line ∷ more) rest h sends few =
-        let t = after v s line in
-        let first = wrote s line (said line) in
+        let t = state_after v s line in
+        let first = wrote s line (parsed line) in
         let others = written v wrote t more in
         let both = length-append first others in
         let sound = sound_first v n s line more h in
         let step = played_sound v n s line more sound in
         let later : (played v (n + 1) t more).fault ≡ None = search (arith, step) in
         let here = sound_line v n s line sound in
-        let on = g.again m s line (said line) (others ++ rest) here refl sends.0 (omega (arith, few, both)) in
+        let on = g.again m s line (parsed line) (others ++ rest) here refl sends.0 (omega (arith, few, both)) in
         let next = lines_again (n + 1) (m + length first) t more rest later sends.1 (omega (arith, few, both)) in
         search (arith, append_assoc first others rest, on, next, step, both, prefixed_twice)
 
@@ -169,11 +169,11 @@ counts_short m h =
 -- Where no line is faulty, the log that v writes is its own log in w.
 pub log_again : {S : Type 0} {v w : World S} {counts : S → Meters} {wrote : S → List ℕ → Option Line → List (List ℕ)}
     → (writes : IsLogging v counts) → (gives : IsLogging w counts) → (g : GivesAgain v w wrote)
-    → (s : S) (bytes : List ℕ) → (playing v s bytes).fault ≡ None → AllSend v s (lines bytes)
-    → FitsMeters (counts (playing v s bytes).state) → length (lines (log v s bytes)) < 2 ^ 32
+    → (s : S) (bytes : List ℕ) → (play_all v s bytes).fault ≡ None → AllSend v s (lines bytes)
+    → FitsMeters (counts (play_all v s bytes).state) → length (lines (log v s bytes)) < 2 ^ 32
     → log w s (log v s bytes) ≡ log v s bytes
 log_again {S = S} {v = v} {w = w} {counts = counts} {wrote = wrote} writes gives g s bytes h sends fits few =
-    let p = playing v s bytes in
+    let p = play_all v s bytes in
     let m = counts p.state in
     let last = 61 ∷ counts_of m in
     let first = written v wrote s (lines bytes) in
@@ -193,16 +193,16 @@ log_again {S = S} {v = v} {w = w} {counts = counts} {wrote = wrote} writes gives
     let ends : played w (1 + length first) p.state (last ∷ []) ≡ end =
     sound_step gives (1 + length first) p.state last [] (Some Count) (omega (arith, space)) sound is
     ∙ search (gives.drops_count p.state last, gives.stays_at_count p.state) in
-    let plays : playing w s (log v s bytes) ≡ prefixed p.text end =
+    let plays : play_all w s (log v s bytes) ≡ with_text_before p.text end =
     ap (played w 1 s) cut ∙ lines_again g 1 1 s (lines bytes) (last ∷ []) h sends (omega (arith, space))
-    ∙ ap (prefixed p.text) ends in
+    ∙ ap (with_text_before p.text) ends in
     ap (log_of w) plays ∙ search (append-nil p.text, gives.ends p.state, whole)
 
 -- What a replay writes, a replay gives again.
 
 module _ {S : Type 0} (course : Course S) where
   abbrev replays : World S
-  replays = replaying course
+  replays = replay_world course
 
   abbrev pub lines_by : S → List ℕ → Option Line → List (List ℕ)
   lines_by s line (Some Comment) = line ∷ []
@@ -215,7 +215,7 @@ module _ {S : Type 0} (course : Course S) where
   text_lines : (s : S) (line : List ℕ) (l : Option Line) → text_by replays s line l ≡ flat_map ended (lines_by s line l)
   text_lines s line l = search (arith, append-nil, sents_text)
 
-  line_are : (s : S) (line : List ℕ) (l : Option Line) → said line ≡ l → feedless line ≡ true → SendsPackets replays s l
+  line_are : (s : S) (line : List ℕ) (l : Option Line) → parsed line ≡ l → feedless line ≡ true → SendsPackets replays s l
       → AreLines (lines_by s line l)
   line_are s line l e h sends = search (arith, sents_are)
 
@@ -231,9 +231,9 @@ comment_are : (line : List ℕ) (b : Bool) → feedless line ≡ true → AreLin
 comment_are line b h = search arith
 
 comment_kept : {S : Type 0} (w : World S) (m : ℕ) (s : S) (line : List ℕ) (rest : List (List ℕ)) (b : Bool)
-    → (b ≡ false → m < 2 ^ 32 → played w m s (line ∷ rest) ≡ prefixed (ended line) (played w (m + 1) s rest))
+    → (b ≡ false → m < 2 ^ 32 → played w m s (line ∷ rest) ≡ with_text_before (ended line) (played w (m + 1) s rest))
     → m + length (cond b [] (line ∷ [])) ≤ 2 ^ 32 → played w m s (cond b [] (line ∷ []) ++ rest)
-    ≡ prefixed (cond b [] (ended line)) (played w (m + length (cond b [] (line ∷ []))) s rest)
+    ≡ with_text_before (cond b [] (ended line)) (played w (m + length (cond b [] (line ∷ []))) s rest)
 comment_kept w m s line rest b h k = search (arith, add_zero)
 
 counted : (m : ℕ) (packets told : List (List ℕ)) → m + 1 + length packets + length told
@@ -242,10 +242,10 @@ counted m packets told = search (arith, length-map, length-append)
 
 module _ {S : Type 0} (course : Course S) (needs : S → Needed) where
   abbrev lives : World S
-  lives = living course needs
+  lives = live_world course needs
 
   abbrev copies : World S
-  copies = replaying course
+  copies = replay_world course
 
   pub live_logs : IsLogging lives course.counts
   live_logs = search arith
@@ -259,7 +259,7 @@ module _ {S : Type 0} (course : Course S) (needs : S → Needed) where
   lived_lines : (s : S) (line : List ℕ) (l : Option Line) → text_by lives s line l ≡ flat_map ended (needs_of s line l)
   lived_lines s line l = search (arith, append_assoc, sents_text, flat_map-append, append-nil)
 
-  lived_are : (s : S) (line : List ℕ) (l : Option Line) → said line ≡ l → feedless line ≡ true → SendsPackets lives s l
+  lived_are : (s : S) (line : List ℕ) (l : Option Line) → parsed line ≡ l → feedless line ≡ true → SendsPackets lives s l
       → AreLines (needs_of s line l)
   lived_are s line l e h sends = search (arith, comment_are, AreLines-append, sents_are, told_are, needs_told)
 
@@ -271,22 +271,22 @@ module _ {S : Type 0} (course : Course S) (needs : S → Needed) where
   told_dropped m s (line ∷ more) rest h few =
       let next : m + 1 + length more ≡ m + suc (length more) = omega arith in
       let later = told_dropped (m + 1) s more rest h.1 (omega (arith, few, next)) in
-      search (arith, sound_step live_logs m s line, h.0.sound, h.0.said, h.0.tells)
+      search (arith, sound_step live_logs m s line, h.0.sound, h.0.parsed, h.0.tells)
 
   needs_copied : (m : ℕ) (s : S) (ls rest : List (List ℕ)) → AreTold ls → m + length ls ≤ 2 ^ 32
-      → played copies m s (ls ++ rest) ≡ prefixed (flat_map ended ls) (played copies (m + length ls) s rest)
+      → played copies m s (ls ++ rest) ≡ with_text_before (flat_map ended ls) (played copies (m + length ls) s rest)
   needs_copied m s [] rest h few = search (arith, add_zero)
   needs_copied m s (line ∷ more) rest h few =
       let next : m + 1 + length more ≡ m + suc (length more) = omega arith in
       let later = needs_copied (m + 1) s more rest h.1 (omega (arith, few, next)) in
-      search (arith, sound_step (replay_logs course) m s line, h.0.sound, h.0.said, prefixed_twice)
+      search (arith, sound_step (replay_logs course) m s line, h.0.sound, h.0.parsed, prefixed_twice)
 
   lived_again : Repeats lives lives needs_of
   lived_again m s line None rest sound e h few = absurd (sound.says e)
   lived_again m s line (Some Comment) rest sound e h few =
       comment_kept lives m s line rest (is_need_line line)
       (λ keeps space. sound_step live_logs m s line rest (Some Comment) space sound e
-      ∙ ap (λ (b : Bool). prefixed (cond b [] (ended line)) (played lives (m + 1) s rest)) keeps) few
+      ∙ ap (λ (b : Bool). with_text_before (cond b [] (ended line)) (played lives (m + 1) s rest)) keeps) few
   lived_again m s line (Some (Input timed)) rest sound e h few =
       let packets = course.sends s timed in
       let told = need_lines (needs (course.turned s timed)) in
@@ -320,7 +320,7 @@ module _ {S : Type 0} (course : Course S) (needs : S → Needed) where
 pub repeats_in : {v w : World SessionState} {wrote : SessionState → List ℕ → Option Line → List (List ℕ)}
     → (writes : IsLogging v (λ s. s.meters)) → (gives : IsLogging w (λ s. s.meters)) → (again : GivesAgain v w wrote)
     → (taken taken' : Option (List ℕ)) (s0 s : SessionState) (bytes text : List ℕ) → Appends taken taken' text
-    → IsDone v s0 s bytes text → (playing v s0 bytes).fault ≡ None → AllSend v s0 (lines bytes) → FitsMeters s.meters
+    → IsDone v s0 s bytes text → (play_all v s0 bytes).fault ≡ None → AllSend v s0 (lines bytes) → FitsMeters s.meters
     → RepeatsIn w taken taken' s0
 repeats_in {w = w} writes gives again taken taken' s0 s bytes text q whole faultless sends fits = (
   text,

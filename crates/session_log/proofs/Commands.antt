@@ -1,6 +1,6 @@
 -- What is said of an answer with meters is said of it without them.
 use Rattle.std.proofs.Common.{ℕ, Bool, List, Option, Result, arith}
-use Rattle.session_log.specs.{Command.PlaysThrough, Command.unmetered, Replay.Logs, Replay.Makes}
+use Rattle.session_log.specs.{Command.PlaysThrough, Command.without_meters, Replay.Logs, Replay.PlaysWholeLog}
 use Rattle.session_log.specs.{Ending.ending_of, World.World, declared.fault.LogFault.LogFault}
 use Rattle.token_session.specs.declared.input.{Meters.Meters, Timed.Timed}
 
@@ -9,6 +9,6 @@ pub plays_unmetered : {I O : Type 0} (world : World (List Timed)) (h later : Lis
     → ℕ) (answer : Result Meters LogFault) (input : I × I) (output : O × O)
     → PlaysThrough world h (λ bytes text. Logs world h later bytes text answer) left unread ended taken unwritten answer
     input output
-    → PlaysThrough world h (λ bytes text. Makes world h later bytes text (ending_of (unmetered answer))) left unread
-    ended taken unwritten (unmetered answer) input output
+    → PlaysThrough world h (λ bytes text. PlaysWholeLog world h later bytes text (ending_of (without_meters answer))) left unread
+    ended taken unwritten (without_meters answer) input output
 plays_unmetered world h later left unread ended taken unwritten answer input output k = search arith

@@ -4,7 +4,7 @@ use Rattle.std.proofs.Common.{None, SomeIff, decimal, sym, ap, ◌∙◌, subst,
 use Rattle.std.proofs.lemmas.Fmt.{decimal_digit, decimal_is_IsNumeral, decimal_nonempty, decimal-digits_value}
 use Rattle.std.proofs.lemmas.{Fmt.first_decimal, List.drop_more, Str.Parse.numerals_by_value, Str.Parse.tells_digits}
 use Rattle.std.specs.{Char.digit_value, Str.Parse.AllDigits, Str.Parse.digits_value, Str.Parse.digits_value_after}
-use Rattle.session_log.{specs.Said.moment, proofs.Spelled.moment_of, proofs.Spelled.no_moment}
+use Rattle.session_log.{specs.Parsed.moment, proofs.Spelled.moment_of, proofs.Spelled.no_moment}
 
 -- of the digits `all`, those before `rest` write n
 pub record SoFar (all rest : List ℕ) (n : ℕ) : Type 0 where

@@ -3,11 +3,11 @@ use Rattle.std.proofs.Common.{◌≡◌, ℕ, ◌+◌, ◌<◌, ◌^◌, cond, i
 use Rattle.std.proofs.Common.{Result, Ok, Err, refl, ap, ◌∙◌, take, drop, arith, append_assoc, take-append-drop}
 use Rattle.std.specs.Io.KnownBytes.{Consumes, Appends, Keeps}
 use Rattle.std.proofs.KnownBytes.{Appends-trans, Appends-kept, Consumes-trans}
-use Rattle.session_log.specs.{declared.fault.LogFault.LogFault, Said.said, World.World, Lines.lines}
+use Rattle.session_log.specs.{declared.fault.LogFault.LogFault, Parsed.parsed, World.World, Lines.lines}
 use Rattle.session_log.specs.declared.fault.LogFault.TheVariants.{TooLong, Read, Write, TooManyLines}
 use Rattle.session_log.specs.{Ending.ended_by, Ending.ending_of, Sent.AllSend, Sent.SendsPackets}
-use Rattle.session_log.specs.Log.{text_of, last_text, after, fault_by}
-use Rattle.session_log.specs.Streams.{Moves, IsTaken, IsBroken}
+use Rattle.session_log.specs.Log.{text_of, last_text, state_after, fault_by}
+use Rattle.session_log.specs.Streams.{Moves, WritesAll, WriteFails}
 use Rattle.session_log.{specs.Window.HasLine, specs.Window.IsUnfinished, specs.Window.Stops, proofs.Gathering.in_count}
 use Rattle.session_log.specs.Replay.{IsRefused, IsUnwritten, IsPlayed, IsDone, Plays, PlaysLine}
 use Rattle.session_log.proofs.Cutting.{last_line, line_in_front, short_front, some_line}
@@ -45,7 +45,7 @@ module _ {S : Type 0} {world : World S} {s0 s : S} {read text : List ℕ} {n : �
     module _ (line : List ℕ) (more : List (List ℕ)) (first : lines w ≡ line ∷ more) (short : length line < 256)
         (few : n < 2 ^ 32) where
       -- the line was faulty, and nothing was written for it
-      stops_faulty : (fault : LogFault) → fault_by world n s (said line) ≡ Some fault → t ≡ s
+      stops_faulty : (fault : LogFault) → fault_by world n s (parsed line) ≡ Some fault → t ≡ s
           → Keeps (taken target.0) (taken target.1)
           → Moves left left' start (taken target.1) (λ bytes text. IsRefused world s0 t bytes text fault)
       stops_faulty fault bad stays kept =
@@ -66,9 +66,9 @@ module _ {S : Type 0} {world : World S} {s0 s : S} {read text : List ℕ} {n : �
 
     module _ (end : ℕ) (has : HasLine n w end) where
       -- the line in front was played
-      pub goes_on : (rest : List ℕ) → rest ≡ drop (end + 1) w → fault_by world n s (said (take end w)) ≡ None
-          → t ≡ after world s (take end w) → SendsPackets world s (said (take end w))
-          → IsTaken taken failed target (text_of world s (take end w))
+      pub goes_on : (rest : List ℕ) → rest ≡ drop (end + 1) w → fault_by world n s (parsed (take end w)) ≡ None
+          → t ≡ state_after world s (take end w) → SendsPackets world s (parsed (take end w))
+          → WritesAll taken failed target (text_of world s (take end w))
           → (read' : List ℕ) × (text' : List ℕ) × Consumes left left' (read' ++ rest)
           × Appends start (taken target.1) text' × Through world s0 read' text' t (n + 1)
       goes_on rest is_rest sound stood packets wrote =
@@ -109,12 +109,12 @@ module _ {S F : Type 0} {world : World S} {s0 s : S} {bytes text : List ℕ} (ta
     last = ap (λ (o : Option LogFault). cond (is_none o) (world.ending s) []) none
 
     -- the text after the last line was written
-    pub closes : IsTaken taken failed target (world.ending s)
+    pub closes : WritesAll taken failed target (world.ending s)
         → Moves left left' start (taken target.1) (λ b t. IsDone world s0 s b t × AllSend world s0 (lines b))
     closes wrote = search (arith, Appends-trans, first_is_last, last)
 
     -- it broke off
-    pub closes_not : IsBroken taken failed target (world.ending s)
+    pub closes_not : WriteFails taken failed target (world.ending s)
         → Moves left left' start (taken target.1) (λ b t. IsUnwritten world s0 s b t)
     closes_not broken =
         let off = broken.0 in

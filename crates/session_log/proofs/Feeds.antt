@@ -7,7 +7,7 @@ use Rattle.std.specs.{Char.digit_value, Str.Parse.AllDigits, List.AllPass, List.
 use Rattle.hex.specs.Hex.{is_hex_digit}
 use Rattle.session_log.proofs.{Cases.no_some, Through.played_faulty, Cutting.pieces_some, Cutting.lines_beyond}
 use Rattle.session_log.specs.Lines.{is_feed, pieces, lines_of_pieces, lines}
-use Rattle.session_log.specs.{Log.played, Log.fault_at, Text.ended, Said.said, World.World}
+use Rattle.session_log.specs.{Log.played, Log.fault_at, Text.ended, Parsed.parsed, World.World}
 
 abbrev pub feedless : List ℕ → Bool
 feedless [] = true
@@ -93,7 +93,7 @@ hex_feedless (c ∷ cs) h =
 
 pub record IsSound (line : List ℕ) : Type 0 where
   pub short : length line < 256
-  pub says : said line ≢ None
+  pub says : parsed line ≢ None
 
 pub sound_line : {S : Type 0} (world : World S) (n : ℕ) (s : S) (line : List ℕ) → fault_at world n s line ≡ None
     → IsSound line

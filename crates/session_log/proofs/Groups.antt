@@ -6,20 +6,20 @@ use Rattle.token_session.specs.declared.input.Timed.{Timed}
 use Rattle.session_log.{proofs.Cases.no_some, proofs.Feeds.sound_first, specs.Inputs.inputs, specs.Inputs.inputs_by}
 use Rattle.session_log.specs.declared.fault.LogFault.{LogFault, TheVariants.Differs}
 use Rattle.session_log.specs.declared.line.Line.{Line, TheVariants.Input, TheVariants.Sent}
-use Rattle.session_log.specs.Check.{Compared, begun, difference, missing_of, differs_from, after_first, checking}
-use Rattle.session_log.specs.Groups.{Groups, with_first, grouped, found_groups, sent_groups, number_by, input_lines}
-use Rattle.session_log.specs.{Groups.DifferFirst, Groups.IsFirstDifference, Said.said, World.Course, World.World}
-use Rattle.session_log.specs.Log.{played, first_fault, fault_of, fault_by, fault_at, after, after_by}
+use Rattle.session_log.specs.Check.{Compared, first_comparison, difference, missing_of, differs_from, after_first, check_world}
+use Rattle.session_log.specs.Groups.{Groups, with_first, with_line, found_groups, sent_groups, number_by, input_lines}
+use Rattle.session_log.specs.{Groups.DifferFirst, Groups.IsFirstDifference, Parsed.parsed, World.Course, World.World}
+use Rattle.session_log.specs.Log.{played, first_fault, fault_of, fault_by, fault_at, state_after, state_after_parsed}
 use Rattle.session_log.proofs.Through.{played_sound, played_faulty, first_is_line}
 
 -- The fault of a first line, and what follows where it has none.
 
 module _ {S : Type 0} (world : World S) (n : ℕ) (s : S) (line : List ℕ) where
-  own_fault : fault_at world n s line ≡ None → fault_by world n s (said line) ≡ None
+  own_fault : fault_at world n s line ≡ None → fault_by world n s (parsed line) ≡ None
   own_fault h = search arith
 
   own_difference : (l k : ℕ) → fault_at world n s line ≡ Some (Differs l k)
-      → fault_by world n s (said line) ≡ Some (Differs l k)
+      → fault_by world n s (parsed line) ≡ Some (Differs l k)
   own_difference l k h = search arith
 
   faulty_here : (more : List (List ℕ)) (f : LogFault) → fault_at world n s line ≡ Some f
@@ -28,10 +28,10 @@ module _ {S : Type 0} (world : World S) (n : ℕ) (s : S) (line : List ℕ) wher
 
   sound_here : (more : List (List ℕ)) → fault_at world n s line ≡ None
       → fault_of world (played world n s (line ∷ more))
-      ≡ fault_of world (played world (n + 1) (after world s line) more)
+      ≡ fault_of world (played world (n + 1) (state_after world s line) more)
   sound_here more e = ap (fault_of world) (played_sound world n s line more e)
 
-  -- where nothing is wrong in a log, nothing is in its first line
+  -- if nothing is wrong in a log, nothing is in its first line
   first_is_sound : (more : List (List ℕ)) → fault_of world (played world n s (line ∷ more)) ≡ None
       → fault_at world n s line ≡ None
   first_is_sound more h = no_some (fault_at world n s line) (λ f e. cc (sym (faulty_here more f e) ∙ h))
@@ -135,10 +135,10 @@ after_packet seen line packet p found sent numbers d =
 -- a first group there always is
 some_group : (ls : List (List ℕ)) → (group : List (List ℕ)) × (more : Groups) × (found_groups ls ≡ group ∷ more)
 some_group [] = ([], [], refl)
-some_group (line ∷ rest) = go (said line) (some_group rest)
+some_group (line ∷ rest) = go (parsed line) (some_group rest)
   where
     go : (l : Option Line) → ((group : List (List ℕ)) × (more : Groups) × (found_groups rest ≡ group ∷ more))
-        → (group : List (List ℕ)) × (more : Groups) × (grouped l (found_groups rest) ≡ group ∷ more)
+        → (group : List (List ℕ)) × (more : Groups) × (with_line l (found_groups rest) ≡ group ∷ more)
     go (Some (Input x)) s = ([], found_groups rest, refl)
     go (Some (Sent p)) s = (p.0 ∷ s.0, s.1, ap (with_first p.0) s.2)
     go l s = s
@@ -172,19 +172,19 @@ packet_differs due q group input seen line packet h = search (arith, other_text)
 
 module _ {S : Type 0} (course : Course S) where
   abbrev compares : World (Compared S)
-  compares = checking course
+  compares = check_world course
 
   pub check_is_silent : (n : ℕ) (c : Compared S) (ls : List (List ℕ)) → (played compares n c ls).text ≡ []
   check_is_silent n c [] = refl
   check_is_silent n c (line ∷ more) =
-      search (arith, played_faulty, played_sound, check_is_silent (n + 1) (after compares c line) more)
+      search (arith, played_faulty, played_sound, check_is_silent (n + 1) (state_after compares c line) more)
 
   -- No difference: the groups are those that are sent.
 
   line_groups : (n : ℕ) (c : Compared S) (l : Option Line) (groups : Groups) (xs : List Timed)
       → fault_by compares n c l ≡ None → groups
-      ≡ (after_by compares c l).due ∷ sent_groups course (after_by compares c l).session xs
-      → grouped l groups ≡ c.due ∷ sent_groups course c.session (inputs_by l ++ xs)
+      ≡ (state_after_parsed compares c l).due ∷ sent_groups course (state_after_parsed compares c l).session xs
+      → with_line l groups ≡ c.due ∷ sent_groups course c.session (inputs_by l ++ xs)
   line_groups n c l groups xs h k = search (arith, none_differs)
 
   pub same_groups : (n : ℕ) (c : Compared S) (ls : List (List ℕ)) → fault_of compares (played compares n c ls) ≡ None
@@ -192,14 +192,14 @@ module _ {S : Type 0} (course : Course S) where
   same_groups n c [] h = search arith
   same_groups n c (line ∷ more) h =
       let e = first_is_sound compares n c line more h in
-      line_groups n c (said line) (found_groups more) (inputs more) (own_fault compares n c line e)
-      (same_groups (n + 1) (after compares c line) more (cc (sound_here compares n c line more e)))
+      line_groups n c (parsed line) (found_groups more) (inputs more) (own_fault compares n c line e)
+      (same_groups (n + 1) (state_after compares c line) more (cc (sound_here compares n c line more e)))
 
   -- What was counted.
 
   line_counts : (n : ℕ) (c d : Compared S) (l : Option Line) (groups : Groups) (xs : List Timed)
-      → fault_by compares n c l ≡ None → CountsOn (after_by compares c l) d xs groups
-      → CountsOn c d (inputs_by l ++ xs) (grouped l groups)
+      → fault_by compares n c l ≡ None → CountsOn (state_after_parsed compares c l) d xs groups
+      → CountsOn c d (inputs_by l ++ xs) (with_line l groups)
   line_counts n c d l groups xs h k = search (arith, with_one_more)
 
   pub counts_on : (n : ℕ) (c : Compared S) (ls : List (List ℕ)) → (played compares n c ls).fault ≡ None
@@ -209,15 +209,15 @@ module _ {S : Type 0} (course : Course S) where
       let e = sound_first compares n c line more h in
       let step = played_sound compares n c line more e in
       rw step
-      (line_counts n c (played compares (n + 1) (after compares c line) more).state (said line) (found_groups more)
-      (inputs more) (own_fault compares n c line e) (counts_on (n + 1) (after compares c line) more cc))
+      (line_counts n c (played compares (n + 1) (state_after compares c line) more).state (parsed line) (found_groups more)
+      (inputs more) (own_fault compares n c line e) (counts_on (n + 1) (state_after compares c line) more cc))
 
   -- The first difference.
 
   -- at the first line
   here_differs : (n : ℕ) (c : Compared S) (l : Option Line) (rest : List (List ℕ)) (xs : List Timed) (others : List ℕ)
       (line packet : ℕ) → fault_by compares n c l ≡ Some (Differs line packet)
-      → Differing c.found (grouped l (found_groups rest)) (c.due ∷ sent_groups course c.session (inputs_by l ++ xs))
+      → Differing c.found (with_line l (found_groups rest)) (c.due ∷ sent_groups course c.session (inputs_by l ++ xs))
       (c.input ∷ others) line packet
   here_differs n c (Some (Input x)) rest xs others line packet h =
       let d = missing_differs c.due c.input c.found line packet h in
@@ -233,10 +233,10 @@ module _ {S : Type 0} (course : Course S) where
   -- at a later one
   later_differs : (n : ℕ) (c : Compared S) (l : Option Line) (groups : Groups) (xs : List Timed) (others : List ℕ)
       (line packet : ℕ) → n ≡ c.lines + 1 → fault_by compares n c l ≡ None
-      → Differing (after_by compares c l).found groups
-      ((after_by compares c l).due ∷ sent_groups course (after_by compares c l).session xs)
-      ((after_by compares c l).input ∷ others) line packet
-      → Differing c.found (grouped l groups) (c.due ∷ sent_groups course c.session (inputs_by l ++ xs))
+      → Differing (state_after_parsed compares c l).found groups
+      ((state_after_parsed compares c l).due ∷ sent_groups course (state_after_parsed compares c l).session xs)
+      ((state_after_parsed compares c l).input ∷ others) line packet
+      → Differing c.found (with_line l groups) (c.due ∷ sent_groups course c.session (inputs_by l ++ xs))
       (c.input ∷ number_by n l ++ others) line packet
   later_differs n c None groups xs others line packet at own d = cc
   later_differs n c (Some (Input x)) groups xs others line packet at own d = search (arith, after_input)
@@ -249,7 +249,7 @@ module _ {S : Type 0} (course : Course S) where
   later_differs n c (Some l) groups xs others line packet at own d = d
 
   lines_after : (n : ℕ) (c : Compared S) (l : Option Line) → fault_by compares n c l ≡ None
-      → (after_by compares c l).lines ≡ c.lines + 1
+      → (state_after_parsed compares c l).lines ≡ c.lines + 1
   lines_after n c l h = search arith
 
   differing : (n : ℕ) (c : Compared S) (ls : List (List ℕ)) (line packet : ℕ) → n ≡ c.lines + 1
@@ -260,31 +260,31 @@ module _ {S : Type 0} (course : Course S) where
       let d = missing_differs_last c.due c.input c.found line packet h in
       differs_now c.found line packet c.input [] c.due ([] ∷ []) (c.due ∷ []) [] [] [] d.0 refl refl d.1 d.2
   differing n c (line ∷ more) at_line packet at h =
-      go (λ later faulty. differing (n + 1) (after compares c line) more at_line packet later faulty)
+      go (λ later faulty. differing (n + 1) (state_after compares c line) more at_line packet later faulty)
       (fault_at compares n c line) refl
     where
       go :
-          (n + 1 ≡ (after compares c line).lines + 1
-          → fault_of compares (played compares (n + 1) (after compares c line) more) ≡ Some (Differs at_line packet)
-          → Differing (after compares c line).found (found_groups more)
-          ((after compares c line).due ∷ sent_groups course (after compares c line).session (inputs more))
-          ((after compares c line).input ∷ input_lines (n + 1) more) at_line packet)
+          (n + 1 ≡ (state_after compares c line).lines + 1
+          → fault_of compares (played compares (n + 1) (state_after compares c line) more) ≡ Some (Differs at_line packet)
+          → Differing (state_after compares c line).found (found_groups more)
+          ((state_after compares c line).due ∷ sent_groups course (state_after compares c line).session (inputs more))
+          ((state_after compares c line).input ∷ input_lines (n + 1) more) at_line packet)
           → (o : Option LogFault) → fault_at compares n c line ≡ o
           → Differing c.found (found_groups (line ∷ more)) (c.due ∷ sent_groups course c.session (inputs (line ∷ more)))
           (c.input ∷ input_lines n (line ∷ more)) at_line packet
       go rest (Some f) e =
           let is : Some f ≡ Some (Differs at_line packet) = sym (faulty_here compares n c line more f e) ∙ h in
-          here_differs n c (said line) more (inputs more) (number_by n (said line) ++ input_lines (n + 1) more) at_line
+          here_differs n c (parsed line) more (inputs more) (number_by n (parsed line) ++ input_lines (n + 1) more) at_line
           packet (own_difference compares n c line at_line packet (e ∙ is))
       go rest None e =
           let own = own_fault compares n c line e in
-          later_differs n c (said line) (found_groups more) (inputs more) (input_lines (n + 1) more) at_line packet at
+          later_differs n c (parsed line) (found_groups more) (inputs more) (input_lines (n + 1) more) at_line packet at
           own
-          (rest (ap (λ (k : ℕ). k + 1) (at ∙ sym (lines_after n c (said line) own)))
+          (rest (ap (λ (k : ℕ). k + 1) (at ∙ sym (lines_after n c (parsed line) own)))
           (sym (sound_here compares n c line more e) ∙ h))
 
   pub first_difference : (s : S) (ls : List (List ℕ)) (line packet : ℕ)
-      → fault_of compares (played compares 1 (begun s) ls) ≡ Some (Differs line packet)
+      → fault_of compares (played compares 1 (first_comparison s) ls) ≡ Some (Differs line packet)
       → IsFirstDifference (found_groups ls) ([] ∷ sent_groups course s (inputs ls)) (0 ∷ input_lines 1 ls) line packet
-  first_difference s ls line packet h = let d = differing 1 (begun s) ls line packet refl h in
+  first_difference s ls line packet h = let d = differing 1 (first_comparison s) ls line packet refl h in
       let is : packet ≡ d.at = search (arith, none_before) in rw is d.first

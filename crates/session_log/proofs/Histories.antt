@@ -2,19 +2,19 @@
 use Rattle.std.proofs.Common.{◌≡◌, ℕ, Bool, List, [], ◌∷◌, Option, Result, refl, sym, ap, ◌∙◌, arith}
 use Rattle.authn_core.specs.Turn.{Start}
 use Rattle.token_session.specs.declared.input.{Timed.Timed, Meters.Meters}
-use Rattle.cred_table.specs.Rows.{Lawful}
-use Rattle.token_session.specs.{Answered.IsTold, Answered.told_now, Meters.FollowsFrom, Meters.stepped, Meters.sent_by}
+use Rattle.cred_table.specs.Rows.{ValidRows}
+use Rattle.token_session.specs.{Answered.AgreesWithExchanges, Answered.packets_sent_now, Meters.FollowsFrom, Meters.stepped, Meters.sent_by}
 use Rattle.token_session.proofs.Answered.{told_now_is}
-use Rattle.token_session.specs.{History.judged, Law.named, Meters.SessionState, Meters.StandsAfter, Meters.session_of}
+use Rattle.token_session.specs.{History.received, Law.state_of, Meters.SessionState, Meters.StandsAfter, Meters.session_of}
 use Rattle.token_session.proofs.Metering.{stands_longer, machine_after}
 use Rattle.token_session.proofs.{Noise.noise_is_named, Follows.step_sends}
 use Rattle.session_log.{specs.declared.fault.LogFault.LogFault, specs.declared.line.Line.Line, proofs.Whole.there}
 use Rattle.session_log.specs.{Command.PlaysLog, Command.PlaysThrough, Ending.Ending, Ending.ending_of}
-use Rattle.session_log.specs.declared.command.LogCommand.TheVariants.{Check, Quiet}
-use Rattle.session_log.specs.Check.{Compared, compared, begun, missing, stops_compared, moves_compared, check_machine}
-use Rattle.session_log.specs.{Check.check_history, Streams.Moves, Text.ended, World.World, World.writes_again}
-use Rattle.session_log.specs.Replay.{Logs, Makes, Plays, ReadsTo, Writes}
-use Rattle.session_log.specs.Session.{sessions, histories, tellings, told_history, machine, history, quiet_machine, quiet_history, live_machine}
+use Rattle.session_log.specs.declared.command.ReplayMode.TheVariants.{Check, Quiet}
+use Rattle.session_log.specs.Check.{Compared, compared, first_comparison, missing, comparison_fault, comparison_after, check_machine}
+use Rattle.session_log.specs.{Check.check_history, Streams.Moves, Text.ended, World.World, World.replay_text}
+use Rattle.session_log.specs.Replay.{Logs, PlaysWholeLog, Plays, ReadsTo, Writes}
+use Rattle.session_log.specs.Session.{session_course, history_course, exchange_histories, exchange_history, machine, history, quiet_machine, quiet_history, live_machine}
 use Rattle.session_log.specs.Session.{live_history, session_needs, history_needs}
 use Rattle.session_log.proofs.Worlds.{Follows, makes_alike, logs_alike, plays_alike, reads_alike}
 
@@ -24,7 +24,7 @@ module _ (start : Start) where
   counted s h r = ap (λ (z : SessionState). z.meters) r
 
   wrote : (s : SessionState) (h : List Timed) (line : List ℕ) (l : Line) → StandsAfter s start h
-      → writes_again sessions s line l ≡ writes_again (histories start) h line l
+      → replay_text session_course s line l ≡ replay_text (history_course start) h line l
   wrote s h line l r = search (arith, step_sends, machine_after)
 
   pub follows : Follows machine (history start) (λ s h. StandsAfter s start h)
@@ -42,7 +42,7 @@ module _ (start : Start) where
   -- With what is needed.
 
   needed_after : (s : SessionState) (h : List Timed) → StandsAfter s start h → session_needs s ≡ history_needs start h
-  unfolding session_of named
+  unfolding session_of state_of
   needed_after s h r = ap session_needs r
 
   told : (s : SessionState) (h : List Timed) (line : List ℕ) (l : Line) → StandsAfter s start h
@@ -54,24 +54,24 @@ module _ (start : Start) where
 
 -- What is told of a history, likewise.
 
-module _ (start : Start) (is : (h : List Timed) → IsTold start h) where
+module _ (start : Start) (is : (h : List Timed) → AgreesWithExchanges start h) where
   told_stays : (s : SessionState) (h : List Timed) (x : Timed) → FollowsFrom s start h
       → FollowsFrom (stepped s x) start (x ∷ h)
   told_stays s h x f = record { lawful = f.lawful; stands = stands_longer s start h x f.stands }
 
   told_sends : (s : SessionState) (h : List Timed) (x : Timed) → FollowsFrom s start h
-      → sent_by s x ≡ told_now start h x
+      → sent_by s x ≡ packets_sent_now start h x
   told_sends s h x f = step_sends s.machine start h x (machine_after s start h f.stands)
       ∙ told_now_is start h x (is h) (is (x ∷ h))
 
   retold : (s : SessionState) (h : List Timed) (line : List ℕ) (l : Line) → FollowsFrom s start h
-      → writes_again sessions s line l ≡ writes_again (tellings start) h line l
+      → replay_text session_course s line l ≡ replay_text (exchange_histories start) h line l
   retold s h line l f = search (arith, told_sends)
 
-  told_counts : (s : SessionState) (h : List Timed) → FollowsFrom s start h → s.meters ≡ (tellings start).counts h
+  told_counts : (s : SessionState) (h : List Timed) → FollowsFrom s start h → s.meters ≡ (exchange_histories start).counts h
   told_counts s h f = counted start s h f.stands
 
-  pub tells : Follows machine (told_history start) (λ s h. FollowsFrom s start h)
+  pub tells : Follows machine (exchange_history start) (λ s h. FollowsFrom s start h)
   tells = search (arith, retold, told_counts, told_stays)
 
 pub lines_history : (left left' taken taken' : Option (List ℕ)) (s t : SessionState) (ending : Ending) (all : Type 0)
@@ -101,29 +101,29 @@ module _ {I O : Type 0} (left : I → Option (List ℕ)) (unread : I → ℕ) (e
       (λ bytes text m. logs_alike (f start) s t h stands bytes text r m)
       left unread ended taken unwritten r input output through
 
-  pub logs_told : ((start : Start) (h : List Timed) → Lawful start.capacity start.rows → IsTold start h)
+  pub logs_told : ((start : Start) (h : List Timed) → ValidRows start.capacity start.rows → AgreesWithExchanges start h)
       → (s t : SessionState) (r : Result Meters LogFault)
       → PlaysThrough machine s (λ bytes text. Logs machine s t bytes text r) left unread ended taken unwritten r input
       output
       → (start : Start) (h : List Timed) → FollowsFrom s start h → (later : List Timed) × FollowsFrom t start later
-      × PlaysThrough (told_history start) h (λ bytes text. Logs (told_history start) h later bytes text r) left unread
+      × PlaysThrough (exchange_history start) h (λ bytes text. Logs (exchange_history start) h later bytes text r) left unread
       ended taken unwritten r input output
   logs_told law s t r through start h f =
       let told = tells start (λ k. law start k f.lawful) in
       there told s h f (λ bytes text. Logs machine s t bytes text r) (FollowsFrom t start)
-      (λ later bytes text. Logs (told_history start) h later bytes text r)
+      (λ later bytes text. Logs (exchange_history start) h later bytes text r)
       (λ bytes text m. logs_alike told s t h f bytes text r m)
       left unread ended taken unwritten r input output through
 
   pub quiets_history : {A : Type 0} (s t : SessionState) (r : Result A LogFault)
-      → PlaysThrough quiet_machine s (λ bytes text. Makes quiet_machine s t bytes text (ending_of r)) left unread ended
+      → PlaysThrough quiet_machine s (λ bytes text. PlaysWholeLog quiet_machine s t bytes text (ending_of r)) left unread ended
       taken unwritten r input output
       → (start : Start) (h : List Timed) → StandsAfter s start h
       → PlaysLog Quiet start h left unread ended taken unwritten r t input output
   quiets_history s t r through start h stands =
       let q = there (quiet_follows start) s h stands
-      (λ bytes text. Makes quiet_machine s t bytes text (ending_of r)) (StandsAfter t start)
-      (λ later bytes text. Makes (quiet_history start) h later bytes text (ending_of r))
+      (λ bytes text. PlaysWholeLog quiet_machine s t bytes text (ending_of r)) (StandsAfter t start)
+      (λ later bytes text. PlaysWholeLog (quiet_history start) h later bytes text (ending_of r))
       (λ bytes text m. makes_alike (quiet_follows start) s t h stands bytes text (ending_of r) m)
       left unread ended taken unwritten r input output through in
       (q.0, q.1, q.2.0, q.2.1, q.2.2)
@@ -139,11 +139,11 @@ module _ (start : Start) where
   IsBeside c d = StandsAfter c.session start d.session × (d ≡ onto_history d.session c)
 
   same_stops : (c : Compared SessionState) (d : Compared (List Timed)) (l : Line) → IsBeside c d
-      → stops_compared c l ≡ stops_compared d l
+      → comparison_fault c l ≡ comparison_fault d l
   same_stops c d l r = search arith
 
   same_moves : (c : Compared SessionState) (d : Compared (List Timed)) (l : Line) → IsBeside c d
-      → IsBeside (moves_compared sessions c l) (moves_compared (histories start) d l)
+      → IsBeside (comparison_after session_course c l) (comparison_after (history_course start) d l)
   same_moves c d l r = search (arith, step_sends, machine_after, stands_longer)
 
   check_follows : Follows check_machine (check_history start) (IsBeside)
@@ -159,21 +159,21 @@ module _ (start : Start) where
 pub checks_history : {A I O : Type 0} (left : I → Option (List ℕ)) (unread : I → ℕ) (ended : I → Bool) (taken : O
     → Option (List ℕ)) (unwritten : O → ℕ) (input : I × I) (output : O
     × O) (s : SessionState) (t : Compared SessionState) (r : Result A LogFault)
-    → PlaysThrough check_machine (begun s) (λ bytes text. Makes check_machine (begun s) t bytes text (ending_of r)) left
+    → PlaysThrough check_machine (first_comparison s) (λ bytes text. PlaysWholeLog check_machine (first_comparison s) t bytes text (ending_of r)) left
     unread ended taken unwritten r input output
     → (start : Start) (h : List Timed) → StandsAfter s start h
     → PlaysLog Check start h left unread ended taken unwritten r t.session input output
 checks_history left unread ended taken unwritten input output s t r through start h stands =
-    let q = there (check_follows start) (begun s) (begun h) (stands, refl)
-    (λ bytes text. Makes check_machine (begun s) t bytes text (ending_of r))
+    let q = there (check_follows start) (first_comparison s) (first_comparison h) (stands, refl)
+    (λ bytes text. PlaysWholeLog check_machine (first_comparison s) t bytes text (ending_of r))
     (λ later. StandsAfter t.session start later.session)
-    (λ later bytes text. Makes (check_history start) (begun h) later bytes text (ending_of r))
-    (λ bytes text m. let found = makes_alike (check_follows start) (begun s) t (begun h) (stands, refl) bytes text
+    (λ later bytes text. PlaysWholeLog (check_history start) (first_comparison h) later bytes text (ending_of r))
+    (λ bytes text m. let found = makes_alike (check_follows start) (first_comparison s) t (first_comparison h) (stands, refl) bytes text
     (ending_of r) m in
     (found.0, found.1.0, found.2)) left unread ended taken unwritten r input output through in
     (q.0, q.1, q.2.0, q.2.1, q.2.2)
 
 -- a session at its start stands after the empty history
 pub begins : (s : SessionState) (start : Start) → s ≡ session_of start [] → StandsAfter s start []
-unfolding judged
+unfolding received
 begins s start e = e

@@ -6,7 +6,7 @@ use Rattle.session_log.specs.{declared.fault.LogFault.LogFault, World.World, Log
 use Rattle.session_log.specs.declared.fault.LogFault.TheVariants.{TooLong, Read, Write, TooManyLines, Memory}
 use Rattle.session_log.specs.Ending.{ended_by, ending_of}
 use Rattle.session_log.specs.Lines.{pieces, all_but_last, whole_lines, last_piece}
-use Rattle.session_log.specs.Replay.{IsNear, IsOfLine, IsShown, PlaysLine, ReadsTo}
+use Rattle.session_log.specs.Replay.{IsWithinLine, IsOfLine, IsShown, PlaysLine, ReadsTo}
 use Rattle.session_log.proofs.Cutting.{first_piece, one_piece, pieces_some, front_of, last_is}
 use Rattle.session_log.proofs.{Exits.short_in_front, Through.Through, Through.played_faulty, Through.said_fault}
 
@@ -47,14 +47,14 @@ module _ {S : Type 0} {world : World S} {s0 : S} {read text : List ℕ} {s : S} 
       )
 
   -- the lines that were played stand before the window
-  near : (w : List ℕ) → length w ≤ 256 → IsNear world s0 (read ++ w) n
+  near : (w : List ℕ) → length w ≤ 256 → IsWithinLine world s0 (read ++ w) n
   near w small =
       let cut : pieces read ≡ t.done ++ [] ∷ [] = cc (append-nil read, t.cut []) in
       grind (arith, front_of t.done [], last_is t.done [], append-nil t.done, t.plays [], t.count)
 
 -- a line that was played was faulty
 faulty_reaches : {S : Type 0} {world : World S} {s0 : S} {bytes : List ℕ} {n : ℕ} (a b : Option (List ℕ)) (all : Type 0)
-    (e : LogFault) → IsOfLine n e → Consumes a b bytes → IsNear world s0 bytes n → IsShown world s0 bytes all n e
+    (e : LogFault) → IsOfLine n e → Consumes a b bytes → IsWithinLine world s0 bytes n → IsShown world s0 bytes all n e
     → ReadsTo world s0 a b all (ended_by e)
 faulty_reaches a b all e is p near seen = search (arith, near)
 

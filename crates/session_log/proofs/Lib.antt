@@ -1,6 +1,7 @@
 pub mod Cases
 pub mod Sends
 pub mod Digits
+pub mod Decoding
 pub mod Zeros
 pub mod Gathering
 pub mod Cutting
@@ -14,7 +15,7 @@ pub mod Worlds
 pub mod Whole
 pub mod Histories
 pub mod Spelled
-pub mod Rows
+pub mod Examples
 pub mod Firsts
 pub mod Feeds
 pub mod Again

@@ -5,7 +5,7 @@ use Rattle.std.proofs.KnownBytes.{Appends-nil, Keeps-refl}
 use Rattle.hid_packet.specs.declared.packet.Packet.{Packet}
 use Rattle.session_log.specs.declared.fault.LogFault.{LogFault, TheVariants.Differs}
 use Rattle.session_log.specs.declared.line.Line.{Line, TheVariants.Sent, TheVariants.Count}
-use Rattle.session_log.specs.{Ending.ending_of, Log.fault_by, Said.said, Streams.PutsLine, Text.ended, World.World}
+use Rattle.session_log.specs.{Ending.ending_of, Log.fault_by, Parsed.parsed, Streams.PutsLine, Text.ended, World.World}
 use Rattle.session_log.specs.Replay.{Closes, IsOfEnd, IsOfLine, PlaysLine}
 use Rattle.session_log.proofs.Failures.{on_any}
 
@@ -38,13 +38,13 @@ module _ {S F : Type 0} (world : World S) (taken : F → Option (List ℕ)) (fai
 
   -- the text for a line that says this was handed over
   pub writes_for : {A X : Type 0} (n : ℕ) (s t : S) (line : List ℕ) (l : Line) (target : F × F) (r : Result A LogFault)
-      (text : List ℕ) → said line ≡ Some l → world.stops s l ≡ None → t ≡ world.moves s l → world.sound s l
+      (text : List ℕ) → parsed line ≡ Some l → world.stops s l ≡ None → t ≡ world.moves s l → world.sound s l
       → text ≡ world.writes s line l → PutsLine taken failed target text r → X → Played X n s t line target r
   writes_for n s t line l target r text is sound stood packets same put next =
       record { played = search arith; own = (written_at taken failed target text r n put).0; next = on_any r next }
 
   -- nothing is written for it
-  pub writes_none : {X : Type 0} (n : ℕ) (s t : S) (line : List ℕ) (l : Line) (w : F) → said line ≡ Some l →
+  pub writes_none : {X : Type 0} (n : ℕ) (s t : S) (line : List ℕ) (l : Line) (w : F) → parsed line ≡ Some l →
       world.stops s l ≡ None
       → t ≡ world.moves s l → world.sound s l → [] ≡ world.writes s line l → X
       → Played X n s t line (w, w) quietly
@@ -53,7 +53,7 @@ module _ {S F : Type 0} (world : World S) (taken : F → Option (List ℕ)) (fai
 
   -- it shows a difference
   pub differs_for : (X : Type 0) (n : ℕ) (s : S) (line : List ℕ) (l : Line) (w : F) (input packet : ℕ) (e : LogFault)
-      → said line ≡ Some l → world.stops s l ≡ Some (Differs input packet) → e ≡ Differs input packet
+      → parsed line ≡ Some l → world.stops s l ≡ Some (Differs input packet) → e ≡ Differs input packet
       → Played X n s s line (w, w) (loudly e)
   differs_for X n s line l w input packet e is stops same =
       subst (λ (f : LogFault). Played X n s s line (w, w) (loudly f)) (sym same)
@@ -66,7 +66,7 @@ module _ {S F : Type 0} (world : World S) (taken : F → Option (List ℕ)) (fai
 
   pub drops : {X : Type 0} (n : ℕ) (s : S) (line : List ℕ) (l : Line) (w : F) →
       ((x : Packet) × (l ≡ Sent x)) ⊎ (l ≡ Count)
-      → said line ≡ Some l → ((x : Packet) → IsDropped s line (Sent x)) → IsDropped s line Count → X
+      → parsed line ≡ Some l → ((x : Packet) → IsDropped s line (Sent x)) → IsDropped s line Count → X
       → Played X n s s line (w, w) quietly
   drops n s line l w (inl h) is sent count next = let d = sent h.0 in
       writes_none n s s line (Sent h.0) w (is ∙ ap Some h.1) d.0 d.1 d.2 d.3 next

@@ -4,15 +4,15 @@ use Rattle.std.proofs.Common.{length, flat_map, codes, decimal, Option, Some, No
 use Rattle.std.proofs.Common.{append-nil, length-append}
 use Rattle.std.proofs.lemmas.{Bool.Decides.nat_tests, Fmt.length-decimal-le}
 use Rattle.authn_core.specs.Turn.{Start}
-use Rattle.token_session.specs.{declared.input.Timed.Timed, Law.named, Law.onto, Meters.SessionState, Meters.session_of}
-use Rattle.token_session.specs.History.{judge, judged}
-use Rattle.token_session.specs.Noise.{Quiet, IsQuiet, is_noise_after, tick_at}
+use Rattle.token_session.specs.{declared.input.Timed.Timed, Law.state_of, Law.append_inputs, Meters.SessionState, Meters.session_of}
+use Rattle.token_session.specs.History.{receive, received}
+use Rattle.token_session.specs.Noise.{HasTicksForNoise, IsSameOrTick, is_noise_after, tick_at}
 use Rattle.token_session.proofs.Noise.{noise_is_named, quiet_alike}
 use Rattle.session_log.specs.declared.line.Line.{Line, TheVariants.Input, TheVariants.Comment}
-use Rattle.session_log.specs.{Inputs.inputs, Inputs.inputs_by, Session.histories, Session.quiet_history}
-use Rattle.session_log.specs.{Lines.lines, Said.said, Text.ended, Text.tick_text, Sent.AllSend, Sent.SendsPackets}
-use Rattle.session_log.specs.Log.{played, playing, text_by, after, after_by, fault_by, fault_at}
-use Rattle.session_log.specs.World.{Course, World, quieting}
+use Rattle.session_log.specs.{Inputs.inputs, Inputs.inputs_by, Session.history_course, Session.quiet_history}
+use Rattle.session_log.specs.{Lines.lines, Parsed.parsed, Text.ended, Text.tick_text, Sent.AllSend, Sent.SendsPackets}
+use Rattle.session_log.specs.Log.{played, play_all, text_by, state_after, state_after_parsed, fault_by, fault_at}
+use Rattle.session_log.specs.World.{Course, World, quiet_world}
 use Rattle.session_log.proofs.Again.{WritesLines, written, written_are, written_text}
 use Rattle.session_log.proofs.Feeds.{IsSound, sound_first, sound_line, feedless, AreLines, feedless-append}
 use Rattle.session_log.proofs.Feeds.{lines_joined, lines_are_lines, decimal_feedless}
@@ -26,11 +26,11 @@ either_feedless : (b : Bool) (a line : List ℕ) → feedless a ≡ true → fee
     → feedless (cond b a line) ≡ true
 either_feedless b a line h k = search arith
 
-tick_said : (at : ℕ) → at < 2 ^ 64 → said (tick_text at) ≡ Some (Input (tick_at at))
+tick_said : (at : ℕ) → at < 2 ^ 64 → parsed (tick_text at) ≡ Some (Input (tick_at at))
 tick_said at fits = spelled_is_read (tick_text at) (Input (tick_at at)) (fits, refl)
 
-either_said : (b : Bool) (line : List ℕ) (x : Timed) → said line ≡ Some (Input x)
-    → said (cond b (tick_text x.at) line) ≡ Some (Input (cond b (tick_at x.at) x))
+either_said : (b : Bool) (line : List ℕ) (x : Timed) → parsed line ≡ Some (Input x)
+    → parsed (cond b (tick_text x.at) line) ≡ Some (Input (cond b (tick_at x.at) x))
 either_said true line x e = tick_said x.at (read_is_spelled line (Input x) e).0
 either_said false line x e = e
 
@@ -58,7 +58,7 @@ either_sound b a line h k = search arith
 -- The lines that are written, without their line feeds: each of them is one, and none is faulty.
 module _ {S : Type 0} (course : Course S) (noises : S → Timed → Bool) where
   abbrev quiets : World S
-  quiets = quieting course noises
+  quiets = quiet_world course noises
 
   abbrev kept_by : S → List ℕ → Option Line → List (List ℕ)
   kept_by s line (Some Comment) = line ∷ []
@@ -71,7 +71,7 @@ module _ {S : Type 0} (course : Course S) (noises : S → Timed → Bool) where
   kept_text_by : (s : S) (line : List ℕ) (l : Option Line) → text_by quiets s line l ≡ flat_map ended (kept_by s line l)
   kept_text_by s line l = search (arith, append-nil)
 
-  line_kept : (s : S) (line : List ℕ) (l : Option Line) → said line ≡ l → feedless line ≡ true → SendsPackets quiets s l
+  line_kept : (s : S) (line : List ℕ) (l : Option Line) → parsed line ≡ l → feedless line ≡ true → SendsPackets quiets s l
       → AreLines (kept_by s line l)
   line_kept s line (Some (Input x)) e h sends =
       let spells = read_is_spelled line (Input x) e in search (arith, either_feedless, tick_feedless)
@@ -82,7 +82,7 @@ module _ {S : Type 0} (course : Course S) (noises : S → Timed → Bool) where
 
   all_send : (s : S) (ls : List (List ℕ)) → AllSend quiets s ls
   all_send s [] = tt
-  all_send s (line ∷ more) = search (arith, all_send (after quiets s line) more)
+  all_send s (line ∷ more) = search (arith, all_send (state_after quiets s line) more)
 
   read_is_sound : (n : ℕ) (s : S) (l : Option Line) → l ≢ None → fault_by quiets n s l ≡ None
   read_is_sound n s l h = search arith
@@ -91,10 +91,10 @@ module _ {S : Type 0} (course : Course S) (noises : S → Timed → Bool) where
       → (played quiets n s ls).fault ≡ None
   sound_is_played n s [] h few = refl
   sound_is_played n s (line ∷ more) h few =
-      let later = sound_is_played (n + 1) (after quiets s line) more h.1 (omega (arith, few)) in
+      let later = sound_is_played (n + 1) (state_after quiets s line) more h.1 (omega (arith, few)) in
       search (arith, said_fault, read_is_sound, played_sound, h.0.short, h.0.says)
 
-  line_sound : (s : S) (line : List ℕ) (l : Option Line) → said line ≡ l → IsSound line
+  line_sound : (s : S) (line : List ℕ) (l : Option Line) → parsed line ≡ l → IsSound line
       → AreSound (kept_by s line l) × (length (kept_by s line l) ≤ 1)
   line_sound s line (Some (Input x)) e h =
       let spells = read_is_spelled line (Input x) e in search (arith, either_sound, tick_sound)
@@ -107,93 +107,93 @@ module _ {S : Type 0} (course : Course S) (noises : S → Timed → Bool) where
       let sound = sound_first quiets n s line more h in
       let step = played_sound quiets n s line more sound in
       let under = few_before quiets n s line sound in
-      let here = line_sound s line (said line) refl (sound_line quiets n s line sound) in
-      let rest = kept_sound (n + 1) (after quiets s line) more (omega (arith, under)) (search (arith, step)) in
+      let here = line_sound s line (parsed line) refl (sound_line quiets n s line sound) in
+      let rest = kept_sound (n + 1) (state_after quiets s line) more (omega (arith, under)) (search (arith, step)) in
       search (arith, AreSound-append, length-append)
 
 module _ (start : Start) where
   either_quiet : (h : List Timed) (x : Timed) (b : Bool)
-      → is_noise_after start (judge start x (judged start h)) (judged start h) ≡ b
-      → IsQuiet start h x (cond b (tick_at x.at) x)
+      → is_noise_after start (receive start x (received start h)) (received start h) ≡ b
+      → IsSameOrTick start h x (cond b (tick_at x.at) x)
   either_quiet h x b k = search arith
 
   abbrev is_noise : List Timed → Timed → Bool
-  is_noise h x = is_noise_after start (judge start x (judged start h)) (judged start h)
+  is_noise h x = is_noise_after start (receive start x (received start h)) (received start h)
 
   abbrev quiet : World (List Timed)
   quiet = quiet_history start
 
   abbrev kept_of : List Timed → List ℕ → Option Line → List (List ℕ)
-  kept_of = kept_by (histories start) is_noise
+  kept_of = kept_by (history_course start) is_noise
 
   abbrev kept_lines : List Timed → List (List ℕ) → List (List ℕ)
-  kept_lines = kept (histories start) is_noise
+  kept_lines = kept (history_course start) is_noise
 
   -- lines whose inputs go on with quiet histories
   abbrev GoesOn : List (List ℕ) → Type 0
-  GoesOn ls = (h g : List Timed) → Quiet start h g
-      → Quiet start (onto (inputs ls) h) (onto (inputs (kept_lines h ls)) g)
+  GoesOn ls = (h g : List Timed) → HasTicksForNoise start h g
+      → HasTicksForNoise start (append_inputs (inputs ls) h) (append_inputs (inputs (kept_lines h ls)) g)
 
-  line_goes_on : (line : List ℕ) (more : List (List ℕ)) (l : Option Line) → said line ≡ l → GoesOn more
-      → (h g : List Timed) → Quiet start h g
-      → Quiet start (onto (inputs_by l ++ inputs more) h)
-      (onto (inputs (kept_of h line l ++ kept_lines (after_by quiet h l) more)) g)
+  line_goes_on : (line : List ℕ) (more : List (List ℕ)) (l : Option Line) → parsed line ≡ l → GoesOn more
+      → (h g : List Timed) → HasTicksForNoise start h g
+      → HasTicksForNoise start (append_inputs (inputs_by l ++ inputs more) h)
+      (append_inputs (inputs (kept_of h line l ++ kept_lines (state_after_parsed quiet h l) more)) g)
   line_goes_on line more l e on h g q = search (arith, either_said, either_quiet)
 
   goes_on : (ls : List (List ℕ)) → GoesOn ls
   goes_on [] h g q = q
-  goes_on (line ∷ more) h g q = line_goes_on line more (said line) refl (goes_on more) h g q
+  goes_on (line ∷ more) h g q = line_goes_on line more (parsed line) refl (goes_on more) h g q
 
   -- the lines of the text that is written
-  kept_are : (h : List Timed) (bytes : List ℕ) → (playing quiet h bytes).fault ≡ None
-      → lines (playing quiet h bytes).text ≡ kept_lines h (lines bytes)
+  kept_are : (h : List Timed) (bytes : List ℕ) → (play_all quiet h bytes).fault ≡ None
+      → lines (play_all quiet h bytes).text ≡ kept_lines h (lines bytes)
   kept_are h bytes sound =
-      let kept_is = lines_kept (histories start) is_noise in
-      let sends = all_send (histories start) is_noise h (lines bytes) in
+      let kept_is = lines_kept (history_course start) is_noise in
+      let sends = all_send (history_course start) is_noise h (lines bytes) in
       ap lines (written_text kept_is 1 h (lines bytes) sound)
       ∙ lines_joined _ (written_are kept_is h (lines bytes) (lines_are_lines bytes) sends)
 
   -- The inputs of a log and those of the log made quiet make quiet histories of quiet histories.
-  pub quiet_text_is_quiet : (h g : List Timed) (bytes : List ℕ) → (playing quiet h bytes).fault ≡ None → Quiet start h g
-      → Quiet start (onto (inputs (lines bytes)) h) (onto (inputs (lines (playing quiet h bytes).text)) g)
+  pub quiet_text_is_quiet : (h g : List Timed) (bytes : List ℕ) → (play_all quiet h bytes).fault ≡ None → HasTicksForNoise start h g
+      → HasTicksForNoise start (append_inputs (inputs (lines bytes)) h) (append_inputs (inputs (lines (play_all quiet h bytes).text)) g)
   quiet_text_is_quiet h g bytes sound q = rw (kept_are h bytes sound) (goes_on (lines bytes) h g q)
 
-  pub noise_alike : (h g : List Timed) (x : Timed) → Quiet start h g → is_noise h x ≡ is_noise g x
+  pub noise_alike : (h g : List Timed) (x : Timed) → HasTicksForNoise start h g → is_noise h x ≡ is_noise g x
   unfolding session_of
   noise_alike h g x q =
-      let s = named start (judged start h) in
+      let s = state_of start (received start h) in
       sym (noise_is_named s start h x refl)
       ∙ noise_is_named s start g x (ap (λ (v : SessionState). v.machine) (quiet_alike start h g q))
 
-  either_again : (h g : List Timed) (x : Timed) (line : List ℕ) (b : Bool) → Quiet start h g → is_noise h x ≡ b
+  either_again : (h g : List Timed) (x : Timed) (line : List ℕ) (b : Bool) → HasTicksForNoise start h g → is_noise h x ≡ b
       → cond (is_noise g (cond b (tick_at x.at) x)) (tick_text (cond b (tick_at x.at) x).at)
       (cond b (tick_text x.at) line) ≡ cond b (tick_text x.at) line
   either_again h g x line b k l = search (arith, noise_alike)
 
   abbrev StaysKept : List (List ℕ) → Type 0
-  StaysKept ls = (h g : List Timed) → Quiet start h g → kept_lines g (kept_lines h ls) ≡ kept_lines h ls
+  StaysKept ls = (h g : List Timed) → HasTicksForNoise start h g → kept_lines g (kept_lines h ls) ≡ kept_lines h ls
 
-  line_stays : (line : List ℕ) (more : List (List ℕ)) (l : Option Line) → said line ≡ l → StaysKept more
-      → (h g : List Timed) → Quiet start h g → kept_lines g (kept_of h line l ++ kept_lines (after_by quiet h l) more)
-      ≡ kept_of h line l ++ kept_lines (after_by quiet h l) more
+  line_stays : (line : List ℕ) (more : List (List ℕ)) (l : Option Line) → parsed line ≡ l → StaysKept more
+      → (h g : List Timed) → HasTicksForNoise start h g → kept_lines g (kept_of h line l ++ kept_lines (state_after_parsed quiet h l) more)
+      ≡ kept_of h line l ++ kept_lines (state_after_parsed quiet h l) more
   line_stays line more l e on h g q = search (arith, either_said, either_again, either_quiet)
 
   stays_kept : (ls : List (List ℕ)) → StaysKept ls
   stays_kept [] h g q = refl
-  stays_kept (line ∷ more) h g q = line_stays line more (said line) refl (stays_kept more) h g q
+  stays_kept (line ∷ more) h g q = line_stays line more (parsed line) refl (stays_kept more) h g q
 
-  quiet_self : (h : List Timed) → Quiet start h h
+  quiet_self : (h : List Timed) → HasTicksForNoise start h h
   quiet_self [] = tt
   quiet_self (x ∷ h) = (quiet_self h, inl refl)
 
   -- The text that is written for a log, made quiet, is written again.
-  pub quiet_again : (h : List Timed) (bytes : List ℕ) → (playing quiet h bytes).fault ≡ None
-      → ((playing quiet h (playing quiet h bytes).text).fault ≡ None)
-      × ((playing quiet h (playing quiet h bytes).text).text ≡ (playing quiet h bytes).text)
+  pub quiet_again : (h : List Timed) (bytes : List ℕ) → (play_all quiet h bytes).fault ≡ None
+      → ((play_all quiet h (play_all quiet h bytes).text).fault ≡ None)
+      × ((play_all quiet h (play_all quiet h bytes).text).text ≡ (play_all quiet h bytes).text)
   quiet_again h bytes sound =
       let first = kept_lines h (lines bytes) in
-      let all = λ (ls : List (List ℕ)). written_text (lines_kept (histories start) is_noise) 1 h ls in
-      let well = kept_sound (histories start) is_noise 1 h (lines bytes) (omega arith) sound in
-      let none = sound_is_played (histories start) is_noise 1 h first well.0 well.1 in
+      let all = λ (ls : List (List ℕ)). written_text (lines_kept (history_course start) is_noise) 1 h ls in
+      let well = kept_sound (history_course start) is_noise 1 h (lines bytes) (omega arith) sound in
+      let none = sound_is_played (history_course start) is_noise 1 h first well.0 well.1 in
       let stays = ap (λ (ls : List (List ℕ)). flat_map ended ls) (stays_kept (lines bytes) h h (quiet_self h)) in
       rw (kept_are h bytes sound) (none, all first none ∙ stays ∙ sym (all (lines bytes) sound))

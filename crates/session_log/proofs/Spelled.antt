@@ -7,8 +7,8 @@ use Rattle.std.proofs.lemmas.{Fmt.decimal_is_IsNumeral, List.Quantifiers.positio
 use Rattle.std.specs.Cmp.Lexicographic.{pointwise, same_text, other_text}
 use Rattle.std.specs.{Str.Parse.digits_value, Str.Parse.AllDigits, Char.digit_value, List.AllPass, List.position_or_len}
 use Rattle.session_log.proofs.Cases.{no_some, refuted}
-use Rattle.session_log.specs.Said.{moment, first_field, ◌>>=◌, is_word, packet_said, presence_said, key_of, key_said}
-use Rattle.session_log.specs.Said.{signature_of, signature_said, input_by, input_line, said}
+use Rattle.session_log.specs.Parsed.{moment, first_field, ◌>>=◌, is_word, parsed_packet, parsed_presence, key_of, parsed_new_key}
+use Rattle.session_log.specs.Parsed.{signature_of, parsed_signature, input_by, input_line, parsed}
 use Rattle.std.proofs.Math.Seq.{take-append_seam, drop-append-add, drop-cons}
 use Rattle.hex.specs.Hex.{is_hex_digit}
 use Rattle.hex.proofs.HexLemmas.{IsOk-decode_sized, decode_sized-ok, decode_sized-twice, decode_of-ok}
@@ -112,14 +112,14 @@ not_word digits h some = refuted (is_word refusal_word digits) (λ e.
 -- From the grammar to the reading.
 
 presence_read : (field : List ℕ) (answer : AnyPresence) → field ≡ presence_word answer
-    → presence_said field ≡ Some (Presence answer)
+    → parsed_presence field ≡ Some (Presence answer)
 presence_read field answer h = search arith
 
-refused_key : (field : List ℕ) → field ≡ refusal_word → key_said field ≡ Some (Key None)
-refused_key field h = ap key_said h
+refused_key : (field : List ℕ) → field ≡ refusal_word → parsed_new_key field ≡ Some (Key None)
+refused_key field h = ap parsed_new_key h
 
-refused_signature : (field : List ℕ) → field ≡ refusal_word → signature_said field ≡ Some (Signature None)
-refused_signature field h = ap signature_said h
+refused_signature : (field : List ℕ) → field ≡ refusal_word → parsed_signature field ≡ Some (Signature None)
+refused_signature field h = ap parsed_signature h
 
 key_fields : (id x y : List ℕ) (key : NewKey) → IsHexOf id 32 key.id → IsHexOf x 32 key.x → IsHexOf y 32 key.y
     → key_of (id ++ 32 ∷ (x ++ 32 ∷ y)) ≡ Some key
@@ -134,7 +134,7 @@ long_not_word field long = refuted (is_word refusal_word field) (λ e.
     let two : length field ≡ 2 = ap length (same_text field refusal_word (sym e)) in omega arith)
 
 key_read : (field id x y : List ℕ) (key : NewKey) → field ≡ id ++ 32 ∷ (x ++ 32 ∷ y) → IsHexOf id 32 key.id
-    → IsHexOf x 32 key.x → IsHexOf y 32 key.y → key_said field ≡ Some (Key (Some key))
+    → IsHexOf x 32 key.x → IsHexOf y 32 key.y → parsed_new_key field ≡ Some (Key (Some key))
 key_read field id x y key e a b c = search (arith, decode_sized-ok, length-append, long_not_word, key_fields)
 
 signature_bytes : (field bytes : List ℕ) → IsHexOf field (length bytes) bytes → 1 ≤ length bytes → length bytes ≤ 72
@@ -142,38 +142,38 @@ signature_bytes : (field bytes : List ℕ) → IsHexOf field (length bytes) byte
 signature_bytes field bytes h low high = search (arith, le-leb, decode_sized-ok, decode_of-ok, decode_sized-twice)
 
 signature_read : (field bytes : List ℕ) → IsHexOf field (length bytes) bytes → 1 ≤ length bytes → length bytes ≤ 72
-    → signature_said field ≡ Some (Signature (Some bytes))
+    → parsed_signature field ≡ Some (Signature (Some bytes))
 signature_read field bytes h low high =
     let digits : length field ≡ 2 * length bytes = decode_sized-ok field (length bytes) bytes h in
     rw (not_word field (all_hex field (length bytes) bytes h) (omega arith), signature_bytes field bytes h low high)
     refl
 
--- a field, after a letter and a moment
+-- a field, after a letter and a time
 line_read : (letter at : ℕ) (field : List ℕ) (input : AnyInput) → at < 2 ^ 64 → input_by letter field ≡ Some input
     → input_line letter (decimal at ++ 32 ∷ field) ≡ Some (Input (record { at = at; input = input }))
 line_read letter at field input fits e = rw (fields_of at field fits, moment_of (decimal at) at fits refl, e) refl
 
-packet_read : (field bytes : List ℕ) → IsHexOf field 64 bytes → packet_said field ≡ Some (Packet (record { 0 = bytes }))
+packet_read : (field bytes : List ℕ) → IsHexOf field 64 bytes → parsed_packet field ≡ Some (Packet (record { 0 = bytes }))
 packet_read field bytes h = search arith
 
 input_read : (line : List ℕ) (at : ℕ) (input : AnyInput) → at < 2 ^ 64 → SpellsInput line at input
-    → said line ≡ Some (Input (record { at = at; input = input }))
+    → parsed line ≡ Some (Input (record { at = at; input = input }))
 input_read line at Tick fits h = search (arith, moment_of)
 input_read line at (Packet packet) fits h = grind (arith, line_read 62, packet_read h.0 packet.0 h.2)
 input_read line at (Presence answer) fits h = grind (arith, line_read 112, presence_read h.0 answer h.2)
-input_read line at (Key None) fits h = ap said h.1 ∙ line_read 107 at h.0 (Key None) fits (refused_key h.0 h.2)
+input_read line at (Key None) fits h = ap parsed h.1 ∙ line_read 107 at h.0 (Key None) fits (refused_key h.0 h.2)
 input_read line at (Key (Some key)) fits h =
     let f = h.2 in
-    ap said h.1 ∙ line_read 107 at h.0 (Key (Some key)) fits (key_read h.0 f.0 f.1 f.2 key f.3 f.4 f.5 f.6)
+    ap parsed h.1 ∙ line_read 107 at h.0 (Key (Some key)) fits (key_read h.0 f.0 f.1 f.2 key f.3 f.4 f.5 f.6)
 input_read line at (Signature None) fits h = grind (arith, line_read 115, refused_signature h.0 h.2)
 input_read line at (Signature (Some bytes)) fits h =
     let f = h.2 in
-    ap said h.1 ∙ line_read 115 at h.0 (Signature (Some bytes)) fits (signature_read h.0 bytes f.0 f.1 f.2)
+    ap parsed h.1 ∙ line_read 115 at h.0 (Signature (Some bytes)) fits (signature_read h.0 bytes f.0 f.1 f.2)
 
-pub count_rest : (rest : List ℕ) → said (61 ∷ rest) ≡ Some Count
+pub count_rest : (rest : List ℕ) → parsed (61 ∷ rest) ≡ Some Count
 count_rest rest = search arith
 
-pub spelled_is_read : (line : List ℕ) (l : Line) → Spells line l → said line ≡ Some l
+pub spelled_is_read : (line : List ℕ) (l : Line) → Spells line l → parsed line ≡ Some l
 spelled_is_read line l h = search (arith, input_read, count_rest)
 
 -- From the reading to the grammar.
@@ -190,7 +190,7 @@ some_is a b e = cc
 abbrev IsSpelled : ℕ → List ℕ → AnyInput → Type 0
 IsSpelled letter field input = (front_of input ≡ letter ∷ 32 ∷ []) × SpellsField field input
 
-packet_is : (field : List ℕ) (input : AnyInput) → packet_said field ≡ Some input → IsSpelled 62 field input
+packet_is : (field : List ℕ) (input : AnyInput) → parsed_packet field ≡ Some input → IsSpelled 62 field input
 packet_is field input e = search (arith, bind_is, some_is)
 
 presence_is : (field : List ℕ) (input : AnyInput) (a b c : Bool) → is_word (codes "granted") field ≡ a
@@ -215,8 +215,8 @@ signature_is field input a h k =
 
 input_is : (letter : ℕ) (field : List ℕ) (input : AnyInput) (a b c d : Bool) → (letter == 62) ≡ a → (letter == 112) ≡ b
     → (letter == 107) ≡ c → (letter == 115) ≡ d
-    → cond a (packet_said field)
-    (cond b (presence_said field) (cond c (key_said field) (cond d (signature_said field) None))) ≡ Some input
+    → cond a (parsed_packet field)
+    (cond b (parsed_presence field) (cond c (parsed_new_key field) (cond d (parsed_signature field) None))) ≡ Some input
     → IsSpelled letter field input
 input_is letter field input true b c d p q r s e = rw (eqb-true letter 62 p) (packet_is field input e)
 input_is letter field input false true c d p q r s e =
@@ -249,12 +249,12 @@ input_spelled letter fields l e =
     subst (Spells (letter ∷ 32 ∷ fields)) (some_is (Input (record { at = at.0; input = input.0 })) l input.2)
     (number.0, spells_line (letter ∷ 32 ∷ fields) parts.0.1 at.0 input.0 line spelled.1)
 
-pub read_is_spelled : (line : List ℕ) (l : Line) → said line ≡ Some l → Spells line l
+pub read_is_spelled : (line : List ℕ) (l : Line) → parsed line ≡ Some l → Spells line l
 read_is_spelled line l h = search (arith, some_is, eqb-true, input_spelled, bind_is, moment_is)
 
 -- what spells nothing isn't read
-pub spells_nothing : (line : List ℕ) → ((l : Line) → Spells line l → ⊥) → said line ≡ None
-spells_nothing line h = no_some (said line) (λ l e. h l (read_is_spelled line l e))
+pub spells_nothing : (line : List ℕ) → ((l : Line) → Spells line l → ⊥) → parsed line ≡ None
+spells_nothing line h = no_some (parsed line) (λ l e. h l (read_is_spelled line l e))
 
-pub reads_nothing : (line : List ℕ) (l : Line) → said line ≡ None → Spells line l → ⊥
+pub reads_nothing : (line : List ℕ) (l : Line) → parsed line ≡ None → Spells line l → ⊥
 reads_nothing line l e h = cc (sym e ∙ spelled_is_read line l h)

@@ -5,10 +5,10 @@ use Rattle.std.proofs.Common.{codes, Some, length-append, slice_index}
 use Rattle.std.proofs.lemmas.List.{length-take, take_min, drop_min, Elements.All-nil, Elements.All-cons}
 use Rattle.std.specs.Simd.{first_chunks}
 use Rattle.authn_core.specs.{Views.Needed, Views.nothing, Views.presence, Views.key, Views.sign, Needs.IsNeed}
-use Rattle.session_log.specs.Needs.{need_lines, pieces_of, says_need, signature_line, signed_line, is_need_line}
+use Rattle.session_log.specs.Needs.{need_lines, pieces_of, reports_need, signature_line, signed_line, is_need_line}
 use Rattle.hex.specs.Hex.{encode_with, encode_lower, lower_digits}
 use Rattle.hex.proofs.HexLemmas.{length-encode_with}
-use Rattle.session_log.specs.{declared.line.Line.TheVariants.Comment, Lines.is_feed, Said.said}
+use Rattle.session_log.specs.{declared.line.Line.TheVariants.Comment, Lines.is_feed, Parsed.parsed}
 use Rattle.session_log.proofs.Feeds.{feedless, AreLines, both, feedless-append, IsSound}
 
 -- as many as it takes
@@ -41,15 +41,15 @@ pub pieces_short : (bytes : List ℕ) → All (λ piece. length piece ≤ 96) (p
 pieces_short bytes = chunks_short ((length bytes + 95) / 96) bytes
 
 -- their lines don't say what is needed
-none_says : (pieces : List (List ℕ)) → All (λ line. says_need line ≡ false) (map signed_line pieces)
-none_says [] = All-nil (λ line. says_need line ≡ false)
+none_says : (pieces : List (List ℕ)) → All (λ line. reports_need line ≡ false) (map signed_line pieces)
+none_says [] = All-nil (λ line. reports_need line ≡ false)
 none_says (piece ∷ more) = search (arith, All-cons, none_says more)
 
 pub last_says : (n : Needed) → (before : List (List ℕ)) × (last : List ℕ) × (need_lines n ≡ before ++ last ∷ [])
-    × (says_need last ≡ true) × All (λ line. says_need line ≡ false) before
+    × (reports_need last ≡ true) × All (λ line. reports_need line ≡ false) before
 last_says (sign id signed) =
     (map signed_line (pieces_of signed), signature_line id, refl, refl, none_says (pieces_of signed))
-last_says n = ([], _, refl, refl, All-nil (λ line. says_need line ≡ false))
+last_says n = ([], _, refl, refl, All-nil (λ line. reports_need line ≡ false))
 
 -- The lines that tell what is needed are comments, and short.
 
@@ -70,7 +70,7 @@ encoded_feedless (b ∷ more) = search (arith, from_digits, encoded_feedless mor
 pub record IsTold (line : List ℕ) : Type 0 where
   pub feedless : feedless line ≡ true
   pub sound : IsSound line
-  pub said : said line ≡ Some Comment
+  pub parsed : parsed line ≡ Some Comment
   pub tells : is_need_line line ≡ true
 
 abbrev pub AreTold : List (List ℕ) → Type 0
@@ -81,7 +81,7 @@ AreTold-append : (xs ys : List (List ℕ)) → AreTold xs → AreTold ys → Are
 AreTold-append [] ys h k = k
 AreTold-append (x ∷ xs) ys h k = (h.0, AreTold-append xs ys h.1 k)
 
-told : (line : List ℕ) → feedless line ≡ true → length line < 256 → said line ≡ Some Comment → is_need_line line ≡ true
+told : (line : List ℕ) → feedless line ≡ true → length line < 256 → parsed line ≡ Some Comment → is_need_line line ≡ true
     → IsTold line
 told line whole short is tells = search (arith, feedless)
 

@@ -4,9 +4,9 @@ use Rattle.std.proofs.Common.{length, take, position, Option, Some, None, is_non
 use Rattle.std.proofs.Common.{append_assoc, append-nil, length-append}
 use Rattle.std.proofs.lemmas.Bool.{le-leb, le-ltb, lt-leb, lt-ltb}
 use Rattle.session_log.specs.declared.fault.LogFault.{LogFault, TheVariants.TooLong, TheVariants.TooManyLines}
-use Rattle.session_log.specs.{Said.said, World.World, Window.IsUnfinished, Sent.SendsPackets, Sent.AllSend}
-use Rattle.session_log.specs.{Lines.is_feed, Lines.pieces, Lines.lines, Log.text_of, Log.last_text, Log.after}
-use Rattle.session_log.specs.Log.{Played, prefixed, played, playing, log_of, first_fault, fault_of, fault_by, fault_at}
+use Rattle.session_log.specs.{Parsed.parsed, World.World, Window.IsUnfinished, Sent.SendsPackets, Sent.AllSend}
+use Rattle.session_log.specs.{Lines.is_feed, Lines.pieces, Lines.lines, Log.text_of, Log.last_text, Log.state_after}
+use Rattle.session_log.specs.Log.{Played, with_text_before, played, play_all, log_of, first_fault, fault_of, fault_by, fault_at}
 use Rattle.session_log.specs.Replay.{IsRefused, IsUnread, IsUnwritten, IsPlayed}
 use Rattle.session_log.proofs.Cutting.{first_piece, one_piece, pieces_some, lines_beyond, front_of, last_is}
 
@@ -16,7 +16,7 @@ pub record Through {S : Type 0} (world : World S) (s0 : S) (read text : List ℕ
   pub done : List (List ℕ)
   pub cut : (tail : List ℕ) → pieces (read ++ tail) ≡ done ++ pieces tail
   pub count : n ≡ length done + 1
-  pub plays : (more : List (List ℕ)) → played world 1 s0 (done ++ more) ≡ prefixed text (played world n s more)
+  pub plays : (more : List (List ℕ)) → played world 1 s0 (done ++ more) ≡ with_text_before text (played world n s more)
   pub sends : (more : List (List ℕ)) → AllSend world s more → AllSend world s0 (done ++ more)
 
 pub through_none : {S : Type 0} (world : World S) (s : S) → Through world s [] [] s 1
@@ -25,7 +25,7 @@ through_none world s = record { done = []; cut = λ tail. refl; count = refl; pl
 module _ {S : Type 0} (world : World S) (n : ℕ) (s : S) (line : List ℕ) (more : List (List ℕ)) where
   -- a line that isn't faulty is played
   pub played_sound : fault_at world n s line ≡ None → played world n s (line ∷ more)
-      ≡ prefixed (text_of world s line) (played world (n + 1) (after world s line) more)
+      ≡ with_text_before (text_of world s line) (played world (n + 1) (state_after world s line) more)
   played_sound e = rw e refl
 
   -- a faulty one ends the log
@@ -33,14 +33,14 @@ module _ {S : Type 0} (world : World S) (n : ℕ) (s : S) (line : List ℕ) (mor
       → played world n s (line ∷ more) ≡ record { text = []; fault = Some f; state = s }
   played_faulty f e = rw e refl
 
-pub prefixed_twice : {S : Type 0} (a b : List ℕ) (p : Played S) → prefixed a (prefixed b p) ≡ prefixed (a ++ b) p
+pub prefixed_twice : {S : Type 0} (a b : List ℕ) (p : Played S) → with_text_before a (with_text_before b p) ≡ with_text_before (a ++ b) p
 prefixed_twice a b p = λ i. record { text = sym (append_assoc a b p.text) i; fault = p.fault; state = p.state }
 
 module _ {S : Type 0} {world : World S} {s0 : S} {read text : List ℕ} {s : S} {n : ℕ}
     (t : Through world s0 read text s n) where
   pub through_line : (w : List ℕ) (end : ℕ) → position is_feed w ≡ Some end → fault_at world n s (take end w) ≡ None
-      → SendsPackets world s (said (take end w))
-      → Through world s0 (read ++ take (end + 1) w) (text ++ text_of world s (take end w)) (after world s (take end w))
+      → SendsPackets world s (parsed (take end w))
+      → Through world s0 (read ++ take (end + 1) w) (text ++ text_of world s (take end w)) (state_after world s (take end w))
       (n + 1)
   through_line w end feed sound packets =
       let line = take end w in
@@ -56,7 +56,7 @@ module _ {S : Type 0} {world : World S} {s0 : S} {read text : List ℕ} {s : S} 
   pub lines_are : (w : List ℕ) → lines (read ++ w) ≡ t.done ++ lines w
   lines_are w = let some = pieces_some w in rw (t.cut w, some.2) (lines_beyond t.done some.0 some.1)
 
-  pub playing_is : (w : List ℕ) → playing world s0 (read ++ w) ≡ prefixed text (played world n s (lines w))
+  pub playing_is : (w : List ℕ) → play_all world s0 (read ++ w) ≡ with_text_before text (played world n s (lines w))
   playing_is w = ap (played world 1 s0) (lines_are w) ∙ t.plays (lines w)
 
 -- the fault of a line is the first, and what is wrong after the last line is where no line is faulty
@@ -64,7 +64,7 @@ pub first_is_line : (last : Option LogFault) (f : LogFault) → first_fault last
 first_is_line last f = search arith
 
 pub first_is_last : {S : Type 0} (world : World S) (s0 s : S) (bytes text : List ℕ) (o : Option LogFault)
-    → IsPlayed world s0 s bytes text → world.lacks s ≡ o → fault_of world (playing world s0 bytes) ≡ o
+    → IsPlayed world s0 s bytes text → world.lacks s ≡ o → fault_of world (play_all world s0 bytes) ≡ o
 first_is_last world s0 s bytes text o h k = search arith
 
 module _ {S : Type 0} {world : World S} {s0 : S} {read text : List ℕ} {s : S} {n : ℕ}
@@ -82,13 +82,13 @@ module _ {S : Type 0} {world : World S} {s0 : S} {read text : List ℕ} {s : S} 
   -- the text of the window's first line broke off
   pub unwritten : (w line : List ℕ) (more : List (List ℕ)) (front rest : List ℕ) → lines w ≡ line ∷ more
       → fault_at world n s line ≡ None → text_of world s line ≡ front ++ rest → 0 < length rest
-      → IsUnwritten world s0 (after world s line) (read ++ w) (text ++ front)
+      → IsUnwritten world s0 (state_after world s line) (read ++ w) (text ++ front)
   unwritten w line more front rest e sound broken missing =
-      let is : played world 1 s0 t.done ≡ prefixed text (played world n s []) =
+      let is : played world 1 s0 t.done ≡ with_text_before text (played world n s []) =
       ap (played world 1 s0) (sym (append-nil t.done)) ∙ t.plays [] in
       let stood : (played world 1 s0 t.done).state ≡ s = ap (λ (p : Played S). p.state) is in
-      let others = played world (n + 1) (after world s line) more in
-      let all : playing world s0 (read ++ w) ≡ prefixed text (prefixed (text_of world s line) others) =
+      let others = played world (n + 1) (state_after world s line) more in
+      let all : play_all world s0 (read ++ w) ≡ with_text_before text (with_text_before (text_of world s line) others) =
       playing_is t w ∙ rw (e, played_sound world n s line more sound) refl in
       let tail = cond (is_none others.fault) (last_text world others.state) [] in
       record {
@@ -119,8 +119,8 @@ unwritten_end {S} world s0 s bytes text front rest p broken missing =
 module _ {S : Type 0} {world : World S} {s0 : S} {read text : List ℕ} {s : S} {n : ℕ}
     (t : Through world s0 read text s n) where
   -- the last line was played
-  pub played_last : (w : List ℕ) → lines w ≡ w ∷ [] → fault_at world n s w ≡ None → SendsPackets world s (said w)
-      → IsPlayed world s0 (after world s w) (read ++ w) (text ++ text_of world s w)
+  pub played_last : (w : List ℕ) → lines w ≡ w ∷ [] → fault_at world n s w ≡ None → SendsPackets world s (parsed w)
+      → IsPlayed world s0 (state_after world s w) (read ++ w) (text ++ text_of world s w)
   played_last w e sound packets =
       grind (arith, playing_is t w, played_sound world n s w, lines_are t w, append-nil (text_of world s w))
 
@@ -134,11 +134,11 @@ chosen n many long other = cond many (Some TooManyLines) (cond long (Some (TooLo
 
 module _ {S : Type 0} (world : World S) (n : ℕ) (s : S) (line : List ℕ) where
   tests : (many long : Bool) → nat_le (2 ^ 32) n ≡ many → nat_lt 255 (length line) ≡ long
-      → fault_at world n s line ≡ chosen n many long (fault_by world n s (said line))
-  tests many long p q = λ i. chosen n (p i) (q i) (fault_by world n s (said line))
+      → fault_at world n s line ≡ chosen n many long (fault_by world n s (parsed line))
+  tests many long p q = λ i. chosen n (p i) (q i) (fault_by world n s (parsed line))
 
   -- a line that is in the count and short has the fault of what it says
-  pub said_fault : n < 2 ^ 32 → length line < 256 → fault_at world n s line ≡ fault_by world n s (said line)
+  pub said_fault : n < 2 ^ 32 → length line < 256 → fault_at world n s line ≡ fault_by world n s (parsed line)
   said_fault few short = tests false false (lt-leb (2 ^ 32) n few) (le-ltb 255 (length line) (omega arith))
 
   pub too_long : n < 2 ^ 32 → 256 ≤ length line → fault_at world n s line ≡ Some (TooLong n)

@@ -4,8 +4,8 @@ use Rattle.std.proofs.KnownBytes.{Appends-kept}
 use Rattle.token_session.specs.declared.input.Meters.{Meters}
 use Rattle.session_log.specs.{Command.PlaysThrough, Lines.lines, Sent.AllSend, World.World}
 use Rattle.session_log.specs.Ending.{Ending, Done, ended_by, ending_of, read_fails, write_fails}
-use Rattle.session_log.specs.Replay.{Closes, IsOfEnd, IsPlayed, Logs, Makes, MakesSoundly, Plays, ReadsTo}
-use Rattle.session_log.specs.Streams.{Counts, IsAllRead, Moves}
+use Rattle.session_log.specs.Replay.{Closes, IsOfEnd, IsPlayed, Logs, PlaysWholeLog, PlaysWholeLogWithMeters, Plays, ReadsTo}
+use Rattle.session_log.specs.Streams.{Counts, IsAtEndOfInput, Moves}
 use Rattle.session_log.specs.declared.fault.LogFault.{LogFault, TheVariants.Differs, TheVariants.Write}
 use Rattle.session_log.proofs.{Exits.closes, Exits.closes_not, Through.first_is_last}
 use Rattle.session_log.proofs.Worlds.{Follows, reads_alike}
@@ -15,14 +15,14 @@ module _ {S I O : Type 0} (world : World S) (s t : S) (left : I → Option (List
   -- what is said of an ending, and this where it is none
   abbrev Ends : Ending → (List ℕ → List ℕ → Type 0) → Type 0 → Type 0
   Ends ending Says All =
-      Moves (left i) (left j) (taken o) (taken p) Says × ReadsTo world s (left i) (left j) (IsAllRead left ended j)
+      Moves (left i) (left j) (taken o) (taken p) Says × ReadsTo world s (left i) (left j) (IsAtEndOfInput left ended j)
       ending
       × (Counts unread (i, j) (read_fails ending) × Counts unwritten (o, p) (write_fails ending) × All)
 
   -- a fault that was passed on
   pub stops : {A : Type 0} (r : Result A LogFault) (e : LogFault) → r ≡ Err e
       → Moves (left i) (left j) (taken o) (taken p) (λ bytes text. Plays world s t bytes text (ended_by e))
-      → ReadsTo world s (left i) (left j) (IsAllRead left ended j) (ended_by e)
+      → ReadsTo world s (left i) (left j) (IsAtEndOfInput left ended j) (ended_by e)
       → Counts unread (i, j) (read_fails (ended_by e)) → Counts unwritten (o, p) (write_fails (ended_by e))
       → PlaysThrough world s (λ bytes text. Plays world s t bytes text (ending_of r)) left unread ended taken unwritten
       r (i, j) (o, p)
@@ -31,28 +31,28 @@ module _ {S I O : Type 0} (world : World S) (s t : S) (left : I → Option (List
   -- a fault ends a log as it ended its lines
   pub fails_with : {A X : Type 0} (r : Result A LogFault) (e : LogFault) → r ≡ Err e
       → Ends (ended_by e) (λ bytes text. Plays world s t bytes text (ended_by e)) X
-      → PlaysThrough world s (λ bytes text. MakesSoundly world s t bytes text r) left unread ended taken unwritten r
+      → PlaysThrough world s (λ bytes text. PlaysWholeLogWithMeters world s t bytes text r) left unread ended taken unwritten r
       (i, j) (o, p)
   fails_with r e is h = search arith
 
   -- What is said of a whole log, without what is known of the packets that were sent.
   pub makes : {A : Type 0} (r : Result A LogFault)
-      → PlaysThrough world s (λ bytes text. MakesSoundly world s t bytes text r) left unread ended taken unwritten r
-      (i, j) (o, p) → PlaysThrough world s (λ bytes text. Makes world s t bytes text (ending_of r)) left unread ended
+      → PlaysThrough world s (λ bytes text. PlaysWholeLogWithMeters world s t bytes text r) left unread ended taken unwritten r
+      (i, j) (o, p) → PlaysThrough world s (λ bytes text. PlaysWholeLog world s t bytes text (ending_of r)) left unread ended
       taken unwritten
       r (i, j) (o, p)
   makes r h = ((h.0.0, h.0.1, h.0.2, h.0.3, h.0.4.0), h.1, h.2)
 
   -- the same, where what was counted is answered
   pub logs_fault : {X Y : Type 0} (r : Result Meters LogFault) (e : LogFault) → r ≡ Err e
-      → Ends (ended_by e) (λ bytes text. Makes world s t bytes text (ended_by e) × X) Y
+      → Ends (ended_by e) (λ bytes text. PlaysWholeLog world s t bytes text (ended_by e) × X) Y
       → PlaysThrough world s (λ bytes text. Logs world s t bytes text r) left unread ended taken unwritten r (i, j)
       (o, p)
   logs_fault r e is h = rw is ((h.0.0, h.0.1, h.0.2, h.0.3, (h.0.4.0, tt)), h.1, (h.2.0, h.2.1, tt))
 
   pub logs_whole : (m : Meters) → m ≡ world.counts t
-      → Ends Done (λ bytes text. Makes world s t bytes text Done
-      × AllSend world s (lines bytes)) (IsAllRead left ended j)
+      → Ends Done (λ bytes text. PlaysWholeLog world s t bytes text Done
+      × AllSend world s (lines bytes)) (IsAtEndOfInput left ended j)
       → PlaysThrough world s (λ bytes text. Logs world s t bytes text (Ok m)) left unread ended taken unwritten (Ok m)
       (i, j) (o, p)
   logs_whole m is h = ((h.0.0, h.0.1, h.0.2, h.0.3, (h.0.4.0, is)), h.1, h.2)
@@ -61,8 +61,8 @@ module _ {S I O : Type 0} (world : World S) (s t : S) (left : I → Option (List
 pub ends_with : {S A I O : Type 0} (world : World S) (s t : S) (left : I → Option (List ℕ)) (unread : I → ℕ) (ended : I
     → Bool) (taken : O → Option (List ℕ)) (unwritten : O → ℕ) (i j : I) (o between p : O) (r : Result A LogFault)
     → IfErr r IsOfEnd → Closes world taken unwritten t (between, p) (ending_of r)
-    → Ends world s t left unread ended taken unwritten i j o between Done (IsPlayed world s t) (IsAllRead left ended j)
-    → PlaysThrough world s (λ bytes text. MakesSoundly world s t bytes text r) left unread ended taken unwritten r
+    → Ends world s t left unread ended taken unwritten i j o between Done (IsPlayed world s t) (IsAtEndOfInput left ended j)
+    → PlaysThrough world s (λ bytes text. PlaysWholeLogWithMeters world s t bytes text r) left unread ended taken unwritten r
     (i, j) (o, p)
 ends_with world s t left unread ended taken unwritten i j o between p (Ok x) own close h =
     let m = closes taken unwritten _ _ _ (between, p) h.0.2 h.0.3 h.0.4 close.0 close.1 in
@@ -89,5 +89,5 @@ pub there : {A B Q I O : Type 0} {v : World A} {w : World B} {R : A → B → Ty
     → (c : B) × T c × PlaysThrough w b (W c) left unread ended taken unwritten r input output
 there f s b k V T W alike left unread ended taken unwritten r input output h =
     let found = alike h.0.0 h.0.1 h.0.4 in
-    let reads = reads_alike f s b k (left input.0) (left input.1) (IsAllRead left ended input.1) (ending_of r) h.1 in
+    let reads = reads_alike f s b k (left input.0) (left input.1) (IsAtEndOfInput left ended input.1) (ending_of r) h.1 in
     (found.0, found.1, ((h.0.0, h.0.1, h.0.2, h.0.3, found.2), reads, h.2))

@@ -3,13 +3,13 @@ use Rattle.std.proofs.Common.{◌≡◌, ℕ, ◌+◌, ◌^◌, Bool, cond, List
 use Rattle.std.proofs.Common.{is_some, refl, sym, ◌∙◌, arith}
 use Rattle.token_session.specs.declared.input.Meters.{Meters}
 use Rattle.session_log.specs.declared.fault.LogFault.{LogFault, TheVariants.Memory}
-use Rattle.session_log.specs.{declared.line.Line.Line, Said.said, World.World, Log.log_of}
+use Rattle.session_log.specs.{declared.line.Line.Line, Parsed.parsed, World.World, Log.log_of}
 use Rattle.session_log.specs.declared.fault.LogFault.TheVariants.{BadLine, TooLong, Differs, Read, Write, TooManyLines}
 use Rattle.session_log.specs.Lines.{lines, whole_lines}
-use Rattle.session_log.specs.Log.{Played, played, playing, text_by, after_by, first_fault, fault_by, fault_at, fault_of}
+use Rattle.session_log.specs.Log.{Played, played, play_all, text_by, state_after_parsed, first_fault, fault_by, fault_at, fault_of}
 use Rattle.session_log.specs.Ending.{Ending, Done, Refused, Unread, Unwritten, ended_by}
-use Rattle.session_log.specs.Replay.{AreWritten, IsDone, IsPlayed, IsRefused, IsUnread, IsUnwritten, IsNear, IsShown}
-use Rattle.session_log.specs.Replay.{Reaches, ReadsTo, Makes, Logs, Plays, Writes, next_text, next_state}
+use Rattle.session_log.specs.Replay.{AreWritten, IsDone, IsPlayed, IsRefused, IsUnread, IsUnwritten, IsWithinLine, IsShown}
+use Rattle.session_log.specs.Replay.{Reaches, ReadsTo, PlaysWholeLog, Logs, Plays, Writes, next_text, next_state}
 
 -- b stands after what a names, and stays so
 pub record Follows {A B : Type 0} (v : World A) (w : World B) (R : A → B → Type 0) : Type 0 where
@@ -31,21 +31,21 @@ either R c p x q y h k = search arith
 
 module _ {A B : Type 0} {v : World A} {w : World B} {R : A → B → Type 0} (f : Follows v w R) where
   by_line : (a : A) (b : B) → R a b → (line : List ℕ) (l : Option Line)
-      → (text_by v a line l ≡ text_by w b line l) × R (after_by v a l) (after_by w b l)
+      → (text_by v a line l ≡ text_by w b line l) × R (state_after_parsed v a l) (state_after_parsed w b l)
   by_line a b h line l = search arith
 
   same_stop : (n : ℕ) (a : A) (b : B) → R a b → (l : Option Line) → fault_by v n a l ≡ fault_by w n b l
   same_stop n a b h l = search arith
 
   same_fault : (n : ℕ) (a : A) (b : B) → R a b → (line : List ℕ) → fault_at v n a line ≡ fault_at w n b line
-  same_fault n a b r line = rw (same_stop n a b r (said line)) refl
+  same_fault n a b r line = rw (same_stop n a b r (parsed line)) refl
 
   pub alike : (n : ℕ) (a : A) (b : B) → R a b → (lines : List (List ℕ))
       → Alike R (played v n a lines) (played w n b lines)
   alike n a b r [] = record { text = refl; fault = refl; state = r }
   alike n a b r (line ∷ more) =
-      let here = by_line a b r line (said line) in
-      let rest = alike (n + 1) (after_by v a (said line)) (after_by w b (said line)) here.1 more in
+      let here = by_line a b r line (parsed line) in
+      let rest = alike (n + 1) (state_after_parsed v a (parsed line)) (state_after_parsed w b (parsed line)) here.1 more in
       rw (same_fault n a b r line) (either R (is_some (fault_at w n b line)) _ _ _ _ (search arith) (search arith))
 
   faults_alike : (p : Played A) (q : Played B) → Alike R p q → fault_of v p ≡ fault_of w q
@@ -63,11 +63,11 @@ module _ {A B : Type 0} {v : World A} {w : World B} {R : A → B → Type 0} (f 
     -- what an answer means in one world, it means in the other
     done_alike : IsDone v s t bytes text → (c : B) × R t c × IsDone w b c bytes text
     done_alike h = let same = alike 1 s b r (lines bytes) in
-        ((playing w b bytes).state, rw h.stands same.state, search (arith, faults_alike, log_alike))
+        ((play_all w b bytes).state, rw h.stands same.state, search (arith, faults_alike, log_alike))
 
     refused_alike : (e : LogFault) → IsRefused v s t bytes text e → (c : B) × R t c × IsRefused w b c bytes text e
     refused_alike e h = let same = alike 1 s b r (lines bytes) in
-        ((playing w b bytes).state, rw h.stands same.state, search (arith, faults_alike))
+        ((play_all w b bytes).state, rw h.stands same.state, search (arith, faults_alike))
 
     unread_alike : (n : ℕ) → IsUnread v s t bytes text n → (c : B) × R t c × IsUnread w b c bytes text n
     unread_alike n h = let same = alike 1 s b r (whole_lines bytes) in
@@ -76,7 +76,7 @@ module _ {A B : Type 0} {v : World A} {w : World B} {R : A → B → Type 0} (f 
     unwritten_alike : IsUnwritten v s t bytes text → (c : B) × R t c × IsUnwritten w b c bytes text
     unwritten_alike h =
         let same = alike 1 s b r h.first in
-        let all = log_alike (playing v s bytes) (playing w b bytes) (alike 1 s b r (lines bytes)) in
+        let all = log_alike (play_all v s bytes) (play_all w b bytes) (alike 1 s b r (lines bytes)) in
         let next = next_alike (played v 1 s h.first).state (played w 1 b h.first).state same.state h.others in (
           next_state w (played w 1 b h.first).state h.others,
           rw h.stands next.1,
@@ -95,8 +95,8 @@ module _ {A B : Type 0} {v : World A} {w : World B} {R : A → B → Type 0} (f 
           },
         )
 
-    pub makes_alike : (ending : Ending) → Makes v s t bytes text ending
-        → (c : B) × R t c × Makes w b c bytes text ending
+    pub makes_alike : (ending : Ending) → PlaysWholeLog v s t bytes text ending
+        → (c : B) × R t c × PlaysWholeLog w b c bytes text ending
     makes_alike Done h = done_alike h
     makes_alike (Refused e) h = refused_alike e h
     makes_alike (Unread n) h = unread_alike n h
@@ -104,7 +104,7 @@ module _ {A B : Type 0} {v : World A} {w : World B} {R : A → B → Type 0} (f 
 
     written_alike : IsPlayed v s t bytes text → (c : B) × R t c × AreWritten w b c bytes text
     written_alike h = let same = alike 1 s b r (lines bytes) in
-        ((playing w b bytes).state, rw h.stands same.state, search arith)
+        ((play_all w b bytes).state, rw h.stands same.state, search arith)
 
     pub plays_alike : (ending : Ending) → Plays v s t bytes text ending
         → (c : B) × R t c × Writes w b c bytes text ending
@@ -121,7 +121,7 @@ module _ {A B : Type 0} {v : World A} {w : World B} {R : A → B → Type 0} (f 
 
   module _ (s : A) (b : B) (r : R s b) where
     -- how far is read to find a fault
-    near_alike : (bytes : List ℕ) (n : ℕ) → IsNear v s bytes n → IsNear w b bytes n
+    near_alike : (bytes : List ℕ) (n : ℕ) → IsWithinLine v s bytes n → IsWithinLine w b bytes n
     near_alike bytes n h = let same = alike 1 s b r (whole_lines h.before) in search (arith, h.before, h.front)
 
     shown_alike : (bytes : List ℕ) (all : Type 0) (n : ℕ) (e : LogFault) → IsShown v s bytes all n e

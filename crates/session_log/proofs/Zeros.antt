@@ -2,7 +2,7 @@
 use Rattle.std.proofs.Common.{◌≡◌, ◌+◌, ◌*◌, ◌/◌, ◌%◌, ◌++◌, ◌∷◌, [], ℕ, zero, suc, List, length, take, drop, replicate}
 use Rattle.std.proofs.Common.{refl, sym, ap, ◌∙◌, arith, append_assoc, ◌-◌, ◌≤◌, Some, None, Ok, Err, Result}
 use Rattle.std.{specs.Prelude.slice_index_or, specs.Option.option_map, proofs.Math.ListN.drop_of_length-le}
-use Rattle.std.specs.Result.{result_ok, IsOk, MatchResult, OnOk}
+use Rattle.std.specs.Result.{result_ok, IsOk, OnOk}
 use Rattle.hex.specs.Hex.{decode_pairs, decode_sized, encode_lower, encode_with, lower_digits, pair_value, ◌>>=◌}
 use Rattle.hex.{specs.Hex.IsBytes, specs.declared.error.FromHexError.FromHexError, proofs.HexLemmas.length-encode_with}
 use Rattle.hex.proofs.HexLemmas.{decode_pairs-encode_with, IsDigits-lower_digits, decode_sized-twice, decode_of-even}
@@ -48,23 +48,14 @@ decode-zeros : (n : ℕ) (xs : List ℕ) → length xs % 2 ≡ 0
 decode-zeros n xs even = search (arith, decode-append, decode_pairs-encode_with, IsDigits-lower_digits, zero_bytes)
 
 -- the bytes that digits write are those that they write without zeros at their end, and zeros
-pub decode-without_zeros : (digits used : List ℕ) (n size : ℕ) → length digits ≡ 2 * size
+pub decode-trim_zeros : (digits used : List ℕ) (n size : ℕ) → length digits ≡ 2 * size
     → digits ≡ used ++ encode_lower (replicate n 0)
     → result_ok (decode_sized digits size) ≡ option_map (λ bs. bs ++ drop (length used / 2) (replicate size 0))
     (result_ok (decode_sized used (length (take (length used / 2) (replicate {A = ℕ} size 0)))))
-decode-without_zeros digits used n size len is =
+decode-trim_zeros digits used n size len is =
     let long = length-encode_with lower_digits (replicate n 0) in
     let all = length-append used (encode_lower (replicate n 0)) in
     search (arith, length-replicate, length-take, decode_sized-twice, decode_of-even, drop-replicate, decode-zeros)
-
--- what the decoding of digits wrote where it succeeded, and that there are no bytes where it failed
-pub wrote : (d : Result (List ℕ) FromHexError) (r : Result (Unit {0}) FromHexError) (out : List ℕ) (u : Unit {0})
-    → MatchResult d (λ bytes. (r ≡ Ok tt) × (out ≡ bytes)) (λ e. r ≡ Err e) → r ≡ Ok u → result_ok d ≡ Some out
-wrote d r out u h k = search arith
-
-pub failed : (d : Result (List ℕ) FromHexError) (r : Result (Unit {0}) FromHexError) (out : List ℕ) (f : FromHexError)
-    → MatchResult d (λ bytes. (r ≡ Ok tt) × (out ≡ bytes)) (λ e. r ≡ Err e) → r ≡ Err f → result_ok d ≡ None
-failed d r out f h k = search arith
 
 -- the last element, and the last two
 pub last_is : (xs : List ℕ) (x : ℕ) → 1 ≤ length xs → slice_index_or xs (length xs - 1) 0 ≡ x →

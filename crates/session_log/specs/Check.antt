@@ -1,4 +1,5 @@
--- A log compared with what is sent: after each input line are the packets that are sent for it.
+-- Comparing a log with the packets of the session: after each input line come the packets that the session sends for
+-- it.
 use Rattle.std.specs.Prelude.{ℕ, ◌+◌, ◌==◌, List, [], ◌∷◌, Option, Some, None, if◌then◌else◌}
 use Rattle.std.specs.Cmp.Lexicographic.{pointwise}
 use Rattle.authn_core.specs.Turn.{Start}
@@ -7,10 +8,10 @@ use Rattle.token_session.specs.{declared.input.Timed.Timed, Meters.SessionState}
 use Rattle.session_log.specs.declared.fault.LogFault.{LogFault, TheVariants.Differs}
 use Rattle.session_log.specs.{declared.line.Line.Line, Text.same_line, World.Course, World.World}
 use Rattle.session_log.specs.declared.line.Line.TheVariants.{Input, Sent, Comment, Count}
-use Rattle.session_log.specs.Session.{sessions, histories}
+use Rattle.session_log.specs.Session.{session_course, history_course}
 
--- what the lines so far led to: where the inputs led; how many lines there were; the line of the last input (0 before
--- any), how many of its packets were found, and those that are due; and how many inputs and packets were the same
+-- The state after the lines so far: the session's state; the number of lines; the line of the last input (0 before
+-- any), how many of its packets were found, and its remaining packets; and how many inputs and packets matched.
 pub record Compared (S : Type 0) : Type 0 where
   pub session : S
   pub lines : ℕ
@@ -25,14 +26,14 @@ abbrev pub compared : {S : Type 0} → S → (lines input found : ℕ) → (due 
 compared s lines input found due inputs packets =
     record { session = s; lines = lines; input = input; found = found; due = due; inputs = inputs; packets = packets }
 
-abbrev pub begun : {S : Type 0} → S → Compared S
-begun s = compared s 0 0 0 [] 0 0
+abbrev pub first_comparison : {S : Type 0} → S → Compared S
+first_comparison s = compared s 0 0 0 [] 0 0
 
--- the next packet differs, is missing, or is one too many
+-- The next packet differs, is missing, or is one too many.
 abbrev pub difference : {S : Type 0} → Compared S → LogFault
 difference c = Differs c.input (c.found + 1)
 
--- a packet is missing where one is due
+-- A packet still due is reported as missing.
 abbrev pub missing_of : List (List ℕ) → LogFault → Option LogFault
 missing_of [] fault = None
 missing_of (p ∷ due) fault = Some fault
@@ -40,24 +41,24 @@ missing_of (p ∷ due) fault = Some fault
 abbrev pub missing : {S : Type 0} → Compared S → Option LogFault
 missing c = missing_of c.due (difference c)
 
--- a packet that is in the log is to be the next that is due
+-- A packet of the log must be the next expected one.
 abbrev pub differs_from : List (List ℕ) → List ℕ → LogFault → Option LogFault
 differs_from [] packet fault = Some fault
 differs_from (p ∷ due) packet fault = if pointwise ◌==◌ p packet then None else Some fault
 
--- a missing packet is found at the next input
-abbrev pub stops_compared : {S : Type 0} → Compared S → Line → Option LogFault
-stops_compared c (Input timed) = missing c
-stops_compared c (Sent packet) = differs_from c.due packet.0 (difference c)
-stops_compared c Comment = None
-stops_compared c Count = None
+-- A missing packet is detected at the next input.
+abbrev pub comparison_fault : {S : Type 0} → Compared S → Line → Option LogFault
+comparison_fault c (Input timed) = missing c
+comparison_fault c (Sent packet) = differs_from c.due packet.0 (difference c)
+comparison_fault c Comment = None
+comparison_fault c Count = None
 
 abbrev pub after_first : List (List ℕ) → List (List ℕ)
 after_first [] = []
 after_first (p ∷ due) = due
 
-abbrev pub moves_compared : {S : Type 0} → Course S → Compared S → Line → Compared S
-moves_compared course c (Input timed) = record {
+abbrev pub comparison_after : {S : Type 0} → Course S → Compared S → Line → Compared S
+comparison_after course c (Input timed) = record {
   session = course.turned c.session timed;
   lines = c.lines + 1;
   input = c.lines + 1;
@@ -66,7 +67,7 @@ moves_compared course c (Input timed) = record {
   inputs = c.inputs + 1;
   packets = c.packets;
 }
-moves_compared course c (Sent packet) = record {
+comparison_after course c (Sent packet) = record {
   session = c.session;
   lines = c.lines + 1;
   input = c.input;
@@ -75,14 +76,14 @@ moves_compared course c (Sent packet) = record {
   inputs = c.inputs;
   packets = c.packets + 1;
 }
-moves_compared course c Comment = record c { lines = c.lines + 1 }
-moves_compared course c Count = record c { lines = c.lines + 1 }
+comparison_after course c Comment = record c { lines = c.lines + 1 }
+comparison_after course c Count = record c { lines = c.lines + 1 }
 
--- Nothing is written before the end.
-abbrev pub checking : {S : Type 0} → Course S → World (Compared S)
-checking course = record {
-  stops = stops_compared;
-  moves = moves_compared course;
+-- The comparison as a world on which a log is played. Nothing is written before the end of the log.
+abbrev pub check_world : {S : Type 0} → Course S → World (Compared S)
+check_world course = record {
+  stops = comparison_fault;
+  moves = comparison_after course;
   sound = λ c l. Unit {0};
   writes = λ c line l. [];
   lacks = missing;
@@ -91,12 +92,12 @@ checking course = record {
 }
 
 abbrev pub check_machine : World (Compared SessionState)
-check_machine = checking sessions
+check_machine = check_world session_course
 
 abbrev pub check_history : Start → World (Compared (List Timed))
-check_history start = checking (histories start)
+check_history start = check_world (history_course start)
 
--- the packets that are due, the first of them taken off the others
+-- The packets still due: the next one, if any, and those after it.
 abbrev pub due_packets : Option Packet → List (List ℕ) → List (List ℕ)
 due_packets None rest = []
 due_packets (Some packet) rest = packet.0 ∷ rest

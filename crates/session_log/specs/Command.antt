@@ -1,59 +1,59 @@
--- What the commands of the program answer.
+-- The results of the program's commands.
 use Rattle.std.specs.Prelude.{ℕ, Bool, List, [], Option, OnOk, Result, Ok, Err, replicate}
 use Rattle.authn_core.specs.Turn.{Start}
 use Rattle.cred_table.specs.declared.row.Row.{Row}
 use Rattle.token_session.specs.declared.input.{Meters.Meters, Timed.Timed}
 use Rattle.token_session.specs.Meters.{SessionState, StandsAfter}
-use Rattle.session_log.specs.declared.{command.LogCommand.LogCommand, fault.LogFault.LogFault}
-use Rattle.session_log.specs.declared.command.LogCommand.TheVariants.{Check, Live, Quiet, Replay}
-use Rattle.session_log.specs.{Check.begun, Check.check_history, World.World, Replay.Makes, Replay.ReadsTo}
+use Rattle.session_log.specs.declared.{command.ReplayMode.ReplayMode, fault.LogFault.LogFault}
+use Rattle.session_log.specs.declared.command.ReplayMode.TheVariants.{Check, Live, Quiet, Replay}
+use Rattle.session_log.specs.{Check.first_comparison, Check.check_history, World.World, Replay.PlaysWholeLog, Replay.ReadsTo}
 use Rattle.session_log.specs.Ending.{ending_of, read_fails, write_fails}
 use Rattle.session_log.specs.Session.{history, live_history, quiet_history}
-use Rattle.session_log.specs.Streams.{Counts, IsAllRead, Moves}
+use Rattle.session_log.specs.Streams.{Counts, IsAtEndOfInput, Moves}
 
--- the start of the program's session: an AAGUID of sixteen zero bytes, the moment 0, and space for 64 credentials, none
--- of which is there
+-- The start of the program's session: an AAGUID of sixteen zero bytes, time 0, and capacity for 64 credentials,
+-- without any.
 abbrev pub program_start : Start
 program_start = record { aaguid = replicate 16 0; moment = 0; capacity = 64; rows = [] }
 
--- the same, with these credentials
+-- The same, with these credentials.
 abbrev pub start_with : List Row → Start
 start_with rows = record program_start { rows = rows }
 
 abbrev pub Status : Type 0
 Status = Result (Unit {0}) ℕ
 
--- the exit status: 1 is a fault of the log
+-- The exit status: 1 for a fault of the log.
 abbrev pub status_of : {A : Type 0} → Result A LogFault → Status
 status_of (Ok x) = Ok tt
 status_of (Err fault) = Err 1
 
--- an answer without the meters
-abbrev pub unmetered : Result Meters LogFault → Result (Unit {0}) LogFault
-unmetered (Ok meters) = Ok tt
-unmetered (Err fault) = Err fault
+-- A result without the meters.
+abbrev pub without_meters : Result Meters LogFault → Result (Unit {0}) LogFault
+without_meters (Ok meters) = Ok tt
+without_meters (Err fault) = Err fault
 
--- A failure of the source or the target was counted exactly where the fault is one, and without a fault the log was all
--- that the source held. A pair is a source or a target before and after the call.
+-- A failure of the source or the target was counted exactly if the fault is a failed read or write, and without a
+-- fault the whole source was read. A pair is a source or a target before and after the call.
 abbrev pub IsCounted : {A I O : Type 0} → (left : I → Option (List ℕ)) → (unread : I → ℕ) → (ended : I → Bool)
     → (unwritten : O → ℕ) → Result A LogFault → (I × I) → (O × O) → Type 0
 IsCounted left unread ended unwritten answer input output =
     Counts unread input (read_fails (ending_of answer))
     × Counts unwritten output (write_fails (ending_of answer))
-    × OnOk answer (IsAllRead left ended input.1)
+    × OnOk answer (IsAtEndOfInput left ended input.1)
 
--- A log was played in this world from the state s on: this is said of the bytes that were read and the text that was
--- written, and a fault is one of the log: no more of it need be read to find it.
+-- A log was played from state s: the statement holds of the bytes that were read and of the text that was written. A
+-- fault does not depend on the bytes after the faulty line.
 abbrev pub PlaysThrough : {S A I O : Type 0} → World S → S → (List ℕ → List ℕ → Type 0)
     → (left : I → Option (List ℕ)) → (unread : I → ℕ) → (ended : I → Bool) → (taken : O → Option (List ℕ))
     → (unwritten : O → ℕ) → Result A LogFault → (I × I) → (O × O) → Type 0
 PlaysThrough world s Says left unread ended taken unwritten answer input output =
     Moves (left input.0) (left input.1) (taken output.0) (taken output.1) Says
-    × ReadsTo world s (left input.0) (left input.1) (IsAllRead left ended input.1) (ending_of answer)
+    × ReadsTo world s (left input.0) (left input.1) (IsAtEndOfInput left ended input.1) (ending_of answer)
     × IsCounted left unread ended unwritten answer input output
 
--- A log was played in this world from the state x on, which has this history of the session; the session is now at s.
--- The text is what the world says of the log.
+-- A log was played from state x, which has this history of the session; the session is now at s. The text is the one
+-- that the world defines for the log.
 abbrev pub PlaysIn : {S A I O : Type 0} → World S → (S → List Timed) → S → Start
     → (left : I → Option (List ℕ)) → (unread : I → ℕ) → (ended : I → Bool) → (taken : O → Option (List ℕ))
     → (unwritten : O → ℕ)
@@ -61,13 +61,12 @@ abbrev pub PlaysIn : {S A I O : Type 0} → World S → (S → List Timed) → S
 PlaysIn {S} world history_in x start left unread ended taken unwritten answer s input output =
     (later : S) × StandsAfter s start (history_in later)
     × Moves (left input.0) (left input.1) (taken output.0) (taken output.1)
-    (λ bytes text. Makes world x later bytes text (ending_of answer))
-    × ReadsTo world x (left input.0) (left input.1) (IsAllRead left ended input.1) (ending_of answer)
+    (λ bytes text. PlaysWholeLog world x later bytes text (ending_of answer))
+    × ReadsTo world x (left input.0) (left input.1) (IsAtEndOfInput left ended input.1) (ending_of answer)
     × IsCounted left unread ended unwritten answer input output
 
--- A command played a log on a session that was after this history of this start: it replayed the log, alone or with
--- what is needed, compared it with what is sent, or made it quiet.
-abbrev pub PlaysLog : {A I O : Type 0} → LogCommand → Start → List Timed
+-- A command played a log on a session that was after this history of this start: replay, live, check or quiet.
+abbrev pub PlaysLog : {A I O : Type 0} → ReplayMode → Start → List Timed
     → (left : I → Option (List ℕ)) → (unread : I → ℕ) → (ended : I → Bool) → (taken : O → Option (List ℕ))
     → (unwritten : O → ℕ)
     → Result A LogFault → SessionState → (I × I) → (O × O) → Type 0
@@ -76,7 +75,7 @@ PlaysLog Replay start h left unread ended taken unwritten answer s input output 
 PlaysLog Live start h left unread ended taken unwritten answer s input output =
     PlaysIn (live_history start) (λ later. later) h start left unread ended taken unwritten answer s input output
 PlaysLog Check start h left unread ended taken unwritten answer s input output =
-    PlaysIn (check_history start) (λ later. later.session) (begun h) start left unread ended taken unwritten answer s
+    PlaysIn (check_history start) (λ later. later.session) (first_comparison h) start left unread ended taken unwritten answer s
     input output
 PlaysLog Quiet start h left unread ended taken unwritten answer s input output =
     PlaysIn (quiet_history start) (λ later. later) h start left unread ended taken unwritten answer s input output

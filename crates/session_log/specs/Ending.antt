@@ -1,9 +1,9 @@
--- How the playing of a log ends.
+-- How playing a log ends.
 use Rattle.std.specs.Prelude.{ℕ, Bool, true, false, Result, Ok, Err}
 use Rattle.session_log.specs.declared.fault.LogFault.{LogFault, TheVariants.Memory}
 use Rattle.session_log.specs.declared.fault.LogFault.TheVariants.{BadLine, TooLong, Differs, Read, Write, TooManyLines}
 
--- at the log's end, at a faulty line, at a read that failed in this line, or at a write that failed
+-- At the end of the log, at a faulty line, at a read that failed in this line, or at a failed write.
 pub data Ending : Type 0 where
   Done : Ending
   Refused : (fault : LogFault) → Ending
@@ -23,7 +23,7 @@ abbrev pub ending_of : {A : Type 0} → Result A LogFault → Ending
 ending_of (Ok x) = Done
 ending_of (Err fault) = ended_by fault
 
--- whether a read failed, and whether a write did
+-- Whether a read failed, and whether a write failed.
 abbrev pub read_fails : Ending → Bool
 read_fails (Unread n) = true
 read_fails _ = false

@@ -1,4 +1,4 @@
--- The grammar of log lines (docs/use/LOG_FORMAT.md): what it is for a line to spell an input or a comment.
+-- The grammar of log lines (docs/use/LOG_FORMAT.md): when a line is an input, a packet or a comment.
 use Rattle.std.specs.Prelude.{◌≡◌, ℕ, ◌<◌, ◌≤◌, ◌^◌, List, [], ◌++◌, length, codes, decimal, Some, None, Ok, ◌⊎◌}
 use Rattle.hex.specs.Hex.{decode_sized}
 use Rattle.token_session.specs.declared.input.Input.{Input as AnyInput}
@@ -6,12 +6,12 @@ use Rattle.token_session.specs.declared.input.Input.TheVariants.{Packet, Tick, P
 use Rattle.session_log.specs.{declared.line.Line.Line, Words.presence_word, Words.refusal_word}
 use Rattle.session_log.specs.declared.line.Line.TheVariants.{Input, Sent, Comment, Count}
 
--- two hexadecimal digits a byte, in either case
+-- Two hexadecimal digits per byte, in either case.
 abbrev pub IsHexOf : List ℕ → ℕ → List ℕ → Type 0
 IsHexOf digits n bytes = decode_sized digits n ≡ Ok bytes
 
--- a field after the moment: the packet's 64 bytes, the answer in a word, the id of a new key and its coordinates X and
--- Y, of 32 bytes each, a signature of 1 to 72 bytes, or that none is had
+-- The field after the timestamp: a packet of 64 bytes; the word of a user presence reply; a new key's ID and
+-- coordinates X and Y, of 32 bytes each; a signature of 1 to 72 bytes; or `no`.
 abbrev pub SpellsField : List ℕ → AnyInput → Type 0
 SpellsField field (Packet packet) = IsHexOf field 64 packet.0
 SpellsField field Tick = ⊥
@@ -24,7 +24,7 @@ SpellsField field (Signature None) = field ≡ refusal_word
 SpellsField field (Signature (Some bytes)) = IsHexOf field (length bytes) bytes × (1 ≤ length bytes)
     × (length bytes ≤ 72)
 
--- the letter and the space in front of an input's moment
+-- The letter and the space before an input's timestamp.
 abbrev pub front_of : AnyInput → List ℕ
 front_of (Packet packet) = codes "> "
 front_of Tick = codes "t "
@@ -32,13 +32,14 @@ front_of (Presence answer) = codes "p "
 front_of (Key key) = codes "k "
 front_of (Signature signature) = codes "s "
 
--- `t M` is a tick at M, `> M P` a packet; `p M granted`, `k M ID X Y`, `s M S` and their like are the caller's replies
+-- `t M` is a tick at time M, `> M P` a packet; `p M granted`, `k M ID X Y`, `s M S` and the other forms are replies
+-- of the caller.
 abbrev pub SpellsInput : List ℕ → ℕ → AnyInput → Type 0
 SpellsInput line at Tick = line ≡ codes "t " ++ decimal at
 SpellsInput line at input = (field : List ℕ) × (line ≡ front_of input ++ (decimal at ++ (codes " " ++ field)))
     × SpellsField field input
 
--- `< P` is a packet that was sent, `=..` what was counted, `#..` and an empty line are comments
+-- `< P` is a packet that was sent, `=..` the meters; `#..` and an empty line are comments.
 abbrev pub Spells : List ℕ → Line → Type 0
 Spells line (Input timed) = (timed.at < 2 ^ 64) × SpellsInput line timed.at timed.input
 Spells line (Sent packet) = (digits : List ℕ) × (line ≡ codes "< " ++ digits) × IsHexOf digits 64 packet.0

@@ -1,7 +1,7 @@
--- The inputs that the lines of a log say.
+-- The inputs in a log.
 use Rattle.std.specs.Prelude.{ℕ, List, [], ◌∷◌, ◌++◌, Option, Some, None}
 use Rattle.token_session.specs.declared.input.Timed.{Timed}
-use Rattle.session_log.specs.{declared.line.Line.Line, Said.said}
+use Rattle.session_log.specs.{declared.line.Line.Line, Parsed.parsed}
 use Rattle.session_log.specs.declared.line.Line.TheVariants.{Input, Sent, Comment, Count}
 
 abbrev pub inputs_by : Option Line → List Timed
@@ -14,4 +14,4 @@ inputs_by (Some (Input timed)) = timed ∷ []
 -- in order
 abbrev pub inputs : List (List ℕ) → List Timed
 inputs [] = []
-inputs (line ∷ more) = inputs_by (said line) ++ inputs more
+inputs (line ∷ more) = inputs_by (parsed line) ++ inputs more

@@ -1,11 +1,11 @@
--- The first byte of a line says what the line is.
+-- The first byte of a line gives its kind.
 use Rattle.std.specs.Prelude.{ℕ}
 
--- `>`, a packet that the host sends
+-- `>`: a packet from the host.
 abbrev pub host_letter : ℕ
 host_letter = 62
 
--- `<`, a packet that the key sent
+-- `<`: a packet that the key sent.
 abbrev pub key_letter : ℕ
 key_letter = 60
 
@@ -13,7 +13,7 @@ key_letter = 60
 abbrev pub tick_letter : ℕ
 tick_letter = 116
 
--- `p`, a reply to a test of the user's presence
+-- `p`: a user presence reply.
 abbrev pub presence_letter : ℕ
 presence_letter = 112
 
@@ -33,6 +33,6 @@ comment_letter = 35
 abbrev pub count_letter : ℕ
 count_letter = 61
 
--- the space between fields
+-- The space between fields.
 abbrev pub space : ℕ
 space = 32

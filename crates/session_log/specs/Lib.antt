@@ -5,7 +5,7 @@ pub mod Lines
 pub mod Letters
 pub mod Words
 pub mod Grammar
-pub mod Said
+pub mod Parsed
 pub mod Text
 pub mod Needs
 pub mod World

@@ -1,11 +1,11 @@
--- Bytes cut at line feeds.
+-- Splitting bytes into lines at line feeds.
 use Rattle.std.specs.Prelude.{ℕ, ◌==◌, Bool, List, [], ◌∷◌, length, if◌then◌else◌}
 use Rattle.std.specs.List.{slice_split}
 
 abbrev pub is_feed : ℕ → Bool
 is_feed b = b == 10
 
--- what is between the line feeds; the last piece is after the last of them
+-- The pieces between line feeds; the last piece follows the last line feed.
 abbrev pub pieces : List ℕ → List (List ℕ)
 pieces bytes = slice_split is_feed bytes
 
@@ -19,11 +19,11 @@ last_of [] = []
 last_of (x ∷ []) = x
 last_of (x ∷ y ∷ more) = last_of (y ∷ more)
 
--- the lines that a line feed ends
+-- The lines that end with a line feed.
 abbrev pub whole_lines : List ℕ → List (List ℕ)
 whole_lines bytes = all_but_last (pieces bytes)
 
--- what is after the last line feed
+-- The bytes after the last line feed.
 abbrev pub last_piece : List ℕ → List ℕ
 last_piece bytes = last_of (pieces bytes)
 
@@ -32,6 +32,6 @@ lines_of_pieces [] = []
 lines_of_pieces (x ∷ []) = if length x == 0 then [] else x ∷ []
 lines_of_pieces (x ∷ y ∷ more) = x ∷ lines_of_pieces (y ∷ more)
 
--- the lines: the last piece counts where it isn't empty
+-- The lines: the last piece is one if it is not empty.
 abbrev pub lines : List ℕ → List (List ℕ)
 lines bytes = lines_of_pieces (pieces bytes)

@@ -1,40 +1,40 @@
--- What each answer of a call that plays a log means.
+-- The meaning of each result of a call that plays a log.
 use Rattle.std.specs.Prelude.{◌≡◌, ℕ, ◌+◌, ◌<◌, ◌≤◌, ◌^◌, List, [], ◌∷◌, ◌++◌, length, take, Option, Some, None, Result}
 use Rattle.std.specs.{Prelude.IfOk, Prelude.OnOk, Prelude.◌⊎◌, Io.KnownBytes.Consumes, Io.KnownBytes.Keeps}
 use Rattle.token_session.specs.declared.input.Meters.{Meters}
 use Rattle.session_log.specs.declared.fault.LogFault.{LogFault, TheVariants.Memory}
 use Rattle.session_log.specs.declared.fault.LogFault.TheVariants.{BadLine, TooLong, Differs, Read, Write, TooManyLines}
 use Rattle.session_log.specs.Ending.{Ending, Done, Refused, Unread, Unwritten, ending_of}
-use Rattle.session_log.specs.{Lines.lines, Lines.whole_lines, Lines.last_piece, Streams.IsTaken, Streams.IsBroken}
-use Rattle.session_log.specs.Log.{played, playing, log, text_of, last_text, after, fault_by, fault_of}
-use Rattle.session_log.specs.{Said.said, World.World, Sent.SendsPackets, Sent.AllSend}
+use Rattle.session_log.specs.{Lines.lines, Lines.whole_lines, Lines.last_piece, Streams.WritesAll, Streams.WriteFails}
+use Rattle.session_log.specs.Log.{played, play_all, log, text_of, last_text, state_after, fault_by, fault_of}
+use Rattle.session_log.specs.{Parsed.parsed, World.World, Sent.SendsPackets, Sent.AllSend}
 
--- nothing is faulty, and the whole log was written
+-- There is no fault, and the whole log was written.
 pub record IsDone {S : Type 0} (world : World S) (s t : S) (bytes text : List ℕ) : Type 0 where
-  pub faultless : fault_of world (playing world s bytes) ≡ None
+  pub faultless : fault_of world (play_all world s bytes) ≡ None
   pub written : text ≡ log world s bytes
-  pub stands : t ≡ (playing world s bytes).state
+  pub stands : t ≡ (play_all world s bytes).state
 
--- no line is faulty, and all their texts were written
+-- No line is faulty, and all texts were written.
 pub record IsPlayed {S : Type 0} (world : World S) (s t : S) (bytes text : List ℕ) : Type 0 where
   pub sends : AllSend world s (lines bytes)
-  pub faultless : (playing world s bytes).fault ≡ None
-  pub written : text ≡ (playing world s bytes).text
-  pub stands : t ≡ (playing world s bytes).state
+  pub faultless : (play_all world s bytes).fault ≡ None
+  pub written : text ≡ (play_all world s bytes).text
+  pub stands : t ≡ (play_all world s bytes).state
 
--- The same, where nothing is said of what was sent.
+-- The same, without a statement about the packets that were sent.
 pub record AreWritten {S : Type 0} (world : World S) (s t : S) (bytes text : List ℕ) : Type 0 where
-  pub faultless : (playing world s bytes).fault ≡ None
-  pub written : text ≡ (playing world s bytes).text
-  pub stands : t ≡ (playing world s bytes).state
+  pub faultless : (play_all world s bytes).fault ≡ None
+  pub written : text ≡ (play_all world s bytes).text
+  pub stands : t ≡ (play_all world s bytes).state
 
--- this is the first fault, and the texts of the lines before it were written
+-- This is the first fault, and the texts of the lines before it were written.
 pub record IsRefused {S : Type 0} (world : World S) (s t : S) (bytes text : List ℕ) (f : LogFault) : Type 0 where
-  pub faulty : fault_of world (playing world s bytes) ≡ Some f
-  pub written : text ≡ (playing world s bytes).text
-  pub stands : t ≡ (playing world s bytes).state
+  pub faulty : fault_of world (play_all world s bytes) ≡ Some f
+  pub written : text ≡ (play_all world s bytes).text
+  pub stands : t ≡ (play_all world s bytes).state
 
--- reading failed in line n, after whole lines of which none is faulty, and the texts of these were written
+-- Reading failed in line n; no line before it is faulty, and their texts were written.
 pub record IsUnread {S : Type 0} (world : World S) (s t : S) (bytes text : List ℕ) (n : ℕ) : Type 0 where
   pub faultless : (played world 1 s (whole_lines bytes)).fault ≡ None
   pub written : text ≡ (played world 1 s (whole_lines bytes)).text
@@ -43,16 +43,16 @@ pub record IsUnread {S : Type 0} (world : World S) (s t : S) (bytes text : List 
   pub short : length (last_piece bytes) < 256
   pub counted : 2 ^ 32 ≤ n → last_piece bytes ≡ []
 
--- the text that comes next, and the state when it is written
+-- The next text, and the state when it is written.
 abbrev pub next_text : {S : Type 0} → World S → S → List (List ℕ) → List ℕ
 next_text world s [] = last_text world s
 next_text world s (line ∷ more) = text_of world s line
 
 abbrev pub next_state : {S : Type 0} → World S → S → List (List ℕ) → S
 next_state world s [] = s
-next_state world s (line ∷ more) = after world s line
+next_state world s (line ∷ more) = state_after world s line
 
--- the texts of the first lines were written whole, and the next text was not: the state is that after its line
+-- The texts of the first lines were written, and writing the next text failed: the state is that after its line.
 pub record IsUnwritten {S : Type 0} (world : World S) (s t : S) (bytes text : List ℕ) : Type 0 where
   pub first : List (List ℕ)
   pub others : List (List ℕ)
@@ -66,58 +66,58 @@ pub record IsUnwritten {S : Type 0} (world : World S) (s t : S) (bytes text : Li
   pub stands : t ≡ next_state world (played world 1 s first).state others
   pub beginning : (missing : List ℕ) × (log world s bytes ≡ text ++ missing)
 
--- what an ending means, where these bytes were read, this text was written, and the state was s and is t;
--- at the log's end, what is said of it
-abbrev pub Means : {S : Type 0} → World S → S → S → List ℕ → List ℕ → Type 0 → Ending → Type 0
-Means world s t bytes text AtEnd Done = AtEnd
-Means world s t bytes text AtEnd (Refused fault) = IsRefused world s t bytes text fault
-Means world s t bytes text AtEnd (Unread n) = IsUnread world s t bytes text n
-Means world s t bytes text AtEnd Unwritten = IsUnwritten world s t bytes text
+-- The meaning of an ending, if these bytes were read, this text was written, and the state went from s to t; at the
+-- end of the log the given statement holds.
+abbrev pub EndingMeans : {S : Type 0} → World S → S → S → List ℕ → List ℕ → Type 0 → Ending → Type 0
+EndingMeans world s t bytes text AtEnd Done = AtEnd
+EndingMeans world s t bytes text AtEnd (Refused fault) = IsRefused world s t bytes text fault
+EndingMeans world s t bytes text AtEnd (Unread n) = IsUnread world s t bytes text n
+EndingMeans world s t bytes text AtEnd Unwritten = IsUnwritten world s t bytes text
 
--- of lines that are played
+-- The same for lines.
 abbrev pub Plays : {S : Type 0} → World S → S → S → List ℕ → List ℕ → Ending → Type 0
-Plays world s t bytes text ending = Means world s t bytes text (IsPlayed world s t bytes text) ending
+Plays world s t bytes text ending = EndingMeans world s t bytes text (IsPlayed world s t bytes text) ending
 
--- The same, where nothing is said of what was sent.
+-- The same, without a statement about the packets that were sent.
 abbrev pub Writes : {S : Type 0} → World S → S → S → List ℕ → List ℕ → Ending → Type 0
-Writes world s t bytes text ending = Means world s t bytes text (AreWritten world s t bytes text) ending
+Writes world s t bytes text ending = EndingMeans world s t bytes text (AreWritten world s t bytes text) ending
 
 -- of a whole log
-abbrev pub Makes : {S : Type 0} → World S → S → S → List ℕ → List ℕ → Ending → Type 0
-Makes world s t bytes text ending = Means world s t bytes text (IsDone world s t bytes text) ending
+abbrev pub PlaysWholeLog : {S : Type 0} → World S → S → S → List ℕ → List ℕ → Ending → Type 0
+PlaysWholeLog world s t bytes text ending = EndingMeans world s t bytes text (IsDone world s t bytes text) ending
 
--- the same, and at the log's end what is known of the packets that were sent
-abbrev pub MakesSoundly : {S A : Type 0} → World S → S → S → List ℕ → List ℕ → Result A LogFault → Type 0
-MakesSoundly world s t bytes text r = Makes world s t bytes text (ending_of r) × OnOk r (AllSend world s (lines bytes))
+-- The same, and at the end of the log the packets that were sent are well-formed.
+abbrev pub PlaysWholeLogWithMeters : {S A : Type 0} → World S → S → S → List ℕ → List ℕ → Result A LogFault → Type 0
+PlaysWholeLogWithMeters world s t bytes text r = PlaysWholeLog world s t bytes text (ending_of r) × OnOk r (AllSend world s (lines bytes))
 
--- of a whole log, where what was counted is answered at its end
+-- The same for a whole log, which returns the meters at its end.
 abbrev pub Logs : {S : Type 0} → World S → S → S → List ℕ → List ℕ → Result Meters LogFault → Type 0
-Logs world s t bytes text r = Makes world s t bytes text (ending_of r) × IfOk r (λ m. m ≡ world.counts t)
+Logs world s t bytes text r = PlaysWholeLog world s t bytes text (ending_of r) × IfOk r (λ m. m ≡ world.counts t)
 
--- what the playing of one line means: its text was written; or it is faulty, and nothing was; or its text broke off
+-- The meaning of playing one line: its text was written; or it is faulty, and nothing was written; or writing failed.
 abbrev pub PlaysLine : {S F : Type 0} → World S → (F → Option (List ℕ)) → (F → ℕ) → ℕ → S → S → List ℕ → (F × F)
     → Ending → Type 0
 PlaysLine world taken failed n s t line target Done =
-    (fault_by world n s (said line) ≡ None) × (t ≡ after world s line) × SendsPackets world s (said line)
-    × IsTaken taken failed target (text_of world s line)
+    (fault_by world n s (parsed line) ≡ None) × (t ≡ state_after world s line) × SendsPackets world s (parsed line)
+    × WritesAll taken failed target (text_of world s line)
 PlaysLine world taken failed n s t line target (Refused fault) =
-    (fault_by world n s (said line) ≡ Some fault) × (t ≡ s) × Keeps (taken target.0) (taken target.1)
+    (fault_by world n s (parsed line) ≡ Some fault) × (t ≡ s) × Keeps (taken target.0) (taken target.1)
     × (failed target.1 ≡ failed target.0)
 PlaysLine world taken failed n s t line target (Unread m) = ⊥
 PlaysLine world taken failed n s t line target Unwritten =
-    (fault_by world n s (said line) ≡ None) × (t ≡ after world s line)
-    × IsBroken taken failed target (text_of world s line)
+    (fault_by world n s (parsed line) ≡ None) × (t ≡ state_after world s line)
+    × WriteFails taken failed target (text_of world s line)
 
--- what the end of the lines means: the text after them was written; or something is wrong there, and nothing was; or
--- the text broke off
+-- The meaning of the end of the lines: the text after them was written; or there is a fault at the end, and nothing
+-- was written; or writing failed.
 abbrev pub Closes : {S F : Type 0} → World S → (F → Option (List ℕ)) → (F → ℕ) → S → (F × F) → Ending → Type 0
-Closes world taken failed s target Done = (world.lacks s ≡ None) × IsTaken taken failed target (world.ending s)
+Closes world taken failed s target Done = (world.lacks s ≡ None) × WritesAll taken failed target (world.ending s)
 Closes world taken failed s target (Refused fault) =
     (world.lacks s ≡ Some fault) × Keeps (taken target.0) (taken target.1) × (failed target.1 ≡ failed target.0)
 Closes world taken failed s target (Unread n) = ⊥
-Closes world taken failed s target Unwritten = (world.lacks s ≡ None) × IsBroken taken failed target (world.ending s)
+Closes world taken failed s target Unwritten = (world.lacks s ≡ None) × WriteFails taken failed target (world.ending s)
 
--- the faults that a line n has by itself, except for its length and number, or that the writing of its text has
+-- The faults of line n other than those of its length and number, and a failed write of its text.
 abbrev pub IsOfLine : ℕ → LogFault → Type 0
 IsOfLine n (BadLine m) = m ≡ n
 IsOfLine n (TooLong m) = ⊥
@@ -127,8 +127,8 @@ IsOfLine n Write = Unit {0}
 IsOfLine n TooManyLines = ⊥
 IsOfLine n (Memory m) = ⊥
 
--- n - 1 whole lines were read, of which none is faulty, and at most 256 bytes after them
-pub record IsNear {S : Type 0} (world : World S) (s : S) (bytes : List ℕ) (n : ℕ) : Type 0 where
+-- n - 1 complete lines were read, none of which is faulty, and at most 256 bytes after them.
+pub record IsWithinLine {S : Type 0} (world : World S) (s : S) (bytes : List ℕ) (n : ℕ) : Type 0 where
   pub before : List ℕ
   pub front : List ℕ
   pub cut : bytes ≡ before ++ front
@@ -137,27 +137,26 @@ pub record IsNear {S : Type 0} (world : World S) (s : S) (bytes : List ℕ) (n :
   pub count : n ≡ length (whole_lines before) + 1
   pub near : length front ≤ 256
 
--- line n was read whole, and this is the fault of the lines up to it; or what was read was all that there was
+-- Line n was read completely, and this is the fault of the lines up to it; or everything was read.
 abbrev pub IsShown : {S : Type 0} → World S → S → List ℕ → Type 0 → ℕ → LogFault → Type 0
 IsShown world s bytes all n fault =
     ((n ≤ length (whole_lines bytes)) × ((played world 1 s (take n (whole_lines bytes))).fault ≡ Some fault)) ⊎ all
 
--- how far was read to find a fault: a bad line was read whole, or this was all that there was; of a line that is too
--- long just 256 bytes were read; and a difference is shown by a line, as a bad one is, or where none of the lines shows
--- one, by the end of all that there was
+-- How far was read to find a fault: a bad line was read completely, or everything was read; of a line that is too
+-- long exactly 256 bytes were read; a difference is found at a line, like a bad line, or at the end of the log.
 abbrev pub Reaches : {S : Type 0} → World S → S → List ℕ → Type 0 → LogFault → Type 0
-Reaches world s bytes all (BadLine n) = IsNear world s bytes n × IsShown world s bytes all n (BadLine n)
-Reaches world s bytes all (TooLong n) = IsNear world s bytes n × (n ≡ length (whole_lines bytes) + 1)
+Reaches world s bytes all (BadLine n) = IsWithinLine world s bytes n × IsShown world s bytes all n (BadLine n)
+Reaches world s bytes all (TooLong n) = IsWithinLine world s bytes n × (n ≡ length (whole_lines bytes) + 1)
     × (length (last_piece bytes) ≡ 256)
 Reaches world s bytes all (Differs line packet) =
-    ((n : ℕ) × IsNear world s bytes n × IsShown world s bytes all n (Differs line packet))
-    ⊎ (((playing world s bytes).fault ≡ None) × all)
-Reaches world s bytes all TooManyLines = IsNear world s bytes (2 ^ 32)
+    ((n : ℕ) × IsWithinLine world s bytes n × IsShown world s bytes all n (Differs line packet))
+    ⊎ (((play_all world s bytes).fault ≡ None) × all)
+Reaches world s bytes all TooManyLines = IsWithinLine world s bytes (2 ^ 32)
 Reaches world s bytes all (Read n) = ⊥
 Reaches world s bytes all Write = ⊥
 Reaches world s bytes all (Memory n) = ⊥
 
--- the same of an ending
+-- The same for an ending.
 abbrev pub Finds : {S : Type 0} → World S → S → List ℕ → Type 0 → Ending → Type 0
 Finds world s bytes all (Refused fault) = Reaches world s bytes all fault
 Finds world s bytes all _ = Unit {0}
@@ -167,7 +166,7 @@ ReadsTo world s left left' all (Refused fault) = (bytes : List ℕ) × Consumes 
     × Reaches world s bytes all fault
 ReadsTo world s left left' all _ = Unit {0}
 
--- the faults that are found at the end of the lines, or that the writing of the text there has
+-- The faults at the end of the lines, and a failed write of the text there.
 abbrev pub IsOfEnd : LogFault → Type 0
 IsOfEnd (Differs line packet) = Unit {0}
 IsOfEnd Write = Unit {0}

@@ -1,17 +1,17 @@
--- The lines that are written.
+-- The lines of the output.
 use Rattle.std.specs.Prelude.{◌≡◌, ℕ, List, [], ◌∷◌, ◌++◌, length, codes, decimal}
 use Rattle.hex.specs.Hex.{IsBytes, encode_lower}
 use Rattle.token_session.specs.declared.input.Meters.{Meters}
 
--- a line and its line feed
+-- A line and its line feed.
 abbrev pub ended : List ℕ → List ℕ
 ended line = line ++ 10 ∷ []
 
--- the line of a tick, without its line feed
+-- The line of a tick, without its line feed.
 abbrev pub tick_text : ℕ → List ℕ
 tick_text at = codes "t " ++ decimal at
 
--- packets that are sent: 64 bytes each
+-- Packets of 64 bytes each.
 abbrev pub IsPacket : List ℕ → Type 0
 IsPacket packet = (length packet ≡ 64) × IsBytes packet
 
@@ -19,17 +19,17 @@ abbrev pub ArePackets : List (List ℕ) → Type 0
 ArePackets [] = Unit {0}
 ArePackets (packet ∷ more) = IsPacket packet × ArePackets more
 
--- the line of a packet that was sent
+-- The line of a packet that was sent.
 abbrev pub sent_text : List ℕ → List ℕ
 sent_text packet = codes "< " ++ encode_lower packet ++ 10 ∷ []
 
--- the last line of a log
+-- The last line of a log: the meters.
 abbrev pub meters_line : Meters → List ℕ
 meters_line m =
     codes "= held " ++ decimal m.held ++ codes " rows " ++ decimal m.rows ++ codes " pending " ++ decimal m.pending
     ++ codes " requests " ++ decimal m.requests ++ codes " bytes " ++ decimal m.bytes ++ codes " steps "
     ++ decimal m.steps ++ codes "\n"
 
--- the line of what was the same
+-- The line `same I inputs P packets`.
 abbrev pub same_line : (inputs packets : ℕ) → List ℕ
 same_line inputs packets = codes "same " ++ decimal inputs ++ codes " inputs " ++ decimal packets ++ codes " packets\n"

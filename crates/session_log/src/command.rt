@@ -3,25 +3,25 @@ ghost use Rattle.std.specs.Prelude.{◌≡◌, ◌<◌, ◌-◌, ◌^◌, List};
 ghost use Rattle.authn_core.specs.Turn.{Start};
 ghost use Rattle.token_session.specs.declared.input.Timed.{Timed as OneInput};
 ghost use Rattle.token_session.specs.Meters.{StandsAfter};
-ghost use Rattle.session_log.specs.Streams.{Grows};
-ghost use Rattle.session_log.specs.Command.{PlaysLog, unmetered};
+ghost use Rattle.session_log.specs.Streams.{OnlyAppends};
+ghost use Rattle.session_log.specs.Command.{PlaysLog, without_meters};
 
-use crate::checking::check;
+use crate::check_player::check;
 use crate::fault::LogFault;
-use crate::living::live;
-use crate::quieting::quiet;
-use crate::replaying::replay;
+use crate::live_player::live;
+use crate::quiet_player::quiet;
+use crate::replay_player::replay;
 use crate::source::Source;
 use crate::target::{Target, put_all};
 use arrayvec::ArrayVec;
 use std::io::Write;
 use token_session::{Meters, Session};
 
-/// The most credential rows, and the most pending assertions, of the program's session.
+/// Capacity of the program's session: credentials, and pending assertions.
 pub const CAPACITY: usize = 64;
 
-/// Writes the text of a fault and a line feed. A text that can't be written is dropped.
-pub fn tell_fault<E: Target>(faults: &mut E, fault: &LogFault)
+/// Writes an error message and a line feed. A failed write is ignored.
+pub fn write_error<E: Target>(faults: &mut E, fault: &LogFault)
     requires { E.failed faults.old < 2 ^ 64 - 1 }
 {
     let mut text = ArrayVec::<u8, 96>::new();
@@ -30,9 +30,9 @@ pub fn tell_fault<E: Target>(faults: &mut E, fault: &LogFault)
     }
 }
 
-/// Returns the answer without the meters.
+/// Returns the result without the meters.
 fn unmetered(answer: Result<Meters, LogFault>) -> Result<(), LogFault>
-    ensures { result ≡ unmetered answer }
+    ensures { result ≡ without_meters answer }
 {
     match answer {
         Ok(_) => Ok(()),
@@ -42,20 +42,20 @@ fn unmetered(answer: Result<Meters, LogFault>) -> Result<(), LogFault>
 
 /// A command that plays a log on a session.
 #[derive(Clone, Copy, Debug, PartialEq, Eq)]
-pub enum LogCommand {
-    /// Writes the log again, with the packets that the session sends ([`crate::replay`]).
+pub enum ReplayMode {
+    /// Writes the log with the packets that the session sends ([`crate::replay`]).
     Replay,
-    /// The same, and says what the session needs ([`crate::live`]).
+    /// Also writes the replies that the session needs ([`crate::live`]).
     Live,
     /// Compares the log with what the session sends ([`crate::check`]).
     Check,
-    /// Makes the log quiet ([`crate::quiet`]).
+    /// Replaces inputs that the session ignores by ticks ([`crate::quiet`]).
     Quiet,
 }
 
-impl LogCommand {
-    /// Plays the log on the session. It fails where the call of its name does, and leaves what that leaves.
-    // It isn't inlined, so that its 30 kB of the stack aren't taken while a snapshot is loaded.
+impl ReplayMode {
+    /// Runs this command.
+    // Not inlined, so that its 30 kB of stack aren't in use while a snapshot is loaded.
     #[inline(never)]
     pub fn play<S: Source, T: Target, const C: usize>(
         self,
@@ -65,17 +65,17 @@ impl LogCommand {
     ) -> Result<(), LogFault>
         requires reads { S.failed reader.old < 2 ^ 64 - 1 }
         requires writes { T.failed writer.old < 2 ^ 64 - 1 }
-        // It is the log of each history that the session is after that was played.
+        // The same for each history that leads to the session's state.
         ensures plays { (start : Start) (h : List OneInput) → StandsAfter session.old start h
             → PlaysLog self start h S.left S.failed S.ended T.taken T.failed result session.new
             (reader.old, reader.new) (writer.old, writer.new) }
-        ensures grown { Grows (T.taken writer.old) (T.taken writer.new) }
+        ensures grown { OnlyAppends (T.taken writer.old) (T.taken writer.new) }
     {
         match self {
-            LogCommand::Replay => unmetered(replay(reader, writer, session)),
-            LogCommand::Live => unmetered(live(reader, writer, session)),
-            LogCommand::Check => check(reader, writer, session),
-            LogCommand::Quiet => quiet(reader, writer, session),
+            ReplayMode::Replay => unmetered(replay(reader, writer, session)),
+            ReplayMode::Live => unmetered(live(reader, writer, session)),
+            ReplayMode::Check => check(reader, writer, session),
+            ReplayMode::Quiet => quiet(reader, writer, session),
         }
     }
 }

@@ -1,47 +1,47 @@
-//! What can go wrong with a log.
+//! Log errors.
 ghost use Rattle.std.specs.Prelude.{◌≡◌};
 ghost use Rattle.session_log.specs.Numbers.{fault_number};
 
 use thiserror::Error;
 
-/// A read or a write that did not succeed.
+/// A failed read or write.
 #[derive(Clone, Copy, Debug, PartialEq, Eq)]
 pub struct Failed;
 
-/// What ends the work on a log before its end. Lines count from 1.
+/// An error that ends the processing of a log. Lines are counted from 1.
 #[derive(Clone, Copy, Debug, PartialEq, Eq, Error)]
 pub enum LogFault {
-    /// Fault 1: the line is outside the grammar.
+    /// 1: the line doesn't match the grammar.
     #[error("line {0}: not a log line")]
     BadLine(u64),
-    /// Fault 2: the line has more than 255 bytes without its line feed.
+    /// 2: the line is longer than 255 bytes without its line feed.
     #[error("line {0}: longer than 255 bytes")]
     TooLong(u64),
-    /// Fault 3: a packet of the log isn't what the session sent. The line is that of the input that it was sent for, 0
-    /// where there is none; the packets that were sent for it count from 1.
+    /// 3: a packet in the log differs from what the session sent. The line is that of the input, or 0 before the first
+    /// input; packets of an input are counted from 1.
     #[error("line {line}: differs at packet {packet}")]
     Differs {
         /// The input's line.
         line: u64,
-        /// The first packet that differs, is missing or is one too many.
+        /// The first packet that differs, is missing or is superfluous.
         packet: u64,
     },
-    /// Fault 4: the source failed while this line was read.
+    /// 4: reading this line failed.
     #[error("line {0}: reading failed")]
     Read(u64),
-    /// Fault 5: the target failed.
+    /// 5: writing failed.
     #[error("writing failed")]
     Write,
-    /// Fault 6: the log has more than 2^32-1 lines.
+    /// 6: the log has more than 2^32-1 lines.
     #[error("too many lines")]
     TooManyLines,
-    /// Fault 7: there was no memory to show what this line completes.
+    /// 7: out of memory at this line.
     #[error("line {0}: no memory")]
     Memory(u64),
 }
 
 impl LogFault {
-    /// Returns the number of the fault.
+    /// Returns the error's number.
     pub fn number(&self) -> u8
         ensures { result ≡ fault_number self.now }
     {

@@ -1,5 +1,5 @@
-//! Text logs of CTAPHID sessions: lines are read, their inputs are stepped on a session, and each line
-//! is written again with the packets that the session sent for it (docs/use/LOG_FORMAT.md).
+//! Text logs of CTAPHID sessions: reads lines, steps their inputs on a session, and writes each line with the packets
+//! that the session sent for it (docs/use/LOG_FORMAT.md).
 //!
 //! An example, which the gate runs (`crates/page_tests/src/session_log_page.rt`):
 //!
@@ -15,31 +15,31 @@
 //! ```
 #![tactic(auto)]
 
-mod checking;
+mod check_player;
 mod command;
-mod counted;
+mod count_failures;
 mod fault;
-mod hexadecimal;
+mod hex_digits;
 pub mod laws;
 mod line;
-mod lines;
-mod living;
-mod playing;
-mod quieting;
-mod replaying;
+mod line_reader;
+mod line_writer;
+mod live_player;
+mod player;
+mod quiet_player;
+mod replay_player;
 mod source;
 mod target;
-mod text;
 mod window;
 
-pub use checking::check;
-pub use command::{CAPACITY, LogCommand, tell_fault};
+pub use check_player::check;
+pub use command::{CAPACITY, ReplayMode, write_error};
 pub use fault::{Failed, LogFault};
 pub use line::{Line, read_line};
-pub use lines::next_line;
-pub use living::{live, live_lines};
-pub use quieting::quiet;
-pub use replaying::replay;
+pub use line_reader::next_line;
+pub use live_player::{live, play_live_lines};
+pub use quiet_player::quiet;
+pub use replay_player::replay;
 pub use source::{FromRead, SliceIn, Source};
 pub use target::{SliceOut, Target, ToWrite, put_all};
 pub use window::Window;

@@ -1,42 +1,42 @@
-//! What a line says.
+//! Parsing of log lines.
 ghost use Rattle.std.specs.Prelude.{◌≡◌, ◌<◌, ◌≤◌, ◌-◌, ◌/◌, ◌^◌, ◌↔◌, ◌==◌, length, position, slice_index, Option, None, Some, IfSome, IsTrue, MatchOption, SomeIff};
 ghost use Rattle.std.specs.Str.Parse.{AllDigits, digits_value};
 ghost use Rattle.session_log.specs.Letters.{space};
-ghost use Rattle.session_log.specs.Said.{first_field, input_by, input_line, key_of, key_said, moment, presence_said, said, says, sent_line, signature_of, signature_said, tick_line, timed_line};
+ghost use Rattle.session_log.specs.Parsed.{first_field, input_by, input_line, key_of, parsed_new_key, moment, parsed_presence, parsed, line_of_kind, sent_line, signature_of, parsed_signature, tick_line, timed_line};
 
-use crate::hexadecimal::read_bytes;
+use crate::hex_digits::{decode_digits, read_bytes};
 use authn_core::{NewKey, Presence, Signature};
 use hid_packet::Packet;
 use memchr::memchr;
 use token_session::{Input, Timed};
 
-/// What one line of a log says.
+/// A parsed line of a log.
 #[derive(Clone, Copy)]
 pub enum Line {
-    /// `t M`, `> M P`, or a reply of the caller: an input for the session.
+    /// `t M`, `> M P`, or a reply of the caller: an input of the session.
     Input(Timed),
     /// `< P`: a packet that an earlier run sent.
     Sent(Packet),
     /// `#..` or an empty line.
     Comment,
-    /// `=..`: what an earlier run counted.
+    /// `=..`: the counts of an earlier run.
     Count,
 }
 
-/// A line by its front. The fields of an input, and of a packet that was sent, are still to be read.
+/// A line by its first byte. The fields of an input, and of a packet, are not parsed yet.
 #[derive(Clone, Copy)]
 enum LineKind<'a> {
-    /// An input for the session: the letter in front, and the fields after it.
+    /// An input: its letter, and the fields after it.
     Input(u8, &'a [u8]),
     /// A packet that an earlier run sent: its field.
     Sent(&'a [u8]),
     /// `#..` or an empty line.
     Comment,
-    /// `=..`: what an earlier run counted.
+    /// `=..`: the counts of an earlier run.
     Count,
 }
 
-/// Returns the number below 2^64 that decimal digits write, however many zeros are in front.
+/// Returns the number below 2^64 of decimal digits, with any leading zeros.
 fn read_digits(digits: &[u8]) -> Option<u64>
     ensures { SomeIff result (AllDigits 10 digits.now × (digits_value 10 digits.now ≤ 2 ^ 64 - 1))
         (digits_value 10 digits.now) }
@@ -49,14 +49,14 @@ fn read_digits(digits: &[u8]) -> Option<u64>
     Some(number)
 }
 
-/// Returns whether a zero is before other digits.
+/// Returns whether there is a leading zero.
 fn is_padded(digits: &[u8]) -> bool
     ensures { IsTrue result ↔ ((2 ≤ length digits.now) × (slice_index digits.now 0 ≡ 48)) }
 {
     digits.len() > 1 && digits[0] == b'0'
 }
 
-/// Returns the number whose decimal text this is. It has one text: no zero is in front of other digits.
+/// Returns the number of a decimal text without leading zeros.
 fn read_moment(digits: &[u8]) -> Option<u64>
     ensures { result ≡ moment digits.now }
 {
@@ -66,7 +66,7 @@ fn read_moment(digits: &[u8]) -> Option<u64>
     read_digits(digits)
 }
 
-/// Returns where the first space is.
+/// Returns the index of the first space.
 fn first_space(fields: &[u8]) -> Option<usize>
     ensures value { result ≡ position (λ b. b == space) fields.now }
     ensures within { IfSome result (λ end. end < length fields.now) }
@@ -83,9 +83,9 @@ fn split_field(fields: &[u8]) -> Option<(&[u8], &[u8])>
     Some((fields.split_at(end).0, fields.split_at(end + 1).1))
 }
 
-/// Returns the reply that a word says.
+/// Returns the user presence reply of a word.
 fn read_presence(word: &[u8]) -> Option<Input>
-    ensures { result ≡ presence_said word.now }
+    ensures { result ≡ parsed_presence word.now }
 {
     if word == b"granted".as_slice() {
         Some(Input::Presence(Presence::Granted))
@@ -98,7 +98,7 @@ fn read_presence(word: &[u8]) -> Option<Input>
     }
 }
 
-/// Returns the new key pair that the fields of its id and coordinates say.
+/// Returns the key pair of the fields with its ID and coordinates.
 fn read_new_key(fields: &[u8]) -> Option<NewKey>
     ensures { result ≡ key_of fields.now }
 {
@@ -111,9 +111,9 @@ fn read_new_key(fields: &[u8]) -> Option<NewKey>
     })
 }
 
-/// Returns the new key pair, or that there is none.
+/// Returns the key pair, or the refusal.
 fn read_key(field: &[u8]) -> Option<Input>
-    ensures { result ≡ key_said field.now }
+    ensures { result ≡ parsed_new_key field.now }
 {
     if field == b"no".as_slice() {
         return Some(Input::Key(None));
@@ -122,18 +122,16 @@ fn read_key(field: &[u8]) -> Option<Input>
     Some(Input::Key(Some(key)))
 }
 
-/// Returns the signature of as many bytes as there is space for.
+/// Returns the signature in a buffer of its length.
 fn read_into(digits: &[u8], out: &mut [u8]) -> Option<Signature>
     requires { length out.old ≡ length digits.now / 2 }
     ensures { result ≡ signature_of digits.now }
 {
-    match hex::decode_to_slice(digits, out) {
-        Ok(()) => Signature::new(out),
-        Err(_) => None,
-    }
+    decode_digits(digits, out)?;
+    Signature::new(out)
 }
 
-/// Returns the signature that the digits write.
+/// Returns the signature of hexadecimal digits.
 fn read_signature_bytes(digits: &[u8]) -> Option<Signature>
     ensures { result ≡ signature_of digits.now }
 {
@@ -145,9 +143,9 @@ fn read_signature_bytes(digits: &[u8]) -> Option<Signature>
     read_into(digits, &mut bytes[..len])
 }
 
-/// Returns the signature, or that there is none.
+/// Returns the signature, or the refusal.
 fn read_signature(field: &[u8]) -> Option<Input>
-    ensures { result ≡ signature_said field.now }
+    ensures { result ≡ parsed_signature field.now }
 {
     if field == b"no".as_slice() {
         return Some(Input::Signature(None));
@@ -156,7 +154,7 @@ fn read_signature(field: &[u8]) -> Option<Input>
     Some(Input::Signature(Some(signature)))
 }
 
-/// Returns what the field after the moment says, by the letter at the line's front.
+/// Returns the input in the fields after the timestamp, by the line's letter.
 fn read_input(letter: u8, field: &[u8]) -> Option<Input>
     ensures { result ≡ input_by letter field.now }
 {
@@ -169,14 +167,14 @@ fn read_input(letter: u8, field: &[u8]) -> Option<Input>
     }
 }
 
-/// Returns the packet that the field of a `<` line says.
+/// Returns the packet of a `<` line.
 fn read_packet(field: &[u8]) -> Option<Packet>
     ensures { MatchOption result (sent_line field.now ≡ None) (λ packet. sent_line field.now ≡ Some (Line.Sent packet)) }
 {
     Some(Packet(read_bytes(field)?))
 }
 
-/// Returns the moment that the field of a `t` line says.
+/// Returns the timestamp of a `t` line.
 fn read_tick(field: &[u8]) -> Option<Timed>
     ensures { MatchOption result (tick_line field.now ≡ None) (λ timed. tick_line field.now ≡ Some (Line.Input timed)) }
 {
@@ -187,8 +185,8 @@ fn read_tick(field: &[u8]) -> Option<Timed>
     })
 }
 
-/// Returns the input and its moment that the fields of a line with another letter say.
-// It isn't inlined, so that a tick and a comment don't pay for the space of other lines.
+/// Returns the input and timestamp of the fields of another line.
+// Not inlined, so that ticks and comments don't pay for the stack of other lines.
 #[inline(never)]
 fn read_other(letter: u8, fields: &[u8]) -> Option<Timed>
     ensures { MatchOption result (input_line letter fields.now ≡ None)
@@ -200,7 +198,7 @@ fn read_other(letter: u8, fields: &[u8]) -> Option<Timed>
     Some(Timed { at, input })
 }
 
-/// Returns the input and its moment that the fields of a line with this letter say.
+/// Returns the input and timestamp of the fields of a line with this letter.
 fn read_timed(letter: u8, fields: &[u8]) -> Option<Timed>
     ensures { MatchOption result (timed_line letter fields.now ≡ None)
         (λ timed. timed_line letter fields.now ≡ Some (Line.Input timed)) }
@@ -211,9 +209,9 @@ fn read_timed(letter: u8, fields: &[u8]) -> Option<Timed>
     }
 }
 
-/// Returns what kind of line it is, if it begins as a log line does. The line comes without its line feed.
+/// Returns the kind of a line, without its line feed, if it begins as a log line does.
 fn kind_of(line: &[u8]) -> Option<LineKind<'_>>
-    ensures { MatchOption result (said line.now ≡ None) (λ kind. said line.now ≡ says kind) }
+    ensures { MatchOption result (parsed line.now ≡ None) (λ kind. parsed line.now ≡ line_of_kind kind) }
 {
     match line {
         [] | [b'#', ..] => Some(LineKind::Comment),
@@ -224,9 +222,9 @@ fn kind_of(line: &[u8]) -> Option<LineKind<'_>>
     }
 }
 
-/// Returns what the line says, if it is a log line. The line comes without its line feed.
+/// Parses a line, without its line feed, if it is a log line.
 pub fn read_line(line: &[u8]) -> Option<Line>
-    ensures { result ≡ said line.now }
+    ensures { result ≡ parsed line.now }
 {
     match kind_of(line)? {
         LineKind::Input(letter, fields) => Some(Line::Input(read_timed(letter, fields)?)),

@@ -1,25 +1,25 @@
-//! Where the bytes of a log come from.
+//! Sources of a log's bytes.
 ghost use Rattle.std.specs.Prelude.{◌≡◌, ◌<◌, ◌≤◌, ◌+◌, ◌-◌, ◌^◌, [], ◌∷◌, ◌++◌, List, ℕ, Option, Some, length, take, drop, min, is_ok, if◌then◌else◌, ◌||◌, Bool, true, false, Ok, IsTrue, IsOk, IfOk};
 ghost use Rattle.std.specs.Io.KnownBytes.{ReadConsumes};
 ghost use Rattle.session_log.specs.Streams.{gave_nothing};
 
-use crate::counted::Counted;
+use crate::count_failures::CountFailures;
 use crate::fault::Failed;
 use std::io::Read;
 
-/// Where bytes come from.
+/// A source of bytes.
 pub trait Source {
-    /// The bytes that it still holds, where they are known.
+    /// The bytes not yet read, if known.
     ghost left: { Self → Option (List ℕ) };
 
-    /// Whether it yielded nothing into a buffer that had space.
+    /// Whether a read into a non-empty buffer returned 0 bytes.
     ghost ended: { Self → Bool };
 
-    /// How many calls failed.
+    /// Number of failed calls.
     ghost failed: { Self → ℕ };
 
-    /// Writes the next bytes to the front of `out`, and how many these are: 0 into a buffer that has space
-    /// only at its end. After a failure it holds what it held.
+    /// Reads the next bytes to the beginning of `out`, and returns their number: 0 for a non-empty buffer only at the
+    /// end. A failed call reads nothing.
     fn get(&mut self, out: &mut [u8]) -> Result<usize, Failed>
         requires { failed self.old < 2 ^ 64 - 1 }
         ensures bound { IfOk result (λ n. n ≤ length out.new) }
@@ -27,7 +27,7 @@ pub trait Source {
         ensures end { ended self.new ≡ (ended self.old || gave_nothing result (length out.new)) }
         ensures counted { failed self.new ≡ (if is_ok result then failed self.old else failed self.old + 1) };
 
-    /// Returns how many calls failed so far.
+    /// Returns the number of failed calls so far.
     fn failures(&self) -> u64
         ensures { result ≡ failed self.now };
 }
@@ -40,7 +40,7 @@ pub struct SliceIn<'a> {
 }
 
 impl<'a> SliceIn<'a> {
-    /// Returns a source that yields these bytes.
+    /// Creates a source of these bytes.
     pub fn new(bytes: &'a [u8]) -> Self
         ensures left { ⟦<SliceIn<'a> as Source>⟧.left result ≡ Some bytes.now }
         ensures open { ⟦<SliceIn<'a> as Source>⟧.ended result ≡ false }
@@ -67,7 +67,7 @@ impl Source for SliceIn<'_> {
             result out.new }
         ensures end { self.new.ended ≡ (self.old.ended || gave_nothing result (length out.new)) }
         ensures counted { 0 ≡ (if is_ok result then 0 else 0 + 1) }
-        // It yields as much as fits, and writes nothing after that.
+        // Reads as many bytes as fit. The rest of the buffer is unchanged.
         ensures most { result ≡ Ok (min (length self.old.rest.now) (length out.old)) }
         ensures rest { drop (length self.old.rest.now) out.new ≡ drop (length self.old.rest.now) out.old }
     {
@@ -83,22 +83,22 @@ impl Source for SliceIn<'_> {
     }
 }
 
-/// A source over any reader. Each `get` is one read.
+/// A source over any std reader. Each `get` is one read.
 #[derive(Drop)]
 pub struct FromRead<R> {
-    inner: Counted<R>,
+    inner: CountFailures<R>,
     ended: bool,
 }
 
 impl<R: Read> FromRead<R> {
-    /// Returns a source that yields what the reader yields.
+    /// Creates a source over a reader.
     pub fn new(inner: R) -> Self
         ensures left { ⟦<FromRead<R> as Source>⟧.left result ≡ R.remaining inner }
         ensures open { ⟦<FromRead<R> as Source>⟧.ended result ≡ false }
         ensures none { ⟦<FromRead<R> as Source>⟧.failed result ≡ 0 }
     {
         FromRead {
-            inner: Counted::new(inner),
+            inner: CountFailures::new(inner),
             ended: false,
         }
     }

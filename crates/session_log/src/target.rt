@@ -1,22 +1,22 @@
-//! Where the bytes of a log go.
+//! Targets of a log's bytes.
 ghost use Rattle.std.specs.Prelude.{◌≡◌, ◌<◌, ◌≤◌, ◌+◌, ◌-◌, ◌^◌, ◌↔◌, [], ◌∷◌, ◌++◌, List, ℕ, Option, Some, length, take, drop, min, is_ok, if◌then◌else◌, IsErr, IfOk, OnOk, OnErr, MatchResult};
 ghost use Rattle.std.specs.Io.KnownBytes.{Appends, WriteAppends};
-ghost use Rattle.session_log.specs.Streams.{IsBroken, IsTaken, Puts};
+ghost use Rattle.session_log.specs.Streams.{WriteFails, WritesAll, Puts};
 
-use crate::counted::Counted;
+use crate::count_failures::CountFailures;
 use crate::fault::Failed;
 use std::io::Write;
 
-/// Where bytes go.
+/// A target of bytes.
 pub trait Target {
-    /// The bytes that it has taken, where they are known.
+    /// The bytes written so far, if known.
     ghost taken: { Self → Option (List ℕ) };
 
-    /// How many calls failed.
+    /// Number of failed calls.
     ghost failed: { Self → ℕ };
 
-    /// Takes the front of the piece, and returns how many bytes these are: at least one of a piece that is
-    /// not empty. After a failure it has taken what it had.
+    /// Writes the beginning of `piece`, and returns the number of bytes written: at least one if `piece` is not empty.
+    /// A failed call writes nothing.
     fn put(&mut self, piece: &[u8]) -> Result<usize, Failed>
         requires { failed self.old < 2 ^ 64 - 1 }
         ensures bound { IfOk result (λ n. n ≤ length piece.now) }
@@ -24,13 +24,13 @@ pub trait Target {
         ensures bytes { WriteAppends (taken self.old) (taken self.new) result piece.now }
         ensures counted { failed self.new ≡ (if is_ok result then failed self.old else failed self.old + 1) };
 
-    /// Returns how many calls failed so far.
+    /// Returns the number of failed calls so far.
     fn failures(&self) -> u64
         ensures { result ≡ failed self.now };
 }
 
-/// Gives the whole piece to the target, in as many calls as it takes. After a failure the target took the
-/// front of the piece, and not all of it; nothing is tried again.
+/// Writes the whole piece, in as many calls as needed. On failure, only a part of the piece was written; there is no
+/// retry.
 pub fn put_all<T: Target>(writer: &mut T, piece: &[u8]) -> Result<(), Failed>
     requires { T.failed writer.old < 2 ^ 64 - 1 }
     ensures { Puts T.taken T.failed (writer.old, writer.new) piece.now result }
@@ -45,8 +45,8 @@ pub fn put_all<T: Target>(writer: &mut T, piece: &[u8]) -> Result<(), Failed>
     Ok(())
 }
 
-/// A target over a lent buffer. It takes what fits, and fails exactly at a piece that is not empty where it
-/// is full.
+/// A target over a borrowed buffer. Writes as many bytes as fit, and fails only for a non-empty piece if the buffer is
+/// full.
 #[derive(Drop)]
 pub struct SliceOut<'a> {
     buffer: &'a mut [u8],
@@ -56,7 +56,7 @@ pub struct SliceOut<'a> {
 }
 
 impl<'a> SliceOut<'a> {
-    /// Returns a target that fills this buffer from its front.
+    /// Creates a target that fills this buffer from its beginning.
     pub fn new(buffer: &'a mut [u8]) -> Self
         ensures none { take result.len result.buffer.now ≡ [] }
         ensures same { drop result.len result.buffer.now ≡ buffer.entry.now }
@@ -70,7 +70,7 @@ impl<'a> SliceOut<'a> {
         }
     }
 
-    /// Returns what it took.
+    /// Returns the bytes written.
     pub fn written(&self) -> &[u8]
         ensures { result.now ≡ take self.now.len self.now.buffer.now }
     {
@@ -91,7 +91,7 @@ impl Target for SliceOut<'_> {
             (Some (take self.new.len self.new.buffer.now)) result piece.now }
         ensures counted { self.new.failures
             ≡ (if is_ok result then self.old.failures else self.old.failures + 1) }
-        // It takes what fits, fails where nothing does, and leaves the rest of the buffer as it was.
+        // Writes as many bytes as fit, fails if none do, and leaves the rest of the buffer unchanged.
         ensures most { IfOk result (λ n.
             n ≡ min (length piece.now) (length self.old.buffer.now - self.old.len)) }
         ensures full { IsErr result
@@ -116,21 +116,20 @@ impl Target for SliceOut<'_> {
     }
 }
 
-/// A target over any writer. Each `put` is one write, and a write that takes nothing of a piece that is not
-/// empty is a failure.
+/// A target over any std writer. Each `put` is one write; a write of 0 bytes of a non-empty piece is a failure.
 #[derive(Drop)]
 pub struct ToWrite<W> {
-    inner: Counted<W>,
+    inner: CountFailures<W>,
 }
 
 impl<W: Write> ToWrite<W> {
-    /// Returns a target that hands on to the writer.
+    /// Creates a target over a writer.
     pub fn new(inner: W) -> Self
         ensures taken { ⟦<ToWrite<W> as Target>⟧.taken result ≡ W.contents inner }
         ensures none { ⟦<ToWrite<W> as Target>⟧.failed result ≡ 0 }
     {
         ToWrite {
-            inner: Counted::new(inner),
+            inner: CountFailures::new(inner),
         }
     }
 }

@@ -7,9 +7,9 @@ use Rattle.std.specs.Io.KnownBytes.{Consumes, Appends, Keeps}
 use Rattle.std.proofs.KnownBytes.{Appends-trans, Appends-kept}
 use Rattle.session_log.specs.Ending.{Done, Ending, Refused, Unread, Unwritten, ended_by, ending_of, read_fails}
 use Rattle.session_log.specs.{Ending.write_fails, Replay.ReadsTo}
-use Rattle.session_log.specs.{Lines.lines, Said.said, Sent.SendsPackets, Text.ended, declared.line.Line.Line}
+use Rattle.session_log.specs.{Lines.lines, Parsed.parsed, Sent.SendsPackets, Text.ended, declared.line.Line.Line}
 use Rattle.session_log.specs.{Replay.IsRefused, Replay.IsUnread, Replay.IsPlayed, Replay.IsUnwritten}
-use Rattle.session_log.specs.Log.{Played, fault_at, fault_by, log_of, played, prefixed, text_by, text_of}
+use Rattle.session_log.specs.Log.{Played, fault_at, fault_by, log_of, played, with_text_before, text_by, text_of}
 use Rattle.session_log.specs.Window.{HasLine, IsUnfinished, Stops}
 use Rattle.session_log.specs.declared.fault.LogFault.{LogFault, TheVariants.Memory}
 use Rattle.session_log.specs.declared.fault.LogFault.TheVariants.{BadLine, TooLong, Differs, Read, Write, TooManyLines}
@@ -17,11 +17,11 @@ use Rattle.session_log.proofs.Cutting.{last_line, some_line}
 use Rattle.session_log.proofs.{Exits.short_in_front, Exits.stops_at_line, Gathering.in_count, Through.unread}
 use Rattle.session_log.proofs.Through.{Through, lines_are, played_last, played_sound, refused, said_fault, through_line}
 use Rattle.session_log.proofs.Through.{too_long, too_many, unwritten}
-use Rattle.session_show.specs.Shown.{AreTold, IsShownText, Says, Shows, ShowsLine, TellsEnd, TellsLine, Told}
-use Rattle.session_show.specs.Shown.{failures_of, reading, shown_in, unknown}
-use Rattle.session_show.specs.declared.wording.Wording.{TheVariants.Fixed, TheVariants.Explained}
-use Rattle.session_show.specs.declared.log_writer.LogForm.{LogForm, TheVariants.Text, TheVariants.Page}
-use Rattle.session_show.specs.declared.log_writer.LogForm.TheVariants.{Table, Summary, Objects}
+use Rattle.session_show.specs.Shown.{AreShownBy, IsShownText, LineTextRule, Shows, ShowsLine, WritesEnd, WritesLine, ShownLine}
+use Rattle.session_show.specs.Shown.{failures_of, read_only_world, shown_in, unknown}
+use Rattle.session_show.specs.declared.detail.Detail.{TheVariants.Fixed, TheVariants.Explained}
+use Rattle.session_show.specs.declared.log_writer.OutputFormat.{OutputFormat, TheVariants.Text, TheVariants.Page}
+use Rattle.session_show.specs.declared.log_writer.OutputFormat.TheVariants.{Table, Summary, Objects}
 
 -- a fault that was passed on
 pub as_err : {A : Type 0} (r : Result A LogFault) (e : LogFault) (P : Ending → Type 0) → r ≡ Err e → P (ended_by e)
@@ -29,37 +29,37 @@ pub as_err : {A : Type 0} (r : Result A LogFault) (e : LogFault) (P : Ending →
 as_err {A} r e P is h = rw is h
 
 -- no line was shown
-pub told_none : (shows : Says) → (t : IsShownText shows [] []) × (1 ≡ length t.told + 1)
+pub told_none : (shows : LineTextRule) → (t : IsShownText shows [] []) × (1 ≡ length t.told + 1)
 told_none shows = (record { told = []; lines_are = refl; text_is = refl; each = tt }, refl)
 
-one_told : (shows : Says) (m n : ℕ) (told : List Told) (t : Told) → n ≡ m + length told →
-    AreTold shows m told → shows n (Some t.line) t.text → AreTold shows m (told ++ t ∷ [])
+one_told : (shows : LineTextRule) (m n : ℕ) (told : List ShownLine) (t : ShownLine) → n ≡ m + length told →
+    AreShownBy shows m told → shows n (Some t.line) t.text → AreShownBy shows m (told ++ t ∷ [])
 one_told shows m n [] t is all one = (subst (λ (k : ℕ). shows k (Some t.line) t.text) (omega (arith, is)) one, tt)
 one_told shows m n (first ∷ more) t is all one = (all.0, one_told shows (m + 1) n more t (omega (arith, is)) all.1 one)
 
 -- the text of a line that isn't faulty is the line
-line_itself : (n : ℕ) (line : List ℕ) (o : Option Line) → fault_by reading n tt o ≡ None →
-    text_by reading tt line o ≡ ended line
+line_itself : (n : ℕ) (line : List ℕ) (o : Option Line) → fault_by read_only_world n tt o ≡ None →
+    text_by read_only_world tt line o ≡ ended line
 line_itself n line None sound = cc
 line_itself n line (Some l) sound = refl
 
 -- one more line was shown
-pub told_line : (shows : Says) (shown text line piece : List ℕ) (n : ℕ) (t : IsShownText shows
-    shown text) → n ≡ length t.told + 1 → fault_by reading n tt (said line) ≡ None → shows n (Some line) piece
-    → (u : IsShownText shows (shown ++ text_of reading tt line) (text ++ piece)) × (n + 1 ≡ length u.told + 1)
+pub told_line : (shows : LineTextRule) (shown text line piece : List ℕ) (n : ℕ) (t : IsShownText shows
+    shown text) → n ≡ length t.told + 1 → fault_by read_only_world n tt (parsed line) ≡ None → shows n (Some line) piece
+    → (u : IsShownText shows (shown ++ text_of read_only_world tt line) (text ++ piece)) × (n + 1 ≡ length u.told + 1)
 told_line shows shown text line piece n t count sound one =
-    let last : Told = record { line = line; text = piece } in (
+    let last : ShownLine = record { line = line; text = piece } in (
       record {
         told = t.told ++ last ∷ [];
         lines_are =
-            ap (λ (l : List ℕ). l ++ text_of reading tt line) t.lines_are
-            ∙ ap (λ (l : List ℕ). flat_map (λ (u : Told). ended u.line) t.told ++ l)
-            (line_itself n line (said line) sound ∙ sym (append-nil (ended line)))
-            ∙ sym (flat_map-append (λ (u : Told). ended u.line) t.told (last ∷ []));
+            ap (λ (l : List ℕ). l ++ text_of read_only_world tt line) t.lines_are
+            ∙ ap (λ (l : List ℕ). flat_map (λ (u : ShownLine). ended u.line) t.told ++ l)
+            (line_itself n line (parsed line) sound ∙ sym (append-nil (ended line)))
+            ∙ sym (flat_map-append (λ (u : ShownLine). ended u.line) t.told (last ∷ []));
         text_is =
             ap (λ (l : List ℕ). l ++ piece) t.text_is
-            ∙ ap (λ (l : List ℕ). flat_map (λ (u : Told). u.text) t.told ++ l) (sym (append-nil piece))
-            ∙ sym (flat_map-append (λ (u : Told). u.text) t.told (last ∷ []));
+            ∙ ap (λ (l : List ℕ). flat_map (λ (u : ShownLine). u.text) t.told ++ l) (sym (append-nil piece))
+            ∙ sym (flat_map-append (λ (u : ShownLine). u.text) t.told (last ∷ []));
         each = one_told shows 1 n t.told last (omega (arith, count)) t.each one;
       },
       omega (arith, count, length-append t.told (last ∷ [])),
@@ -67,50 +67,50 @@ told_line shows shown text line piece n t count sound one =
 
 -- the line in front was shown
 pub shown_on : (left left' : Option (List ℕ)) (read shown w rest line : List ℕ) (n end : ℕ) →
-    Consumes left left' (read ++ w) → Through reading tt read shown tt n → HasLine n w end → line ≡ take end w
-    → rest ≡ drop (end + 1) w → fault_by reading n tt (said line) ≡ None → SendsPackets reading tt (said line)
+    Consumes left left' (read ++ w) → Through read_only_world tt read shown tt n → HasLine n w end → line ≡ take end w
+    → rest ≡ drop (end + 1) w → fault_by read_only_world n tt (parsed line) ≡ None → SendsPackets read_only_world tt (parsed line)
     → Consumes left left' ((read ++ take (end + 1) w) ++ rest)
-    × Through reading tt (read ++ take (end + 1) w) (shown ++ text_of reading tt line) tt (n + 1)
+    × Through read_only_world tt (read ++ take (end + 1) w) (shown ++ text_of read_only_world tt line) tt (n + 1)
 shown_on left left' read shown w rest line n end p through has is_line is_rest sound packets =
     let front = take (end + 1) w in
     let whole : read ++ w ≡ (read ++ front) ++ rest =
     ap (λ (l : List ℕ). read ++ l) (sym (take-append-drop (end + 1) w))
     ∙ sym (append_assoc read front (drop (end + 1) w)) ∙ ap (λ (l : List ℕ). (read ++ front) ++ l) (sym is_rest) in
-    let faultless = said_fault reading n tt line has.counted
+    let faultless = said_fault read_only_world n tt line has.counted
     (omega (arith, ap length is_line, short_in_front w n end has)) ∙ sound in (
       subst (Consumes left left') whole p,
-      subst (λ (l : List ℕ). Through reading tt (read ++ front) (shown ++ text_of reading tt l) tt (n + 1))
+      subst (λ (l : List ℕ). Through read_only_world tt (read ++ front) (shown ++ text_of read_only_world tt l) tt (n + 1))
           (sym is_line)
-          (through_line through w end has.feed (subst (λ (l : List ℕ). fault_at reading n tt l ≡ None) is_line
+          (through_line through w end has.feed (subst (λ (l : List ℕ). fault_at read_only_world n tt l ≡ None) is_line
           faultless)
-          (subst (λ (l : List ℕ). SendsPackets reading tt (said l)) is_line packets)),
+          (subst (λ (l : List ℕ). SendsPackets read_only_world tt (parsed l)) is_line packets)),
     )
 
 -- no line could be read
-pub told_to_read : (shows : Says) (left left' start taken : Option (List ℕ))
+pub told_to_read : (shows : LineTextRule) (left left' start taken : Option (List ℕ))
     (read shown text w : List ℕ) (n : ℕ) (e : LogFault)
-    → Consumes left left' (read ++ w) → Through reading tt read shown tt n → Appends start taken text →
+    → Consumes left left' (read ++ w) → Through read_only_world tt read shown tt n → Appends start taken text →
     IsShownText shows shown text → Stops n w e → Shows shows (left, left') (start, taken) (ended_by e)
 told_to_read shows left left' start taken read shown text w n TooManyLines p through q told h =
     let some = some_line w h.1 in
-    (read ++ w, text, p, q, (shown, refused through w some.0 some.1 TooManyLines some.2 (too_many reading n tt some.0 h.0), told))
+    (read ++ w, text, p, q, (shown, refused through w some.0 some.1 TooManyLines some.2 (too_many read_only_world n tt some.0 h.0), told))
 told_to_read shows left left' start taken read shown text w n (TooLong k) p through q told h =
     let long : 256 ≤ length w = omega (arith, h.3) in
-    let is = refused through w w [] (TooLong n) (last_line w h.2 (omega arith)) (too_long reading n tt w h.1 long) in
-    (read ++ w, text, p, q, (shown, subst (λ (k : ℕ). IsRefused reading tt tt (read ++ w) shown (TooLong k)) (sym h.0) is, told))
+    let is = refused through w w [] (TooLong n) (last_line w h.2 (omega arith)) (too_long read_only_world n tt w h.1 long) in
+    (read ++ w, text, p, q, (shown, subst (λ (k : ℕ). IsRefused read_only_world tt tt (read ++ w) shown (TooLong k)) (sym h.0) is, told))
 told_to_read shows left left' start taken read shown text w n (Read k) p through q told h =
-    (read ++ w, text, p, q, (shown, subst (λ (k : ℕ). IsUnread reading tt tt (read ++ w) shown k) (sym h.0) (unread through w h.1), told))
+    (read ++ w, text, p, q, (shown, subst (λ (k : ℕ). IsUnread read_only_world tt tt (read ++ w) shown k) (sym h.0) (unread through w h.1), told))
 told_to_read shows left left' start taken read shown text w n (BadLine k) p through q told h = absurd h
 told_to_read shows left left' start taken read shown text w n (Differs l k) p through q told h = absurd h
 told_to_read shows left left' start taken read shown text w n (Memory k) p through q told h = absurd h
 told_to_read shows left left' start taken read shown text w n Write p through q told h = absurd h
 
 -- a line was faulty, and nothing was written for it
-told_to_fault : (shows : Says) (left left' start taken taken' : Option (List ℕ))
+told_to_fault : (shows : LineTextRule) (left left' start taken taken' : Option (List ℕ))
     (read shown text w line : List ℕ) (more : List (List ℕ)) (n : ℕ) (fault : LogFault)
-    → Consumes left left' (read ++ w) → Through reading tt read shown tt n → Appends start taken text →
+    → Consumes left left' (read ++ w) → Through read_only_world tt read shown tt n → Appends start taken text →
     IsShownText shows shown text → lines w ≡ line ∷ more → length line < 256 → n < 2 ^ 32
-    → fault_by reading n tt (said line) ≡ Some fault → Keeps taken taken' →
+    → fault_by read_only_world n tt (parsed line) ≡ Some fault → Keeps taken taken' →
     Shows shows (left, left') (start, taken') (Refused fault)
 told_to_fault shows left left' start taken taken' read shown text w line more n fault p through q told first short few
     bad kept = (
@@ -118,15 +118,15 @@ told_to_fault shows left left' start taken taken' read shown text w line more n 
       text,
       p,
       Appends-kept start taken taken' text q kept,
-      (shown, refused through w line more fault first (said_fault reading n tt line few short ∙ bad), told),
+      (shown, refused through w line more fault first (said_fault read_only_world n tt line few short ∙ bad), told),
     )
 
 -- a line was faulty, or its text broke off
-pub told_to_line : (shows : Says) (left left' start taken taken' : Option (List ℕ))
+pub told_to_line : (shows : LineTextRule) (left left' start taken taken' : Option (List ℕ))
     (failures : ℕ × ℕ) (read shown text w line : List ℕ) (more : List (List ℕ)) (n : ℕ) (e : LogFault)
-    → Consumes left left' (read ++ w) → Through reading tt read shown tt n → Appends start taken text →
+    → Consumes left left' (read ++ w) → Through read_only_world tt read shown tt n → Appends start taken text →
     IsShownText shows shown text → lines w ≡ line ∷ more → length line < 256 → n < 2 ^ 32
-    → ShowsLine n line failures (ended_by e) → TellsLine shows n line (taken, taken') (ended_by e) →
+    → ShowsLine n line failures (ended_by e) → WritesLine shows n line (taken, taken') (ended_by e) →
     Shows shows (left, left') (start, taken') (ended_by e)
 told_to_line shows left left' start taken taken' failures read shown text w line more n (BadLine k) p through q told
     first short few h tells =
@@ -157,11 +157,11 @@ told_to_line shows left left' start taken taken' failures read shown text w line
     short few h tells = absurd h
 
 -- behind the last line, which is line n: the text there was written, or broke off
-pub told_behind : {F : Type 0} (shows : Says) (taken : F → Option (List ℕ)) (failed : F → ℕ)
+pub told_behind : {F : Type 0} (shows : LineTextRule) (taken : F → Option (List ℕ)) (failed : F → ℕ)
     (r : Result (Unit {0}) LogFault) (left left' start : Option (List ℕ)) (target : F × F) (bytes shown text : List ℕ)
-    (n : ℕ) → Consumes left left' bytes → IsPlayed reading tt tt bytes shown → Appends start (taken target.0) text →
+    (n : ℕ) → Consumes left left' bytes → IsPlayed read_only_world tt tt bytes shown → Appends start (taken target.0) text →
     (t : IsShownText shows shown text) → n ≡ length t.told
-    → ((front : List ℕ) × IsUnwritten reading tt tt bytes front) → TellsEnd shows taken failed n target (ending_of r) →
+    → ((front : List ℕ) × IsUnwritten read_only_world tt tt bytes front) → WritesEnd shows taken failed n target (ending_of r) →
     Shows shows (left, left') (start, taken target.1) (ending_of r)
 told_behind shows taken failed (Ok x) left left' start target bytes shown text n p played q told count off tells = (
   bytes,
@@ -205,21 +205,21 @@ some_ended : (line : List ℕ) → 0 < length (ended line)
 some_ended line = omega (arith, length-append line (10 ∷ []))
 
 -- the last piece was shown
-pub told_last : (shows : Says) (read shown text w piece : List ℕ) (n : ℕ) → Through reading tt read shown tt n
+pub told_last : (shows : LineTextRule) (read shown text w piece : List ℕ) (n : ℕ) → Through read_only_world tt read shown tt n
     → (t : IsShownText shows shown text) → n ≡ length t.told + 1 → IsUnfinished n w → 0 < length w
-    → fault_by reading n tt (said w) ≡ None → SendsPackets reading tt (said w) → shows n (Some w) piece
-    → IsPlayed reading tt tt (read ++ w) (shown ++ text_of reading tt w)
-    × ((u : IsShownText shows (shown ++ text_of reading tt w) (text ++ piece)) × (n ≡ length u.told))
-    × ((front : List ℕ) × IsUnwritten reading tt tt (read ++ w) front)
+    → fault_by read_only_world n tt (parsed w) ≡ None → SendsPackets read_only_world tt (parsed w) → shows n (Some w) piece
+    → IsPlayed read_only_world tt tt (read ++ w) (shown ++ text_of read_only_world tt w)
+    × ((u : IsShownText shows (shown ++ text_of read_only_world tt w) (text ++ piece)) × (n ≡ length u.told))
+    × ((front : List ℕ) × IsUnwritten read_only_world tt tt (read ++ w) front)
 told_last shows read shown text w piece n through told count u some sound packets one =
-    let faultless = said_fault reading n tt w (in_count n w u.counted some) u.short ∙ sound in
+    let faultless = said_fault read_only_world n tt w (in_count n w u.counted some) u.short ∙ sound in
     let more = told_line shows shown text w piece n told count sound one in (
       played_last through w (last_line w u.no_feed some) faultless packets,
       (more.0, omega (arith, more.1)),
       (
         shown ++ [],
         unwritten through w w [] [] (ended w) (last_line w u.no_feed some) faultless
-            (line_itself n w (said w) sound) (some_ended w),
+            (line_itself n w (parsed w) sound) (some_ended w),
       ),
     )
 
@@ -230,45 +230,45 @@ is_sound : (o : Option LogFault) (rest : Played (Unit {0}))
 is_sound None rest h = refl
 is_sound (Some f) rest h = cc h
 
-first_sound : (n : ℕ) (line : List ℕ) (more : List (List ℕ)) → (played reading n tt (line ∷ more)).fault ≡ None →
-    fault_at reading n tt line ≡ None
+first_sound : (n : ℕ) (line : List ℕ) (more : List (List ℕ)) → (played read_only_world n tt (line ∷ more)).fault ≡ None →
+    fault_at read_only_world n tt line ≡ None
 first_sound n line more h =
-    is_sound (fault_at reading n tt line) (prefixed (text_of reading tt line) (played reading (n + 1) tt more)) h
+    is_sound (fault_at read_only_world n tt line) (with_text_before (text_of read_only_world tt line) (played read_only_world (n + 1) tt more)) h
 
-is_said : (many long : Bool) (n : ℕ) (o : Option LogFault)
+is_parsed : (many long : Bool) (n : ℕ) (o : Option LogFault)
     → cond many (Some TooManyLines) (cond long (Some (TooLong n)) o) ≡ None → o ≡ None
-is_said true long n o h = cc h
-is_said false true n o h = cc h
-is_said false false n o h = h
+is_parsed true long n o h = cc h
+is_parsed false true n o h = cc h
+is_parsed false false n o h = h
 
-said_sound : (n : ℕ) (line : List ℕ) → fault_at reading n tt line ≡ None → fault_by reading n tt (said line) ≡ None
-said_sound n line h =
-    is_said (nat_le (2 ^ 32) n) (nat_lt 255 (length line)) n (fault_by reading n tt (said line)) h
+parsed_sound : (n : ℕ) (line : List ℕ) → fault_at read_only_world n tt line ≡ None → fault_by read_only_world n tt (parsed line) ≡ None
+parsed_sound n line h =
+    is_parsed (nat_le (2 ^ 32) n) (nat_lt 255 (length line)) n (fault_by read_only_world n tt (parsed line)) h
 
 -- what lines come to, and those before the last one
 played_front : (n : ℕ) (front : List (List ℕ)) (line : List ℕ)
-    → (played reading n tt (front ++ line ∷ [])).fault ≡ None
-    → ((played reading n tt front).fault ≡ None)
-    × ((m : ℕ) × (fault_by reading m tt (said line) ≡ None))
-    × ((played reading n tt (front ++ line ∷ [])).text ≡ (played reading n tt front).text ++ text_of reading tt line)
+    → (played read_only_world n tt (front ++ line ∷ [])).fault ≡ None
+    → ((played read_only_world n tt front).fault ≡ None)
+    × ((m : ℕ) × (fault_by read_only_world m tt (parsed line) ≡ None))
+    × ((played read_only_world n tt (front ++ line ∷ [])).text ≡ (played read_only_world n tt front).text ++ text_of read_only_world tt line)
 played_front n [] line h =
     let sound = first_sound n line [] h in (
       refl,
-      (n, said_sound n line sound),
-      ap (λ (p : Played (Unit {0})). p.text) (played_sound reading n tt line [] sound)
-          ∙ append-nil (text_of reading tt line),
+      (n, parsed_sound n line sound),
+      ap (λ (p : Played (Unit {0})). p.text) (played_sound read_only_world n tt line [] sound)
+          ∙ append-nil (text_of read_only_world tt line),
     )
 played_front n (x ∷ xs) line h =
     let sound = first_sound n x (xs ++ line ∷ []) h in
-    let all = played_sound reading n tt x (xs ++ line ∷ []) sound in
-    let front = played_sound reading n tt x xs sound in
+    let all = played_sound read_only_world n tt x (xs ++ line ∷ []) sound in
+    let front = played_sound read_only_world n tt x xs sound in
     let more = played_front (n + 1) xs line (sym (ap (λ (p : Played (Unit {0})). p.fault) all) ∙ h) in (
       ap (λ (p : Played (Unit {0})). p.fault) front ∙ more.0,
       more.1,
       ap (λ (p : Played (Unit {0})). p.text) all
-          ∙ ap (λ (l : List ℕ). text_of reading tt x ++ l) more.2
-          ∙ sym (append_assoc (text_of reading tt x) (played reading (n + 1) tt xs).text (text_of reading tt line))
-          ∙ ap (λ (p : Played (Unit {0})). p.text ++ text_of reading tt line) (sym front),
+          ∙ ap (λ (l : List ℕ). text_of read_only_world tt x ++ l) more.2
+          ∙ sym (append_assoc (text_of read_only_world tt x) (played read_only_world (n + 1) tt xs).text (text_of read_only_world tt line))
+          ∙ ap (λ (p : Played (Unit {0})). p.text ++ text_of read_only_world tt line) (sym front),
     )
 
 last_of : (x : List ℕ) (xs : List (List ℕ)) →
@@ -283,16 +283,16 @@ some_last [] some = absurd (omega (arith, some))
 some_last (x ∷ xs) some = last_of x xs
 
 -- of whole lines that were shown the last one's text may have broken off
-pub unwritten_back : {read shown : List ℕ} {n : ℕ} → Through reading tt read shown tt n → 1 < n →
-    (front : List ℕ) × IsUnwritten reading tt tt (read ++ []) front
+pub unwritten_back : {read shown : List ℕ} {n : ℕ} → Through read_only_world tt read shown tt n → 1 < n →
+    (front : List ℕ) × IsUnwritten read_only_world tt tt (read ++ []) front
 unwritten_back {read} {shown} {n} t more =
     let split = some_last t.done (omega (arith, t.count, more)) in
-    let all : played reading 1 tt (split.0 ++ split.1 ∷ []) ≡ prefixed shown (played reading n tt []) =
-    ap (played reading 1 tt) (sym split.2 ∙ sym (append-nil t.done)) ∙ t.plays [] in
+    let all : played read_only_world 1 tt (split.0 ++ split.1 ∷ []) ≡ with_text_before shown (played read_only_world n tt []) =
+    ap (played read_only_world 1 tt) (sym split.2 ∙ sym (append-nil t.done)) ∙ t.plays [] in
     let found = played_front 1 split.0 split.1 (ap (λ (p : Played (Unit {0})). p.fault) all) in
-    let front = (played reading 1 tt split.0).text in
+    let front = (played read_only_world 1 tt split.0).text in
     let are : lines (read ++ []) ≡ split.0 ++ split.1 ∷ [] = lines_are t [] ∙ append-nil t.done ∙ split.2 in
-    let itself = line_itself found.1.0 split.1 (said split.1) found.1.1 in (
+    let itself = line_itself found.1.0 split.1 (parsed split.1) found.1.1 in (
       front ++ [],
       record {
         first = split.0;
@@ -307,8 +307,8 @@ unwritten_back {read} {shown} {n} t more =
         stands = refl;
         beginning = (
           ended split.1,
-          ap (λ (l : List (List ℕ)). log_of reading (played reading 1 tt l)) are
-              ∙ ap (log_of reading) all
+          ap (λ (l : List (List ℕ)). log_of read_only_world (played read_only_world 1 tt l)) are
+              ∙ ap (log_of read_only_world) all
               ∙ append-nil (shown ++ [])
               ∙ sym (ap (λ (p : Played (Unit {0})). p.text) all)
               ∙ found.2
@@ -319,7 +319,7 @@ unwritten_back {read} {shown} {n} t more =
     )
 
 -- in each form there may be nothing behind the last line
-pub behind_nothing : (form : LogForm) (n : ℕ) → shown_in form n None []
+pub behind_nothing : (format : OutputFormat) (n : ℕ) → shown_in format n None []
 behind_nothing (Text Fixed) n = refl
 behind_nothing (Text Explained) n = inl refl
 behind_nothing Page n = refl
@@ -328,21 +328,21 @@ behind_nothing Summary n = tt
 behind_nothing Objects n = tt
 
 -- of the end of what is shown: no read failed, and no line was faulty
-module _ {F : Type 0} (shows : Says) (taken : F → Option (List ℕ)) (failed : F → ℕ) (n : ℕ) (target : F × F) where
-  pub behind_reach : (q : Ending) (a b : Option (List ℕ)) (all : Type 0) → TellsEnd shows taken failed n target q →
-      ReadsTo reading tt a b all q
+module _ {F : Type 0} (shows : LineTextRule) (taken : F → Option (List ℕ)) (failed : F → ℕ) (n : ℕ) (target : F × F) where
+  pub behind_reach : (q : Ending) (a b : Option (List ℕ)) (all : Type 0) → WritesEnd shows taken failed n target q →
+      ReadsTo read_only_world tt a b all q
   behind_reach Done a b all h = tt
   behind_reach (Refused fault) a b all h = absurd h
   behind_reach (Unread m) a b all h = tt
   behind_reach Unwritten a b all h = tt
 
-  pub behind_reads : (q : Ending) → TellsEnd shows taken failed n target q → read_fails q ≡ false
+  pub behind_reads : (q : Ending) → WritesEnd shows taken failed n target q → read_fails q ≡ false
   behind_reads Done h = refl
   behind_reads (Refused fault) h = refl
   behind_reads (Unread m) h = absurd h
   behind_reads Unwritten h = refl
 
-  pub behind_writes : (q : Ending) → TellsEnd shows taken failed n target q → failed target.1
+  pub behind_writes : (q : Ending) → WritesEnd shows taken failed n target q → failed target.1
       ≡ cond (write_fails q) (failed target.0 + 1) (failed target.0)
   behind_writes Done h = h.1.1
   behind_writes (Refused fault) h = absurd h

@@ -1,15 +1,15 @@
 //! Why the key refuses a packet or a command, in a sentence for each cause.
-use crate::pen::Pen;
+use crate::text_buf::TextBuf;
 use authn_core::Refusal as Command;
 use ctap_cbor::Fault;
 use ctap_message::RequestFault;
 use hid_assemble::Refusal as Transport;
 use token_session::Cause;
 
-/// A sentence, with the numbers in it.
+/// A sentence and the numbers in it.
 type Sentence = (&'static [u8], [Option<u64>; 2]);
 
-/// Returns the sentence of a sentence's words, and of its numbers.
+/// Returns a sentence with its numbers.
 fn says(words: &'static [u8], first: Option<u64>, second: Option<u64>) -> Sentence {
     (words, [first, second])
 }
@@ -32,17 +32,17 @@ fn of_transport(why: Transport) -> Sentence {
             Some(u64::from(len)),
         ),
         Transport::WrongNumber { came, due } => says(
-            b"expected continuation packet +%d, got +%d",
+            b"expected sequence number %d, got %d",
             Some(u64::from(due)),
             Some(u64::from(came)),
         ),
         Transport::BrokenOff { due } => says(
-            b"a new message began before the open one on its channel was complete: expected packet +%d",
+            b"a new message began before the open one on its channel was complete: expected continuation packet %d",
             Some(u64::from(due)),
             None,
         ),
         Transport::Overdue { last, at } => says(
-            b"the message timed out: its last packet came at %d, 500 ms or more before %d",
+            b"the message timed out: its last packet came at %d ms, 500 ms or more before %d ms",
             Some(last),
             Some(at),
         ),
@@ -70,7 +70,7 @@ fn of_transport(why: Transport) -> Sentence {
     }
 }
 
-/// Returns a parameter as the number that a form's name is asked for by.
+/// Returns the number that `%p` takes for a parameter.
 fn parameter_number(command: u8, parameter: u8) -> Option<u64> {
     Some(u64::from(u16::from_be_bytes([command, parameter])))
 }
@@ -156,7 +156,7 @@ fn of_request(fault: RequestFault) -> Sentence {
 
 fn of_command(why: Command) -> Sentence {
     match why {
-        // A session names the check instead (Cause::Request).
+        // A session returns the failed check instead (Cause::Request).
         Command::BadRequest { status } => says(
             b"the request fails a check of its command (status 0x%x)",
             Some(u64::from(status)),
@@ -185,19 +185,23 @@ fn of_command(why: Command) -> Sentence {
             None,
         ),
         Command::CounterSpent => says(b"the signature counter has reached its maximum", None, None),
-        Command::NothingPending => says(b"no assertion is pending", None, None),
+        Command::NothingPending => says(
+            b"no assertion is pending: none was left by an authenticatorGetAssertion before",
+            None,
+            None,
+        ),
         Command::PendingElsewhere { channel } => says(
             b"the pending assertions belong to channel %w",
             Some(u64::from(channel)),
             None,
         ),
         Command::NextTooLate { since, at } => says(
-            b"more than 30 s have passed since the last assertion: it was at %d, this is at %d",
+            b"more than 30 s have passed since the last assertion: it was at %d ms, this is at %d ms",
             Some(since),
             Some(at),
         ),
         Command::ResetTooLate { since, at } => says(
-            b"more than 10 s have passed since power-up: it was at %d, this is at %d",
+            b"more than 10 s have passed since power-up: it was at %d ms, this is at %d ms",
             Some(since),
             Some(at),
         ),
@@ -205,7 +209,7 @@ fn of_command(why: Command) -> Sentence {
 }
 
 /// Writes why the key refuses, as a sentence without a full stop.
-pub fn write_cause(pen: &mut Pen, cause: Cause) {
+pub fn write_cause(buf: &mut TextBuf, cause: Cause) {
     let (words, numbers) = match cause {
         Cause::Transport(why) => of_transport(why),
         Cause::Request(fault) => of_request(fault),
@@ -213,8 +217,8 @@ pub fn write_cause(pen: &mut Pen, cause: Cause) {
     };
     let [first, second] = numbers;
     match (first, second) {
-        (None, _) => pen.form(words, &[]),
-        (Some(_), None) => pen.form(words, &[first]),
-        _ => pen.form(words, &[first, second]),
+        (None, _) => buf.format(words, &[]),
+        (Some(_), None) => buf.format(words, &[first]),
+        _ => buf.format(words, &[first, second]),
     }
 }

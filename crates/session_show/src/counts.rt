@@ -1,99 +1,100 @@
-//! What a session comes to in numbers.
+//! The summary counts of a session.
 
-use crate::pen::Pen;
+use crate::text_buf::TextBuf;
 use session_walk::status::CREDENTIAL_EXCLUDED;
 use session_walk::{End, Entry, Role};
 
-/// How counts are written. In each form the numbers are in the order in which `Counts::write` has them.
-pub struct CountForms {
-    /// The counts of credentials, and of requests that were refused.
+/// Output formats of the counts. Each takes the numbers in the order of `Counts::write`.
+pub struct CountFormats {
+    /// Counts of registrations, assertions and refused requests.
     credentials: &'static [u8],
-    /// A status, and how often it came, for the first one and for others.
+    /// A status and its count, for the first one and for the others.
     statuses: [&'static [u8]; 2],
-    /// The count of messages that were refused.
+    /// Count of ERRORs.
     messages: &'static [u8],
-    /// A code of ERROR, and how often it came, for the first one and for others.
+    /// An ERROR code and its count, for the first one and for the others.
     errors: [&'static [u8]; 2],
-    /// The counts of what was for nothing.
-    strays: &'static [u8],
+    /// Counts of inputs outside any transaction.
+    unexpected: &'static [u8],
 }
 
-/// As lines.
-pub static LINES: CountForms = CountForms {
-    credentials: b"credentials made: %d\ncredentials used: %d\ncredentials excluded: %d\nrequests refused: %d\n",
-    statuses: [b"%-  %s %x: %d\n", b"%-  %s %x: %d\n"],
-    messages: b"messages refused by ERROR: %d\n",
-    errors: [b"%-  %e %x: %d\n", b"%-  %e %x: %d\n"],
-    strays: b"continuation packets of no open message: %d\nCANCELs for which nothing waited: %d\n\
-        replies for which nothing waited: %d\n",
+/// As lines of text.
+pub static LINES: CountFormats = CountFormats {
+    credentials: b"registrations: %d%-\nassertions: %d%-\nregistrations excluded: %d\nrequests refused: %d\n",
+    statuses: [b"%-%-  %s %x: %d\n", b"%-%-  %s %x: %d\n"],
+    messages: b"transport errors: %d%-\n",
+    errors: [b"%-%-  %e %x: %d\n", b"%-%-  %e %x: %d\n"],
+    unexpected: b"unexpected continuation packets: %d%-\nunexpected CANCELs: %d%-\nunexpected replies: %d%-\n",
 };
 
-/// As an object of JSON.
-pub static OBJECT: CountForms = CountForms {
-    credentials: b"{\"kind\":\"summary\",\"credentialsMade\":%d,\"credentialsUsed\":%d,\
-        \"credentialsExcluded\":%d,\"requestsRefused\":%d,\"statuses\":[",
+/// As a JSON object.
+pub static OBJECT: CountFormats = CountFormats {
+    credentials: b"{\"kind\":\"summary\",\"registrations\":%d,\"credentialsMade\":%d,\"assertions\":%d,\
+        \"credentialsUsed\":%d,\"credentialsExcluded\":%d,\"requestsRefused\":%d,\"statuses\":[",
     statuses: [
-        br#"{"times":%d,"status":%d,"statusName":"%S}"#,
-        br#",{"times":%d,"status":%d,"statusName":"%S}"#,
+        br#"{"count":%d,"times":%d,"status":%d,"statusName":"%S}"#,
+        br#",{"count":%d,"times":%d,"status":%d,"statusName":"%S}"#,
     ],
-    messages: br#"],"messagesRefused":%d,"errors":["#,
+    messages: br#"],"transportErrors":%d,"messagesRefused":%d,"errors":["#,
     errors: [
-        br#"{"times":%d,"code":%d,"codeName":"%E}"#,
-        br#",{"times":%d,"code":%d,"codeName":"%E}"#,
+        br#"{"count":%d,"times":%d,"code":%d,"codeName":"%E}"#,
+        br#",{"count":%d,"times":%d,"code":%d,"codeName":"%E}"#,
     ],
-    strays: b"],\"strayContinuations\":%d,\"strayCancels\":%d,\"strayReplies\":%d}\n",
+    unexpected: b"],\"unexpectedContinuations\":%d,\"strayContinuations\":%d,\"unexpectedCancels\":%d,\
+        \"strayCancels\":%d,\"unexpectedReplies\":%d,\"strayReplies\":%d}\n",
 };
 
-/// How often each number came.
+/// A count for each byte value.
 #[derive(Clone, Copy)]
 struct Tally {
     times: [u64; 256],
-    /// How many came.
+    /// Sum of the counts.
     sum: u64,
 }
 
 impl Tally {
-    /// Counts a number.
+    /// Counts one occurrence.
     fn add(&mut self, number: u8) {
         let place = usize::from(number);
         self.times[place] = self.times[place].saturating_add(1);
         self.sum = self.sum.saturating_add(1);
     }
 
-    /// Writes each number that came.
-    fn write(&self, pen: &mut Pen, forms: &[&'static [u8]; 2]) {
-        let mut form = forms[0];
+    /// Writes each value that occurred.
+    fn write(&self, buf: &mut TextBuf, formats: &[&'static [u8]; 2]) {
+        let mut format = formats[0];
         for number in 0..=255_u8 {
             let times = self.times[usize::from(number)];
             if times > 0 {
                 let number = Some(u64::from(number));
-                pen.form(form, &[Some(times), number, number, Some(times)]);
-                form = forms[1];
+                let times = Some(times);
+                buf.format(format, &[times, times, number, number, times]);
+                format = formats[1];
             }
         }
     }
 }
 
-/// What came in a session.
+/// Counts of a session.
 #[derive(Clone, Copy)]
 pub struct Counts {
     made: u64,
     used: u64,
     excluded: u64,
-    /// The statuses of requests that were refused.
+    /// Statuses of refused requests.
     refused: Tally,
-    /// The codes of the ERRORs that refused messages.
+    /// Codes of the ERRORs.
     errors: Tally,
-    /// Continuation packets of no message that is open.
+    /// Continuation packets outside any open message.
     continuations: u64,
-    /// CANCELs for which nothing waited.
+    /// CANCELs with nothing to cancel.
     cancels: u64,
-    /// Replies for which nothing waited.
+    /// Replies that nothing waited for.
     replies: u64,
 }
 
 impl Counts {
-    /// Returns those of no lines.
+    /// Returns zero counts.
     pub fn new() -> Self {
         let none = Tally {
             times: [0; 256],
@@ -111,15 +112,15 @@ impl Counts {
         }
     }
 
-    /// Counts what a line is, and ends.
+    /// Counts a line's role and the transactions that it ends.
     pub fn add_line(&mut self, entry: &Entry<'_>) {
-        if let Some(late) = &entry.late
-            && late.of.is_none()
+        if let Some(deferred) = &entry.deferred
+            && deferred.transaction.is_none()
         {
             self.continuations = self.continuations.saturating_add(1);
         }
-        match entry.part {
-            Role::Own | Role::Error => {}
+        match entry.role {
+            Role::Owned | Role::Error => {}
             Role::Stray => self.continuations = self.continuations.saturating_add(1),
             Role::Cancel => self.cancels = self.cancels.saturating_add(1),
             Role::Reply => self.replies = self.replies.saturating_add(1),
@@ -130,7 +131,7 @@ impl Counts {
                 End::Refused(code) => self.errors.add(code),
                 End::Status(0) => match command {
                     Some(0x01) => self.made = self.made.saturating_add(1),
-                    // A client asks whether a credential is there with `up: false`: nobody signs in by that.
+                    // A request with `up: false` only asks whether a credential exists; nobody signs in with it.
                     Some(0x02 | 0x08) if !ended.exchange.named.is_silent => {
                         self.used = self.used.saturating_add(1);
                     }
@@ -147,15 +148,30 @@ impl Counts {
         }
     }
 
-    /// Writes all counts.
-    pub fn write(&self, pen: &mut Pen, forms: &CountForms) {
-        let sum = Some(self.refused.sum);
+    /// Writes the counts.
+    pub fn write(&self, buf: &mut TextBuf, formats: &CountFormats) {
         let (made, used) = (Some(self.made), Some(self.used));
-        pen.form(forms.credentials, &[made, used, Some(self.excluded), sum]);
-        self.refused.write(pen, &forms.statuses);
-        pen.form(forms.messages, &[Some(self.errors.sum)]);
-        self.errors.write(pen, &forms.errors);
+        let (excluded, refused) = (Some(self.excluded), Some(self.refused.sum));
+        buf.format(
+            formats.credentials,
+            &[made, made, used, used, excluded, refused],
+        );
+        self.refused.write(buf, &formats.statuses);
+        let errors = Some(self.errors.sum);
+        buf.format(formats.messages, &[errors, errors]);
+        self.errors.write(buf, &formats.errors);
         let (continuations, cancels) = (Some(self.continuations), Some(self.cancels));
-        pen.form(forms.strays, &[continuations, cancels, Some(self.replies)]);
+        let replies = Some(self.replies);
+        buf.format(
+            formats.unexpected,
+            &[
+                continuations,
+                continuations,
+                cancels,
+                cancels,
+                replies,
+                replies,
+            ],
+        );
     }
 }

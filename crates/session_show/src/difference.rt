@@ -1,51 +1,51 @@
-//! The packets in which a log isn't what a session sends.
+//! Differences between a log's packets and those that a session sends.
 ghost use Rattle.std.specs.Prelude.{◌<◌, ◌-◌, ◌^◌};
 
+use crate::chunked::{Written, put_parts};
+use crate::detail::Detail;
 use crate::entry::write_message;
 use crate::packet_line::write_packet;
-use crate::pen::{Pen, front};
-use crate::played_log::{PACKETS, PlayedLog};
-use crate::putting::{Written, put_written};
 use crate::reason::Reason;
-use crate::signed::SignedOtherwise;
-use crate::wording::Wording;
+use crate::replayed_log::{PACKETS, ReplayedLog};
+use crate::signed_bytes::SignedBytesMismatch;
+use crate::text_buf::{TextBuf, front};
 use hid_packet::{BROADCAST, Packet};
 use session_log::{CAPACITY, Failed, Line, LogFault, Source, Target, Window, next_line, read_line};
-use session_walk::{Awaited, LogWalk, Transaction, channel_of};
+use session_walk::{AwaitedReply, Transaction, TransactionTracker, channel_of};
 use token_session::{Causes, Session};
 
-/// More than the most lines of a log.
+/// More than the maximum number of lines of a log.
 const LINES: u64 = 1 << 33;
 
-/// A packet that differs, is missing or is one too many.
+/// A packet that differs, is missing or is superfluous.
 #[derive(Clone, Copy)]
 pub struct Difference {
-    /// The line of the input that the packet was sent for, 0 before any.
+    /// Line of the input that the packet was sent for, or 0 before the first.
     pub input: u64,
-    /// The packet's number among those that were sent for that input, from 1.
+    /// Number of the packet among those sent for that input, from 1.
     pub number: u64,
-    /// The line of the log's packet. Where that is missing, the line of the next input, or the log's last one.
+    /// Line of the log's packet. If that is missing, the line of the next input, or the last line.
     pub line: u64,
-    /// The packet that the log has.
+    /// The packet in the log.
     pub logged: Option<Packet>,
     /// The packet that the session sends.
     pub sent: Option<Packet>,
-    /// What the session waits for then.
-    pub awaited: Option<Awaited>,
-    /// What the input is, where it is a reply that the session didn't wait for.
-    pub reply: Option<Awaited>,
-    /// Whether the input is a continuation packet of no open message.
-    pub is_stray: bool,
+    /// The reply that the session waits for at this point.
+    pub awaited: Option<AwaitedReply>,
+    /// The kind of reply that the input is, if the session didn't wait for it.
+    pub reply: Option<AwaitedReply>,
+    /// Whether the input is a continuation packet outside any open message.
+    pub last_was_stray: bool,
     /// Why the session refused the input, or dropped a message before it.
     pub causes: Causes,
-    /// The input's moment, 0 before any.
+    /// Timestamp of the input, or 0 before the first.
     pub(crate) at: u64,
-    /// The last KEEPALIVE that the session sent, and its moment.
+    /// The last KEEPALIVE that the session sent, with its timestamp.
     pub(crate) kept_alive: Option<(u64, Packet)>,
 }
 
 impl Difference {
-    /// Returns the fault that [`session_log::check`] finds there.
+    /// Returns the error that [`session_log::check`] reports for this difference.
     pub fn fault(&self) -> LogFault {
         LogFault::Differs {
             line: self.input,
@@ -53,7 +53,7 @@ impl Difference {
         }
     }
 
-    /// Returns the offset of the first byte in which two packets differ, and what it is in the log's and the session's.
+    /// Returns the offset of the first byte that differs, with its value in the log and in the session's packet.
     pub fn byte(&self) -> Option<(usize, u8, u8)> {
         let (Some(logged), Some(sent)) = (&self.logged, &self.sent) else {
             return None;
@@ -67,54 +67,53 @@ impl Difference {
     }
 }
 
-/// A packet that the log or the session has, and the message that it and those after it complete.
+/// A packet of the log or the session, and the message that it completes together with the following packets.
 #[derive(Clone, Copy)]
 struct Side<'a> {
-    /// The walk that took them.
-    walk: &'a LogWalk,
+    /// The tracker that took them.
+    walk: &'a TransactionTracker,
     packet: &'a Packet,
     line: u64,
 }
 
 impl Written for Side<'_> {
-    fn write(&self, pen: &mut Pen) {
-        pen.text("< ");
-        write_packet(pen, self.packet, false);
-        pen.text("\n");
-        if let Some(message) = &self.walk.message(&self.walk.shown) {
-            write_message(pen, self.line, message);
+    fn write(&self, buf: &mut TextBuf) {
+        buf.text("< ");
+        write_packet(buf, self.packet, false);
+        buf.text("\n");
+        if let Some(message) = &self.walk.message(&self.walk.completed) {
+            write_message(buf, self.line, message);
         }
     }
 }
 
-/// A log beside a session that plays its inputs.
+/// A log and a session that plays its inputs.
 #[derive(Drop)]
 pub struct Comparison {
-    played: PlayedLog,
-    /// What was read and isn't taken yet: at a fault, from its line on.
+    played: ReplayedLog,
+    /// Input that was read but not yet processed; after an error, from the invalid line on.
     pub window: Window,
-    /// Whether the packets that were explained last are for one request, which can name a credential that the log's key
-    /// had before the log.
-    pub can_name_former: bool,
-    /// How many lines were taken.
+    /// Whether the packets that were explained last belong to a request that may name a credential from before the log.
+    pub may_name_prior_credential: bool,
+    /// Number of lines processed.
     lines: u64,
-    pen: Pen,
+    buf: TextBuf,
 }
 
 impl Comparison {
-    /// Returns that of no lines.
+    /// Returns the state before the first line.
     pub fn new() -> Self {
         Comparison {
-            played: PlayedLog::new(),
+            played: ReplayedLog::new(),
             window: Window::new(),
-            can_name_former: false,
+            may_name_prior_credential: false,
             lines: 0,
-            pen: Pen::new(Wording::Explained),
+            buf: TextBuf::new(Detail::Explained),
         }
     }
 
-    /// Plays a log on a session up to the next input with a difference, and returns the first one there; none at the
-    /// log's end. The log is read on from where the last call ended, by the same reader and on the same session.
+    /// Plays a log on a session up to the next input with a difference, and returns the first difference there, or
+    /// `None` at the end of the log. Reading resumes where the last call ended, with the same reader and session.
     pub fn find<S: Source>(
         &mut self,
         reader: &mut S,
@@ -129,11 +128,11 @@ impl Comparison {
                 Err(fault) => return Err(fault),
             };
             let line = front(self.window.as_slice(), end);
-            let Some(said) = read_line(line) else {
+            let Some(parsed) = read_line(line) else {
                 return Err(LogFault::BadLine(number));
             };
-            let difference = self.played.take(number, line, &said, session);
-            // The line of an input before which a packet is missing is taken by the next call.
+            let difference = self.played.take(number, line, &parsed, session);
+            // If a packet is missing before an input, the next call processes the input's line.
             if let Some(found) = &difference {
                 if found.logged.is_some() {
                     self.drop_line(end);
@@ -145,7 +144,7 @@ impl Comparison {
         Ok(None)
     }
 
-    /// Returns where the log's next line ends, without its line feed. None at the log's end.
+    /// Returns the end of the next line, without its line feed, or `None` at the end of the log.
     fn next_end<S: Source>(&mut self, reader: &mut S) -> Result<Option<usize>, LogFault> {
         let number = self.lines.saturating_add(1);
         if reader.failures() == u64::MAX {
@@ -157,21 +156,20 @@ impl Comparison {
         }
     }
 
-    /// Drops the line that ends here, with its line feed where it has one.
+    /// Drops the line that ends here, with its line feed if any.
     fn drop_line(&mut self, end: usize) {
         let held = self.window.len();
         self.window.drop_front(end.saturating_add(1).min(held));
         self.lines = self.lines.saturating_add(1);
     }
 
-    /// Writes what is known of the difference that was found last: to `reason` why the key doesn't send what the log
-    /// has, `  it needs a new key; line 9 is a signature`, where that is seen from the lines before; to `logged` and
-    /// `sent` the packet that the log has and the one that the session sends, each as `< 00000001 CBOR 181`. Where
-    /// those after it complete a CBOR message, [`crate::show`]'s lines for it follow. The log is read on for them. What
-    /// can't be written is left out.
+    /// Explains the last difference: to `reason`, why the key doesn't send what the log has (`  it needs a new key;
+    /// line 9 is a signature`), if the lines before show it; to `logged` and `sent`, the log's packet and the
+    /// session's, each as `< 00000001 CBOR 181`. If the packets after it complete a CBOR message, its lines from
+    /// [`crate::show`] follow; the log is read on for them. What cannot be written is left out.
     ///
-    /// Returns the transaction that the session's packet belongs to, or else the log's; of one that belongs to none,
-    /// the one that holds its channel or was answered last there.
+    /// Returns the transaction of the session's packet, or else of the log's; without one, the transaction that holds
+    /// its channel or got the last response there.
     pub fn explain<S: Source, T: Target>(
         &mut self,
         difference: &Difference,
@@ -184,41 +182,44 @@ impl Comparison {
             Some(packet) => channel_of(&packet),
             None => BROADCAST,
         };
-        let before = match self.played.key.channels.last_on(channel) {
+        let before = match self.played.key.channels.last_transaction_on(channel) {
             Some(last) => Some(last.transaction),
             None => None,
         };
         self.played.take_logged();
-        let mut transaction = self.played.walk.of.or(before);
-        // What the key waits for is seen before it takes what it sends.
+        let mut transaction = self.played.walk.transaction.or(before);
+        // The reply that the key needs is determined before its packets are processed.
         let why = Reason {
             walk: &self.played.key,
             difference,
             transaction,
         };
-        let _ = put_counted(reason, &mut self.pen, &why);
+        let _ = put_counted(reason, &mut self.buf, &why);
         if difference.sent.is_some() {
             self.played.take_last();
-            transaction = self.played.key.of.or(before);
+            transaction = self.played.key.transaction.or(before);
         }
         let _ = self.put(difference, reader, logged, sent);
-        self.can_name_former = match (self.played.walk.of, self.played.key.of) {
+        self.may_name_prior_credential = match (
+            self.played.walk.transaction,
+            self.played.key.transaction,
+        ) {
             (Some(logged), Some(sent)) => {
-                logged.line == sent.line && self.played.walk.can_name_former(&logged)
+                logged.line == sent.line && self.played.walk.may_name_prior_credential(&logged)
             }
             _ => false,
         };
         transaction
     }
 
-    /// Returns the first line so far that says that other bytes were signed than the session asks to be signed.
-    pub fn signed_otherwise(&self) -> Option<SignedOtherwise> {
+    /// Returns the first line so far whose signed bytes differ from those that the session asks to sign.
+    pub fn signed_bytes_mismatch(&self) -> Option<SignedBytesMismatch> {
         self.played.signed.otherwise
     }
 
-    /// Returns whether the log has no packet of the key. It is read on up to the first one, and not compared. Where it
-    /// can't be read on, that isn't known.
-    pub fn has_inputs_alone<S: Source>(&mut self, reader: &mut S) -> bool {
+    /// Returns whether the log has no packet from the key. Reads up to the first one, without comparing. Returns false
+    /// after a read error.
+    pub fn has_only_inputs<S: Source>(&mut self, reader: &mut S) -> bool {
         for _ in 0..LINES {
             if self.played.has_sent {
                 return false;
@@ -234,7 +235,7 @@ impl Comparison {
         false
     }
 
-    /// Writes the packets that differ, which were taken, and the messages that they begin.
+    /// Writes the packets that differ and the messages that they begin.
     fn put<S: Source, T: Target>(
         &mut self,
         difference: &Difference,
@@ -255,18 +256,18 @@ impl Comparison {
             }
             let walk = &self.played.key;
             let side = Side { walk, packet, line };
-            put_counted(sent, &mut self.pen, &side)?;
+            put_counted(sent, &mut self.buf, &side)?;
         }
         if let Some(packet) = &difference.logged {
             self.follow_logged(packet, reader);
             let walk = &self.played.walk;
             let side = Side { walk, packet, line };
-            put_counted(logged, &mut self.pen, &side)?;
+            put_counted(logged, &mut self.buf, &side)?;
         }
         Ok(())
     }
 
-    /// Goes on with the packets that complete a message of the log, before any further input.
+    /// Continues with the packets that complete a message of the log, up to the next input.
     fn follow_logged<S: Source>(&mut self, packet: &Packet, reader: &mut S) {
         for _ in 0..LINES {
             if !self.played.walk.channels.is_answering(channel_of(packet)) {
@@ -286,14 +287,14 @@ impl Comparison {
     }
 }
 
-/// Hands over a text, unless the target failed too often for a further failure to be counted.
+/// Writes a text, unless the target failed too often to count another failure.
 fn put_counted<T: Target, W: Written>(
     writer: &mut T,
-    pen: &mut Pen,
+    buf: &mut TextBuf,
     written: &W,
 ) -> Result<(), Failed> {
     if writer.failures() == u64::MAX {
         return Err(Failed);
     }
-    put_written(writer, pen, written)
+    put_parts(writer, buf, written)
 }

@@ -1,13 +1,13 @@
 //! The text for a line of a log.
 
-use crate::ends::forms_of_end;
+use crate::chunked::Written;
 use crate::escape::write_escaped;
-use crate::item::write_checked;
-use crate::member_names::Map;
+use crate::item::write_item_or_error;
+use crate::member_names::MapKind;
 use crate::members::write_members;
 use crate::packet_line::write_packet;
-use crate::pen::Pen;
-use crate::putting::Written;
+use crate::text_buf::TextBuf;
+use crate::transaction_end::end_formats;
 use authn_core::Presence;
 use ctap_cbor::check;
 use session_log::Line;
@@ -15,32 +15,32 @@ use session_walk::status::CREDENTIAL_EXCLUDED;
 use session_walk::{CborMessage, Ended, Entry, Excluded, Transaction};
 use token_session::Input;
 
-/// How a CBOR message is written.
-pub struct MessageForms {
-    /// What is in front of its item.
+/// Output formats of a CBOR message.
+pub struct MessageFormats {
+    /// The text before its CBOR item.
     front: &'static [u8],
-    /// What an explained text has behind its item: the name of its first byte, and what a fault means.
+    /// The explanation after its item: the name of its first byte, and the meaning of an error.
     names: &'static [u8],
-    /// What is in front of its item in JSON.
+    /// The JSON before its item.
     pub json: &'static [u8],
 }
 
-/// What a host asked.
-static REQUEST: MessageForms = MessageForms {
+/// A request.
+static REQUEST: MessageFormats = MessageFormats {
     front: b"%d   request %x",
     names: b"  %c  %f",
     json: br#"{"line":%d,"kind":"request","transaction":%d,"channel":"%w","command":%d,"name":"%C"#,
 };
 
-/// What the key answered.
-static ANSWER: MessageForms = MessageForms {
+/// A response.
+static ANSWER: MessageFormats = MessageFormats {
     front: b"%d   answer %x",
     names: b"  %a  %f",
     json: br#"{"line":%d,"kind":"answer","transaction":%d,"channel":"%w","status":%d,"statusName":"%S"#,
 };
 
 /// Returns how a message is written.
-pub fn forms_of_message(message: &CborMessage<'_>) -> &'static MessageForms {
+pub fn message_formats(message: &CborMessage<'_>) -> &'static MessageFormats {
     if message.is_request {
         &REQUEST
     } else {
@@ -48,68 +48,67 @@ pub fn forms_of_message(message: &CborMessage<'_>) -> &'static MessageForms {
     }
 }
 
-/// Returns the map that a message's item is, by its first byte. That of an answer to what isn't known has no names: no
-/// command is 0.
-pub fn map_of(message: &CborMessage<'_>, first: u8) -> Map {
+/// Returns the kind of map in a message. A response to an unknown request has no member names: no command is 0.
+pub fn map_of(message: &CborMessage<'_>, first: u8) -> MapKind {
     if message.is_request {
-        return Map::Request(first);
+        return MapKind::Request(first);
     }
     match message.exchange {
-        Some(exchange) => Map::Answer(exchange.transaction.command.unwrap_or(0)),
-        None => Map::Answer(0),
+        Some(exchange) => MapKind::Answer(exchange.transaction.command.unwrap_or(0)),
+        None => MapKind::Answer(0),
     }
 }
 
-/// Writes the lines of a message, with the number of the line that it ends at: its command or status and the item after
-/// it; explained, also the name of the first, what the item's fault means, and a line for each member.
-pub fn write_message(pen: &mut Pen, number: u64, message: &CborMessage<'_>) {
+/// Writes the lines of a message, with the number of the line that completes it: its command or status and its CBOR
+/// item; explained, also the name of the command or status, the meaning of a fault, and a line for each member.
+pub fn write_message(buf: &mut TextBuf, number: u64, message: &CborMessage<'_>) {
     let Some([first, item @ ..]) = message.bytes else {
-        let form = b"%d   message not shown: too many are under way\n";
-        pen.form(form, &[Some(number)]);
+        let format = b"%d   message not shown: too many open messages\n";
+        buf.format(format, &[Some(number)]);
         return;
     };
     let code = Some(u64::from(*first));
-    let forms = forms_of_message(message);
-    pen.form(forms.front, &[Some(number), code]);
-    let fault = write_item(pen, item);
-    if !pen.explains {
-        pen.text("\n");
+    let formats = message_formats(message);
+    buf.format(formats.front, &[Some(number), code]);
+    let fault = write_item(buf, item);
+    if !buf.explains {
+        buf.text("\n");
         return;
     }
-    pen.form(forms.names, &[code, fault]);
-    pen.text("\n");
+    buf.format(formats.names, &[code, fault]);
+    buf.text("\n");
     if fault.is_some() {
         return;
     }
     let map = map_of(message, *first);
     let Some(exchange) = message.exchange else {
-        write_members(pen, number, map, item, b"");
+        write_members(buf, number, map, item, b"");
         return;
     };
-    write_members(pen, number, map, item, exchange.named.rp_id.bytes());
+    write_members(buf, number, map, item, exchange.named.rp_id.bytes());
     if *first == CREDENTIAL_EXCLUDED
         && let Some(excluded) = &exchange.named.excluded
     {
-        pen.form(b"%d   ", &[Some(number)]);
-        excluded.write(pen);
+        buf.format(b"%d   ", &[Some(number)]);
+        excluded.write(buf);
     }
 }
 
-/// Writes the item after a message's first byte, where there is one. Returns the number of its fault.
-fn write_item(pen: &mut Pen, item: &[u8]) -> Option<u64> {
+/// Writes the item after a message's first byte, if any, and returns the number of its CBOR error.
+fn write_item(buf: &mut TextBuf, item: &[u8]) -> Option<u64> {
     if item.is_empty() {
         return None;
     }
-    pen.text(" ");
+    buf.text(" ");
     let checked = check(item).result;
-    // An item may be long, so it isn't written again for the parts after it.
-    match pen.known {
-        Some(len) if len <= pen.before => pen.before -= len,
+    // An item may be long, so it isn't written again for later chunks.
+    match buf.known {
+        Some(len) if len <= buf.before => buf.before -= len,
         _ => {
-            let before = pen.before;
-            write_checked(pen, item, &checked);
-            if pen.before > 0 {
-                pen.known = Some(before.saturating_sub(pen.before));
+            let before = buf.before;
+            write_item_or_error(buf, item, &checked);
+            if buf.before > 0 {
+                buf.known = Some(before.saturating_sub(buf.before));
             }
         }
     }
@@ -119,109 +118,112 @@ fn write_item(pen: &mut Pen, item: &[u8]) -> Option<u64> {
     }
 }
 
-/// Writes the lines for a line of a log, each with a line feed: what comes after its number and a space.
-pub fn write_entry(pen: &mut Pen, entry: &Entry<'_>) {
+/// Writes the text for a line of a log, after its number and a space. Each line ends with a line feed.
+pub fn write_entry(buf: &mut TextBuf, entry: &Entry<'_>) {
     let number = entry.own.number;
-    match entry.own.said {
+    match entry.own.parsed {
         Line::Input(timed) => {
-            pen.form(forms_of(&timed.input).text, &[Some(timed.at)]);
+            buf.format(input_formats(&timed.input).text, &[Some(timed.at)]);
             if let Input::Packet(packet) = &timed.input {
-                write_packet(pen, packet, true);
+                write_packet(buf, packet, true);
             }
         }
         Line::Sent(packet) => {
-            pen.text("< ");
-            write_packet(pen, packet, false);
+            buf.text("< ");
+            write_packet(buf, packet, false);
         }
-        Line::Comment => write_escaped(pen, entry.own.line),
+        Line::Comment => write_escaped(buf, entry.own.line),
         Line::Count => {}
     }
-    pen.text("\n");
-    if let Some(late) = &entry.late
-        && late.of.is_none()
+    buf.text("\n");
+    if let Some(deferred) = &entry.deferred
+        && deferred.transaction.is_none()
     {
-        let form = b"%d   line %d came too late for its message\n";
-        pen.form(form, &[Some(number), Some(late.number)]);
+        let format = b"%d   line %d arrived after its message had timed out\n";
+        buf.format(format, &[Some(number), Some(deferred.number)]);
     }
     if let Some(message) = &entry.own.message {
-        write_message(pen, number, message);
+        write_message(buf, number, message);
     }
     for ended in entry.ended {
-        write_ended(pen, Some(number), ended);
+        write_ended(buf, Some(number), ended);
     }
 }
 
-/// Writes for a page the lines that a line's transaction and its message began at, 0 where it is of none; then an
-/// earlier line that belongs to none after all, and the transactions that end.
-pub fn write_page(pen: &mut Pen, entry: &Entry<'_>) {
-    let late = match &entry.late {
-        Some(late) if late.of.is_none() => Some(late.number),
+/// Writes numbers for the page: the lines on which the line's transaction and its message begin (0 if none), then an
+/// earlier line that this one shows to belong to no transaction, and the transactions that end.
+pub fn write_page(buf: &mut TextBuf, entry: &Entry<'_>) {
+    let deferred = match &entry.deferred {
+        Some(deferred) if deferred.transaction.is_none() => Some(deferred.number),
         _ => None,
     };
     let began = entry.own.began().unwrap_or(0);
     let message = entry.page.unwrap_or(0);
-    pen.form(b"%d %d l%d", &[Some(began), Some(message), late]);
+    buf.format(b"%d %d l%d", &[Some(began), Some(message), deferred]);
     for ended in entry.ended {
-        let (forms, number, _) = forms_of_end(ended);
-        pen.form(forms.page, &[Some(ended.exchange.transaction.line), number]);
+        let (formats, number, _) = end_formats(ended);
+        buf.format(
+            formats.page,
+            &[Some(ended.exchange.transaction.line), number],
+        );
     }
-    pen.text("\n");
+    buf.text("\n");
 }
 
-/// How an input is written, by its moment: in the fixed text, and in JSON, where the line's number is in front of that
-/// and the line behind it that its transaction began at.
-pub struct InputForms {
+/// How an input is written: in the fixed text, with its timestamp; and in JSON, with line number, timestamp and the
+/// first line of its transaction.
+pub struct InputFormats {
     text: &'static [u8],
     pub json: &'static [u8],
 }
 
-static PACKET: InputForms = InputForms {
+static PACKET: InputFormats = InputFormats {
     text: b"> %d ",
-    json: br#"{"line":%d,"kind":"packet","from":"host","moment":%d,"transaction":%d"#,
+    json: br#"{"line":%d,"kind":"packet","from":"host","timeMs":%d,"moment":%d,"transaction":%d"#,
 };
 
-static TICK: InputForms = InputForms {
+static TICK: InputFormats = InputFormats {
     text: b"t %d",
-    json: b"{\"line\":%d,\"kind\":\"tick\",\"moment\":%d,\"transaction\":%d}\n",
+    json: b"{\"line\":%d,\"kind\":\"tick\",\"timeMs\":%d,\"moment\":%d,\"transaction\":%d}\n",
 };
 
-static GRANTED: InputForms = InputForms {
+static GRANTED: InputFormats = InputFormats {
     text: b"p %d granted",
-    json: b"{\"line\":%d,\"kind\":\"presence\",\"moment\":%d,\"transaction\":%d,\"reply\":\"granted\"}\n",
+    json: b"{\"line\":%d,\"kind\":\"presence\",\"timeMs\":%d,\"moment\":%d,\"transaction\":%d,\"reply\":\"granted\"}\n",
 };
 
-static DENIED: InputForms = InputForms {
+static DENIED: InputFormats = InputFormats {
     text: b"p %d denied",
-    json: b"{\"line\":%d,\"kind\":\"presence\",\"moment\":%d,\"transaction\":%d,\"reply\":\"denied\"}\n",
+    json: b"{\"line\":%d,\"kind\":\"presence\",\"timeMs\":%d,\"moment\":%d,\"transaction\":%d,\"reply\":\"denied\"}\n",
 };
 
-static TIMED_OUT: InputForms = InputForms {
+static TIMED_OUT: InputFormats = InputFormats {
     text: b"p %d timeout",
-    json: b"{\"line\":%d,\"kind\":\"presence\",\"moment\":%d,\"transaction\":%d,\"reply\":\"timeout\"}\n",
+    json: b"{\"line\":%d,\"kind\":\"presence\",\"timeMs\":%d,\"moment\":%d,\"transaction\":%d,\"reply\":\"timeout\"}\n",
 };
 
-static KEY: InputForms = InputForms {
+static KEY: InputFormats = InputFormats {
     text: b"k %d yes",
-    json: b"{\"line\":%d,\"kind\":\"key\",\"moment\":%d,\"transaction\":%d,\"had\":true}\n",
+    json: b"{\"line\":%d,\"kind\":\"key\",\"timeMs\":%d,\"moment\":%d,\"transaction\":%d,\"accepted\":true,\"had\":true}\n",
 };
 
-static NO_KEY: InputForms = InputForms {
+static NO_KEY: InputFormats = InputFormats {
     text: b"k %d no",
-    json: b"{\"line\":%d,\"kind\":\"key\",\"moment\":%d,\"transaction\":%d,\"had\":false}\n",
+    json: b"{\"line\":%d,\"kind\":\"key\",\"timeMs\":%d,\"moment\":%d,\"transaction\":%d,\"accepted\":false,\"had\":false}\n",
 };
 
-static SIGNATURE: InputForms = InputForms {
+static SIGNATURE: InputFormats = InputFormats {
     text: b"s %d yes",
-    json: b"{\"line\":%d,\"kind\":\"signature\",\"moment\":%d,\"transaction\":%d,\"had\":true}\n",
+    json: b"{\"line\":%d,\"kind\":\"signature\",\"timeMs\":%d,\"moment\":%d,\"transaction\":%d,\"accepted\":true,\"had\":true}\n",
 };
 
-static NO_SIGNATURE: InputForms = InputForms {
+static NO_SIGNATURE: InputFormats = InputFormats {
     text: b"s %d no",
-    json: b"{\"line\":%d,\"kind\":\"signature\",\"moment\":%d,\"transaction\":%d,\"had\":false}\n",
+    json: b"{\"line\":%d,\"kind\":\"signature\",\"timeMs\":%d,\"moment\":%d,\"transaction\":%d,\"accepted\":false,\"had\":false}\n",
 };
 
-/// Returns how an input is written; of a packet, what is in front of its channel.
-pub fn forms_of(input: &Input) -> &'static InputForms {
+/// Returns how an input is written; for a packet, the text before its channel.
+pub fn input_formats(input: &Input) -> &'static InputFormats {
     match input {
         Input::Packet(_) => &PACKET,
         Input::Tick => &TICK,
@@ -235,23 +237,23 @@ pub fn forms_of(input: &Input) -> &'static InputForms {
     }
 }
 
-/// Writes a line for a transaction that ended, where that isn't by an answer or an ERROR to a whole message, with the
-/// number of the line that it ends at, if any, in front.
-pub fn write_ended(pen: &mut Pen, number: Option<u64>, ended: &Ended) {
+/// Writes a line for a transaction that ended other than by a response or an ERROR to its complete message, prefixed
+/// with the number of the line that it ends at, if any.
+pub fn write_ended(buf: &mut TextBuf, number: Option<u64>, ended: &Ended) {
     let line = Some(ended.exchange.transaction.line);
-    let (forms, one, two) = forms_of_end(ended);
-    match ended.exchange.extent.missing() {
-        (None, _) => pen.form(forms.whole, &[number, line, one, two]),
-        (came, length) => pen.form(forms.part, &[number, line, came, length, one, two]),
+    let (formats, one, two) = end_formats(ended);
+    match ended.exchange.progress.missing() {
+        (None, _) => buf.format(formats.whole, &[number, line, one, two]),
+        (came, length) => buf.format(formats.part, &[number, line, came, length, one, two]),
     }
 }
 
 impl Written for Transaction {
-    /// Writes it in words, `authenticatorMakeCredential 01 on channel 00000001, from line 12`, without a line feed.
-    fn write(&self, pen: &mut Pen) {
-        pen.text(self.name());
+    /// Writes it as `authenticatorMakeCredential 01 on channel 00000001, from line 12`, without a line feed.
+    fn write(&self, buf: &mut TextBuf) {
+        buf.text(self.name());
         let command = u64::from(self.command.unwrap_or(self.message));
-        pen.form(
+        buf.format(
             b" %x on channel %w, from line %d",
             &[
                 Some(command),
@@ -264,8 +266,8 @@ impl Written for Transaction {
 
 impl Written for Excluded {
     /// Writes a line.
-    fn write(&self, pen: &mut Pen) {
+    fn write(&self, buf: &mut TextBuf) {
         let numbers = [Some(self.place), Some(self.line)];
-        pen.form(b"excludeList[%d] is the credential of line %d\n", &numbers);
+        buf.format(b"excludeList[%d] is the credential of line %d\n", &numbers);
     }
 }

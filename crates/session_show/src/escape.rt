@@ -1,9 +1,9 @@
-//! Texts of other people, written so that they can't move what is beside them.
+//! Escapes foreign text, so that it cannot hide or move the text around it.
 
-use crate::pen::Pen;
+use crate::text_buf::TextBuf;
 
-/// The characters that are seen as nothing, or move others: control characters, line breaks, and those that a font
-/// shows by nothing (Unicode's Default_Ignorable_Code_Point, U+FFF9 to U+FFFB and the empty pattern of Braille).
+/// Characters that are invisible or move others: control characters, line breaks, and those that fonts leave blank
+/// (Unicode's Default_Ignorable_Code_Point, U+FFF9 to U+FFFB, the blank Braille pattern).
 static HIDDEN: &[(char, char)] = &[
     ('\0', '\u{1f}'),
     ('\u{7f}', '\u{9f}'),
@@ -27,8 +27,8 @@ static HIDDEN: &[(char, char)] = &[
     ('\u{e0000}', '\u{e0fff}'),
 ];
 
-/// Returns whether a character is seen as nothing, or moves others.
-pub fn is_hidden(c: char) -> bool {
+/// Returns whether a character is invisible or moves others.
+pub fn is_invisible(c: char) -> bool {
     for (first, last) in HIDDEN {
         if *first <= c && c <= *last {
             return true;
@@ -37,9 +37,8 @@ pub fn is_hidden(c: char) -> bool {
     false
 }
 
-/// Returns whether bytes are written as they are: printable characters of ASCII, of which none is escaped in JSON
-/// either. Most texts are such.
-pub fn is_plain(bytes: &[u8]) -> bool {
+/// Returns whether bytes are written as they are: printable ASCII without characters that JSON escapes. Most texts are.
+pub fn is_printable(bytes: &[u8]) -> bool {
     for byte in bytes {
         if !matches!(byte, b' ' | b'!' | b'#'..=b'[' | b']'..=b'~') {
             return false;
@@ -48,51 +47,51 @@ pub fn is_plain(bytes: &[u8]) -> bool {
     true
 }
 
-/// Writes a character: one that is hidden as `\u` and four digits, or in braces where it has more; in JSON as two of
-/// these. In the fixed text those below U+0020 and U+007F alone are hidden.
-pub fn write_char(pen: &mut Pen, c: char, is_json: bool) {
-    let is_escaped = if pen.explains {
-        is_hidden(c)
+/// Writes a character. An invisible one is written as `\u` and four digits, or in braces if it has more, and in JSON as
+/// a surrogate pair. In the fixed text only those below U+0020 and U+007F are escaped.
+pub fn write_char(buf: &mut TextBuf, c: char, is_json: bool) {
+    let is_escaped = if buf.explains {
+        is_invisible(c)
     } else {
         matches!(c, '\0'..='\u{1f}' | '\u{7f}')
     };
     if !is_escaped {
-        pen.text(c.encode_utf8(&mut [0; 4]));
+        buf.text(c.encode_utf8(&mut [0; 4]));
         return;
     }
     let [_, plane, high, low] = (c as u32).to_be_bytes();
     if plane == 0 {
-        pen.escape(high, low);
+        buf.escape(high, low);
     } else if is_json {
         for unit in c.encode_utf16(&mut [0; 2]) {
             let [high, low] = unit.to_be_bytes();
-            pen.escape(high, low);
+            buf.escape(high, low);
         }
     } else {
-        pen.text("\\u{");
-        pen.hex(&[plane, high, low]);
-        pen.text("}");
+        buf.text("\\u{");
+        buf.hex(&[plane, high, low]);
+        buf.text("}");
     }
 }
 
-/// Writes bytes of other people as text, with what can't be seen in it escaped. Where they aren't UTF-8, `\x` and two
-/// digits are for each byte that is no character of ASCII.
-pub fn write_escaped(pen: &mut Pen, line: &[u8]) {
-    if is_plain(line) {
-        pen.bytes(line);
+/// Writes foreign bytes as text, escaping what is invisible. If they aren't UTF-8, each byte outside ASCII is written
+/// as `\x` and two digits.
+pub fn write_escaped(buf: &mut TextBuf, line: &[u8]) {
+    if is_printable(line) {
+        buf.bytes(line);
         return;
     }
     let Ok(text) = std::str::from_utf8(line) else {
         for byte in line {
             if *byte < 128 {
-                write_char(pen, char::from(*byte), false);
+                write_char(buf, char::from(*byte), false);
             } else {
-                pen.form(b"\\x%x", &[Some(u64::from(*byte))]);
+                buf.format(b"\\x%x", &[Some(u64::from(*byte))]);
             }
         }
         return;
     };
     for c in text.chars() {
-        write_char(pen, c, false);
+        write_char(buf, c, false);
     }
 }

@@ -1,21 +1,21 @@
-//! CBOR items as texts: in diagnostic notation (RFC 8949, section 8), and as JSON (RFC 8259).
+//! CBOR items as text: diagnostic notation (RFC 8949, section 8) and JSON (RFC 8259).
 ghost use Rattle.std.specs.Prelude.{◌<◌, ◌≤◌, ◌-◌, ◌^◌};
 ghost use Rattle.session_show.specs.Written.{Writes};
 
-use crate::escape::{is_plain, write_char};
-use crate::pen::Pen;
-use crate::putting::{Written, put_written};
-use crate::wording::Wording;
+use crate::chunked::{Written, put_parts};
+use crate::detail::Detail;
+use crate::escape::{is_printable, write_char};
+use crate::text_buf::TextBuf;
 use ctap_cbor::{Cursor, Fault, Item, check};
 use session_log::{Failed, Target};
 use session_walk::{Names, name_in};
 
-/// How items are written.
+/// Notations of CBOR items.
 #[derive(Clone, Copy)]
 pub struct Notation {
     comma: &'static str,
     colon: &'static str,
-    /// What is before the digits of a byte string, and after them.
+    /// The text before and after the digits of a byte string.
     bytes: (&'static str, &'static str),
     is_json: bool,
 }
@@ -28,7 +28,7 @@ pub static DIAGNOSTIC: &Notation = &Notation {
     is_json: false,
 };
 
-/// JSON: byte strings are texts of hexadecimal digits, and keys of maps are texts.
+/// JSON: byte strings are strings of hexadecimal digits, and map keys are strings.
 pub static JSON: &Notation = &Notation {
     comma: ",",
     colon: ":",
@@ -36,44 +36,47 @@ pub static JSON: &Notation = &Notation {
     is_json: true,
 };
 
-/// The text for bytes that ought to be a data item.
+/// Bytes that should be a CBOR item.
 #[derive(Clone, Copy)]
 pub struct Diagnostic<'a>(pub &'a [u8]);
 
 impl Written for Diagnostic<'_> {
-    fn write(&self, pen: &mut Pen) {
-        write_checked(pen, self.0, &check(self.0).result);
+    fn write(&self, buf: &mut TextBuf) {
+        write_item_or_error(buf, self.0, &check(self.0).result);
     }
 }
 
-/// Writes bytes that were checked, as an item or as why they are none.
-pub fn write_checked(pen: &mut Pen, item: &[u8], checked: &Result<(), Fault>) {
+/// Writes bytes as an item, or the error that `check` found.
+pub fn write_item_or_error(buf: &mut TextBuf, item: &[u8], checked: &Result<(), Fault>) {
     match checked {
-        Ok(()) => write_value(pen, &mut Cursor::new(item), 1, DIAGNOSTIC, &[]),
+        Ok(()) => write_value(buf, &mut Cursor::new(item), 1, DIAGNOSTIC, &[]),
         Err(fault) => {
             let numbers = [Some(u64::from(fault.kind.number())), Some(fault.at as u64)];
-            pen.form(b"fault %d at %d", &numbers);
+            buf.format(b"fault %d at %d", &numbers);
         }
     }
 }
 
-/// Writes a data item as people read it: `{1: "usb", 2: [true, h'0aff', -7]}`. Of bytes that aren't the canonical
-/// encoding of one, writes why, and where: `fault 9 at 1`.
+/// Writes a CBOR item in diagnostic notation: `{1: "usb", 2: [true, h'0aff', -7]}`. Bytes that aren't the canonical
+/// encoding of one are written as their fault and its offset: `fault 9 at 1`.
 ///
-/// In a text a backslash is written before `"` and `\`, and control characters, marks of direction and other characters
-/// that can't be seen are written `\u00NN`.
+/// In strings, `"` and `\` are escaped with a backslash, and invisible characters as `\u00NN`.
 pub fn show_item<T: Target>(writer: &mut T, item: &[u8]) -> Result<(), Failed>
     requires { T.failed writer.old < 2 ^ 64 - 1 }
     ensures { Writes T.taken T.failed (writer.old, writer.new) result }
 {
-    put_written(writer, &mut Pen::new(Wording::Explained), &Diagnostic(item))
+    put_parts(
+        writer,
+        &mut TextBuf::new(Detail::Explained),
+        &Diagnostic(item),
+    )
 }
 
-/// Writes the next item, with all that is inside. The cursor's bytes were checked, so it meets no fault. Where it is a
-/// map, keys that are numbers are written by their names, where they have them.
+/// Writes the next item with its content. The bytes were checked, so there is no error. Map keys that are
+/// numbers are written by name, if they have one.
 #[cycle(write)]
 pub fn write_value(
-    pen: &mut Pen,
+    buf: &mut TextBuf,
     cursor: &mut Cursor<'_>,
     level: u8,
     notation: &Notation,
@@ -84,24 +87,24 @@ pub fn write_value(
 {
     match cursor.item(level) {
         Ok(Item::Array(count)) if level < 5 => {
-            pen.text("[");
-            write_inside(pen, cursor, level + 1, notation, count, None);
-            pen.text("]");
+            buf.text("[");
+            write_inside(buf, cursor, level + 1, notation, count, None);
+            buf.text("]");
         }
         Ok(Item::Map(count)) if level < 5 => {
-            pen.text("{");
-            write_inside(pen, cursor, level + 1, notation, count, Some(names));
-            pen.text("}");
+            buf.text("{");
+            write_inside(buf, cursor, level + 1, notation, count, Some(names));
+            buf.text("}");
         }
-        Ok(item) => write_scalar(pen, item, notation),
-        Err(_) => pen.text("null"),
+        Ok(item) => write_scalar(buf, item, notation),
+        Err(_) => buf.text("null"),
     }
 }
 
-/// Writes so many items, in a map each after its key.
+/// Writes `count` items, in a map each after its key.
 #[cycle(write)]
 fn write_inside(
-    pen: &mut Pen,
+    buf: &mut TextBuf,
     cursor: &mut Cursor<'_>,
     level: u8,
     notation: &Notation,
@@ -112,71 +115,71 @@ fn write_inside(
     requires high { level ≤ 5 }
 {
     for index in 0..count {
-        if pen.is_full() {
+        if buf.is_full() {
             break;
         }
         if index > 0 {
-            pen.text(notation.comma);
+            buf.text(notation.comma);
         }
         if let Some(names) = names
             && let Ok(key) = cursor.item(level)
         {
-            write_key(pen, key, notation, names);
+            write_key(buf, key, notation, names);
         }
-        write_value(pen, cursor, level, notation, &[]);
+        write_value(buf, cursor, level, notation, &[]);
     }
 }
 
-/// Writes a map's key, by its name where it is a number that has one.
-fn write_key(pen: &mut Pen, key: Item<'_>, notation: &Notation, names: Names) {
+/// Writes a map key, by name if it is a number that has one.
+fn write_key(buf: &mut TextBuf, key: Item<'_>, notation: &Notation, names: Names) {
     if let Item::Int(number) = key
         && notation.is_json
     {
-        pen.text("\"");
+        buf.text("\"");
         match name_in(names, number) {
-            Some(name) => pen.text(name),
-            None => pen.integer(number),
+            Some(name) => buf.text(name),
+            None => buf.integer(number),
         }
-        pen.text("\"");
+        buf.text("\"");
     } else {
-        write_scalar(pen, key, notation);
+        write_scalar(buf, key, notation);
     }
-    pen.text(notation.colon);
+    buf.text(notation.colon);
 }
 
-/// Writes an item that opens no array or map.
-pub fn write_scalar(pen: &mut Pen, item: Item<'_>, notation: &Notation) {
+/// Writes an item other than an array or a map.
+pub fn write_scalar(buf: &mut TextBuf, item: Item<'_>, notation: &Notation) {
     match item {
-        Item::Int(number) => pen.integer(number),
+        Item::Int(number) => buf.integer(number),
         Item::Bytes(bytes) => {
-            pen.text(notation.bytes.0);
-            pen.hex(bytes);
-            pen.text(notation.bytes.1);
+            buf.text(notation.bytes.0);
+            buf.hex(bytes);
+            buf.text(notation.bytes.1);
         }
-        Item::Text(text) => write_text(pen, text, notation.is_json),
-        Item::Bool(true) => pen.text("true"),
-        Item::Bool(false) => pen.text("false"),
-        Item::Array(_) | Item::Map(_) | Item::Null => pen.text("null"),
+        Item::Text(text) => write_text(buf, text, notation.is_json),
+        Item::Bool(true) => buf.text("true"),
+        Item::Bool(false) => buf.text("false"),
+        Item::Array(_) | Item::Map(_) | Item::Null => buf.text("null"),
     }
 }
 
-/// Writes a text of other people, between quotation marks, with a backslash before `"` and `\`.
-pub fn write_text(pen: &mut Pen, text: &str, is_json: bool) {
-    pen.text("\"");
-    if is_plain(text.as_bytes()) {
-        pen.bytes(text.as_bytes());
+/// Writes a foreign text in quotation marks, escaping `"` and `\`.
+pub fn write_text(buf: &mut TextBuf, text: &str, is_json: bool) {
+    buf.text("\"");
+    if is_printable(text.as_bytes()) {
+        buf.bytes(text.as_bytes());
     } else {
         for c in text.chars() {
-            // What comes after a whole part is dropped.
-            if pen.is_full() {
+            // Text after a full chunk is dropped.
+            if buf.is_full() {
                 break;
             }
             match c {
-                '"' => pen.text("\\\""),
-                '\\' => pen.text("\\\\"),
-                _ => write_char(pen, c, is_json),
+                '"' => buf.text("\\\""),
+                '\\' => buf.text("\\\\"),
+                _ => write_char(buf, c, is_json),
             }
         }
     }
-    pen.text("\"");
+    buf.text("\"");
 }

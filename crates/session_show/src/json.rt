@@ -1,27 +1,27 @@
-//! Members of objects of JSON (RFC 8259), each with a comma before it. One without a value isn't written.
+//! Members of JSON objects (RFC 8259), each preceded by a comma. Members without a value are omitted.
 
 use crate::item::write_text;
-use crate::pen::Pen;
+use crate::text_buf::TextBuf;
 
-/// Begins a member: its value comes next.
-fn begin_member(pen: &mut Pen, name: &str) {
-    pen.text(",\"");
-    pen.text(name);
-    pen.text("\":");
+/// Writes a member's name; the value follows.
+fn begin_member(buf: &mut TextBuf, name: &str) {
+    buf.text(",\"");
+    buf.text(name);
+    buf.text("\":");
 }
 
-/// Writes a member that is a text.
-pub fn write_string(pen: &mut Pen, name: &str, text: Option<&str>) {
+/// Writes a string member.
+pub fn write_string(buf: &mut TextBuf, name: &str, text: Option<&str>) {
     if let Some(text) = text {
-        begin_member(pen, name);
-        write_text(pen, text, true);
+        begin_member(buf, name);
+        write_text(buf, text, true);
     }
 }
 
-/// Writes a member that is bytes, in hexadecimal digits.
-pub fn write_hex(pen: &mut Pen, name: &str, bytes: &[u8]) {
-    begin_member(pen, name);
-    pen.text("\"");
-    pen.hex(bytes);
-    pen.text("\"");
+/// Writes a byte string as hexadecimal digits.
+pub fn write_hex(buf: &mut TextBuf, name: &str, bytes: &[u8]) {
+    begin_member(buf, name);
+    buf.text("\"");
+    buf.hex(bytes);
+    buf.text("\"");
 }

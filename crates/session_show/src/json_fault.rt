@@ -1,23 +1,23 @@
-//! The JSON object of a log's fault.
+//! The JSON object of a log error.
 ghost use Rattle.std.specs.Prelude.{◌<◌, ◌-◌, ◌^◌};
 ghost use Rattle.session_show.specs.Written.{Writes};
 
-use crate::pen::Pen;
-use crate::putting::{Written, put_written};
-use crate::wording::Wording;
+use crate::chunked::{Written, put_parts};
+use crate::detail::Detail;
+use crate::text_buf::TextBuf;
 use session_log::{Failed, LogFault, Target};
 
-/// The object of a fault.
+/// The JSON object of a log error.
 #[derive(Clone, Copy)]
 struct FaultObject<'a>(&'a LogFault);
 
 impl Written for FaultObject<'_> {
-    fn write(&self, pen: &mut Pen) {
-        let (form, line) = match *self.0 {
+    fn write(&self, buf: &mut TextBuf) {
+        let (format, line) = match *self.0 {
             LogFault::BadLine(line) => (BAD_LINE, Some(line)),
             LogFault::TooLong(line) => (TOO_LONG, Some(line)),
             LogFault::Differs { line, packet } => {
-                pen.form(DIFFERS, &[Some(line), Some(packet)]);
+                buf.format(DIFFERS, &[Some(line), Some(packet)]);
                 return;
             }
             LogFault::Read(line) => (UNREAD, Some(line)),
@@ -25,7 +25,7 @@ impl Written for FaultObject<'_> {
             LogFault::TooManyLines => (TOO_MANY, None),
             LogFault::Memory(line) => (NO_MEMORY, Some(line)),
         };
-        pen.form(form, &[line]);
+        buf.format(format, &[line]);
     }
 }
 
@@ -48,14 +48,14 @@ static TOO_MANY: &[u8] = b"{\"kind\":\"fault\",\"number\":6,\"reason\":\"too man
 static NO_MEMORY: &[u8] =
     b"{\"kind\":\"fault\",\"number\":7,\"reason\":\"no memory\",\"line\":%d}\n";
 
-/// Writes the object of a fault, on a line: `{"kind":"fault","number":1,"reason":"not a log line","line":3}`.
+/// Writes the object of an error on a line: `{"kind":"fault","number":1,"reason":"not a log line","line":3}`.
 pub fn put_json_fault<T: Target>(writer: &mut T, fault: &LogFault) -> Result<(), Failed>
     requires { T.failed writer.old < 2 ^ 64 - 1 }
     ensures { Writes T.taken T.failed (writer.old, writer.new) result }
 {
-    put_written(
+    put_parts(
         writer,
-        &mut Pen::new(Wording::Explained),
+        &mut TextBuf::new(Detail::Explained),
         &FaultObject(fault),
     )
 }

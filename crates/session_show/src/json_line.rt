@@ -1,48 +1,49 @@
-//! The JSON objects for a line of a log.
+//! The JSON objects for a line of a log. Members that were renamed in format 2 have both names in this version.
 
-use crate::ends::forms_of_end;
-use crate::entry::{forms_of, forms_of_message, map_of};
+use crate::chunked::Written;
+use crate::entry::{input_formats, map_of, message_formats};
 use crate::item::{Diagnostic, JSON, write_value};
 use crate::json::{write_hex, write_string};
-use crate::pen::{Pen, front};
-use crate::putting::Written;
+use crate::text_buf::{TextBuf, front};
+use crate::transaction_end::end_formats;
 use ctap_cbor::{Cursor, check};
 use hid_packet::command::{ERROR, KEEPALIVE};
 use hid_packet::{Packet, View};
 use session_log::Line;
-use session_walk::{CborMessage, Ended, Names, Own, RpId, channel_of};
+use session_walk::{CborMessage, Ended, LineEntry, Names, RpId, channel_of};
 use token_session::Input;
 
-/// Writes the objects of a line. A comment that isn't UTF-8 is written in hexadecimal digits.
-pub fn write_line(pen: &mut Pen, own: &Own<'_>) {
+/// Writes the objects of a line. A comment that isn't UTF-8 is written as hexadecimal digits.
+pub fn write_line(buf: &mut TextBuf, own: &LineEntry<'_>) {
     let (line, began) = (Some(own.number), own.began());
-    match own.said {
+    match own.parsed {
         Line::Input(timed) => {
-            let numbers = [line, Some(timed.at), began];
-            pen.form(forms_of(&timed.input).json, &numbers);
+            let at = Some(timed.at);
+            let numbers = [line, at, at, began];
+            buf.format(input_formats(&timed.input).json, &numbers);
             if let Input::Packet(packet) = &timed.input {
-                write_packet(pen, own, packet);
+                write_packet(buf, own, packet);
             }
         }
         Line::Sent(packet) => {
-            let form = br#"{"line":%d,"kind":"packet","from":"key","transaction":%d"#;
-            pen.form(form, &[line, began]);
-            write_packet(pen, own, packet);
+            let format = br#"{"line":%d,"kind":"packet","from":"key","transaction":%d"#;
+            buf.format(format, &[line, began]);
+            write_packet(buf, own, packet);
         }
         Line::Comment if !own.line.is_empty() => {
-            pen.form(br#"{"line":%d,"kind":"comment""#, &[line]);
+            buf.format(br#"{"line":%d,"kind":"comment""#, &[line]);
             match std::str::from_utf8(own.line) {
-                Ok(text) => write_string(pen, "text", Some(text)),
-                Err(_) => write_hex(pen, "bytes", own.line),
+                Ok(text) => write_string(buf, "text", Some(text)),
+                Err(_) => write_hex(buf, "bytes", own.line),
             }
-            pen.text("}\n");
+            buf.text("}\n");
         }
         Line::Comment | Line::Count => {}
     }
 }
 
-/// Writes the rest of the object of a packet, from its channel on, and the object of the message that it ends.
-fn write_packet(pen: &mut Pen, own: &Own<'_>, packet: &Packet) {
+/// Writes the rest of a packet's object, from its channel on, and the object of the message that it completes.
+fn write_packet(buf: &mut TextBuf, own: &LineEntry<'_>, packet: &Packet) {
     let cid = channel_of(packet);
     let channel = Some(u64::from(cid));
     let part = match packet.view() {
@@ -53,7 +54,7 @@ fn write_packet(pen: &mut Pen, own: &Own<'_>, packet: &Packet) {
                 [code, ..] if cmd == KEEPALIVE && len > 0 => (None, Some(u64::from(*code))),
                 _ => (None, None),
             };
-            pen.form(
+            buf.format(
                 br#","channel":"%w","command":%d,"name":"%M,"length":%d,"code":%d,"codeName":"%E,"code":%d,"codeName":"%K"#,
                 &[
                     channel, command, command, length, error, error, status, status,
@@ -62,70 +63,71 @@ fn write_packet(pen: &mut Pen, own: &Own<'_>, packet: &Packet) {
             part
         }
         View::More { seq, part, .. } => {
-            let form = br#","channel":"%w","sequence":%d"#;
-            pen.form(form, &[channel, Some(u64::from(seq))]);
+            let format = br#","channel":"%w","sequence":%d"#;
+            buf.format(format, &[channel, Some(u64::from(seq))]);
             part
         }
     };
-    write_hex(pen, "data", front(part, own.carried));
-    pen.text("}\n");
+    write_hex(buf, "data", front(part, own.data_len));
+    buf.text("}\n");
     if let Some(message) = &own.message {
-        write_message(pen, own, cid, message);
+        write_message(buf, own, cid, message);
     }
 }
 
 /// Writes the object of a message.
-fn write_message(pen: &mut Pen, own: &Own<'_>, channel: u32, message: &CborMessage<'_>) {
+fn write_message(buf: &mut TextBuf, own: &LineEntry<'_>, channel: u32, message: &CborMessage<'_>) {
     let (line, began) = (Some(own.number), own.began());
     let Some([first, item @ ..]) = message.bytes else {
-        pen.form(b"{\"line\":%d,\"kind\":\"lost\"}\n", &[line]);
+        buf.format(b"{\"line\":%d,\"kind\":\"lost\"}\n", &[line]);
         return;
     };
     let checked = check(item).result;
     let code = Some(u64::from(*first));
     let channel = Some(u64::from(channel));
-    pen.form(
-        forms_of_message(message).json,
+    buf.format(
+        message_formats(message).json,
         &[line, began, channel, code, code],
     );
     if message.is_request && checked.is_ok() {
-        write_string(pen, "rpId", RpId::of_request(*first, item).text());
+        write_string(buf, "rpId", RpId::of_request(*first, item).text());
     }
     if let Some(exchange) = message.exchange
         && let Some(command) = exchange.transaction.command
     {
         let command = Some(u64::from(command));
-        pen.form(br#","command":%d,"name":"%C"#, &[command, command]);
-        write_string(pen, "rpId", exchange.named.rp_id.text());
+        buf.format(br#","command":%d,"name":"%C"#, &[command, command]);
+        write_string(buf, "rpId", exchange.named.rp_id.text());
     }
     match &checked {
         _ if item.is_empty() => {}
-        Ok(()) => write_item(pen, map_of(message, *first).names(), item),
+        Ok(()) => write_item(buf, map_of(message, *first).names(), item),
         Err(fault) => {
-            let numbers = [Some(u64::from(fault.kind.number())), Some(fault.at as u64)];
-            pen.form(br#","fault":%d,"at":%d"#, &numbers);
-            write_hex(pen, "bytes", item);
+            let offset = Some(fault.at as u64);
+            let numbers = [Some(u64::from(fault.kind.number())), offset, offset];
+            buf.format(br#","fault":%d,"offset":%d,"at":%d"#, &numbers);
+            write_hex(buf, "bytes", item);
         }
     }
-    pen.text("}\n");
+    buf.text("}\n");
 }
 
 /// Writes a canonical item: its diagnostic notation, its value and its bytes.
-fn write_item(pen: &mut Pen, names: Names, item: &[u8]) {
-    pen.text(",\"item\":\"");
-    pen.is_quoted = true;
-    Diagnostic(item).write(pen);
-    pen.is_quoted = false;
-    pen.text("\",\"value\":");
-    write_value(pen, &mut Cursor::new(item), 1, JSON, names);
-    write_hex(pen, "bytes", item);
+fn write_item(buf: &mut TextBuf, names: Names, item: &[u8]) {
+    buf.text(",\"item\":\"");
+    buf.is_quoted = true;
+    Diagnostic(item).write(buf);
+    buf.is_quoted = false;
+    buf.text("\",\"value\":");
+    write_value(buf, &mut Cursor::new(item), 1, JSON, names);
+    write_hex(buf, "bytes", item);
 }
 
 /// Writes the object of a transaction that ended, or is open at the log's end.
-pub fn write_transaction(pen: &mut Pen, number: u64, ended: &Ended) {
+pub fn write_transaction(buf: &mut TextBuf, number: u64, ended: &Ended) {
     let exchange = &ended.exchange;
     let transaction = &exchange.transaction;
-    pen.form(
+    buf.format(
         br#"{"line":%d,"kind":"transaction","transaction":%d,"channel":"%w""#,
         &[
             Some(number),
@@ -133,20 +135,22 @@ pub fn write_transaction(pen: &mut Pen, number: u64, ended: &Ended) {
             Some(u64::from(transaction.channel)),
         ],
     );
-    write_string(pen, "name", Some(transaction.name()));
-    write_string(pen, "rpId", exchange.named.rp_id.text());
-    let (forms, one, two) = forms_of_end(ended);
-    pen.form(forms.json, &[one, two]);
-    let (came, length) = exchange.extent.missing();
-    pen.form(
-        br#","came":%d,"length":%d,"cancelled":%d,"userTook":%d,"keepalives":%d"#,
+    write_string(buf, "name", Some(transaction.name()));
+    write_string(buf, "rpId", exchange.named.rp_id.text());
+    let (formats, one, two) = end_formats(ended);
+    buf.format(formats.json, &[one, two.or(one), one, two]);
+    let (came, length) = exchange.progress.missing();
+    buf.format(
+        br#","bytesReceived":%d,"came":%d,"length":%d,"cancelled":%d,"presenceMs":%d,"userTook":%d,"keepalives":%d"#,
         &[
+            came,
             came,
             length,
             exchange.cancelled,
-            exchange.took,
+            exchange.presence_ms,
+            exchange.presence_ms,
             Some(exchange.keepalives),
         ],
     );
-    pen.text("}\n");
+    buf.text("}\n");
 }

@@ -1,177 +1,183 @@
-//! A log, written line by line in one of several forms.
+//! Writes a log line by line, in one of several formats.
 ghost use Rattle.std.specs.Prelude.{◌≡◌, ◌<◌, ◌-◌, ◌^◌, IfErr, OnOk};
 ghost use Rattle.session_log.specs.Ending.{ending_of, read_fails, write_fails};
 ghost use Rattle.session_log.specs.Replay.{IsOfLine, ReadsTo};
-ghost use Rattle.session_log.specs.Streams.{Counts as CountsFailures, IsAllRead};
-ghost use Rattle.session_show.specs.Shown.{Shows, ShowsLine, TellsEnd, TellsLine, reading, shown_in, wording_of};
+ghost use Rattle.session_log.specs.Streams.{Counts as CountsFailures, IsAtEndOfInput};
+ghost use Rattle.session_show.specs.Shown.{Shows, ShowsLine, WritesEnd, WritesLine, read_only_world, shown_in, wording_of};
 ghost use Rattle.session_show.specs.Written.{Writes};
 
+use crate::chunked::{Written, put_parts, put_with_line_number};
 use crate::counts::{Counts, LINES, OBJECT};
+use crate::detail::Detail;
 use crate::entry::{write_ended, write_entry, write_page};
 use crate::json_line::{write_line, write_transaction};
-use crate::pen::Pen;
-use crate::putting::{Written, put_numbered, put_written};
-use crate::row::{HEAD, write_row};
-use crate::transcript::Transcript;
-use crate::wording::Wording;
+use crate::summary_row::{HEAD, write_row};
+use crate::text_buf::TextBuf;
+use crate::transcript::PlainTranscript;
 use session_log::{Failed, Line, LogFault, Source, Target, Window, next_line, read_line};
-use session_walk::{Ended, Entry, LogWalk, OPEN};
+use session_walk::{Ended, Entry, OPEN, TransactionTracker};
 
-/// How a log is written.
+/// An output format.
 #[derive(Clone, Copy)]
-pub enum LogForm {
-    /// As text, line by line.
-    Text(Wording),
-    /// As numbers for a page, line by line.
+pub enum OutputFormat {
+    /// Text, line by line.
+    Text(Detail),
+    /// Numbers for the page, line by line.
     Page,
-    /// As a table of transactions, and lines of counts.
+    /// A table of transactions, then counts.
     Table,
-    /// As an object of JSON for each transaction, and one for the counts.
+    /// A JSON object for each transaction, then one for the counts.
     Summary,
-    /// As objects of JSON for each packet, tick, reply and comment, for each CBOR message and each transaction.
+    /// JSON objects for each packet, tick, reply, comment, CBOR message and transaction.
     Objects,
 }
 
-impl LogForm {
-    /// Returns how lines are worded, where there is a text for each.
-    fn wording(self) -> Option<Wording>
+impl OutputFormat {
+    /// Returns the level of detail, if the format has a text for each line.
+    fn detail(self) -> Option<Detail>
         ensures { result ≡ wording_of self }
     {
         match self {
-            LogForm::Text(wording) => Some(wording),
-            LogForm::Page => Some(Wording::Fixed),
-            LogForm::Table | LogForm::Summary | LogForm::Objects => None,
+            OutputFormat::Text(detail) => Some(detail),
+            OutputFormat::Page => Some(Detail::Fixed),
+            OutputFormat::Table | OutputFormat::Summary | OutputFormat::Objects => None,
         }
     }
 }
 
-/// What follows the lines of a log.
+/// State that follows the lines of a log.
 #[derive(Drop)]
 enum Following {
     /// The messages of the fixed text.
-    Messages(Transcript),
+    Messages(PlainTranscript),
     /// The transactions.
-    Transactions(LogWalk),
+    Transactions(TransactionTracker),
 }
 
 impl Following {
-    /// Takes the next line, which has this number and says this, and returns what it is.
-    fn next_entry<'a>(&'a mut self, number: u64, line: &'a [u8], said: &'a Line) -> Entry<'a> {
+    /// Processes the next line, and returns its entry.
+    fn next_entry<'a>(&'a mut self, number: u64, line: &'a [u8], parsed: &'a Line) -> Entry<'a> {
         match self {
-            Following::Messages(transcript) => transcript.next_entry(number, line, said),
+            Following::Messages(transcript) => transcript.next_entry(number, line, parsed),
             Following::Transactions(walk) => {
-                walk.take(number, said);
+                walk.take(number, parsed);
                 Entry {
-                    page: Some(walk.message_line),
-                    ..walk.entry(number, line, said)
+                    page: Some(walk.message_start),
+                    ..walk.entry(number, line, parsed)
                 }
             }
         }
     }
 }
 
-/// What is kept from line to line of a log that is written in a form.
+/// The state between the lines of a log that is being written.
 #[derive(Drop)]
 pub struct LogWriter {
-    pub form: LogForm,
+    pub format: OutputFormat,
     following: Following,
     counts: Counts,
     /// Whether the table has a row.
     is_begun: bool,
     /// The last line.
     last: u64,
-    pen: Pen,
+    buf: TextBuf,
 }
 
 impl LogWriter {
-    /// Returns that of no lines.
-    pub fn new(form: LogForm) -> Self
-        ensures { result.form ≡ form }
+    /// Returns the state before the first line.
+    pub fn new(format: OutputFormat) -> Self
+        ensures { result.format ≡ format }
     {
-        let (following, wording) = match form {
-            LogForm::Text(Wording::Fixed) => {
-                (Following::Messages(Transcript::default()), Wording::Fixed)
+        let (following, detail) = match format {
+            OutputFormat::Text(Detail::Fixed) => {
+                (
+                    Following::Messages(PlainTranscript::default()),
+                    Detail::Fixed,
+                )
             }
-            _ => (Following::Transactions(LogWalk::new()), Wording::Explained),
+            _ => (
+                Following::Transactions(TransactionTracker::new()),
+                Detail::Explained,
+            ),
         };
         LogWriter {
-            form,
+            format,
             following,
             counts: Counts::new(),
             is_begun: false,
             last: 0,
-            pen: Pen::new(wording),
+            buf: TextBuf::new(detail),
         }
     }
 
-    /// Writes what is written for the next line.
+    /// Writes the output for the next line.
     fn tell<T: Target>(&mut self, number: u64, line: &[u8], writer: &mut T) -> Result<(), LogFault>
         requires { T.failed writer.old < 2 ^ 64 - 1 }
-        ensures form { self.new.form ≡ self.old.form }
+        ensures format { self.new.format ≡ self.old.format }
         ensures shown { ShowsLine number line.now (T.failed writer.old, T.failed writer.new) (ending_of result) }
         ensures own { IfErr result (IsOfLine number) }
-        ensures text { TellsLine (shown_in self.old.form) number line.now (T.taken writer.old, T.taken writer.new) (ending_of result) }
+        ensures text { WritesLine (shown_in self.old.format) number line.now (T.taken writer.old, T.taken writer.new) (ending_of result) }
     {
-        let Some(said) = read_line(line) else {
+        let Some(parsed) = read_line(line) else {
             return Err(LogFault::BadLine(number));
         };
         self.last = number;
-        let form = self.form;
-        let entry = self.following.next_entry(number, line, &said);
+        let format = self.format;
+        let entry = self.following.next_entry(number, line, &parsed);
         let written = Lines {
-            form,
+            format,
             entry,
             has_head: self.is_begun,
         };
-        let Some(wording) = form.wording() else {
+        let Some(detail) = format.detail() else {
             self.counts.add_line(&entry);
             self.is_begun = self.is_begun || !entry.ended.is_empty();
-            return match put_written(writer, &mut self.pen, &written) {
+            return match put_parts(writer, &mut self.buf, &written) {
                 Ok(()) => Ok(()),
                 Err(_) => Err(LogFault::Write),
             };
         };
-        if !wording.has_text(line, &said) {
+        if !detail.has_text(line, &parsed) {
             return Ok(());
         }
-        match put_numbered(writer, &mut self.pen, number, &written) {
+        match put_with_line_number(writer, &mut self.buf, number, &written) {
             Ok(()) => Ok(()),
             Err(_) => Err(LogFault::Write),
         }
     }
 
-    /// Writes what comes behind the last line of a text, which has this number: explained, how much came of what isn't
-    /// whole.
+    /// Writes what follows the last line of a text, which has this number: explained, how much of each incomplete
+    /// message was received.
     fn tell_end<T: Target>(&mut self, number: u64, writer: &mut T) -> Result<(), LogFault>
         requires { T.failed writer.old < 2 ^ 64 - 1 }
-        ensures { TellsEnd (shown_in self.old.form) T.taken T.failed number (writer.old, writer.new) (ending_of result) }
+        ensures { WritesEnd (shown_in self.old.format) T.taken T.failed number (writer.old, writer.new) (ending_of result) }
     {
-        let LogForm::Text(Wording::Explained) = self.form else {
+        let OutputFormat::Text(Detail::Explained) = self.format else {
             return Ok(());
         };
         let Following::Transactions(walk) = &self.following else {
             return Ok(());
         };
         let left = LogEnd {
-            form: self.form,
+            format: self.format,
             walk,
             counts: &self.counts,
             has_head: false,
             last: number,
         };
-        self.pen.begin(0);
-        left.write(&mut self.pen);
-        if self.pen.part().is_empty() {
+        self.buf.begin(0);
+        left.write(&mut self.buf);
+        if self.buf.part().is_empty() {
             return Ok(());
         }
-        match put_numbered(writer, &mut self.pen, number, &left) {
+        match put_with_line_number(writer, &mut self.buf, number, &left) {
             Ok(()) => Ok(()),
             Err(_) => Err(LogFault::Write),
         }
     }
 
-    /// Writes what is left at the log's end, in a form without a text for each line: a packet of which no line showed
-    /// what it is, the transactions that are open, and then the counts.
+    /// Writes what remains at the end of the log, in a format without a text for each line: an undecided packet, the
+    /// open transactions, and the counts.
     pub fn put<T: Target>(&mut self, writer: &mut T) -> Result<(), Failed>
         requires { T.failed writer.old < 2 ^ 64 - 1 }
         ensures { Writes T.taken T.failed (writer.old, writer.new) result }
@@ -181,26 +187,24 @@ impl LogWriter {
         };
         walk.finish();
         let left = LogEnd {
-            form: self.form,
+            format: self.format,
             walk,
             counts: &self.counts,
             has_head: self.is_begun,
             last: self.last,
         };
-        put_written(writer, &mut self.pen, &left)
+        put_parts(writer, &mut self.buf, &left)
     }
 }
 
-/// Writes a log (docs/use/EXPLAINED.md): what the form of `log_writer` says for each line. What is still to be written
-/// is kept in it. It has to be new, and where there isn't a text for each line, [`LogWriter::put`] writes that after
-/// the lines.
+/// Writes a log (docs/use/EXPLAINED.md) in the format of `log_writer`, which must be new and keeps the state. In a
+/// format without a text for each line, call [`LogWriter::put`] afterwards for the rest.
 ///
-/// The text for a line is handed to the target before more is asked of the source; of objects only that of a
-/// continuation packet isn't which comes 100 ms or more after the one before it: whether that was too late, only the
-/// next line shows. Counts are left out of objects.
+/// The text for a line is written before more is read; in JSON, except for a continuation packet 100 ms or more after
+/// the one before it: only the next line shows whether it was too late. JSON of this form has no counts.
 ///
-/// It allocates nothing, and what it takes doesn't grow with the log. Faults are those of [`crate::show`], and
-/// [`put_json_fault`] writes the object of one.
+/// Allocates nothing; its memory doesn't grow with the log. Faults are those of [`crate::show`], and [`put_json_fault`]
+/// writes the object of one.
 pub fn write_log<S: Source, T: Target>(
     reader: &mut S,
     writer: &mut T,
@@ -208,16 +212,16 @@ pub fn write_log<S: Source, T: Target>(
 ) -> Result<(), LogFault>
     requires read { S.failed reader.old < 2 ^ 64 - 1 }
     requires write { T.failed writer.old < 2 ^ 64 - 1 }
-    // At Ok every line is a log line, and all of them were shown. A line fault is that of the first faulty line, and
-    // the lines before it were shown. A read that failed names its line, and the lines before it were shown. At a write
-    // that failed the text of a line broke off.
-    ensures shown { Shows (shown_in log_writer.old.form) (S.left reader.old, S.left reader.new)
+    // At Ok every line is a log line and was shown. A line fault names the first faulty line, and the lines before it
+    // were shown. A failed read names its line, and the lines before it were shown. After a failed write the text is a
+    // beginning.
+    ensures shown { Shows (shown_in log_writer.old.format) (S.left reader.old, S.left reader.new)
         (T.taken writer.old, T.taken writer.new) (ending_of result) }
-    // At a line fault at most 256 bytes were read after the lines before the faulty one.
-    ensures reach { ReadsTo reading tt (S.left reader.old) (S.left reader.new)
-        (IsAllRead S.left S.ended reader.new) (ending_of result) }
-    // At Ok it was all that the reader held.
-    ensures end { OnOk result (IsAllRead S.left S.ended reader.new) }
+    // At a line fault at most 256 bytes after the lines before the faulty one were read.
+    ensures reach { ReadsTo read_only_world tt (S.left reader.old) (S.left reader.new)
+        (IsAtEndOfInput S.left S.ended reader.new) (ending_of result) }
+    // At Ok the reader was read to its end.
+    ensures end { OnOk result (IsAtEndOfInput S.left S.ended reader.new) }
     // A failure was counted exactly at Read, and exactly at Write.
     ensures reads { CountsFailures S.failed (reader.old, reader.new) (read_fails (ending_of result)) }
     ensures writes { CountsFailures T.failed (writer.old, writer.new) (write_fails (ending_of result)) }
@@ -240,93 +244,108 @@ pub fn write_log<S: Source, T: Target>(
     log_writer.tell_end(number, writer)
 }
 
-/// Writes a transaction that ended, with the number of the line that it ends at. In a table its head is in front of the
-/// first one; in a text behind the last line that number is, except in front of the first one.
-fn write_end(pen: &mut Pen, form: LogForm, number: u64, ended: &Ended, has_head: bool) {
-    match form {
-        LogForm::Text(_) | LogForm::Page => {
-            let number = if pen.place() == 0 { None } else { Some(number) };
-            write_ended(pen, number, ended);
+/// Writes a transaction that ended, with the number of the line that it ends at. In a table, the header precedes the
+/// first one; after the last line of a text, each but the first has the number.
+fn write_end(buf: &mut TextBuf, format: OutputFormat, number: u64, ended: &Ended, has_head: bool) {
+    match format {
+        OutputFormat::Text(_) | OutputFormat::Page => {
+            let number = if buf.place() == 0 { None } else { Some(number) };
+            write_ended(buf, number, ended);
         }
-        LogForm::Table => {
+        OutputFormat::Table => {
             if !has_head {
-                pen.text(HEAD);
+                buf.text(HEAD);
             }
-            write_row(pen, ended);
+            write_row(buf, ended);
         }
-        LogForm::Summary | LogForm::Objects => write_transaction(pen, number, ended),
+        OutputFormat::Summary | OutputFormat::Objects => write_transaction(buf, number, ended),
     }
 }
 
-/// What is left to write at the log's end.
+/// The first line of a stream of JSON objects.
+const FORMAT_LINE: &str = "{\"kind\":\"format\",\"format\":2}\n";
+
+/// What remains to be written at the end of the log.
 #[derive(Clone, Copy)]
 struct LogEnd<'a> {
-    form: LogForm,
-    walk: &'a LogWalk,
+    format: OutputFormat,
+    walk: &'a TransactionTracker,
     counts: &'a Counts,
-    /// Whether the table has its head.
+    /// Whether the table has its header.
     has_head: bool,
     /// The last line.
     last: u64,
 }
 
 impl Written for LogEnd<'_> {
-    fn write(&self, pen: &mut Pen) {
-        if let Some(late) = &self.walk.late()
-            && matches!(self.form, LogForm::Objects)
+    fn write(&self, buf: &mut TextBuf) {
+        if let Some(deferred) = &self.walk.deferred()
+            && matches!(self.format, OutputFormat::Objects)
         {
-            write_line(pen, late);
+            write_line(buf, deferred);
         }
         let mut line = 0;
         for _ in 0..OPEN {
-            let Some(open) = self.walk.channels.open_after(line) else {
+            let Some(open) = self.walk.channels.first_open_after(line) else {
                 break;
             };
-            write_end(pen, self.form, self.last, &open, self.has_head || line > 0);
+            write_end(
+                buf,
+                self.format,
+                self.last,
+                &open,
+                self.has_head || line > 0,
+            );
             line = open.exchange.transaction.line;
         }
-        match self.form {
-            LogForm::Table => self.counts.write(pen, &LINES),
-            LogForm::Summary => self.counts.write(pen, &OBJECT),
-            LogForm::Text(_) | LogForm::Page | LogForm::Objects => {}
+        match self.format {
+            OutputFormat::Table => self.counts.write(buf, &LINES),
+            OutputFormat::Summary => self.counts.write(buf, &OBJECT),
+            OutputFormat::Text(_) | OutputFormat::Page | OutputFormat::Objects => {}
         }
     }
 }
 
-/// What is written for a line: the line that it decides on, itself, and what it ends.
+/// The output for a line: an earlier ambiguous line that it resolves, the line itself, and the transactions that it
+/// ends.
 #[derive(Clone, Copy)]
 struct Lines<'a> {
-    form: LogForm,
+    format: OutputFormat,
     entry: Entry<'a>,
-    /// Whether the table has its head.
+    /// Whether the table has its header.
     has_head: bool,
 }
 
 impl Written for Lines<'_> {
-    fn write(&self, pen: &mut Pen) {
+    fn write(&self, buf: &mut TextBuf) {
         let entry = &self.entry;
-        match self.form {
-            LogForm::Text(_) => {
-                write_entry(pen, entry);
+        if entry.own.number == 1
+            && matches!(self.format, OutputFormat::Objects | OutputFormat::Summary)
+        {
+            buf.text(FORMAT_LINE);
+        }
+        match self.format {
+            OutputFormat::Text(_) => {
+                write_entry(buf, entry);
                 return;
             }
-            LogForm::Page => {
-                write_page(pen, entry);
+            OutputFormat::Page => {
+                write_page(buf, entry);
                 return;
             }
-            LogForm::Objects => {
-                if let Some(late) = &entry.late {
-                    write_line(pen, late);
+            OutputFormat::Objects => {
+                if let Some(deferred) = &entry.deferred {
+                    write_line(buf, deferred);
                 }
-                if !entry.is_doubtful {
-                    write_line(pen, &entry.own);
+                if !entry.is_ambiguous {
+                    write_line(buf, &entry.own);
                 }
             }
-            LogForm::Table | LogForm::Summary => {}
+            OutputFormat::Table | OutputFormat::Summary => {}
         }
         let mut has_head = self.has_head;
         for ended in entry.ended {
-            write_end(pen, self.form, entry.own.number, ended, has_head);
+            write_end(buf, self.format, entry.own.number, ended, has_head);
             has_head = true;
         }
     }

@@ -1,37 +1,39 @@
-//! Why the key doesn't send what a log has, as far as the lines before it show that.
+//! Explains why the key sends other packets than the log has, from the preceding lines.
 
 use crate::cause::write_cause;
+use crate::chunked::Written;
 use crate::difference::Difference;
-use crate::pen::Pen;
-use crate::putting::Written;
+use crate::escape::write_escaped;
+use crate::text_buf::TextBuf;
+use authn_core::Refusal as Command;
+use hid_assemble::Refusal as Transport;
 use hid_packet::View;
 use hid_packet::command::{CBOR, ERROR, KEEPALIVE};
-use session_walk::error_code::{CHANNEL_BUSY, MSG_TIMEOUT};
-use session_walk::status::CREDENTIAL_EXCLUDED;
-use session_walk::{Followed, LogWalk, Transaction, channel_of};
+use session_walk::error_code::MSG_TIMEOUT;
+use session_walk::{OpenTransaction, Transaction, TransactionTracker, channel_of};
 use token_session::{Cause, KEEPALIVE_PERIOD};
 
 /// Why a packet differs.
 #[derive(Clone, Copy)]
 pub struct Reason<'a> {
-    pub walk: &'a LogWalk,
+    pub walk: &'a TransactionTracker,
     pub difference: &'a Difference,
-    /// The transaction that it is said to be in, where the key sends nothing.
+    /// The transaction that the difference is reported in, if the key sends nothing.
     pub transaction: Option<Transaction>,
 }
 
 impl Written for Reason<'_> {
-    /// Writes a line, or nothing: why the key sends nothing, or why it refuses.
-    fn write(&self, pen: &mut Pen) {
+    /// Writes a line with the reason that the key sends nothing or refuses, if known.
+    fn write(&self, buf: &mut TextBuf) {
         let Some(sent) = &self.difference.sent else {
             match self.due() {
                 Some((due, served)) => {
-                    self.begin(pen, &served, "");
-                    let form = b"its next KEEPALIVE is due at %d; line %d is at %d\n";
+                    self.begin(buf, &served, "");
+                    let format = b"its next KEEPALIVE is due at %d ms; line %d is at %d ms\n";
                     let (input, at) = (self.difference.input, self.difference.at);
-                    pen.form(form, &[Some(due), Some(input), Some(at)]);
+                    buf.format(format, &[Some(due), Some(input), Some(at)]);
                 }
-                None => self.write_waiting(pen),
+                None => self.write_waiting(buf),
             }
             return;
         };
@@ -45,28 +47,24 @@ impl Written for Reason<'_> {
             return;
         };
         if cmd == ERROR || cmd == CBOR && *code != 0 {
-            if !self.write_named(pen, cid, cmd, *code)
-                && let Some(cause) = self.cause(cmd, *code)
-            {
-                pen.text("  ");
-                write_cause(pen, cause);
-                pen.text("\n");
+            if let Some(cause) = self.cause(cmd, *code) {
+                self.write_refusal(buf, cid, cause);
             }
         } else if cmd == KEEPALIVE {
-            self.write_keepalive(pen);
+            self.write_keepalive(buf);
         } else {
-            let form: &[u8] = if cmd == CBOR {
+            let format: &[u8] = if cmd == CBOR {
                 b"  line %d is the last input that the request needs\n"
             } else {
-                b"  line %d completes the message, which is answered\n"
+                b"  line %d completes the message\n"
             };
-            pen.form(form, &[Some(self.difference.input)]);
+            buf.format(format, &[Some(self.difference.input)]);
         }
     }
 }
 
 impl Reason<'_> {
-    /// Returns the cause of a packet that refuses something.
+    /// Returns the cause of an ERROR or an error status.
     fn cause(&self, cmd: u8, code: u8) -> Option<Cause> {
         match self.difference.causes.time {
             Some(overdue) if cmd == ERROR && code == MSG_TIMEOUT => Some(Cause::Transport(overdue)),
@@ -75,73 +73,89 @@ impl Reason<'_> {
     }
 
     /// Writes why the key sends a KEEPALIVE.
-    fn write_keepalive(&self, pen: &mut Pen) {
+    fn write_keepalive(&self, buf: &mut TextBuf) {
         match self.difference.kept_alive {
-            Some((last, _)) => pen.form(
-                b"  a request waits, with a KEEPALIVE at each change and every 100 ms; the last one was at %d\n",
+            Some((last, _)) => buf.format(
+                b"  a request waits, with a KEEPALIVE at each change and every 100 ms; the last one was at %d ms\n",
                 &[Some(last)],
             ),
-            None => pen.form(
+            None => buf.format(
                 b"  the request that line %d completes waits\n",
                 &[Some(self.difference.input)],
             ),
         }
     }
 
-    /// Writes what of the log a refusal refers to: the message that is served, or the excluded credential. Returns whether
-    /// it wrote a line.
-    fn write_named(&self, pen: &mut Pen, cid: u32, cmd: u8, code: u8) -> bool {
-        if cmd == ERROR
-            && code == CHANNEL_BUSY
-            && let Some(other) = self.walk.channels.held_beside(cid)
-        {
-            pen.text("  it serves ");
-            other.transaction.write(pen);
-            pen.text("\n");
-            return true;
+    /// Returns the open message of a channel.
+    fn open_on(&self, channel: u32) -> Option<&OpenTransaction> {
+        match self.walk.channels.on(channel) {
+            Some(found) => found.current.as_ref(),
+            None => None,
         }
-        if cmd == CBOR
-            && code == CREDENTIAL_EXCLUDED
-            && let Some(found) = self.walk.channels.on(cid)
-            && let Some(held) = &found.held
-            && let Some(excluded) = &held.named.excluded
-        {
-            pen.text("  ");
-            excluded.write(pen);
-            return true;
-        }
-        false
     }
 
-    /// Begins a line about the transaction that the key serves: with its subject, or with its name, where the difference
-    /// is said to be in another one.
-    fn begin(&self, pen: &mut Pen, served: &Transaction, subject: &str) {
-        pen.text("  ");
+    /// Writes why the key refuses a packet or request: the line of the log that it conflicts with, or the sentence for
+    /// the cause.
+    fn write_refusal(&self, buf: &mut TextBuf, cid: u32, cause: Cause) {
+        buf.text("  ");
+        let busy_with = match cause {
+            Cause::Transport(Transport::BusyElsewhere { channel }) => self.open_on(channel),
+            Cause::Transport(Transport::BusyHere) => self.open_on(cid),
+            _ => None,
+        };
+        if let Some(open) = busy_with {
+            buf.text("it serves ");
+            open.transaction.write(buf);
+            buf.text("\n");
+            return;
+        }
+        let request = self.open_on(cid);
+        if let Some(request) = request
+            && matches!(cause, Cause::Command(Command::Excluded))
+            && let Some(excluded) = &request.named.excluded
+        {
+            excluded.write(buf);
+            return;
+        }
+        write_cause(buf, cause);
+        if let Some(request) = request
+            && matches!(cause, Cause::Command(Command::NoCredential { .. }))
+            && !request.named.rp_id.bytes().is_empty()
+        {
+            buf.text(": the RP ID is ");
+            write_escaped(buf, request.named.rp_id.bytes());
+        }
+        buf.text("\n");
+    }
+
+    /// Begins a line about the transaction in process: with `subject`, or with its name if the difference is reported
+    /// in another one.
+    fn begin(&self, buf: &mut TextBuf, served: &Transaction, subject: &str) {
+        buf.text("  ");
         if matches!(&self.transaction, Some(of) if of.line == served.line) {
-            pen.text(subject);
+            buf.text(subject);
         } else {
-            pen.text("it serves ");
-            served.write(pen);
-            pen.text(", and ");
+            buf.text("it serves ");
+            served.write(buf);
+            buf.text(", and ");
         }
     }
 
     /// Writes which packet of a message is missing.
-    fn write_unfinished(&self, pen: &mut Pen, open: &Followed) {
-        let next = Some(u64::from(open.extent.continuations));
-        pen.form(b"  it still waits for packet +%d of ", &[next]);
+    fn write_unfinished(&self, buf: &mut TextBuf, open: &OpenTransaction) {
+        let next = Some(u64::from(open.progress.continuations));
+        buf.format(b"  still waiting for continuation packet %d of ", &[next]);
         let line = Some(open.transaction.line);
         if matches!(&self.transaction, Some(of) if Some(of.line) == line) {
-            pen.form(b"the message from line %d", &[line]);
+            buf.format(b"the message from line %d", &[line]);
         } else {
-            open.transaction.write(pen);
+            open.transaction.write(buf);
         }
-        let (came, length) = open.extent.missing();
-        pen.form(b": %d of %d bytes came\n", &[came, length]);
+        let (came, length) = open.progress.missing();
+        buf.format(b": %d of %d bytes received\n", &[came, length]);
     }
 
-    /// Returns the moment at which the key's last KEEPALIVE is due again, and the transaction that it is for, where the
-    /// log has it before that.
+    /// Returns the time at which the key's next KEEPALIVE is due, and its transaction, if the log has one too early.
     fn due(&self) -> Option<(u64, Transaction)> {
         let (Some((last, packet)), None, Some(logged)) = (
             self.difference.kept_alive,
@@ -153,8 +167,8 @@ impl Reason<'_> {
         let Some(found) = self.walk.channels.on(channel_of(logged)) else {
             return None;
         };
-        match &found.held {
-            Some(held) if held.is_served() && packet == *logged => {
+        match &found.current {
+            Some(held) if held.is_processing() && packet == *logged => {
                 match last.checked_add(KEEPALIVE_PERIOD) {
                     Some(due) => Some((due, held.transaction)),
                     None => None,
@@ -164,45 +178,45 @@ impl Reason<'_> {
         }
     }
 
-    /// Writes what the key waits for before it answers on a channel, or why it answers nothing there.
-    fn write_waiting(&self, pen: &mut Pen) {
+    /// Writes the reply that the key waits for before its response on a channel, or why it sends no response there.
+    fn write_waiting(&self, buf: &mut TextBuf) {
         let Some(logged) = &self.difference.logged else {
             return;
         };
         let found = self.walk.channels.on(channel_of(logged));
         let (held, last) = match found {
-            Some(found) if found.is_answering() => (found.held.as_ref(), 0),
-            Some(found) => (found.held.as_ref(), found.told.line),
+            Some(found) if found.is_answering() => (found.current.as_ref(), 0),
+            Some(found) => (found.current.as_ref(), found.last_response.line),
             None => (None, 0),
         };
         let input = Some(self.difference.input);
         match (held, self.difference.awaited) {
-            (Some(open), _) if !open.extent.is_whole() => {
-                self.write_unfinished(pen, open);
+            (Some(open), _) if !open.progress.is_whole() => {
+                self.write_unfinished(buf, open);
             }
-            (Some(served), Some(awaited)) if served.is_served() => {
-                self.begin(pen, &served.transaction, "it ");
-                pen.text("needs ");
-                pen.text(awaited.name());
+            (Some(served), Some(awaited)) if served.is_processing() => {
+                self.begin(buf, &served.transaction, "it ");
+                buf.text("needs ");
+                buf.text(awaited.name());
                 if let Some(reply) = self.difference.reply {
-                    pen.form(b"; line %d is ", &[input]);
-                    pen.text(reply.name());
+                    buf.format(b"; line %d is ", &[input]);
+                    buf.text(reply.name());
                 }
-                pen.text("\n");
+                buf.text("\n");
             }
-            _ if self.difference.is_stray => {
-                let form = b"  line %d is a continuation packet of no open message\n";
-                pen.form(form, &[input]);
+            _ if self.difference.last_was_stray => {
+                let format = b"  line %d is a continuation packet outside any message\n";
+                buf.format(format, &[input]);
             }
             _ if last > 0 => {
-                let form =
-                    b"  nothing waits on this channel: its last answer there is that of line %d\n";
-                pen.form(form, &[Some(last)]);
+                let format =
+                    b"  no request is pending on this channel: line %d has its last response\n";
+                buf.format(format, &[Some(last)]);
             }
             _ if self.difference.input == 0 => {
-                pen.text("  no input comes before this packet\n");
+                buf.text("  no input comes before this packet\n");
             }
-            _ => pen.form(b"  line %d calls for no further packet\n", &[input]),
+            _ => buf.format(b"  line %d calls for no further packet\n", &[input]),
         }
     }
 }

@@ -1,20 +1,25 @@
-//! The messages of the fixed text: one is collected in each direction, whatever channel it is on.
+//! The messages of the fixed text: one per direction is collected, on any channel.
 
 use session_log::Line;
-use session_walk::{CborMessage, Collector, Entry, Own, Role};
+use session_walk::{CborMessage, Collector, Entry, LineEntry, Role};
 use token_session::Input;
 
 /// The messages that the lines so far began.
 #[derive(Drop, Default)]
-pub struct Transcript {
+pub struct PlainTranscript {
     requests: Collector,
     answers: Collector,
 }
 
-impl Transcript {
-    /// Takes the next line, which has this number and says this, and returns what is shown for it.
-    pub fn next_entry<'a>(&'a mut self, number: u64, line: &'a [u8], said: &'a Line) -> Entry<'a> {
-        let (is_request, bytes) = match said {
+impl PlainTranscript {
+    /// Processes the next line, and returns its entry.
+    pub fn next_entry<'a>(
+        &'a mut self,
+        number: u64,
+        line: &'a [u8],
+        parsed: &'a Line,
+    ) -> Entry<'a> {
+        let (is_request, bytes) = match parsed {
             Line::Input(timed) => match &timed.input {
                 Input::Packet(packet) => (true, self.requests.add(packet)),
                 _ => (true, None),
@@ -31,17 +36,17 @@ impl Transcript {
             None => None,
         };
         Entry {
-            late: None,
-            own: Own {
+            deferred: None,
+            own: LineEntry {
                 number,
                 line,
-                said,
-                of: None,
+                parsed: parsed,
+                transaction: None,
                 message,
-                carried: 0,
+                data_len: 0,
             },
-            is_doubtful: false,
-            part: Role::Own,
+            is_ambiguous: false,
+            role: Role::Owned,
             ended: &[],
             page: None,
         }

@@ -1,7 +1,7 @@
 -- What a packet brings to the messages that are kept, where some of those before it were let go first.
 use Rattle.std.proofs.Common.{◌≡◌, ℕ, List, Option, Some, None, IfSome, ◌⊎◌, inl, inr, refl, rules, arith}
 use Rattle.std.proofs.lemmas.{Grind.common_steps}
-use Rattle.session_walk.specs.Messages.{KeptMessage, KeptMessages, Brings, Begins, Continues, KeepsOnly, kept_at}
+use Rattle.session_walk.specs.Messages.{KeptMessage, KeptMessages, AddsData, Begins, Continues, KeepsOnly, kept_at}
 
 -- one message, by what is kept in its place: at first, when some were let go, and after the packet
 abbrev OwnBrought : (number size : ℕ) (part : List ℕ) (before after : Option KeptMessage) → Type 0
@@ -31,19 +31,19 @@ none_after : (first before : KeptMessages) (line : ℕ) → KeepsOnly first befo
     → kept_at first line ≡ None → kept_at before line ≡ None
 none_after first before line only empty = none (kept_at first line) (kept_at before line) (only line) empty
 
-brings_after : (number size : ℕ) (part : List ℕ) (of : ℕ) (first before after : KeptMessages)
-    → KeepsOnly first before → Brings number size part of before after → Brings number size part of first after
-brings_after number size part of first before after only brought = record {
-  own = own number size part (kept_at first of) (kept_at before of) (kept_at after of) (only of) brought.own;
+brings_after : (number size : ℕ) (part : List ℕ) (transaction : ℕ) (first before after : KeptMessages)
+    → KeepsOnly first before → AddsData number size part transaction before after → AddsData number size part transaction first after
+brings_after number size part transaction first before after only brought = record {
+  own = own number size part (kept_at first transaction) (kept_at before transaction) (kept_at after transaction) (only transaction) brought.own;
   others = λ line differs. other (kept_at first line) (kept_at before line) (kept_at after line) (only line)
       (brought.others line differs);
 }
 
 -- So from the messages before a line, where the packet finds those that are kept after some were let go.
-pub brings_past : (number size : ℕ) (part : List ℕ) (of : ℕ) (first left before after : KeptMessages)
+pub brings_past : (number size : ℕ) (part : List ℕ) (transaction : ℕ) (first left before after : KeptMessages)
     → KeepsOnly first left → before ≡ left
-    → (kept_at before number ≡ None → Brings number size part of before after)
-    → kept_at first number ≡ None → Brings number size part of first after
-brings_past number size part of first left before after only same brought empty =
+    → (kept_at before number ≡ None → AddsData number size part transaction before after)
+    → kept_at first number ≡ None → AddsData number size part transaction first after
+brings_past number size part transaction first left before after only same brought empty =
     let kept : KeepsOnly first before = rw same only in
-    brings_after number size part of first before after kept (brought (none_after first before number kept empty))
+    brings_after number size part transaction first before after kept (brought (none_after first before number kept empty))

@@ -1,197 +1,221 @@
--- What a packet of the key ends on a channel (CTAP 2.1, sections 11.2.4, 11.2.5 and 11.2.9.1).
+-- The transactions that a packet of the key ends on a channel (CTAP 2.1, sections 11.2.4, 11.2.5 and 11.2.9.1).
 use Rattle.std.specs.Prelude.{ℕ, Bool, true, false, not, ◌&&◌, ◌||◌, ◌==◌, nat_le, nat_lt, ◌+◌, ◌-◌, ◌^◌, min, List}
 use Rattle.std.specs.Prelude.{Option, Some, None, if◌then◌else◌, is_none}
 use Rattle.hid_packet.specs.Commands.{INIT}
 use Rattle.session_walk.specs.Extents.{is_whole}
-use Rattle.session_walk.specs.Owners.{added, added_held, came_whole, freed, is_known_not, lost_one, settled, settling}
-use Rattle.session_walk.specs.Owners.{is_worked_on, transaction_of}
-use Rattle.session_walk.specs.declared.awaited.Awaited.{Awaited}
-use Rattle.session_walk.specs.declared.awaited.Awaited.TheVariants.{Key, Presence, Signature}
-use Rattle.session_walk.specs.declared.answer.{AnswerStart.AnswerStart}
-use Rattle.session_walk.specs.declared.channel.{Channel.Channel, DeviceMessage.DeviceMessage}
-use Rattle.session_walk.specs.declared.doubtful.Doubtful.{Doubtful}
-use Rattle.session_walk.specs.declared.exchange.{Ended.Ended, Followed.Followed, Transaction.Transaction}
-use Rattle.session_walk.specs.declared.exchange.End.{End}
-use Rattle.session_walk.specs.declared.exchange.End.TheVariants.{Dropped, Refused, Replaced, Unknown}
+use Rattle.session_walk.specs.Owners.{with_end, with_end_of, is_complete_message, current_ended, is_owner_unknown, with_unidentified, contender_accepted, ends_by_contender}
+use Rattle.session_walk.specs.Owners.{is_in_process, transaction_of}
+use Rattle.session_walk.specs.declared.awaited.AwaitedReply.{AwaitedReply}
+use Rattle.session_walk.specs.declared.awaited.AwaitedReply.TheVariants.{Key, Presence, Signature}
+use Rattle.session_walk.specs.declared.answer.{ResponseStart.ResponseStart}
+use Rattle.session_walk.specs.declared.channel.{Channel.Channel, ResponseMessage.ResponseMessage}
+use Rattle.session_walk.specs.declared.ambiguous.Ambiguous.{Ambiguous}
+use Rattle.session_walk.specs.declared.transaction.{Ended.Ended, OpenTransaction.OpenTransaction, Transaction.Transaction}
+use Rattle.session_walk.specs.declared.transaction.End.{End}
+use Rattle.session_walk.specs.declared.transaction.End.TheVariants.{Dropped, Refused, Replaced, Unknown}
 
--- It isn't known which message a packet behind the input of this line is for.
-abbrev pub undecided_by : ℕ → Option Followed → Bool → Bool
+-- After this input, the transaction of the device's next packet is ambiguous.
+abbrev pub undecided_by : ℕ → Option OpenTransaction → Bool → Bool
 undecided_by input None unclear = unclear
-undecided_by input (Some asked) unclear = unclear || not (asked.transaction.line == input)
+undecided_by input (Some contender) unclear = unclear || not (contender.transaction.line == input)
 
+-- The same for a channel.
 abbrev pub is_open_question : ℕ → Channel → Bool
-is_open_question input c = undecided_by input c.asked (is_known_not c)
+is_open_question input c = undecided_by input c.contender (is_owner_unknown c)
 
--- Either of two messages may have been answered, or neither.
-abbrev pub lost_held : Option Followed → Channel → Channel
-lost_held None c = c
-lost_held (Some held) c = lost_one held.transaction.line c
+-- The channel whose current message, if any, may or may not be pending still.
+abbrev pub current_unidentified : Option OpenTransaction → Channel → Channel
+current_unidentified None c = c
+current_unidentified (Some current) c = with_unidentified current.transaction.line c
 
-abbrev pub lost_both : Channel → Channel
-lost_both c = let s = settled false c in record (lost_held s.held (freed s)) { is_contested = false }
+-- The channel without its two messages, of which it is unknown whether they are pending still.
+abbrev pub both_unidentified : Channel → Channel
+both_unidentified c = let s = contender_accepted false c in record (current_unidentified s.current (current_ended s)) { is_ambiguous = false }
 
-abbrev pub losing : Channel → List Ended → List Ended
-losing c ends = added_held (settling false c ends) (settled false c).held Unknown
+-- The transactions whose end is unknown.
+abbrev pub ends_lost : Channel → List Ended → List Ended
+ends_lost c ended = with_end_of (ends_by_contender false c ended) (contender_accepted false c).current Unknown
 
--- ERROR 05: the unfinished message timed out (CTAP 2.1, section 11.2.5.2). The continuation packet that came too late
--- isn't of the message.
-abbrev pub is_late_for : Option Doubtful → Followed → Bool
-is_late_for None held = false
-is_late_for (Some d) held = held.transaction.line == d.of.line
+-- ERROR 05: the incomplete message timed out (CTAP 2.1, section 11.2.5.2). The continuation packet that arrived too
+-- late doesn't belong to it.
+abbrev pub is_late_for : Option Ambiguous → OpenTransaction → Bool
+is_late_for None current = false
+is_late_for (Some d) current = current.transaction.line == d.transaction.line
 
-abbrev pub next_of : Option Doubtful → Bool
+-- Whether a continuation packet that may have arrived too late has the sequence number that its message expects.
+abbrev pub next_of : Option Ambiguous → Bool
 next_of None = false
 next_of (Some d) = d.is_next
 
-abbrev pub without_late : Option Doubtful → Followed → Followed
-without_late doubtful held =
-    if is_late_for doubtful held && next_of doubtful
-    then record held { extent = record held.extent { continuations = held.extent.continuations - 1 } }
-    else held
+-- The message without a continuation packet that arrived too late.
+abbrev pub without_late : Option Ambiguous → OpenTransaction → OpenTransaction
+without_late ambiguous current =
+    if is_late_for ambiguous current && next_of ambiguous
+    then record current { progress = record current.progress { continuations = current.progress.continuations - 1 } }
+    else current
 
-abbrev pub timed_out_by : Option Doubtful → Option Followed → Channel → Channel
-timed_out_by doubtful None c = c
-timed_out_by doubtful (Some held) c =
-    let h = without_late doubtful held in
-    if came_whole h then record c { held = Some h } else record c { held = c.asked; asked = None }
+-- The channel after its message timed out.
+abbrev pub timed_out_by : Option Ambiguous → Option OpenTransaction → Channel → Channel
+timed_out_by ambiguous None c = c
+timed_out_by ambiguous (Some current) c =
+    let h = without_late ambiguous current in
+    if is_complete_message h then record c { current = Some h } else record c { current = c.contender; contender = None }
 
-abbrev pub timed_out : Option Doubtful → Channel → Channel
-timed_out doubtful c = timed_out_by doubtful c.held c
+-- The channel after its message timed out.
+abbrev pub timed_out : Option Ambiguous → Channel → Channel
+timed_out ambiguous c = timed_out_by ambiguous c.current c
 
-abbrev pub timing_out_by : Option Doubtful → Option Followed → List Ended → List Ended
-timing_out_by doubtful None ends = ends
-timing_out_by doubtful (Some held) ends =
-    let h = without_late doubtful held in if came_whole h then ends else added ends h (Refused 5)
+-- The transactions that the time-out ends.
+abbrev pub ends_by_timeout : Option Ambiguous → Option OpenTransaction → List Ended → List Ended
+ends_by_timeout ambiguous None ended = ended
+ends_by_timeout ambiguous (Some current) ended =
+    let h = without_late ambiguous current in if is_complete_message h then ended else with_end ended h (Refused 5)
 
-abbrev pub of_time_out : Option Doubtful → Option Followed → Option Transaction
-of_time_out doubtful None = None
-of_time_out doubtful (Some held) = if came_whole (without_late doubtful held) then None else Some held.transaction
+-- The transaction of the time-out's ERROR.
+abbrev pub timeout_transaction : Option Ambiguous → Option OpenTransaction → Option Transaction
+timeout_transaction ambiguous None = None
+timeout_transaction ambiguous (Some current) = if is_complete_message (without_late ambiguous current) then None else Some current.transaction
 
-abbrev pub is_late_by : Option Doubtful → Option Followed → Bool
-is_late_by doubtful None = false
-is_late_by doubtful (Some held) = is_late_for doubtful held
+-- The ambiguous continuation packet arrived too late for this message.
+abbrev pub is_late_by : Option Ambiguous → Option OpenTransaction → Bool
+is_late_by ambiguous None = false
+is_late_by ambiguous (Some current) = is_late_for ambiguous current
 
--- ERROR 04 for a message that begins amid another one ends that one, too; ERROR 03 does for an INIT (CTAP 2.1, sections
--- 11.2.5.3 and 11.2.5.4).
-abbrev pub also_ends : Transaction → ℕ → Option Followed → Bool
+-- ERROR 04 for a message that begins inside another one ends that one too; so does ERROR 03 for an INIT (CTAP 2.1,
+-- sections 11.2.5.3 and 11.2.5.4).
+abbrev pub also_ends : Transaction → ℕ → Option OpenTransaction → Bool
 also_ends refused code None = false
-also_ends refused code (Some held) =
-    (code == (if refused.message == INIT then 3 else 4)) && (not (came_whole held)
-    && nat_lt held.transaction.line refused.line)
+also_ends refused code (Some current) =
+    (code == (if refused.message == INIT then 3 else 4)) && (not (is_complete_message current)
+    && nat_lt current.transaction.line refused.line)
 
+-- How the other transaction ends.
 abbrev pub cause_of : Transaction → End
 cause_of refused = if refused.message == INIT then Dropped refused.line else Replaced refused.line
 
--- An answer with this command can be for a whole message with the same one (CTAP 2.1, section 11.2.4).
-abbrev pub can_answer : AnswerStart → Option Followed → Bool
+-- A response has the command of its complete request (CTAP 2.1, section 11.2.4).
+abbrev pub can_answer : ResponseStart → Option OpenTransaction → Bool
 can_answer answer None = false
-can_answer answer (Some m) = came_whole m && (m.transaction.message == answer.command)
+can_answer answer (Some m) = is_complete_message m && (m.transaction.message == answer.command)
 
-abbrev pub is_uncancelled : Option Followed → Bool
+-- The request wasn't cancelled.
+abbrev pub is_uncancelled : Option OpenTransaction → Bool
 is_uncancelled None = false
 is_uncancelled (Some m) = is_none m.cancelled
 
+-- The KEEPALIVE status is this one.
 abbrev pub has_status : ℕ → Option ℕ → Bool
 has_status code None = false
 has_status code (Some status) = status == code
 
-abbrev pub of_asked : AnswerStart → Channel → Bool
-of_asked answer c =
-    if can_answer answer c.held && can_answer answer c.asked && has_status 0x2d answer.status
-    then is_uncancelled c.held
-    else can_answer answer c.asked
+-- The response is for the contender.
+abbrev pub is_for_contender : ResponseStart → Channel → Bool
+is_for_contender answer c =
+    if can_answer answer c.current && can_answer answer c.contender && has_status 0x2d answer.status
+    then is_uncancelled c.current
+    else can_answer answer c.contender
 
--- It can be for one message alone.
-abbrev pub is_of_one : AnswerStart → Channel → Bool
-is_of_one answer c = not (is_known_not c) && (can_answer answer c.held || of_asked answer c)
-    && not (can_answer answer c.held && of_asked answer c)
+-- The response fits only one of the channel's messages.
+abbrev pub is_of_one : ResponseStart → Channel → Bool
+is_of_one answer c = not (is_owner_unknown c) && (can_answer answer c.current || is_for_contender answer c)
+    && not (can_answer answer c.current && is_for_contender answer c)
 
--- where nothing was asked
-abbrev pub answered_message : AnswerStart → Channel → Option Followed
+-- The message that a response is for.
+abbrev pub answered_message : ResponseStart → Channel → Option OpenTransaction
 answered_message answer c =
-    if is_of_one answer c then (if can_answer answer c.held then c.held else c.asked) else None
+    if is_of_one answer c then (if can_answer answer c.current then c.current else c.contender) else None
 
--- A continuation packet of the key continues its last message, by the sequence number (CTAP 2.1, section 11.2.4).
-abbrev pub told_on : ℕ → DeviceMessage → DeviceMessage
-told_on number told =
-    if not (is_whole told.extent.length told.extent.continuations) && (told.extent.continuations == number)
-    then record told { extent = record told.extent { continuations = min 255 (number + 1) } }
-    else told
+-- A continuation packet of the device continues its last message if the sequence number fits (CTAP 2.1, section
+-- 11.2.4).
+abbrev pub response_continued : ℕ → ResponseMessage → ResponseMessage
+response_continued number last_response =
+    if not (is_whole last_response.progress.length last_response.progress.continuations) && (last_response.progress.continuations == number)
+    then record last_response { progress = record last_response.progress { continuations = min 255 (number + 1) } }
+    else last_response
 
--- A KEEPALIVE says that the key works on a request: 01 that it processes it, 02 that it waits for the user (CTAP 2.1,
--- section 11.2.9.1.7).
-abbrev pub key_or_signature : Option Awaited → (is_made : Bool) → Awaited
+-- The reply that the request waits for: a key pair, or a signature once the key pair was made.
+abbrev pub key_or_signature : Option AwaitedReply → (is_made : Bool) → AwaitedReply
 key_or_signature (Some Key) is_made = Key
 key_or_signature (Some Signature) is_made = Signature
 key_or_signature before true = Key
 key_or_signature before false = Signature
 
-abbrev pub awaited_by : ℕ → Followed → Option Awaited
+-- The reply that a KEEPALIVE status shows: 01 processing, 02 user presence needed (CTAP 2.1, section 11.2.9.1.7).
+abbrev pub awaited_by : ℕ → OpenTransaction → Option AwaitedReply
 awaited_by status m =
     if status == 2 then Some Presence
     else if status == 1 then Some (key_or_signature m.awaited (has_status 1 m.transaction.command))
     else None
 
-abbrev pub worked_on_by : ℕ → ℕ → Option Followed → Channel → Channel
-worked_on_by status now None c = record c { alive = now }
-worked_on_by status now (Some m) c =
-    if is_worked_on (Some m)
+-- The channel after a KEEPALIVE for one of its messages.
+abbrev pub channel_processing : ℕ → ℕ → Option OpenTransaction → Channel → Channel
+channel_processing status now None c = record c { last_keepalive_at = now }
+channel_processing status now (Some m) c =
+    if is_in_process (Some m)
     then record c {
-      alive = now;
-      held = Some (record m { awaited = awaited_by status m; keepalives = min (2 ^ 64 - 1) (m.keepalives + 1) });
+      last_keepalive_at = now;
+      current = Some (record m { awaited = awaited_by status m; keepalives = min (2 ^ 64 - 1) (m.keepalives + 1) });
     }
-    else record c { alive = now }
+    else record c { last_keepalive_at = now }
 
-abbrev pub kept_of : Option Followed → ℕ
+-- The time of a message's last KEEPALIVE, or 0.
+abbrev pub kept_of : Option OpenTransaction → ℕ
 kept_of None = 0
 kept_of (Some m) = m.keepalives
 
--- time brought it before the second message was taken
+-- The KEEPALIVE became due before the second message arrived.
 abbrev pub is_of_time : ℕ → ℕ → Channel → Bool
 is_of_time input now c =
-    nat_lt 0 (kept_of c.held) && (nat_le 100 (now - c.alive) && not (is_open_question input c))
+    nat_lt 0 (kept_of c.current) && (nat_le 100 (now - c.last_keepalive_at) && not (is_open_question input c))
 
-abbrev pub kept_alive : ℕ → ℕ → ℕ → Channel → Channel
-kept_alive status input now c =
-    if is_known_not c then c
-    else if not (is_worked_on c.asked) then worked_on_by status now c.held c
-    else if not (is_worked_on c.held) then (let s = settled true c in worked_on_by status now s.held s)
-    else if is_of_time input now c then worked_on_by status now c.held c
+-- The channel after a KEEPALIVE.
+abbrev pub after_keepalive : ℕ → ℕ → ℕ → Channel → Channel
+after_keepalive status input now c =
+    if is_owner_unknown c then c
+    else if not (is_in_process c.contender) then channel_processing status now c.current c
+    else if not (is_in_process c.current) then (let s = contender_accepted true c in channel_processing status now s.current s)
+    else if is_of_time input now c then channel_processing status now c.current c
     else c
 
-abbrev pub if_worked_on : Option Followed → Option Transaction
-if_worked_on m = if is_worked_on m then transaction_of m else None
+-- The transaction, if the device is processing it.
+abbrev pub transaction_if_processing : Option OpenTransaction → Option Transaction
+transaction_if_processing m = if is_in_process m then transaction_of m else None
 
-abbrev pub of_keep_alive : ℕ → ℕ → Channel → Option Transaction
-of_keep_alive input now c =
-    if is_known_not c then None
-    else if not (is_worked_on c.asked) then if_worked_on c.held
-    else if not (is_worked_on c.held) then transaction_of c.asked
-    else if is_of_time input now c then transaction_of c.held
+-- The transaction of a KEEPALIVE.
+abbrev pub keepalive_transaction : ℕ → ℕ → Channel → Option Transaction
+keepalive_transaction input now c =
+    if is_owner_unknown c then None
+    else if not (is_in_process c.contender) then transaction_if_processing c.current
+    else if not (is_in_process c.current) then transaction_of c.contender
+    else if is_of_time input now c then transaction_of c.current
     else None
 
--- An ERROR that is no time-out, where no INIT waits, behind a stray packet: it is for that one, where a request that is
--- kept alive can't be refused so (CTAP 2.1, section 11.2.9.1.6).
+-- An ERROR other than a time-out, without a pending INIT, after a packet outside any transaction: it is for that packet
+-- if a request with KEEPALIVEs can't be refused so (CTAP 2.1, section 11.2.9.1.6).
 abbrev pub is_of_stray : ℕ → Channel → Bool
-is_of_stray code c = c.is_stray && (nat_lt 0 (kept_of c.held)
+is_of_stray code c = c.last_was_stray && (nat_lt 0 (kept_of c.current)
     && ((code == 1) || (code == 4) || (code == 6) || (code == 0x0b)))
 
+-- The channel after its contender was refused.
 abbrev pub asked_refused : ℕ → Transaction → Channel → Channel
-asked_refused code refused c = if also_ends refused code c.held then freed c else c
+asked_refused code refused c = if also_ends refused code c.current then current_ended c else c
 
-abbrev pub refused_by : ℕ → (asked held : Option Followed) → Channel → Channel
-refused_by code (Some asked) held c = asked_refused code asked.transaction (record c { asked = None })
+-- The channel after an ERROR.
+abbrev pub refused_by : ℕ → (contender current : Option OpenTransaction) → Channel → Channel
+refused_by code (Some contender) current c = asked_refused code contender.transaction (record c { contender = None })
 refused_by code None None c = c
-refused_by code None (Some held) c = if is_of_stray code c then c else freed c
+refused_by code None (Some current) c = if is_of_stray code c then c else current_ended c
 
-abbrev pub of_refused : ℕ → (asked held : Option Followed) → Channel → Option Transaction
-of_refused code (Some asked) held c = Some asked.transaction
-of_refused code None None c = None
-of_refused code None (Some held) c = if is_of_stray code c then None else Some held.transaction
+-- The transaction of an ERROR.
+abbrev pub refused_transaction : ℕ → (contender current : Option OpenTransaction) → Channel → Option Transaction
+refused_transaction code (Some contender) current c = Some contender.transaction
+refused_transaction code None None c = None
+refused_transaction code None (Some current) c = if is_of_stray code c then None else Some current.transaction
 
-abbrev pub refusing_by : ℕ → (asked held : Option Followed) → Channel → List Ended → List Ended
-refusing_by code (Some asked) held c ends =
-    let refused = added ends asked (Refused code) in
-    if also_ends asked.transaction code held then added_held refused held (cause_of asked.transaction) else refused
-refusing_by code None None c ends = ends
-refusing_by code None (Some held) c ends = if is_of_stray code c then ends else added ends held (Refused code)
+-- The transactions that an ERROR ends.
+abbrev pub ends_by_refusal : ℕ → (contender current : Option OpenTransaction) → Channel → List Ended → List Ended
+ends_by_refusal code (Some contender) current c ended =
+    let refused = with_end ended contender (Refused code) in
+    if also_ends contender.transaction code current then with_end_of refused current (cause_of contender.transaction) else refused
+ends_by_refusal code None None c ended = ended
+ends_by_refusal code None (Some current) c ended = if is_of_stray code c then ended else with_end ended current (Refused code)

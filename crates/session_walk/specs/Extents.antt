@@ -1,11 +1,11 @@
--- How much of a message came (CTAP 2.1, section 11.2.4, "Message and packet structure").
+-- How much of a message was received (CTAP 2.1, section 11.2.4, "Message and packet structure").
 use Rattle.std.specs.Prelude.{ℕ, min, Bool, ◌&&◌, nat_le}
-use Rattle.hid_packet.specs.Limits.{LONGEST_MESSAGE, data_capacity}
+use Rattle.hid_packet.specs.Limits.{MAX_MESSAGE_LEN, data_capacity}
 
--- the bytes of a message of `len` that its initialization packet and `count` others carry
-abbrev pub came : (len count : ℕ) → ℕ
-came len count = min len (data_capacity count)
+-- The bytes of a message of `len` bytes in its initialization packet and `count` continuation packets.
+abbrev pub bytes_received : (len count : ℕ) → ℕ
+bytes_received len count = min len (data_capacity count)
 
--- whether they are all; a message that is longer than one can be is never whole
+-- The message is complete. One over the maximum length never is.
 abbrev pub is_whole : (len count : ℕ) → Bool
-is_whole len count = nat_le len LONGEST_MESSAGE && nat_le len (data_capacity count)
+is_whole len count = nat_le len MAX_MESSAGE_LEN && nat_le len (data_capacity count)

@@ -1,7 +1,7 @@
 pub mod Extents
 pub mod Messages
 pub mod Lines
-pub mod Shown
+pub mod Completed
 pub mod Owners
 pub mod Walks
 pub mod Ends

@@ -1,183 +1,201 @@
--- Who owns each line of a log: what is open on a channel behind its lines, as a function of what was open before the
--- last of them (CTAP 2.1, sections 11.2.4 and 11.2.5; docs/use/EXPLAINED.md).
+-- The open transactions of a channel after the lines of a log, as a function of those before the last line (CTAP 2.1,
+-- sections 11.2.4 and 11.2.5; docs/use/EXPLAINED.md).
 use Rattle.std.specs.Prelude.{ℕ, Bool, true, false, not, ◌&&◌, ◌||◌, ◌==◌, nat_le, nat_lt, ◌+◌, ◌-◌, min, max, List, []}
 use Rattle.std.specs.Prelude.{◌∷◌, ◌++◌, length, Option, Some, None, if◌then◌else◌}
 use Rattle.byteorder.specs.Endian.{big_number}
 use Rattle.hid_packet.specs.Commands.{PING, INIT}
-use Rattle.hid_packet.specs.Limits.{CONTINUATION_DATA}
-use Rattle.session_walk.specs.Extents.{came, is_whole}
-use Rattle.session_walk.specs.declared.channel.{Channel.Channel, Continued.Continued, Greeting.Greeting}
-use Rattle.session_walk.specs.declared.exchange.{Ended.Ended, Followed.Followed, Transaction.Transaction}
-use Rattle.session_walk.specs.declared.exchange.End.{End}
-use Rattle.session_walk.specs.declared.exchange.End.TheVariants.{Dropped, Unknown, Replaced}
+use Rattle.hid_packet.specs.Limits.{CONT_PACKET_DATA}
+use Rattle.session_walk.specs.Extents.{bytes_received, is_whole}
+use Rattle.session_walk.specs.declared.channel.{Channel.Channel, ContinuationMatch.ContinuationMatch, PendingInit.PendingInit}
+use Rattle.session_walk.specs.declared.transaction.{Ended.Ended, OpenTransaction.OpenTransaction, Transaction.Transaction}
+use Rattle.session_walk.specs.declared.transaction.End.{End}
+use Rattle.session_walk.specs.declared.transaction.End.TheVariants.{Dropped, Unknown, Replaced}
 
--- one more end, of eight at most
-abbrev pub added : List Ended → Followed → End → List Ended
-added ends exchange end = if nat_lt (length ends) 8 then ends ++ record { exchange = exchange; end = end } ∷ [] else ends
+-- One more ended transaction, of at most eight.
+abbrev pub with_end : List Ended → OpenTransaction → End → List Ended
+with_end ended exchange end = if nat_lt (length ended) 8 then ended ++ record { exchange = exchange; end = end } ∷ [] else ended
 
-abbrev pub added_held : List Ended → Option Followed → End → List Ended
-added_held ends None end = ends
-added_held ends (Some held) end = added ends held end
+-- One more ended transaction, if there is a current message.
+abbrev pub with_end_of : List Ended → Option OpenTransaction → End → List Ended
+with_end_of ended None end = ended
+with_end_of ended (Some current) end = with_end ended current end
 
--- all of a message came
-abbrev pub came_whole : Followed → Bool
-came_whole m = is_whole m.extent.length m.extent.continuations
+-- The message is complete.
+abbrev pub is_complete_message : OpenTransaction → Bool
+is_complete_message m = is_whole m.progress.length m.progress.continuations
 
--- a key works on it
-abbrev pub is_worked_on : Option Followed → Bool
-is_worked_on None = false
-is_worked_on (Some m) =
-    came_whole m && not ((m.transaction.message == PING) || (m.transaction.message == INIT))
+-- The device is processing the message: it is complete, and neither PING nor INIT.
+abbrev pub is_in_process : Option OpenTransaction → Bool
+is_in_process None = false
+is_in_process (Some m) =
+    is_complete_message m && not ((m.transaction.message == PING) || (m.transaction.message == INIT))
 
-abbrev pub is_known_not : Channel → Bool
-is_known_not c = c.is_contested || nat_lt 0 c.lost
+-- It is unknown which of the channel's messages a device packet is for.
+abbrev pub is_owner_unknown : Channel → Bool
+is_owner_unknown c = c.is_ambiguous || nat_lt 0 c.ambiguous_count
 
--- One more message of which it isn't known whether it waits still.
-abbrev pub lost_one : ℕ → Channel → Channel
-lost_one line c = record c { lost = min 255 (c.lost + 1); last_lost = max c.last_lost line }
+-- One more message that may still be pending.
+abbrev pub with_unidentified : ℕ → Channel → Channel
+with_unidentified line c = record c { ambiguous_count = min 255 (c.ambiguous_count + 1); last_lost_line = max c.last_lost_line line }
 
--- How the message that held a channel ends where the one behind it, which a host asked meanwhile, has the channel now.
-abbrev pub cut_short : (asked held : Followed) → (cancelled : Option ℕ) → End
-cut_short asked held (Some line) = Dropped line
-cut_short asked held None = if came_whole held then Unknown else Replaced asked.transaction.line
+-- How `current` ends when `contender`, which a host began meanwhile, takes the channel.
+abbrev pub replaced_end : (contender current : OpenTransaction) → (cancelled : Option ℕ) → End
+replaced_end contender current (Some line) = Dropped line
+replaced_end contender current None = if is_complete_message current then Unknown else Replaced contender.transaction.line
 
-abbrev pub makes_way : Bool → (asked held : Followed) → End
-makes_way true asked held = cut_short asked held held.cancelled
-makes_way false asked held = Unknown
+-- The same, or unknown if no packet shows that the contender was accepted.
+abbrev pub end_of_current : Bool → (contender current : OpenTransaction) → End
+end_of_current true contender current = replaced_end contender current current.cancelled
+end_of_current false contender current = Unknown
 
-abbrev pub taken_from : Bool → Followed → Channel → Channel
-taken_from true held c = record c { is_contested = false }
-taken_from false held c = lost_one held.transaction.line (record c { is_contested = false })
+-- The channel after its current message ended.
+abbrev pub without_current : Bool → OpenTransaction → Channel → Channel
+without_current true current c = record c { is_ambiguous = false }
+without_current false current c = with_unidentified current.transaction.line (record c { is_ambiguous = false })
 
-abbrev pub taken_by : Bool → Followed → Option Followed → Channel → Channel
-taken_by is_shown asked None c = record c { asked = None; held = Some asked }
-taken_by is_shown asked (Some held) c = record (taken_from is_shown held c) { asked = None; held = Some asked }
+-- The contender becomes the channel's current message.
+abbrev pub contender_takes : Bool → OpenTransaction → Option OpenTransaction → Channel → Channel
+contender_takes is_shown contender None c = record c { contender = None; current = Some contender }
+contender_takes is_shown contender (Some current) c = record (without_current is_shown current c) { contender = None; current = Some contender }
 
-abbrev pub settled_by : Bool → Option Followed → Channel → Channel
-settled_by is_shown None c = c
-settled_by is_shown (Some asked) c = taken_by is_shown asked c.held c
+-- The channel after its contender, if any, was accepted.
+abbrev pub contender_accepted_by : Bool → Option OpenTransaction → Channel → Channel
+contender_accepted_by is_shown None c = c
+contender_accepted_by is_shown (Some contender) c = contender_takes is_shown contender c.current c
 
--- the channel where what was asked has it, as a packet shows or since it wasn't refused
-abbrev pub settled : Bool → Channel → Channel
-settled is_shown c = settled_by is_shown c.asked c
+-- The channel after its contender was accepted, as a packet shows or since it wasn't refused.
+abbrev pub contender_accepted : Bool → Channel → Channel
+contender_accepted is_shown c = contender_accepted_by is_shown c.contender c
 
-abbrev pub settling_by : Bool → (asked held : Option Followed) → List Ended → List Ended
-settling_by is_shown None held ends = ends
-settling_by is_shown (Some asked) None ends = ends
-settling_by is_shown (Some asked) (Some held) ends = added ends held (makes_way is_shown asked held)
+-- The ended transactions, with that of the current message if the contender takes its place.
+abbrev pub ends_by_contender_of : Bool → (contender current : Option OpenTransaction) → List Ended → List Ended
+ends_by_contender_of is_shown None current ended = ended
+ends_by_contender_of is_shown (Some contender) None ended = ended
+ends_by_contender_of is_shown (Some contender) (Some current) ended = with_end ended current (end_of_current is_shown contender current)
 
--- .. and what ends so
-abbrev pub settling : Bool → Channel → List Ended → List Ended
-settling is_shown c ends = settling_by is_shown c.asked c.held ends
+-- The ended transactions, with that of the current message if the contender takes its place.
+abbrev pub ends_by_contender : Bool → Channel → List Ended → List Ended
+ends_by_contender is_shown c ended = ends_by_contender_of is_shown c.contender c.current ended
 
--- the channel without what held it
-abbrev pub freed_of : Option Followed → Channel → Channel
-freed_of None c = c
-freed_of (Some held) c = record c { held = c.asked; asked = None }
+-- The channel without its current message; the contender takes its place.
+abbrev pub current_ended_of : Option OpenTransaction → Channel → Channel
+current_ended_of None c = c
+current_ended_of (Some current) c = record c { current = c.contender; contender = None }
 
-abbrev pub freed : Channel → Channel
-freed c = freed_of c.held c
+-- The channel without its current message; the contender takes its place.
+abbrev pub current_ended : Channel → Channel
+current_ended c = current_ended_of c.current c
 
--- A host's message begins: the channel is its, or it waits behind the message that holds the channel, for the key may
--- refuse it with ERROR 06 (CTAP 2.1, section 11.2.5.1). An INIT is kept apart, since a key answers it at once (section
--- 11.2.9.1.3).
+-- The nonce of an INIT, or 0 if it has fewer than 8 bytes.
 abbrev pub nonce_of : List ℕ → ℕ
 nonce_of part = if nat_le 8 (length part) then big_number 8 part else 0
 
-abbrev pub as_greeting : Followed → List ℕ → Greeting
-as_greeting m part = record {
+-- An unanswered INIT.
+abbrev pub pending_init : OpenTransaction → List ℕ → PendingInit
+pending_init m part = record {
   line = m.transaction.line;
   at = m.at;
-  length = m.extent.length;
+  length = m.progress.length;
   nonce = nonce_of part;
 }
 
-abbrev pub holds_or_asks : Followed → Option Followed → Channel → Channel
-holds_or_asks m None c = record c { held = Some m }
-holds_or_asks m (Some held) c = record c { asked = Some (record m { after = m.at - held.at }) }
+-- A new message takes the channel, or becomes the contender of the current one.
+abbrev pub place_message : OpenTransaction → Option OpenTransaction → Channel → Channel
+place_message m None c = record c { current = Some m }
+place_message m (Some current) c = record c { contender = Some (record m { delay = m.at - current.at }) }
 
-abbrev pub SILENCE : ℕ
-SILENCE = 500
+-- A device that sent no packet for this many milliseconds isn't processing a request.
+abbrev pub IDLE_TIMEOUT_MS : ℕ
+IDLE_TIMEOUT_MS = 500
 
--- before it: where the key sent nothing for half a second, it works on nothing
-abbrev pub heard_of : ℕ → Channel → Channel
-heard_of at c = record c { is_stray = false; lost = if nat_le SILENCE (at - c.heard) then 0 else c.lost }
+-- The channel after a packet of the host. After half a second without packets, no unidentified message is pending.
+abbrev pub after_idle : ℕ → Channel → Channel
+after_idle at c = record c { last_was_stray = false; ambiguous_count = if nat_le IDLE_TIMEOUT_MS (at - c.last_packet_at) then 0 else c.ambiguous_count }
 
-abbrev pub message_begun : Followed → Channel → Channel
-message_begun m before =
-    let c = settled false (heard_of m.at before) in
-    holds_or_asks m c.held (record c { is_greeted = false })
+-- The channel after a message began.
+abbrev pub channel_with_message : OpenTransaction → Channel → Channel
+channel_with_message m before =
+    let c = contender_accepted false (after_idle m.at before) in
+    place_message m c.current (record c { last_was_init = false })
 
--- A continuation packet of a host belongs to the unfinished message on its channel whose next sequence number it has
--- (CTAP 2.1, section 11.2.4).
-abbrev pub is_next_of : ℕ → Option Followed → Bool
-is_next_of number None = false
-is_next_of number (Some m) = (m.extent.continuations == number) && not (came_whole m)
+-- The message is incomplete and expects this sequence number (CTAP 2.1, section 11.2.4).
+abbrev pub expects_sequence : ℕ → Option OpenTransaction → Bool
+expects_sequence number None = false
+expects_sequence number (Some m) = (m.progress.continuations == number) && not (is_complete_message m)
 
-abbrev pub goes_on_by : ℕ → ℕ → Followed → Followed
-goes_on_by number now m =
-    if m.extent.continuations == number
-    then record m { extent = record m.extent { continuations = min 255 (number + 1) }; at = now }
+-- The message after a continuation packet.
+abbrev pub with_continuation : ℕ → ℕ → OpenTransaction → OpenTransaction
+with_continuation number now m =
+    if m.progress.continuations == number
+    then record m { progress = record m.progress { continuations = min 255 (number + 1) }; at = now }
     else m
 
--- what a continuation packet with this number is to a message that isn't whole
-abbrev pub gone_on : ℕ → ℕ → Followed → Continued
-gone_on number now m =
-    let after = goes_on_by number now m in
-    let is_next = m.extent.continuations == number in
+-- How a continuation packet relates to an incomplete message.
+abbrev pub continuation_match : ℕ → ℕ → OpenTransaction → ContinuationMatch
+continuation_match number now m =
+    let after = with_continuation number now m in
+    let is_next = m.progress.continuations == number in
     record {
-      of = m.transaction;
+      transaction = m.transaction;
       gap = now - m.at;
       is_next = is_next;
-      is_whole = is_next && came_whole after;
-      carried = if is_next then came m.extent.length (min 255 (number + 1)) - came m.extent.length number
-          else CONTINUATION_DATA;
+      is_whole = is_next && is_complete_message after;
+      data_len = if is_next then bytes_received m.progress.length (min 255 (number + 1)) - bytes_received m.progress.length number
+          else CONT_PACKET_DATA;
     }
 
-abbrev pub continued_in : ℕ → ℕ → Option Followed → Option Continued
-continued_in number now None = None
-continued_in number now (Some m) = if came_whole m then None else Some (gone_on number now m)
+-- The same, if there is an incomplete message.
+abbrev pub match_in : ℕ → ℕ → Option OpenTransaction → Option ContinuationMatch
+match_in number now None = None
+match_in number now (Some m) = if is_complete_message m then None else Some (continuation_match number now m)
 
-abbrev pub slot_after : ℕ → ℕ → Option Followed → Option Followed
+-- The message, if any, after a continuation packet.
+abbrev pub slot_after : ℕ → ℕ → Option OpenTransaction → Option OpenTransaction
 slot_after number now None = None
-slot_after number now (Some m) = Some (if came_whole m then m else goes_on_by number now m)
+slot_after number now (Some m) = Some (if is_complete_message m then m else with_continuation number now m)
 
-abbrev pub addressed : ℕ → Channel → Option Followed
-addressed number c = if is_next_of number c.asked then c.asked else c.held
+-- The message that a continuation packet is for.
+abbrev pub addressed : ℕ → Channel → Option OpenTransaction
+addressed number c = if expects_sequence number c.contender then c.contender else c.current
 
-abbrev pub stray_of : Option Continued → Bool
-stray_of None = true
-stray_of (Some c) = false
+-- The continuation packet is outside any transaction.
+abbrev pub is_stray : Option ContinuationMatch → Bool
+is_stray None = true
+is_stray (Some c) = false
 
+-- The channel after a continuation packet.
 abbrev pub channel_continued : ℕ → ℕ → Channel → Channel
 channel_continued number now c =
-    let stray = stray_of (continued_in number now (addressed number c)) in
-    if is_next_of number c.asked
-    then record c { asked = slot_after number now c.asked; is_stray = stray }
-    else record c { held = slot_after number now c.held; is_stray = stray }
+    let stray = is_stray (match_in number now (addressed number c)) in
+    if expects_sequence number c.contender
+    then record c { contender = slot_after number now c.contender; last_was_stray = stray }
+    else record c { current = slot_after number now c.current; last_was_stray = stray }
 
--- A CANCEL cancels the request that is worked on. Where either of two may be, it isn't known which (CTAP 2.1, section
--- 11.2.9.1.5).
-abbrev pub cancelled_by : ℕ → Option Followed → Option Followed
+-- The message, if any, after a CANCEL on this line.
+abbrev pub cancelled_by : ℕ → Option OpenTransaction → Option OpenTransaction
 cancelled_by line None = None
 cancelled_by line (Some m) = Some (record m { cancelled = Some line })
 
-abbrev pub transaction_of : Option Followed → Option Transaction
+-- The transaction of a message, if any.
+abbrev pub transaction_of : Option OpenTransaction → Option Transaction
 transaction_of None = None
 transaction_of (Some m) = Some m.transaction
 
+-- The channel after a CANCEL, which cancels the request in process. If there are two, it is unknown which (CTAP 2.1,
+-- section 11.2.9.1.5).
 abbrev pub channel_cancelled : ℕ → Channel → Channel
 channel_cancelled line before =
-    let c = record before { is_stray = true } in
-    if nat_lt 0 c.lost then c
-    else if is_worked_on c.held && is_worked_on c.asked then record c { is_contested = true }
-    else if is_worked_on c.asked then record c { asked = cancelled_by line c.asked }
-    else if is_worked_on c.held then record c { held = cancelled_by line c.held }
+    let c = record before { last_was_stray = true } in
+    if nat_lt 0 c.ambiguous_count then c
+    else if is_in_process c.current && is_in_process c.contender then record c { is_ambiguous = true }
+    else if is_in_process c.contender then record c { contender = cancelled_by line c.contender }
+    else if is_in_process c.current then record c { current = cancelled_by line c.current }
     else c
 
+-- The transaction that a CANCEL cancels, if known.
 abbrev pub cancels : Channel → Option Transaction
 cancels c =
-    if nat_lt 0 c.lost || is_worked_on c.held && is_worked_on c.asked then None
-    else if is_worked_on c.asked then transaction_of c.asked
-    else if is_worked_on c.held then transaction_of c.held
+    if nat_lt 0 c.ambiguous_count || is_in_process c.current && is_in_process c.contender then None
+    else if is_in_process c.contender then transaction_of c.contender
+    else if is_in_process c.current then transaction_of c.current
     else None

@@ -1,48 +1,49 @@
-//! Packets of a device, and what they show.
+//! Packets of the device.
 
 ghost use Rattle.std.specs.Prelude.{◌≡◌};
 ghost use Rattle.session_walk.specs.Ends.{can_answer};
 
 use crate::command::GET_ASSERTION;
 use crate::entry::Role;
-use crate::exchange::{Extent, Followed, Transaction};
 use crate::status::OK;
+use crate::transaction::{MessageProgress, OpenTransaction, Transaction};
 use hid_packet::BROADCAST;
 use hid_packet::command::CBOR;
 
-/// A packet of a device that begins an answer.
+/// The initialization packet of a response.
 #[derive(Clone, Copy)]
-pub struct AnswerStart<'a> {
+pub struct ResponseStart<'a> {
     pub line: u64,
     pub command: u8,
-    /// How much of it came with this packet.
-    pub extent: Extent,
+    /// Progress of the response after this packet.
+    pub progress: MessageProgress,
     pub part: &'a [u8],
-    /// The status of a CBOR answer or of a KEEPALIVE, or the code of an ERROR.
+    /// Status of a CBOR response or KEEPALIVE, or the code of an ERROR.
     pub status: Option<u8>,
 }
 
-impl AnswerStart<'_> {
-    /// Returns whether it can be that of a message: of a whole one with its command.
-    pub fn is_of(&self, message: &Option<Followed>) -> bool
+impl ResponseStart<'_> {
+    /// Returns whether this can be the response to a message: a complete one with the same command.
+    pub fn is_of(&self, message: &Option<OpenTransaction>) -> bool
         ensures { result ≡ can_answer self.now message.now }
     {
         matches!(message, Some(message)
-            if message.extent.is_whole() && message.transaction.message == self.command)
+            if message.progress.is_whole() && message.transaction.message == self.command)
     }
 
-    /// Returns whether it answers a request that was done.
+    /// Returns whether this is a CBOR response with status CTAP2_OK.
     pub fn is_success(&self) -> bool {
         self.command == CBOR && matches!(self.status, Some(OK))
     }
 
-    /// Returns whether it says that authenticatorGetAssertion found something, if it is for this transaction.
-    pub fn has_assertion(&self, of: &Option<Transaction>) -> bool {
-        self.is_success() && matches!(of, Some(of) if matches!(of.command, Some(GET_ASSERTION)))
+    /// Returns whether this is a successful authenticatorGetAssertion response, if it belongs to this transaction.
+    pub fn has_assertion(&self, transaction: &Option<Transaction>) -> bool {
+        self.is_success()
+            && matches!(transaction, Some(transaction) if matches!(transaction.command, Some(GET_ASSERTION)))
     }
 
-    /// Returns the channel that it gives out, if it answers an INIT on the broadcast channel (CTAP 2.1, section
-    /// 11.2.9.1.3): that is behind the nonce. Returns the broadcast channel where there is none.
+    /// Returns the channel that a response to INIT on the broadcast channel allocates (CTAP 2.1, section 11.2.9.1.3):
+    /// the four bytes after the nonce, or the broadcast channel if there are none.
     pub fn given(&self) -> u32 {
         match self.part {
             [_, _, _, _, _, _, _, _, a, b, c, d, ..] => u32::from_be_bytes([*a, *b, *c, *d]),
@@ -51,26 +52,26 @@ impl AnswerStart<'_> {
     }
 }
 
-/// What the first packet of a message of a device shows.
+/// Result of a response's initialization packet.
 #[derive(Clone, Copy)]
 pub struct Started {
-    /// The transaction that it is for.
-    pub of: Option<Transaction>,
-    /// What it is, where it is for none.
-    pub part: Role,
-    /// The line that the message before it began at, of which no further packet comes, 0 where there was none.
+    /// Its transaction, if any.
+    pub transaction: Option<Transaction>,
+    /// Its role if it belongs to no transaction.
+    pub role: Role,
+    /// First line of the device's previous message on the channel, which gets no further packets; 0 if none.
     pub before: u64,
-    /// Whether the packet of a host before it came too late for its message.
+    /// Whether the ambiguous host packet before it arrived too late.
     pub is_late: bool,
 }
 
-/// An answer that a packet goes on with.
+/// A response that a continuation packet continues.
 #[derive(Clone, Copy)]
 pub struct Answered {
-    /// The line that the answer began at.
+    /// First line of the response.
     pub line: u64,
-    /// The transaction that it is for.
-    pub of: Option<Transaction>,
-    /// How many bytes of the answer the packet carries.
-    pub carried: usize,
+    /// Its transaction, if any.
+    pub transaction: Option<Transaction>,
+    /// Number of the response's bytes in the packet.
+    pub data_len: usize,
 }

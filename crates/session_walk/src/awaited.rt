@@ -1,43 +1,43 @@
-//! The replies that a key waits for.
+//! The replies of the caller that an authenticator waits for.
 
 use authn_core::Need;
 use token_session::Input;
 
-/// What a key waits for.
+/// A reply of the caller that an authenticator waits for.
 #[derive(Clone, Copy)]
-pub enum Awaited {
+pub enum AwaitedReply {
     Presence,
     Key,
     Signature,
 }
 
-impl Awaited {
-    /// Returns what is needed.
+impl AwaitedReply {
+    /// Returns the reply that satisfies a need.
     pub fn of(need: &Need<'_>) -> Option<Self> {
         match need {
             Need::None => None,
-            Need::Presence => Some(Awaited::Presence),
-            Need::Key => Some(Awaited::Key),
-            Need::Sign { .. } => Some(Awaited::Signature),
+            Need::Presence => Some(AwaitedReply::Presence),
+            Need::Key => Some(AwaitedReply::Key),
+            Need::Sign { .. } => Some(AwaitedReply::Signature),
         }
     }
 
-    /// Returns what an input is, where it is a reply.
+    /// Returns the kind of a reply, or `None` for other inputs.
     pub fn in_input(input: &Input) -> Option<Self> {
         match input {
             Input::Packet(_) | Input::Tick => None,
-            Input::Presence(_) => Some(Awaited::Presence),
-            Input::Key(_) => Some(Awaited::Key),
-            Input::Signature(_) => Some(Awaited::Signature),
+            Input::Presence(_) => Some(AwaitedReply::Presence),
+            Input::Key(_) => Some(AwaitedReply::Key),
+            Input::Signature(_) => Some(AwaitedReply::Signature),
         }
     }
 
-    /// Returns it in words.
+    /// Returns its name.
     pub fn name(self) -> &'static str {
         match self {
-            Awaited::Presence => "the user's presence",
-            Awaited::Key => "a new key",
-            Awaited::Signature => "a signature",
+            AwaitedReply::Presence => "the user's presence",
+            AwaitedReply::Key => "a new key",
+            AwaitedReply::Signature => "a signature",
         }
     }
 }

@@ -1,62 +1,64 @@
-//! What hosts and a device do on one channel, by the transport's own rules (CTAP 2.1, sections 11.2.4 and 11.2.5).
-//! Nothing is known of the device but its packets.
+//! The state of one channel, derived from the packets alone by the transport's rules (CTAP 2.1, sections 11.2.4 and
+//! 11.2.5).
 ghost use Rattle.std.specs.Prelude.{◌≡◌, true, false, IfSome, None, Some};
-ghost use Rattle.session_walk.specs.Owners.{added_held, cancels, channel_cancelled, channel_continued, continued_in};
-ghost use Rattle.session_walk.specs.Owners.{addressed, freed, gone_on, goes_on_by, is_known_not, lost_one, message_begun};
-ghost use Rattle.session_walk.specs.Owners.{nonce_of, settled, settling, heard_of, slot_after, transaction_of};
+ghost use Rattle.session_walk.specs.Owners.{with_end_of, cancels, channel_cancelled, channel_continued, match_in};
+ghost use Rattle.session_walk.specs.Owners.{addressed, current_ended, continuation_match, with_continuation, is_owner_unknown, with_unidentified, channel_with_message};
+ghost use Rattle.session_walk.specs.Owners.{nonce_of, contender_accepted, ends_by_contender, after_idle, slot_after, transaction_of};
 ghost use Rattle.hid_packet.specs.Commands.{INIT as INIT_COMMAND};
-ghost use Rattle.session_walk.specs.Ends.{is_open_question, losing, lost_both};
+ghost use Rattle.session_walk.specs.Ends.{is_open_question, ends_lost, both_unidentified};
 ghost use Rattle.session_walk.specs.Extents.{is_whole};
 ghost use Rattle.std.specs.Prelude.{◌≤◌, length, not};
-ghost use Rattle.session_walk.specs.Walks.{at_of, waits};
+ghost use Rattle.session_walk.specs.Walks.{at_of, may_wait};
 
-use crate::awaited::Awaited;
+use crate::awaited::AwaitedReply;
 use crate::entry::Role;
-use crate::exchange::{End, EndedTransactions, Extent, Followed, Named, Transaction, is_served};
 use crate::rp_id::RpId;
+use crate::transaction::{
+    End, EndedList, MessageProgress, Named, OpenTransaction, Transaction, is_processing,
+};
 use arrayvec::ArrayVec;
-use hid_packet::CONTINUATION_DATA;
+use hid_packet::CONT_PACKET_DATA;
 use hid_packet::command::INIT;
 
-/// The most INITs without an answer that are followed.
-const GREETINGS: usize = 4;
+/// Maximum number of unanswered INITs tracked per channel.
+const MAX_PENDING_INITS: usize = 4;
 
-/// The milliseconds without a packet after which a device works on nothing: while it does, it sends a KEEPALIVE each 100
-/// (section 11.2.9.2.1).
-const SILENCE: u64 = 500;
+/// A device that sent nothing for this long is processing nothing, in milliseconds. While processing it sends a
+/// KEEPALIVE every 100 ms (section 11.2.9.2.1).
+const IDLE_TIMEOUT_MS: u64 = 500;
 
-/// An INIT without an answer. It is less than what is followed of others, since a walk has many of them.
+/// An unanswered INIT. Smaller than `OpenTransaction`, since there are many of them.
 #[derive(Clone, Copy, Default)]
-pub struct Greeting {
+pub struct PendingInit {
     pub line: u64,
-    /// Its moment.
+    /// Timestamp.
     pub at: u64,
     pub length: u16,
     pub nonce: u64,
 }
 
-impl Greeting {
-    /// Returns what is followed of it, on a channel.
-    fn on(&self, channel: u32) -> Followed {
-        Followed {
+impl PendingInit {
+    /// Converts the INIT to an open transaction of a channel.
+    fn on(&self, channel: u32) -> OpenTransaction {
+        OpenTransaction {
             transaction: Transaction {
                 channel,
                 line: self.line,
                 message: INIT,
                 command: None,
             },
-            extent: Extent {
+            progress: MessageProgress {
                 length: self.length,
                 continuations: 0,
             },
             at: self.at,
-            ..Followed::default()
+            ..OpenTransaction::default()
         }
     }
 }
 
-/// Returns the nonce of an INIT or of its answer, with what its first packet carries.
-pub fn nonce_in(part: &[u8]) -> u64
+/// Returns the nonce of an INIT or its response, from the data of the initialization packet; 0 if it has under 8 bytes.
+pub fn parse_nonce(part: &[u8]) -> u64
     ensures { result ≡ nonce_of part.now }
 {
     match part {
@@ -67,19 +69,19 @@ pub fn nonce_in(part: &[u8]) -> u64
 
 /// A message of the device.
 #[derive(Clone, Copy, Default)]
-pub struct DeviceMessage {
-    /// The line that it began at, 0 where there is none.
+pub struct ResponseMessage {
+    /// Line of its initialization packet, or 0 if there is none.
     pub line: u64,
-    pub extent: Extent,
-    /// The status of a CBOR answer.
+    pub progress: MessageProgress,
+    /// Status of a CBOR response.
     pub status: Option<u8>,
-    /// What it answers, where that is known.
-    pub exchange: Option<Followed>,
+    /// The transaction of the response, if known.
+    pub exchange: Option<OpenTransaction>,
 }
 
-impl DeviceMessage {
-    /// Returns the transaction that it answers.
-    pub fn of(&self) -> Option<Transaction> {
+impl ResponseMessage {
+    /// Returns the transaction of the response.
+    pub fn transaction(&self) -> Option<Transaction> {
         match &self.exchange {
             Some(exchange) => Some(exchange.transaction),
             None => None,
@@ -87,391 +89,396 @@ impl DeviceMessage {
     }
 }
 
-/// A continuation packet of a host beside a message that isn't whole.
+/// A host's continuation packet and the incomplete message on its channel.
 #[derive(Clone, Copy)]
-pub struct Continued {
-    pub of: Transaction,
-    /// How many milliseconds after the packet before it came.
+pub struct ContinuationMatch {
+    pub transaction: Transaction,
+    /// Milliseconds since the message's previous packet.
     pub gap: u64,
-    /// Whether it is the next one of the message. One with another number isn't.
+    /// Whether the packet has the sequence number that the message expects.
     pub is_next: bool,
-    /// Whether the message is whole with it.
+    /// Whether the packet completes the message.
     pub is_whole: bool,
-    /// How many bytes of the message it carries.
-    pub carried: usize,
+    /// Number of the message's bytes in the packet.
+    pub data_len: usize,
 }
 
-/// A channel, and what is open on it.
+/// A channel with its open transactions.
 #[derive(Drop, Default)]
 pub struct Channel {
     pub number: u32,
-    /// The line at which it was used last, 0 where it isn't in use.
+    /// Line of its last packet, or 0 if the channel isn't in use.
     pub used: u64,
-    /// The message that is collected or served.
-    pub held: Option<Followed>,
-    /// A message that began after that one, until it is seen whether it is refused or took the channel.
-    pub asked: Option<Followed>,
-    /// The INITs without an answer.
-    pub greetings: ArrayVec<Greeting, GREETINGS>,
-    /// Whether the last message that began is the last greeting.
-    pub is_greeted: bool,
-    /// Whether it isn't known which of the channel's messages is served, until one of them is answered.
-    pub is_contested: bool,
-    /// Whether a host's last packet was a CANCEL, or a continuation of no message.
-    pub is_stray: bool,
-    /// Whether the device's last packet is a KEEPALIVE of which it isn't known which message it is for.
-    pub is_kept_alive: bool,
-    /// How many messages may wait here still of which it isn't known which ones they are.
-    pub lost: u8,
-    /// The line that the last of them began at, or that says of it.
-    pub last_lost: u64,
-    /// The moment of the device's last packet.
-    pub heard: u64,
-    /// The moment of the last KEEPALIVE.
-    pub alive: u64,
+    /// The message that is being received or processed.
+    pub current: Option<OpenTransaction>,
+    /// A message that began while `current` was open, until it is refused or takes the channel.
+    pub contender: Option<OpenTransaction>,
+    /// Unanswered INITs.
+    pub pending_inits: ArrayVec<PendingInit, MAX_PENDING_INITS>,
+    /// Whether the last message that began is the last INIT.
+    pub last_was_init: bool,
+    /// Whether `current` and `contender` cannot be told apart until one of them gets its response.
+    pub is_ambiguous: bool,
+    /// Whether the host's last packet was CANCEL, or a continuation packet outside any message.
+    pub last_was_stray: bool,
+    /// Whether the device's last packet is a KEEPALIVE that may be for several messages.
+    pub has_ambiguous_keepalive: bool,
+    /// Number of further messages, unidentified, that may still be pending here.
+    pub ambiguous_count: u8,
+    /// Line of the last of these, or the line that shows it.
+    pub last_lost_line: u64,
+    /// Timestamp of the device's last packet.
+    pub last_packet_at: u64,
+    /// Timestamp of the last KEEPALIVE.
+    pub last_keepalive_at: u64,
     /// The device's last message.
-    pub told: DeviceMessage,
-    /// The RP id of the last authenticatorGetAssertion that was answered.
-    pub asserted: RpId,
+    pub last_response: ResponseMessage,
+    /// RP ID of the last successful authenticatorGetAssertion.
+    pub last_asserted_rp: RpId,
 }
 
 impl Channel {
-    /// Returns whether nothing on it is open.
+    /// Returns whether no transaction is open.
     pub fn is_idle(&self) -> bool {
-        self.held.is_none()
-            && self.asked.is_none()
-            && self.greetings.is_empty()
-            && self.lost == 0
+        self.current.is_none()
+            && self.contender.is_none()
+            && self.pending_inits.is_empty()
+            && self.ambiguous_count == 0
             && !self.is_answering()
     }
 
-    /// Returns whether it isn't known which message is served.
+    /// Returns whether the message being processed is unknown.
     pub fn is_unclear(&self) -> bool
-        ensures { result ≡ is_known_not self.now }
+        ensures { result ≡ is_owner_unknown self.now }
     {
-        self.is_contested || self.lost > 0
+        self.is_ambiguous || self.ambiguous_count > 0
     }
 
-    /// Returns whether one of which nothing is known may be what is served now.
-    pub fn may_be_served(&self, now: u64) -> bool {
-        self.is_unclear() && now.saturating_sub(self.heard) < SILENCE
+    /// Returns whether the device may be processing an unidentified message at this time.
+    pub fn may_be_processing(&self, now: u64) -> bool {
+        self.is_unclear() && now.saturating_sub(self.last_packet_at) < IDLE_TIMEOUT_MS
     }
 
-    /// Returns what a packet is of no message that is open: of none, unless it may be of one of which nothing is known.
-    pub fn without(&self, part: Role) -> Role {
-        if self.lost > 0 || self.is_kept_alive {
-            Role::Own
+    /// Returns the role of a packet outside any open message: `role`, unless it may belong to an unidentified one.
+    pub fn without(&self, role: Role) -> Role {
+        if self.ambiguous_count > 0 || self.has_ambiguous_keepalive {
+            Role::Owned
         } else {
-            part
+            role
         }
     }
 
-    /// Returns whether the device's last message has further packets.
+    /// Returns whether the device's last message is incomplete.
     pub fn is_answering(&self) -> bool
-        ensures { result ≡ not (is_whole self.now.told.extent.length self.now.told.extent.continuations) }
+        ensures { result ≡ not (is_whole self.now.last_response.progress.length self.now.last_response.progress.continuations) }
     {
-        !self.told.extent.is_whole()
+        !self.last_response.progress.is_whole()
     }
 
-    /// Returns what is open, each as it ends where nothing more comes.
-    pub fn open(&self) -> EndedTransactions {
-        let mut open = EndedTransactions::default();
+    /// Returns the open transactions, each with its end if no packet follows.
+    pub fn open(&self) -> EndedList {
+        let mut open = EndedList::default();
         if self.is_answering()
-            && let Some(exchange) = self.told.exchange
+            && let Some(exchange) = self.last_response.exchange
         {
-            open.add(exchange, End::Cut(self.told.extent));
+            open.add(exchange, End::Cut(self.last_response.progress));
         }
-        for greeting in self.greetings.as_slice() {
-            open.add(greeting.on(self.number), End::Open);
+        for init in self.pending_inits.as_slice() {
+            open.add(init.on(self.number), End::Open);
         }
-        if let Some(held) = self.held {
-            open.add(held, End::Open);
+        if let Some(current) = self.current {
+            open.add(current, End::Open);
         }
-        if let Some(asked) = self.asked {
-            open.add(asked, End::Open);
+        if let Some(contender) = self.contender {
+            open.add(contender, End::Open);
         }
         open
     }
 
-    /// Ends all that is open, since the channel isn't followed any longer.
-    // Apart from its caller, which is called for each packet and would pay for the list each time.
-    pub fn forget(&self, ends: &mut EndedTransactions) {
+    /// Ends all open transactions as no longer tracked.
+    // Not inlined by hand: its caller runs for each packet and would pay for the list each time.
+    pub fn forget(&self, ended: &mut EndedList) {
         for open in self.open().0.as_slice() {
-            ends.add(open.exchange, End::Forgotten);
+            ended.add(open.exchange, End::Forgotten);
         }
     }
 
-    // ---- packets of hosts
+    // ---- host packets
 
-    /// Takes the initialization packet of a message that isn't CANCEL, with what it carries. An INIT changes nothing
-    /// else before it is answered (section 11.2.9.1.3). Where another message holds the channel, it isn't known yet
-    /// which of them goes on.
-    pub fn begin(&mut self, mut begun: Followed, part: &[u8], ends: &mut EndedTransactions)
-        ensures message { (begun.transaction.message ≡ INIT_COMMAND → ⊥) → self.new ≡ message_begun begun self.old }
-        ensures ends { (begun.transaction.message ≡ INIT_COMMAND → ⊥)
-            → ends.new.0.items ≡ settling false (heard_of begun.at self.old) ends.old.0.items }
+    /// Begins a message other than CANCEL. An INIT changes nothing else before its response (section 11.2.9.1.3). If
+    /// another message holds the channel, it isn't known yet which of the two the device continues.
+    pub fn begin(&mut self, mut begun: OpenTransaction, part: &[u8], ended: &mut EndedList)
+        ensures message { (begun.transaction.message ≡ INIT_COMMAND → ⊥) → self.new ≡ channel_with_message begun self.old }
+        ensures ended { (begun.transaction.message ≡ INIT_COMMAND → ⊥)
+            → ended.new.0.items ≡ ends_by_contender false (after_idle begun.at self.old) ended.old.0.items }
     {
-        self.is_stray = false;
-        if begun.at.saturating_sub(self.heard) >= SILENCE {
-            self.lost = 0;
+        self.last_was_stray = false;
+        if begun.at.saturating_sub(self.last_packet_at) >= IDLE_TIMEOUT_MS {
+            self.ambiguous_count = 0;
         }
-        self.settle(false, ends);
-        self.is_greeted = begun.transaction.message == INIT;
-        if self.is_greeted {
-            if self.greetings.is_full() {
-                let oldest = self.greetings.remove(0);
-                ends.add(oldest.on(self.number), End::Forgotten);
+        self.settle(false, ended);
+        self.last_was_init = begun.transaction.message == INIT;
+        if self.last_was_init {
+            if self.pending_inits.is_full() {
+                let oldest = self.pending_inits.remove(0);
+                ended.add(oldest.on(self.number), End::Forgotten);
             }
-            self.greetings.push(Greeting {
+            self.pending_inits.push(PendingInit {
                 line: begun.transaction.line,
                 at: begun.at,
-                length: begun.extent.length,
-                nonce: nonce_in(part),
+                length: begun.progress.length,
+                nonce: parse_nonce(part),
             });
             return;
         }
-        match &self.held {
-            None => self.held = Some(begun),
-            Some(held) => {
-                begun.after = begun.at.saturating_sub(held.at);
-                self.asked = Some(begun);
+        match &self.current {
+            None => self.current = Some(begun),
+            Some(current) => {
+                begun.delay = begun.at.saturating_sub(current.at);
+                self.contender = Some(begun);
             }
         }
     }
 
-    /// Takes a CANCEL on this line, and returns the transaction that it is for, one that is served, and what it is
-    /// where there is none. It ends nothing: the answer to that does (section 11.2.9.1.5). Of two messages it isn't
-    /// known which one is served.
+    /// Records a CANCEL, and returns the transaction in process that it is for, or its role if there is none. It ends
+    /// nothing: the response to the cancelled request does (section 11.2.9.1.5). With two messages in process, which of
+    /// them is meant is unknown.
     pub fn cancel(&mut self, line: u64) -> (Option<Transaction>, Role)
         ensures state { self.new ≡ channel_cancelled line self.old }
-        ensures of { result.0 ≡ cancels self.old }
+        ensures transaction { result.0 ≡ cancels self.old }
     {
-        self.is_stray = true;
-        if self.lost > 0 {
-            return (None, Role::Own);
+        self.last_was_stray = true;
+        if self.ambiguous_count > 0 {
+            return (None, Role::Owned);
         }
-        let is_held = is_served(&self.held);
-        let is_asked = is_served(&self.asked);
+        let is_held = is_processing(&self.current);
+        let is_asked = is_processing(&self.contender);
         if is_held && is_asked {
-            self.is_contested = true;
-            return (None, Role::Own);
+            self.is_ambiguous = true;
+            return (None, Role::Owned);
         }
-        if is_asked && let Some(mut asked) = self.asked {
-            asked.cancelled = Some(line);
-            self.asked = Some(asked);
-            return (Some(asked.transaction), Role::Own);
+        if is_asked && let Some(mut contender) = self.contender {
+            contender.cancelled = Some(line);
+            self.contender = Some(contender);
+            return (Some(contender.transaction), Role::Owned);
         }
-        if is_held && let Some(mut held) = self.held {
-            held.cancelled = Some(line);
-            self.held = Some(held);
-            return (Some(held.transaction), Role::Own);
+        if is_held && let Some(mut current) = self.current {
+            current.cancelled = Some(line);
+            self.current = Some(current);
+            return (Some(current.transaction), Role::Owned);
         }
         (None, self.without(Role::Cancel))
     }
 
-    /// Returns whether it isn't known which message a packet of the device is for, behind the input of this line: of
-    /// two messages on a channel the second is refused before the next input, or has the channel.
-    pub fn is_undecided(&self, input: u64) -> bool
+    /// Returns whether the transaction of the device's next packet is unknown, after the input of a line: a second
+    /// message on a channel is refused before the next input, or takes the channel.
+    pub fn is_unresolved(&self, input: u64) -> bool
         ensures { result ≡ is_open_question input self.now }
     {
-        match &self.asked {
-            Some(asked) => self.is_unclear() || asked.transaction.line != input,
+        match &self.contender {
+            Some(contender) => self.is_unclear() || contender.transaction.line != input,
             None => self.is_unclear(),
         }
     }
 
-    /// Ends what is held and what was asked, since a packet may be for either: whether it was answered isn't known, and
-    /// the other one may wait still.
-    pub fn lose(&mut self, ends: &mut EndedTransactions)
-        ensures state { self.new ≡ record (lost_both self.old) { asserted = self.new.asserted } }
-        ensures ends { ends.new.0.items ≡ losing self.old ends.old.0.items }
+    /// Ends `current` and `contender` as unknown, since a packet may be for either; the other one may still be pending.
+    pub fn lose(&mut self, ended: &mut EndedList)
+        ensures state { self.new ≡ record (both_unidentified self.old) { last_asserted_rp = self.new.last_asserted_rp } }
+        ensures ended { ended.new.0.items ≡ ends_lost self.old ended.old.0.items }
     {
-        self.settle(false, ends);
-        if let Some(lost) = self.end_held(End::Unknown, ends) {
-            self.lose_one(lost.line);
+        self.settle(false, ended);
+        if let Some(lost) = self.end_current(End::Unknown, ended) {
+            self.record_ambiguous(lost.line);
         }
-        self.is_contested = false;
-        self.asserted = RpId::default();
+        self.is_ambiguous = false;
+        self.last_asserted_rp = RpId::default();
     }
 
-    /// Takes that a message of this line may wait still of which it isn't known which one it is.
-    pub fn lose_one(&mut self, line: u64)
-        ensures { self.new ≡ lost_one line self.old }
+    /// Records that the message at `line` may still be pending.
+    pub fn record_ambiguous(&mut self, line: u64)
+        ensures { self.new ≡ with_unidentified line self.old }
     {
-        self.lost = self.lost.saturating_add(1);
-        self.last_lost = self.last_lost.max(line);
+        self.ambiguous_count = self.ambiguous_count.saturating_add(1);
+        self.last_lost_line = self.last_lost_line.max(line);
     }
 
-    /// Takes the continuation packet with this number. None where it is of no message that is open.
-    pub fn go_on(&mut self, number: u8, now: u64) -> Option<Continued>
+    /// Continues a message, or returns `None` if no open message is incomplete.
+    pub fn go_on(&mut self, number: u8, now: u64) -> Option<ContinuationMatch>
         ensures next { IfSome result (λ continued. continued.is_whole ≡ true → continued.is_next ≡ true) }
-        ensures value { result ≡ continued_in number now (addressed number self.old) }
+        ensures value { result ≡ match_in number now (addressed number self.old) }
         ensures state { self.new ≡ channel_continued number now self.old }
     {
-        let is_of_asked = matches!(&self.asked, Some(asked)
-            if asked.extent.continuations == number && !asked.extent.is_whole());
+        let is_of_asked = matches!(&self.contender, Some(contender)
+            if contender.progress.continuations == number && !contender.progress.is_whole());
         let continuation = if is_of_asked {
-            go_on_with(&mut self.asked, number, now)
+            go_on_with(&mut self.contender, number, now)
         } else {
-            go_on_with(&mut self.held, number, now)
+            go_on_with(&mut self.current, number, now)
         };
-        self.is_stray = continuation.is_none();
+        self.last_was_stray = continuation.is_none();
         continuation
     }
 
-    /// Keeps what an open request names.
-    pub fn name(&mut self, of: &Transaction, named: Named)
-        ensures at { at_of self.new.held ≡ at_of self.old.held }
+    /// Stores the RP ID and credentials of an open request.
+    pub fn name(&mut self, transaction: &Transaction, named: Named)
+        ensures at { at_of self.new.current ≡ at_of self.old.current }
     {
-        if let Some(mut held) = self.held
-            && held.transaction.line == of.line
+        if let Some(mut current) = self.current
+            && current.transaction.line == transaction.line
         {
-            held.named = named;
-            self.held = Some(held);
+            current.named = named;
+            self.current = Some(current);
             return;
         }
-        if let Some(mut asked) = self.asked
-            && asked.transaction.line == of.line
+        if let Some(mut contender) = self.contender
+            && contender.transaction.line == transaction.line
         {
-            asked.named = named;
-            self.asked = Some(asked);
+            contender.named = named;
+            self.contender = Some(contender);
         }
     }
 
-    /// Returns whether a message of which a KEEPALIVE says so waits for a reply, and no CANCEL came for it, or whether one
-    /// may wait.
-    pub fn is_waiting(&self, is_said: bool) -> bool
-        ensures { result ≡ waits is_said self.now }
+    /// Returns whether a message waits for a reply: if `by_keepalive`, one that a KEEPALIVE reports and no CANCEL was
+    /// sent for; otherwise, any that may wait.
+    pub fn is_waiting(&self, by_keepalive: bool) -> bool
+        ensures { result ≡ may_wait by_keepalive self.now }
     {
-        if is_said {
-            matches!(&self.held, Some(held)
-                if held.awaited.is_some() && held.cancelled.is_none())
+        if by_keepalive {
+            matches!(&self.current, Some(current)
+                if current.awaited.is_some() && current.cancelled.is_none())
         } else {
             self.is_unclear()
-                || self.is_kept_alive
-                || is_served(&self.held)
-                || is_served(&self.asked)
+                || self.has_ambiguous_keepalive
+                || is_processing(&self.current)
+                || is_processing(&self.contender)
         }
     }
 
-    /// Takes a reply at a moment, and returns the request that waited for it, and what it is where none did. Without a
-    /// KEEPALIVE it isn't known what is waited for, and of two messages not which of them is served.
-    pub fn reply(&mut self, reply: Awaited, now: u64) -> (Option<Transaction>, Role) {
-        if self.asked.is_some() || self.is_unclear() || self.is_kept_alive {
-            return (None, Role::Own);
+    /// Handles a reply of the caller. Returns the request that waited for it, or the reply's role if none did. Without
+    /// a KEEPALIVE it is unknown which reply is needed, and with two messages, which one is processed.
+    pub fn reply(&mut self, reply: AwaitedReply, now: u64) -> (Option<Transaction>, Role) {
+        if self.contender.is_some() || self.is_unclear() || self.has_ambiguous_keepalive {
+            return (None, Role::Owned);
         }
-        let Some(mut held) = self.held else {
+        let Some(mut current) = self.current else {
             return (None, Role::Reply);
         };
-        match (held.awaited, reply) {
-            (Some(Awaited::Presence), Awaited::Presence) => {
-                held.took = Some(now.saturating_sub(held.at));
-                held.awaited = None;
+        match (current.awaited, reply) {
+            (Some(AwaitedReply::Presence), AwaitedReply::Presence) => {
+                current.presence_ms = Some(now.saturating_sub(current.at));
+                current.awaited = None;
             }
-            (Some(Awaited::Key), Awaited::Key) => held.awaited = Some(Awaited::Signature),
-            (None, _) | (Some(Awaited::Signature), Awaited::Signature) => {}
-            // A key may say that it works on a request while it waits for the user.
-            (Some(_), Awaited::Presence) if held.took.is_none() && held.asks_user() => {}
+            (Some(AwaitedReply::Key), AwaitedReply::Key) => current.awaited = Some(
+                AwaitedReply::Signature,
+            ),
+            (None, _) | (Some(AwaitedReply::Signature), AwaitedReply::Signature) => {}
+            // A key may report PROCESSING while it waits for the user.
+            (Some(_), AwaitedReply::Presence)
+                if current.presence_ms.is_none() && current.needs_presence() => {}
             (Some(_), _) => return (None, Role::Reply),
         }
-        self.held = Some(held);
-        (Some(held.transaction), Role::Own)
+        self.current = Some(current);
+        (Some(current.transaction), Role::Owned)
     }
 
-    // ---- which message goes on
+    // ---- which of two messages the device continues
 
-    /// Lets what was asked have the channel, as a packet of the device shows, or since it wasn't refused before the
-    /// next message began.
-    pub fn settle(&mut self, is_shown: bool, ends: &mut EndedTransactions)
-        ensures state { self.new ≡ settled is_shown self.old }
-        ensures ends { ends.new.0.items ≡ settling is_shown self.old ends.old.0.items }
+    /// Makes `contender` the current message: a device packet shows that it was accepted, or it wasn't refused before
+    /// the next message began.
+    pub fn settle(&mut self, is_shown: bool, ended: &mut EndedList)
+        ensures state { self.new ≡ contender_accepted is_shown self.old }
+        ensures ended { ended.new.0.items ≡ ends_by_contender is_shown self.old ended.old.0.items }
     {
-        let Some(asked) = self.asked else {
+        let Some(contender) = self.contender else {
             return;
         };
-        self.asked = None;
-        if let Some(held) = self.held {
-            self.is_contested = false;
+        self.contender = None;
+        if let Some(current) = self.current {
+            self.is_ambiguous = false;
             let end = if !is_shown {
-                self.lose_one(held.transaction.line);
+                self.record_ambiguous(current.transaction.line);
                 End::Unknown
-            } else if let Some(line) = held.cancelled {
+            } else if let Some(line) = current.cancelled {
                 End::Dropped(line)
-            } else if held.extent.is_whole() {
+            } else if current.progress.is_whole() {
                 End::Unknown
             } else {
-                End::Replaced(asked.transaction.line)
+                End::Replaced(contender.transaction.line)
             };
-            ends.add(held, end);
+            ended.add(current, end);
         }
-        self.held = Some(asked);
+        self.current = Some(contender);
     }
 
-    /// Ends what held the channel, and returns its transaction. What was asked has the channel then.
-    pub fn end_held(&mut self, end: End, ends: &mut EndedTransactions) -> Option<Transaction>
-        ensures state { self.new ≡ freed self.old }
-        ensures ends { ends.new.0.items ≡ added_held ends.old.0.items self.old.held end }
-        ensures of { result ≡ transaction_of self.old.held }
+    /// Ends `current`, and returns its transaction. `contender` takes its place.
+    pub fn end_current(&mut self, end: End, ended: &mut EndedList) -> Option<Transaction>
+        ensures state { self.new ≡ current_ended self.old }
+        ensures ended { ended.new.0.items ≡ with_end_of ended.old.0.items self.old.current end }
+        ensures transaction { result ≡ transaction_of self.old.current }
     {
-        let Some(held) = self.held else {
+        let Some(current) = self.current else {
             return None;
         };
-        self.held = self.asked;
-        self.asked = None;
-        ends.add(held, end);
-        Some(held.transaction)
+        self.current = self.contender;
+        self.contender = None;
+        ended.add(current, end);
+        Some(current.transaction)
     }
 
-    /// Takes the greeting at a place, where there is one.
-    pub fn take_greeting(&mut self, place: usize) -> Option<Followed>
-        ensures none { length self.old.greetings.items ≤ place → self.new ≡ self.old }
-        ensures nothing { length self.old.greetings.items ≤ place → result ≡ None }
+    /// Removes and returns the INIT at an index, if any.
+    pub fn take_init(&mut self, place: usize) -> Option<OpenTransaction>
+        ensures none { length self.old.pending_inits.items ≤ place → self.new ≡ self.old }
+        ensures nothing { length self.old.pending_inits.items ≤ place → result ≡ None }
     {
-        let Some(greeting) = self.greetings.pop_at(place) else {
+        let Some(init) = self.pending_inits.pop_at(place) else {
             return None;
         };
-        // Those behind it moved forward.
-        if place == self.greetings.len() {
-            self.is_greeted = false;
+        // The following INITs moved forward.
+        if place == self.pending_inits.len() {
+            self.last_was_init = false;
         }
-        Some(greeting.on(self.number))
+        Some(init.on(self.number))
     }
 }
 
-/// Goes on with a message that isn't whole by the continuation packet with this number.
-fn go_on_with(message: &mut Option<Followed>, number: u8, now: u64) -> Option<Continued>
-    ensures value { result ≡ continued_in number now message.old }
+/// Continues an incomplete message with the continuation packet of this sequence number.
+fn go_on_with(
+    message: &mut Option<OpenTransaction>,
+    number: u8,
+    now: u64,
+) -> Option<ContinuationMatch>
+    ensures value { result ≡ match_in number now message.old }
     ensures state { message.new ≡ slot_after number now message.old }
 {
-    let Some(mut held) = *message else {
+    let Some(mut current) = *message else {
         return None;
     };
-    if held.extent.is_whole() {
+    if current.progress.is_whole() {
         return None;
     }
-    let continued = held.go_on(number, now);
-    *message = Some(held);
+    let continued = current.go_on(number, now);
+    *message = Some(current);
     Some(continued)
 }
 
-impl Followed {
-    /// Goes on with its message, which isn't whole, by the packet with this number.
-    fn go_on(&mut self, number: u8, now: u64) -> Continued
+impl OpenTransaction {
+    /// Continues the device's message with the packet of this sequence number.
+    fn go_on(&mut self, number: u8, now: u64) -> ContinuationMatch
         ensures next { result.is_whole ≡ true → result.is_next ≡ true }
-        ensures value { result ≡ gone_on number now self.old }
-        ensures state { self.new ≡ goes_on_by number now self.old }
+        ensures value { result ≡ continuation_match number now self.old }
+        ensures state { self.new ≡ with_continuation number now self.old }
     {
-        let mut continued = Continued {
-            of: self.transaction,
+        let mut continued = ContinuationMatch {
+            transaction: self.transaction,
             gap: now.saturating_sub(self.at),
             is_next: false,
             is_whole: false,
-            carried: CONTINUATION_DATA,
+            data_len: CONT_PACKET_DATA,
         };
-        if self.extent.continuations == number {
+        if self.progress.continuations == number {
             continued.is_next = true;
-            continued.carried = self.extent.add_continuation();
-            continued.is_whole = self.extent.is_whole();
+            continued.data_len = self.progress.push_continuation();
+            continued.is_whole = self.progress.is_whole();
             self.at = now;
         }
         continued

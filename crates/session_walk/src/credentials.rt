@@ -1,65 +1,66 @@
-//! The credentials that the answers of a log make: which of them a request's excludeList names.
+//! Tracks the credentials that a log creates, and which of them an excludeList names.
 ghost use Rattle.std.specs.Prelude.{◌<◌};
 
-use crate::channel::DeviceMessage;
+use crate::channel::ResponseMessage;
 use crate::command::{CREDENTIAL_MANAGEMENT, GET_ASSERTION, MAKE_CREDENTIAL, RESET};
-use crate::exchange::{Named, Transaction};
-use crate::pairs::{item_at, next_value, value_at};
-use crate::pool::Pool;
+use crate::map_iter::{item_at, next_value, value_at};
+use crate::message_buffers::Pool;
 use crate::rp_id::RpId;
 use crate::status::OK;
+use crate::transaction::{Named, Transaction};
 use ctap_cbor::{Cursor, Item, check};
 use sha2::{Digest, Sha256};
 
-/// The preview of authenticatorCredentialManagement, from before CTAP 2.1.
+/// The preview command of authenticatorCredentialManagement, before CTAP 2.1.
 const CREDENTIAL_MANAGEMENT_PREVIEW: u8 = 0x41;
 
-/// The flag of authenticator data that says that a credential follows.
-pub const CREDENTIAL: u8 = 0x40;
+/// Flag AT of authenticator data: attested credential data included.
+pub const FLAG_AT: u8 = 0x40;
 
-/// How many credentials are followed, those that were made last: as many as this key has capacity for.
+/// Number of credentials that are tracked, the latest ones: this key's capacity.
 const CREDENTIALS: usize = 64;
 
-/// The name of a credential, or of an account: the front of a hash of the relying party's hash and the id of either.
+/// Identifies a credential or an account: the first bytes of a hash over the RP ID hash and the credential ID or user
+/// handle.
 pub type Name = [u8; 16];
 
-/// A credential that an answer made.
+/// A credential that a response created.
 #[derive(Clone, Copy)]
 struct Made {
-    /// The line that the answer ends at, 0 where there is none.
+    /// Last line of the response, or 0 if there is none.
     line: u64,
     name: Name,
-    /// Its account, where it is discoverable.
+    /// The account of a discoverable credential.
     account: Option<Name>,
 }
 
-/// The keys of the lists of credentials: excludeList of authenticatorMakeCredential, allowList of
+/// Map keys of the credential lists: excludeList of authenticatorMakeCredential, allowList of
 /// authenticatorGetAssertion.
 const EXCLUDE_LIST: i128 = 5;
 
 const ALLOW_LIST: i128 = 3;
 
-/// An entry of an excludeList that is a credential which the log made.
+/// An excludeList entry for a credential that the log created.
 #[derive(Clone, Copy)]
 pub struct Excluded {
-    /// Its place in the list.
+    /// Index in the list.
     pub place: u64,
-    /// The line of the answer that made it.
+    /// Last line of the response that created it.
     pub line: u64,
 }
 
-/// The credentials that a log made last, and that weren't replaced.
+/// The latest credentials that a log created and did not replace.
 #[derive(Clone, Copy)]
 pub struct Credentials {
     made: [Made; CREDENTIALS],
-    /// How many were made, without those that took another one's place.
+    /// Number of credentials created, replacements excluded.
     count: usize,
-    /// Whether a reset was done, which left none that the key had before the log.
+    /// Whether there was a reset, after which no credential from before the log exists.
     pub is_reset: bool,
 }
 
 impl Credentials {
-    /// Returns those of no lines.
+    /// Returns an empty list.
     pub fn new() -> Self {
         let none = Made {
             line: 0,
@@ -73,9 +74,9 @@ impl Credentials {
         }
     }
 
-    /// Takes an answer that ends at a line: keeps the credential that it made, or forgets all where it may have deleted
-    /// one.
-    pub fn learn(&mut self, answer: &DeviceMessage, line: u64, bytes: &[u8]) {
+    /// Handles a complete response: adds the credential that it created, or forgets all credentials if it may have
+    /// deleted one.
+    pub fn learn(&mut self, answer: &ResponseMessage, line: u64, bytes: &[u8]) {
         let (Some(exchange), [OK, item @ ..]) = (&answer.exchange, bytes) else {
             return;
         };
@@ -92,15 +93,14 @@ impl Credentials {
         }
     }
 
-    /// Keeps the credential that an answer made, which ends at a line: its item follows the status. A discoverable one
-    /// takes the place of that of the same account (CTAP 2.1, section 6.1.2).
+    /// Adds the credential that a response created; its CBOR follows the status. A discoverable one replaces that of
+    /// the same account (CTAP 2.1, section 6.1.2).
     fn add(&mut self, line: u64, item: &[u8], account: Option<Name>) {
         let Some(Item::Bytes(data)) = item_at(item, Item::Int(2)) else {
             return;
         };
-        // The hash of the relying party, the flags, the counter and the AAGUID are in front of the id's length
-        // (WebAuthn, section 6.1).
-        if data.len() < 55 || data[32] & CREDENTIAL == 0 {
+        // The RP ID hash, flags, counter and AAGUID precede the credential ID's length (WebAuthn, section 6.1).
+        if data.len() < 55 || data[32] & FLAG_AT == 0 {
             return;
         }
         let length = usize::from(u16::from_be_bytes([data[53], data[54]]));
@@ -126,20 +126,20 @@ impl Credentials {
         self.count = self.count.wrapping_add(1);
     }
 
-    /// Returns what a whole request names, if its item is canonical.
-    pub fn named_in(&self, of: &Transaction, pool: &Pool) -> Named {
+    /// Returns the RP ID and credentials of a complete request, if its CBOR is canonical.
+    pub fn identify(&self, transaction: &Transaction, pool: &Pool) -> Named {
         let mut named = Named::default();
-        let Some([_, item @ ..]) = pool.bytes(of.line) else {
+        let Some([_, item @ ..]) = pool.bytes(transaction.line) else {
             return named;
         };
         if check(item).result.is_err() {
             return named;
         }
-        let command = of.command.unwrap_or(0);
+        let command = transaction.command.unwrap_or(0);
         named.rp_id = RpId::of_request(command, item);
-        named.names_one = match command {
-            MAKE_CREDENTIAL => names_one(item, EXCLUDE_LIST, false),
-            GET_ASSERTION => names_one(item, ALLOW_LIST, true),
+        named.may_name_prior = match command {
+            MAKE_CREDENTIAL => may_name_prior(item, EXCLUDE_LIST, false),
+            GET_ASSERTION => may_name_prior(item, ALLOW_LIST, true),
             _ => false,
         };
         if command == GET_ASSERTION
@@ -163,7 +163,7 @@ impl Credentials {
         named
     }
 
-    /// Returns which entry of a request's excludeList was made last, where the log made one of them.
+    /// Returns the entry of a request's excludeList that the log created last, if any.
     fn excluded_in(&self, relying_party: &[u8], item: &[u8]) -> Option<Excluded> {
         let Some(list) = value_at(item, Item::Int(EXCLUDE_LIST)) else {
             return None;
@@ -185,8 +185,8 @@ impl Credentials {
         if last.line > 0 { Some(last) } else { None }
     }
 
-    /// Returns the line of the answer that made the credential of a list's entry, 0 where none did. One of a type that
-    /// isn't known names none (WebAuthn, section 5.8.3).
+    /// Returns the last line of the response that created the credential of a list entry, or 0 if none did. An entry of
+    /// unknown type names none (WebAuthn, section 5.8.3).
     fn line_of(&self, relying_party: &[u8], entry: &[u8]) -> u64 {
         if let Some(kind) = item_at(entry, Item::Text("type"))
             && !matches!(kind, Item::Text("public-key"))
@@ -208,9 +208,9 @@ impl Credentials {
     }
 }
 
-/// Returns whether the list at this key of a request names a credential, which no entry of another type does (WebAuthn,
-/// section 5.8.3), or else, where there are no entries, whether that names any.
-fn names_one(item: &[u8], key: i128, is_any: bool) -> bool {
+/// Returns whether a request's list at this map key names a credential; entries of another type don't (WebAuthn,
+/// section 5.8.3). `if_empty` is the result for a list without entries.
+fn may_name_prior(item: &[u8], key: i128, is_any: bool) -> bool {
     let Some(list) = value_at(item, Item::Int(key)) else {
         return is_any;
     };
@@ -228,7 +228,7 @@ fn names_one(item: &[u8], key: i128, is_any: bool) -> bool {
     is_any && count == 0
 }
 
-/// Returns the name of what has an id with a relying party of this hash.
+/// Returns the identifier of an ID with the relying party of this hash.
 fn name_of(relying_party: &[u8], id: &[u8]) -> Name {
     let mut hasher = Sha256::new();
     hasher.update(relying_party);

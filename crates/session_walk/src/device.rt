@@ -1,98 +1,103 @@
-//! What a device sends on a channel: which transaction it is for, and what it ends.
+//! Handles device packets on a channel: the transaction that each belongs to, and the transactions that it ends.
 
 ghost use Rattle.std.specs.Prelude.{◌≡◌, [], true, false, if◌then◌else◌, Some, None};
-ghost use Rattle.session_walk.specs.Owners.{added_held, freed};
-ghost use Rattle.session_walk.specs.Ends.{also_ends, answered_message, cause_of, is_late_by, is_of_one, of_time_out};
-ghost use Rattle.session_walk.specs.Ends.{awaited_by, if_worked_on, is_of_time, is_open_question, kept_alive, worked_on_by, of_keep_alive, of_refused, refused_by, refusing_by};
-ghost use Rattle.session_walk.specs.Ends.{timed_out, timing_out_by, told_on};
+ghost use Rattle.session_walk.specs.Owners.{with_end_of, current_ended};
+ghost use Rattle.session_walk.specs.Ends.{also_ends, answered_message, cause_of, is_late_by, is_of_one, timeout_transaction};
+ghost use Rattle.session_walk.specs.Ends.{awaited_by, transaction_if_processing, is_of_time, is_open_question, after_keepalive, channel_processing, keepalive_transaction, refused_transaction, refused_by, ends_by_refusal};
+ghost use Rattle.session_walk.specs.Ends.{timed_out, ends_by_timeout, response_continued};
 
-use crate::answer::{AnswerStart, Answered, Started};
-use crate::awaited::Awaited;
-use crate::channel::{Channel, DeviceMessage, nonce_in};
+use crate::ambiguous::Ambiguous;
+use crate::answer::{Answered, ResponseStart, Started};
+use crate::awaited::AwaitedReply;
+use crate::channel::{Channel, ResponseMessage, parse_nonce};
 use crate::command::{GET_ASSERTION, GET_NEXT_ASSERTION, MAKE_CREDENTIAL, RESET, SELECTION};
-use crate::doubtful::Doubtful;
 use crate::entry::Role;
 use crate::error_code::{
     CHANNEL_BUSY, INVALID_CHANNEL, INVALID_CMD, INVALID_LEN, INVALID_SEQ, MSG_TIMEOUT, OTHER,
 };
-use crate::exchange::{End, EndedTransactions, Extent, Followed, Transaction, is_served};
 use crate::keepalive_status::{PROCESSING, UPNEEDED};
 use crate::status::{KEEPALIVE_CANCEL, OK};
+use crate::transaction::{
+    End, EndedList, MessageProgress, OpenTransaction, Transaction, is_processing,
+};
 use hid_packet::BROADCAST;
 use hid_packet::command::{ERROR, INIT, KEEPALIVE};
 
-/// The milliseconds within which no device drops a message.
-pub const NO_TIME_OUT: u64 = 100;
+/// Minimum time-out of an incomplete message in any device, in milliseconds.
+pub const MIN_TIMEOUT_MS: u64 = 100;
 
 impl Channel {
-    /// Takes the first packet of a message of the device at a moment, behind the input of this line.
-    pub fn take_start(
+    /// Handles the initialization packet of a device message. `behind` is the line of the last input and the time.
+    pub fn on_device_init_packet(
         &mut self,
-        answer: &AnswerStart<'_>,
+        answer: &ResponseStart<'_>,
         behind: (u64, u64),
-        doubtful: &Option<Doubtful>,
-        ends: &mut EndedTransactions,
+        ambiguous: &Option<Ambiguous>,
+        ended: &mut EndedList,
     ) -> Started {
-        // Of the last message no further packet comes.
+        // No further packet of the previous message can follow.
         if self.is_answering()
-            && let Some(exchange) = self.told.exchange
+            && let Some(exchange) = self.last_response.exchange
         {
-            ends.add(exchange, End::Cut(self.told.extent));
+            ended.add(exchange, End::Cut(self.last_response.progress));
         }
-        let before = self.told.line;
-        self.told.line = 0;
-        self.told.extent = Extent::default();
-        self.told.exchange = None;
+        let before = self.last_response.line;
+        self.last_response.line = 0;
+        self.last_response.progress = MessageProgress::default();
+        self.last_response.exchange = None;
         let status = answer.status.unwrap_or(0);
         let mut is_late = false;
-        let mut part = Role::Own;
-        let of = match answer.command {
+        let mut role = Role::Owned;
+        let transaction = match answer.command {
             ERROR => {
-                let (of, is_of_late) = self.refuse(status, behind.0, doubtful, ends);
+                let (transaction, is_of_late) = self.refuse(status, behind.0, ambiguous, ended);
                 is_late = is_of_late;
-                if of.is_none() {
-                    part = Role::Error;
+                if transaction.is_none() {
+                    role = Role::Error;
                 }
-                of
+                transaction
             }
-            KEEPALIVE => self.keep_alive(status, behind, ends),
-            _ => self.answer(answer, ends),
+            KEEPALIVE => self.keep_alive(status, behind, ended),
+            _ => self.answer(answer, ended),
         };
-        self.heard = behind.1;
-        self.is_kept_alive = answer.command == KEEPALIVE && of.is_none();
+        self.last_packet_at = behind.1;
+        self.has_ambiguous_keepalive = answer.command == KEEPALIVE && transaction.is_none();
         match answer.command {
-            KEEPALIVE if of.is_none() && self.is_idle() => self.lose_one(answer.line),
+            KEEPALIVE if transaction.is_none() && self.is_idle() => self.record_ambiguous(
+                answer.line,
+            ),
             KEEPALIVE | ERROR | INIT => {}
-            _ if of.is_none() => self.lost = self.lost.saturating_sub(1),
+            _ if transaction.is_none() => self.ambiguous_count = self
+                .ambiguous_count
+                .saturating_sub(1),
             _ => {}
         }
         Started {
-            of,
-            part,
+            transaction,
+            role,
             before,
             is_late,
         }
     }
 
-    /// Takes a KEEPALIVE with this status at a moment, behind the input of this line, and returns the transaction that
-    /// is worked on, where that is known. Of two that may be, what holds the channel is, if time brought the KEEPALIVE
-    /// before the second one was taken.
+    /// Handles a KEEPALIVE. Returns the transaction being processed, if known. If both messages could be, this is
+    /// `current`, provided that the KEEPALIVE became due before the second one was accepted.
     fn keep_alive(
         &mut self,
         status: u8,
         behind: (u64, u64),
-        ends: &mut EndedTransactions,
+        ended: &mut EndedList,
     ) -> Option<Transaction>
-        ensures state { self.new ≡ kept_alive status behind.0 behind.1 self.old }
-        ensures of { result ≡ of_keep_alive behind.0 behind.1 self.old }
+        ensures state { self.new ≡ after_keepalive status behind.0 behind.1 self.old }
+        ensures transaction { result ≡ keepalive_transaction behind.0 behind.1 self.old }
     {
         let (input, now) = behind;
         if self.is_unclear() {
             return None;
         }
-        if is_served(&self.asked) {
-            if !is_served(&self.held) {
-                self.settle(true, ends);
+        if is_processing(&self.contender) {
+            if !is_processing(&self.current) {
+                self.settle(true, ended);
             } else if !self.is_of_time(input, now) {
                 return None;
             }
@@ -100,123 +105,124 @@ impl Channel {
         self.work_on(status, now)
     }
 
-    /// Returns whether time brought a KEEPALIVE at a moment, before the second message was taken.
+    /// Returns whether a KEEPALIVE at this time became due before the second message was accepted.
     fn is_of_time(&self, input: u64, now: u64) -> bool
         ensures { result ≡ is_of_time input now self.now }
     {
-        let keepalives = match &self.held {
-            Some(held) => held.keepalives,
+        let keepalives = match &self.current {
+            Some(current) => current.keepalives,
             None => 0,
         };
-        keepalives > 0 && now.saturating_sub(self.alive) >= NO_TIME_OUT && !self.is_undecided(input)
+        keepalives > 0
+            && now.saturating_sub(self.last_keepalive_at) >= MIN_TIMEOUT_MS
+            && !self.is_unresolved(input)
     }
 
-    /// Takes a KEEPALIVE with this status at a moment for what holds the channel, and returns that, if a key works on it.
+    /// Handles a KEEPALIVE for `current`. Returns its transaction if the device is processing it.
     fn work_on(&mut self, status: u8, now: u64) -> Option<Transaction>
-        ensures state { self.new ≡ worked_on_by status now self.old.held self.old }
-        ensures of { result ≡ if_worked_on self.old.held }
+        ensures state { self.new ≡ channel_processing status now self.old.current self.old }
+        ensures transaction { result ≡ transaction_if_processing self.old.current }
     {
-        self.alive = now;
-        let Some(mut held) = self.held else {
+        self.last_keepalive_at = now;
+        let Some(mut current) = self.current else {
             return None;
         };
-        if !held.is_served() {
+        if !current.is_processing() {
             return None;
         }
-        held.awaited = awaited_in(status, &held);
-        held.keepalives = held.keepalives.saturating_add(1);
-        self.held = Some(held);
-        Some(held.transaction)
+        current.awaited = awaited_in(status, &current);
+        current.keepalives = current.keepalives.saturating_add(1);
+        self.current = Some(current);
+        Some(current.transaction)
     }
 
-    /// Takes an ERROR with this code, behind the input of this line, and returns the transaction that it is for, and
-    /// whether it shows that the packet before it came too late for its message.
+    /// Handles an ERROR. Returns its transaction, and whether it shows that the preceding host packet arrived too late.
     fn refuse(
         &mut self,
         code: u8,
         input: u64,
-        doubtful: &Option<Doubtful>,
-        ends: &mut EndedTransactions,
+        ambiguous: &Option<Ambiguous>,
+        ended: &mut EndedList,
     ) -> (Option<Transaction>, bool) {
         if code != MSG_TIMEOUT {
-            return (self.refuse_one(code, input, ends), false);
+            return (self.refuse_one(code, input, ended), false);
         }
-        // It may be that of the message that was asked.
-        if let Some(asked) = &self.asked
-            && let Some(held) = &self.held
-            && !asked.extent.is_whole()
+        // It may be for `contender`.
+        if let Some(contender) = &self.contender
+            && let Some(current) = &self.current
+            && !contender.progress.is_whole()
         {
-            if held.extent.is_whole() {
-                return self.time_out_asked(input, doubtful, ends);
+            if current.progress.is_whole() {
+                return self.time_out_asked(input, ambiguous, ended);
             }
-            if asked.after < NO_TIME_OUT {
-                self.settle(true, ends);
-            } else if self.is_undecided(input) {
-                self.lose(ends);
+            if contender.delay < MIN_TIMEOUT_MS {
+                self.settle(true, ended);
+            } else if self.is_unresolved(input) {
+                self.lose(ended);
                 return (None, false);
             }
         }
-        let (timed_out, is_late) = self.time_out(doubtful, ends);
+        let (timed_out, is_late) = self.time_out(ambiguous, ended);
         if timed_out.is_some() {
             return (timed_out, is_late);
         }
-        (self.refuse_one(code, input, ends), is_late)
+        (self.refuse_one(code, input, ended), is_late)
     }
 
-    /// Ends what holds the channel by a time-out, if it isn't whole, and returns its transaction, and whether the packet
-    /// before came too late for it.
+    /// Ends `current` by a time-out if it is incomplete, and returns its transaction, and whether the packet before
+    /// arrived too late for it.
     fn time_out(
         &mut self,
-        doubtful: &Option<Doubtful>,
-        ends: &mut EndedTransactions,
+        ambiguous: &Option<Ambiguous>,
+        ended: &mut EndedList,
     ) -> (Option<Transaction>, bool)
-        ensures state { self.new ≡ timed_out doubtful.now self.old }
-        ensures ends { ends.new.0.items ≡ timing_out_by doubtful.now self.old.held ends.old.0.items }
-        ensures of { result.0 ≡ of_time_out doubtful.now self.old.held }
-        ensures late { result.1 ≡ is_late_by doubtful.now self.old.held }
+        ensures state { self.new ≡ timed_out ambiguous.now self.old }
+        ensures ended { ended.new.0.items ≡ ends_by_timeout ambiguous.now self.old.current ended.old.0.items }
+        ensures transaction { result.0 ≡ timeout_transaction ambiguous.now self.old.current }
+        ensures deferred { result.1 ≡ is_late_by ambiguous.now self.old.current }
     {
-        let Some(mut held) = self.held else {
+        let Some(mut current) = self.current else {
             return (None, false);
         };
         let mut is_late = false;
-        if let Some(doubtful) = doubtful {
-            is_late = held.transaction.line == doubtful.of.line;
-            // The packet that came too late is left out of the message.
-            if is_late && doubtful.is_next {
-                held.extent.continuations = held.extent.continuations.saturating_sub(1);
-                self.held = Some(held);
+        if let Some(ambiguous) = ambiguous {
+            is_late = current.transaction.line == ambiguous.transaction.line;
+            // The late packet is not part of the message.
+            if is_late && ambiguous.is_next {
+                current.progress.continuations = current.progress.continuations.saturating_sub(1);
+                self.current = Some(current);
             }
         }
-        if held.extent.is_whole() {
+        if current.progress.is_whole() {
             return (None, is_late);
         }
-        (self.end_held(End::Refused(MSG_TIMEOUT), ends), is_late)
+        (self.end_current(End::Refused(MSG_TIMEOUT), ended), is_late)
     }
 
-    /// Ends what was asked by a time-out, beside a message that is served: that may go on.
+    /// Ends `contender` by a time-out, while `current` is still processed.
     fn time_out_asked(
         &mut self,
         input: u64,
-        doubtful: &Option<Doubtful>,
-        ends: &mut EndedTransactions,
+        ambiguous: &Option<Ambiguous>,
+        ended: &mut EndedList,
     ) -> (Option<Transaction>, bool) {
         if self.is_unclear() {
-            self.lose(ends);
+            self.lose(ended);
             return (None, false);
         }
-        let served = self.held;
-        self.held = self.asked;
-        self.asked = None;
-        let refused = self.time_out(doubtful, ends);
-        self.held = served;
+        let served = self.current;
+        self.current = self.contender;
+        self.contender = None;
+        let refused = self.time_out(ambiguous, ended);
+        self.current = served;
         refused
     }
 
-    /// Ends the unfinished message that began before one that is refused with this code, where that ends it too.
-    fn end_before(&mut self, refused: &Transaction, code: u8, ends: &mut EndedTransactions)
-        ensures state { self.new ≡ (if also_ends refused.now code self.old.held then freed self.old else self.old) }
-        ensures ends { ends.new.0.items ≡ (if also_ends refused.now code self.old.held
-            then added_held ends.old.0.items self.old.held (cause_of refused.now) else ends.old.0.items) }
+    /// Ends the incomplete message that began before one that is refused with this code, if the error ends it, too.
+    fn end_before(&mut self, refused: &Transaction, code: u8, ended: &mut EndedList)
+        ensures state { self.new ≡ (if also_ends refused.now code self.old.current then current_ended self.old else self.old) }
+        ensures ended { ended.new.0.items ≡ (if also_ends refused.now code self.old.current
+            then with_end_of ended.old.0.items self.old.current (cause_of refused.now) else ended.old.0.items) }
     {
         let line = refused.line;
         let (cause, by) = if refused.message == INIT {
@@ -225,122 +231,113 @@ impl Channel {
             (INVALID_SEQ, End::Replaced(line))
         };
         if code == cause
-            && let Some(held) = &self.held
-            && !held.extent.is_whole()
-            && held.transaction.line < line
+            && let Some(current) = &self.current
+            && !current.progress.is_whole()
+            && current.transaction.line < line
         {
-            self.end_held(by, ends);
+            self.end_current(by, ended);
         }
     }
 
-    /// Takes an ERROR that is no time-out of an open message.
-    fn refuse_one(
-        &mut self,
-        code: u8,
-        input: u64,
-        ends: &mut EndedTransactions,
-    ) -> Option<Transaction>
-        ensures state { self.old.is_greeted ≡ false → self.old.greetings.items ≡ [] → is_open_question input self.old ≡ false
-            → self.new ≡ refused_by code self.old.asked self.old.held self.old }
-        ensures of { self.old.is_greeted ≡ false → self.old.greetings.items ≡ [] → is_open_question input self.old ≡ false
-            → result ≡ of_refused code self.old.asked self.old.held self.old }
-        ensures ends { self.old.is_greeted ≡ false → self.old.greetings.items ≡ [] → is_open_question input self.old ≡ false
-            → ends.new.0.items ≡ refusing_by code self.old.asked self.old.held self.old ends.old.0.items }
+    /// Handles an ERROR other than the time-out of an open message.
+    fn refuse_one(&mut self, code: u8, input: u64, ended: &mut EndedList) -> Option<Transaction>
+        ensures state { self.old.last_was_init ≡ false → self.old.pending_inits.items ≡ [] → is_open_question input self.old ≡ false
+            → self.new ≡ refused_by code self.old.contender self.old.current self.old }
+        ensures transaction { self.old.last_was_init ≡ false → self.old.pending_inits.items ≡ [] → is_open_question input self.old ≡ false
+            → result ≡ refused_transaction code self.old.contender self.old.current self.old }
+        ensures ended { self.old.last_was_init ≡ false → self.old.pending_inits.items ≡ [] → is_open_question input self.old ≡ false
+            → ended.new.0.items ≡ ends_by_refusal code self.old.contender self.old.current self.old ended.old.0.items }
     {
-        let is_undecided = self.is_undecided(input);
+        let is_unresolved = self.is_unresolved(input);
         let mut refused = None;
         if code == INVALID_LEN {
-            let place = self.greeting_of(None);
-            refused = self.take_greeting(place);
+            let place = self.pending_init_of(None);
+            refused = self.take_init(place);
         }
-        if refused.is_none() && (!is_undecided || self.is_greeted) {
+        if refused.is_none() && (!is_unresolved || self.last_was_init) {
             refused = self.refused_start(code);
         }
         if let Some(refused) = refused {
-            ends.add(refused, End::Refused(code));
-            self.end_before(&refused.transaction, code, ends);
+            ended.add(refused, End::Refused(code));
+            self.end_before(&refused.transaction, code, ended);
             return Some(refused.transaction);
         }
-        if is_undecided {
-            self.lose(ends);
+        if is_unresolved {
+            self.lose(ended);
             return None;
         }
-        if let Some(held) = &self.held {
-            let is_of_stray = held.keepalives > 0
+        if let Some(current) = &self.current {
+            let is_of_stray = current.keepalives > 0
                 && matches!(
                     code,
                     INVALID_CMD | INVALID_SEQ | CHANNEL_BUSY | INVALID_CHANNEL
                 );
-            if self.is_stray && is_of_stray {
+            if self.last_was_stray && is_of_stray {
                 return None;
             }
-            return self.end_held(End::Refused(code), ends);
+            return self.end_current(End::Refused(code), ended);
         }
-        if self.is_stray {
+        if self.last_was_stray {
             return None;
         }
-        let last = self.greetings.len().saturating_sub(1);
-        let Some(greeting) = self.take_greeting(last) else {
+        let last = self.pending_inits.len().saturating_sub(1);
+        let Some(init) = self.take_init(last) else {
             return None;
         };
-        ends.add(greeting, End::Refused(code));
-        Some(greeting.transaction)
+        ended.add(init, End::Refused(code));
+        Some(init.transaction)
     }
 
-    /// Takes the message that began last and isn't known to have the channel, if an ERROR can be for it.
-    fn refused_start(&mut self, code: u8) -> Option<Followed>
-        ensures state { self.old.is_greeted ≡ false → self.new ≡ record self.old { asked = None } }
-        ensures of { self.old.is_greeted ≡ false → result ≡ self.old.asked }
+    /// Removes and returns the message that began last and may not hold the channel, if the ERROR can be for it.
+    fn refused_start(&mut self, code: u8) -> Option<OpenTransaction>
+        ensures state { self.old.last_was_init ≡ false → self.new ≡ record self.old { contender = None } }
+        ensures transaction { self.old.last_was_init ≡ false → result ≡ self.old.contender }
     {
-        if !self.is_greeted {
-            return self.asked.take();
+        if !self.last_was_init {
+            return self.contender.take();
         }
         if !self.may_be_of_init(code) {
             return None;
         }
-        let last = self.greetings.len().saturating_sub(1);
-        self.take_greeting(last)
+        let last = self.pending_inits.len().saturating_sub(1);
+        self.take_init(last)
     }
 
-    /// Returns whether an ERROR with this code can be for an INIT of 8 bytes. On a channel of its own that is taken at
-    /// any time, so the ERROR is for what else is open there.
+    /// Returns whether an ERROR with this code can be for an INIT of 8 bytes. On an allocated channel INIT is accepted
+    /// at any time, so there the ERROR is for another open message.
     fn may_be_of_init(&self, code: u8) -> bool {
         match code {
             INVALID_SEQ | MSG_TIMEOUT => false,
             CHANNEL_BUSY => self.number == BROADCAST,
             OTHER if self.number == BROADCAST => true,
-            _ => self.held.is_none() && !self.is_unclear(),
+            _ => self.current.is_none() && !self.is_unclear(),
         }
     }
 
-    /// Returns the place of the first INIT with this nonce, or of a wrong length where none is given, and how many
-    /// there are where there is none.
-    fn greeting_of(&self, nonce: Option<u64>) -> usize {
-        let greetings = self.greetings.as_slice();
-        for place in 0..greetings.len() {
-            let greeting = &greetings[place];
+    /// Returns the index of the first INIT with this nonce, or, without a nonce, of the first one with a wrong length;
+    /// the number of INITs if there is none.
+    fn pending_init_of(&self, nonce: Option<u64>) -> usize {
+        let pending_inits = self.pending_inits.as_slice();
+        for place in 0..pending_inits.len() {
+            let init = &pending_inits[place];
             let is_found = match nonce {
-                Some(nonce) => greeting.length == 8 && greeting.nonce == nonce,
-                None => greeting.length != 8,
+                Some(nonce) => init.length == 8 && init.nonce == nonce,
+                None => init.length != 8,
             };
             if is_found {
                 return place;
             }
         }
-        greetings.len()
+        pending_inits.len()
     }
 
-    /// Takes the first packet of an answer, and returns the transaction that it is for. authenticatorGetNextAssertion
-    /// goes on with what authenticatorGetAssertion asked for, if something is found.
-    fn answer(
-        &mut self,
-        answer: &AnswerStart<'_>,
-        ends: &mut EndedTransactions,
-    ) -> Option<Transaction> {
+    /// Handles the initialization packet of a response, and returns its transaction. A successful
+    /// authenticatorGetNextAssertion inherits the RP ID of authenticatorGetAssertion.
+    fn answer(&mut self, answer: &ResponseStart<'_>, ended: &mut EndedList) -> Option<Transaction> {
         let mut exchange = if answer.command == INIT {
-            self.answer_greeting(answer, ends)
+            self.answer_greeting(answer, ended)
         } else {
-            self.answer_message(answer, ends)
+            self.answer_message(answer, ended)
         };
         if let Some(mut next) = exchange
             && matches!(
@@ -348,116 +345,116 @@ impl Channel {
                 (Some(GET_NEXT_ASSERTION), Some(OK))
             )
         {
-            next.named.rp_id = self.asserted;
+            next.named.rp_id = self.last_asserted_rp;
             exchange = Some(next);
         }
-        self.told = DeviceMessage {
+        self.last_response = ResponseMessage {
             line: answer.line,
-            extent: answer.extent,
+            progress: answer.progress,
             status: answer.status,
             exchange,
         };
         let Some(exchange) = exchange else {
             return None;
         };
-        let of = Some(exchange.transaction);
-        if answer.has_assertion(&of) {
-            self.asserted = exchange.named.rp_id;
+        let transaction = Some(exchange.transaction);
+        if answer.has_assertion(&transaction) {
+            self.last_asserted_rp = exchange.named.rp_id;
         }
-        of
+        transaction
     }
 
-    /// Takes the INIT with the nonce of an answer. On a channel of its own it drops what began before it (section
-    /// 11.2.5.3).
+    /// Handles the response to the INIT with this nonce. On an allocated channel, INIT aborts the preceding transaction
+    /// (section 11.2.5.3).
     fn answer_greeting(
         &mut self,
-        answer: &AnswerStart<'_>,
-        ends: &mut EndedTransactions,
-    ) -> Option<Followed> {
-        let place = self.greeting_of(Some(nonce_in(answer.part)));
-        let Some(exchange) = self.take_greeting(place) else {
+        answer: &ResponseStart<'_>,
+        ended: &mut EndedList,
+    ) -> Option<OpenTransaction> {
+        let place = self.pending_init_of(Some(parse_nonce(answer.part)));
+        let Some(exchange) = self.take_init(place) else {
             return None;
         };
         if self.number != BROADCAST {
             let line = exchange.transaction.line;
-            self.is_contested = false;
-            if self.last_lost < line {
-                self.lost = 0;
+            self.is_ambiguous = false;
+            if self.last_lost_line < line {
+                self.ambiguous_count = 0;
             }
-            if let Some(held) = &self.held
-                && held.transaction.line < line
+            if let Some(current) = &self.current
+                && current.transaction.line < line
             {
-                self.end_held(End::Dropped(line), ends);
+                self.end_current(End::Dropped(line), ended);
             }
         }
         Some(exchange)
     }
 
-    /// Takes the message that an answer is for: the whole one of its command. Of two it isn't known which one, and
-    /// both end so.
+    /// Handles the response to the complete message with this command. If both messages qualify, it is unknown which
+    /// one it is for, and both end as unknown.
     fn answer_message(
         &mut self,
-        answer: &AnswerStart<'_>,
-        ends: &mut EndedTransactions,
-    ) -> Option<Followed>
-        ensures of { result ≡ answered_message answer.now self.old }
-        ensures plain { self.old.asked ≡ None → is_of_one answer.now self.old ≡ true → self.new ≡ freed self.old }
-        ensures ends { self.old.asked ≡ None → is_of_one answer.now self.old ≡ true → ends.new ≡ ends.old }
+        answer: &ResponseStart<'_>,
+        ended: &mut EndedList,
+    ) -> Option<OpenTransaction>
+        ensures transaction { result ≡ answered_message answer.now self.old }
+        ensures plain { self.old.contender ≡ None → is_of_one answer.now self.old ≡ true → self.new ≡ current_ended self.old }
+        ensures ended { self.old.contender ≡ None → is_of_one answer.now self.old ≡ true → ended.new ≡ ended.old }
     {
-        let is_of_held = answer.is_of(&self.held);
-        let mut is_of_asked = answer.is_of(&self.asked);
+        let is_of_held = answer.is_of(&self.current);
+        let mut is_of_asked = answer.is_of(&self.contender);
         if is_of_held && is_of_asked && matches!(answer.status, Some(KEEPALIVE_CANCEL)) {
-            is_of_asked = matches!(&self.held, Some(held) if held.cancelled.is_none());
+            is_of_asked = matches!(&self.current, Some(current) if current.cancelled.is_none());
         }
         if !is_of_asked && !is_of_held {
             return None;
         }
         if self.is_unclear() || is_of_asked && is_of_held {
-            self.lose(ends);
+            self.lose(ended);
             return None;
         }
         if is_of_asked {
-            // What is served may go on.
-            if matches!(&self.held, Some(held)
-                if held.extent.is_whole() && held.cancelled.is_none())
+            // `current` is still being processed.
+            if matches!(&self.current, Some(current)
+                if current.progress.is_whole() && current.cancelled.is_none())
             {
-                return self.asked.take();
+                return self.contender.take();
             }
-            self.settle(true, ends);
+            self.settle(true, ended);
         }
-        let held = self.held;
-        self.held = self.asked;
-        self.asked = None;
-        held
+        let current = self.current;
+        self.current = self.contender;
+        self.contender = None;
+        current
     }
 
-    /// Takes a continuation packet of the device's last message, if it is the next one.
+    /// Handles the next continuation packet of the device's last message.
     pub fn answer_on(&mut self, number: u8) -> Option<Answered>
-        ensures { self.new ≡ record self.old { told = told_on number self.old.told } }
+        ensures { self.new ≡ record self.old { last_response = response_continued number self.old.last_response } }
     {
-        if !self.is_answering() || self.told.extent.continuations != number {
+        if !self.is_answering() || self.last_response.progress.continuations != number {
             return None;
         }
-        let carried = self.told.extent.add_continuation();
+        let data_len = self.last_response.progress.push_continuation();
         Some(Answered {
-            line: self.told.line,
-            of: self.told.of(),
-            carried,
+            line: self.last_response.line,
+            transaction: self.last_response.transaction(),
+            data_len,
         })
     }
 }
 
-/// Returns what a message waits for behind a KEEPALIVE with this status.
-fn awaited_in(status: u8, held: &Followed) -> Option<Awaited>
-    ensures { result ≡ awaited_by status held.now }
+/// Returns the reply that a message waits for after a KEEPALIVE with this status.
+fn awaited_in(status: u8, current: &OpenTransaction) -> Option<AwaitedReply>
+    ensures { result ≡ awaited_by status current.now }
 {
-    let is_made = matches!(held.transaction.command, Some(MAKE_CREDENTIAL));
+    let is_made = matches!(current.transaction.command, Some(MAKE_CREDENTIAL));
     match status {
-        UPNEEDED => Some(Awaited::Presence),
-        PROCESSING => match held.awaited {
-            Some(Awaited::Key | Awaited::Signature) => held.awaited,
-            _ if is_made => Some(Awaited::Key),
-            _ => Some(Awaited::Signature),
+        UPNEEDED => Some(AwaitedReply::Presence),
+        PROCESSING => match current.awaited {
+            Some(AwaitedReply::Key | AwaitedReply::Signature) => current.awaited,
+            _ if is_made => Some(AwaitedReply::Key),
+            _ => Some(AwaitedReply::Signature),
         },
         _ => None,
     }

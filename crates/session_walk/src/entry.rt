@@ -1,78 +1,79 @@
-//! The lines of a log, and what each of them is.
+//! The lines of a log, and their roles in transactions.
 ghost use Rattle.std.specs.Prelude.{◌≡◌, option_map};
 ghost use Rattle.hid_packet.specs.Packet.{channel_of, fields};
 
-use crate::exchange::{Ended, Followed, Transaction};
+use crate::transaction::{Ended, OpenTransaction, Transaction};
 use hid_packet::{Packet, View};
 use session_log::Line;
 
-/// What a line is to the transactions.
+/// A line's role in transactions.
 #[derive(Clone, Copy)]
 pub enum Role {
-    /// It is of a transaction, or is no packet and no reply.
-    Own,
-    /// A continuation packet of no message that is open.
+    /// The line belongs to a transaction, or is neither a packet nor a reply.
+    Owned,
+    /// A continuation packet outside any open message.
     Stray,
-    /// A CANCEL for which nothing waited.
+    /// A CANCEL without a request in process.
     Cancel,
-    /// A reply for which nothing waited.
+    /// A reply of the caller that no request waited for.
     Reply,
-    /// An ERROR of no transaction.
+    /// An ERROR outside any transaction.
     Error,
 }
 
-/// A CBOR message that isn't empty.
+/// A CBOR message of at least one byte.
 #[derive(Clone, Copy)]
 pub struct CborMessage<'a> {
     /// Whether a host sent it.
     pub is_request: bool,
-    /// None where its bytes aren't kept, since too many are under way.
+    /// `None` if its bytes were not kept, since too many messages were open.
     pub bytes: Option<&'a [u8]>,
-    /// The transaction that it answers, where that is known.
-    pub exchange: Option<&'a Followed>,
+    /// The transaction of the response, if known.
+    pub exchange: Option<&'a OpenTransaction>,
 }
 
-/// A line of a log, and what it is.
+/// A line of a log and its transaction.
 #[derive(Clone, Copy)]
-pub struct Own<'a> {
-    /// The line's number.
+pub struct LineEntry<'a> {
+    /// Line number, from 1.
     pub number: u64,
     pub line: &'a [u8],
-    /// What the line says.
-    pub said: &'a Line,
-    /// The transaction that it belongs to.
-    pub of: Option<Transaction>,
-    /// The message whose last packet it has.
+    /// The parsed line.
+    pub parsed: &'a Line,
+    /// Its transaction, if any.
+    pub transaction: Option<Transaction>,
+    /// The message that the line completes.
     pub message: Option<CborMessage<'a>>,
-    /// How many bytes of its message its packet carries; all, where it is a continuation packet of none.
-    pub carried: usize,
+    /// Bytes of its message that its packet carries; all of its data if it is a continuation packet outside any
+    /// message.
+    pub data_len: usize,
 }
 
-impl Own<'_> {
-    /// Returns the line that its transaction began at.
+impl LineEntry<'_> {
+    /// Returns the first line of its transaction.
     pub fn began(&self) -> Option<u64>
-        ensures { result ≡ option_map (λ transaction. transaction.line) self.now.of }
+        ensures { result ≡ option_map (λ transaction. transaction.line) self.now.transaction }
     {
-        match &self.of {
+        match &self.transaction {
             Some(transaction) => Some(transaction.line),
             None => None,
         }
     }
 }
 
-/// A line of a log, and what it shows of a line before it.
+/// A line of a log, and the ambiguous line that it resolves, if any.
 #[derive(Clone, Copy)]
 pub struct Entry<'a> {
-    /// An earlier line of which only now is known what it is.
-    pub late: Option<Own<'a>>,
-    pub own: Own<'a>,
-    /// Whether only a later line shows what it is.
-    pub is_doubtful: bool,
-    /// What it is to the transactions.
-    pub part: Role,
-    /// The transactions that it ends.
+    /// An earlier ambiguous line that this one resolves.
+    pub deferred: Option<LineEntry<'a>>,
+    pub own: LineEntry<'a>,
+    /// Whether the transaction is only known after a later line.
+    pub is_ambiguous: bool,
+    /// The line's role in transactions.
+    pub role: Role,
+    /// The transactions that the line ends.
     pub ended: &'a [Ended],
-    /// The line that the message of its packet began at, 0 where it is of none: where it is written for a page.
+    /// First line of its packet's message, or 0 if none; `None` unless written for a page.
     pub page: Option<u64>,
 }
 

@@ -1,111 +1,110 @@
-//! The last line of a walk, as it is shown.
+//! The last line that a tracker processed, as `show` presents it.
 ghost use Rattle.std.specs.Prelude.{◌≡◌, ◌↔◌, None, Some, IfSome, false, true, option_map};
-ghost use Rattle.session_walk.specs.Messages.{whole_at};
-ghost use Rattle.session_walk.specs.Shown.{ShowsDecided, ended_bytes, shown_bytes};
+ghost use Rattle.session_walk.specs.Messages.{complete_bytes_at};
+ghost use Rattle.session_walk.specs.Completed.{ShowsDecided, ended_bytes, shown_bytes};
 
-use crate::doubtful::Shown;
-use crate::entry::{CborMessage, Entry, Own};
-use crate::exchange::Transaction;
-use crate::walk::LogWalk;
+use crate::ambiguous::CompletedMessage;
+use crate::entry::{CborMessage, Entry, LineEntry};
+use crate::tracker::TransactionTracker;
+use crate::transaction::Transaction;
 use session_log::Line;
 
-impl LogWalk {
-    /// Returns the last line, which has this number and says this, as it is shown, with what it shows of lines before
-    /// it.
-    pub fn entry<'a>(&'a self, number: u64, line: &'a [u8], said: &'a Line) -> Entry<'a>
+impl TransactionTracker {
+    /// Returns the last line with its transaction, and the earlier ambiguous line that it resolves.
+    pub fn entry<'a>(&'a self, number: u64, line: &'a [u8], parsed: &'a Line) -> Entry<'a>
         ensures number { result.own.number ≡ number }
         ensures line { result.own.line.now ≡ line.now }
-        ensures said { result.own.said.now ≡ said.now }
-        ensures of { result.own.of ≡ self.entry.now.of }
-        ensures part { result.part ≡ self.entry.now.part }
-        ensures carried { result.own.carried ≡ self.entry.now.carried }
-        ensures is_doubtful { result.is_doubtful ≡ true
-            ↔ option_map (λ doubtful. doubtful.line) self.entry.now.doubtful ≡ Some number }
-        ensures message { result.is_doubtful ≡ false
-            → shown_bytes result.own.message ≡ ended_bytes self.entry.now.pool self.entry.now.shown }
-        ensures doubtful { IfSome self.entry.now.doubtful (λ doubtful. doubtful.line ≡ number
-            → doubtful.is_whole ≡ true
-            → shown_bytes result.own.message ≡ Some (whole_at self.entry.now.pool doubtful.of.line)) }
-        ensures late { ShowsDecided self.entry.now.pool self.entry.now.decided result.late }
-        ensures ended { result.ended.now ≡ self.entry.now.ends.0.items }
+        ensures parsed { result.own.parsed.now ≡ parsed.now }
+        ensures transaction { result.own.transaction ≡ self.entry.now.transaction }
+        ensures role { result.role ≡ self.entry.now.role }
+        ensures data_len { result.own.data_len ≡ self.entry.now.data_len }
+        ensures is_ambiguous { result.is_ambiguous ≡ true
+            ↔ option_map (λ ambiguous. ambiguous.line) self.entry.now.ambiguous ≡ Some number }
+        ensures message { result.is_ambiguous ≡ false
+            → shown_bytes result.own.message ≡ ended_bytes self.entry.now.pool self.entry.now.completed }
+        ensures ambiguous { IfSome self.entry.now.ambiguous (λ ambiguous. ambiguous.line ≡ number
+            → ambiguous.is_whole ≡ true
+            → shown_bytes result.own.message ≡ Some (complete_bytes_at self.entry.now.pool ambiguous.transaction.line)) }
+        ensures deferred { ShowsDecided self.entry.now.pool self.entry.now.resolved result.deferred }
+        ensures ended { result.ended.now ≡ self.entry.now.ended.0.items }
         ensures page { result.page ≡ None }
     {
-        let mut shown = self.shown;
-        let mut is_doubtful = false;
-        // A packet that may have come too late is shown with its message. If it did, the next line says so.
-        if let Some(doubtful) = &self.doubtful
-            && doubtful.line == number
+        let mut completed = self.completed;
+        let mut is_ambiguous = false;
+        // A packet that may have arrived too late is shown with its message. If it did, the next line corrects it.
+        if let Some(ambiguous) = &self.ambiguous
+            && ambiguous.line == number
         {
-            is_doubtful = true;
-            if doubtful.is_whole {
-                shown = Some(Shown {
-                    line: doubtful.of.line,
+            is_ambiguous = true;
+            if ambiguous.is_whole {
+                completed = Some(CompletedMessage {
+                    line: ambiguous.transaction.line,
                     place: None,
                 });
             }
         }
         Entry {
-            late: self.late(),
-            own: Own {
+            deferred: self.deferred(),
+            own: LineEntry {
                 number,
                 line,
-                said,
-                of: self.of,
-                message: self.message(&shown),
-                carried: self.carried,
+                parsed,
+                transaction: self.transaction,
+                message: self.message(&completed),
+                data_len: self.data_len,
             },
-            is_doubtful,
-            part: self.part,
-            ended: self.ends.0.as_slice(),
+            is_ambiguous,
+            role: self.role,
+            ended: self.ended.0.as_slice(),
             page: None,
         }
     }
 
-    /// Returns the packet that was doubtful before it, as it is shown.
-    pub fn late(&self) -> Option<Own<'_>>
-        ensures { ShowsDecided self.entry.now.pool self.entry.now.decided result }
+    /// Returns the ambiguous packet that the last line resolves.
+    pub fn deferred(&self) -> Option<LineEntry<'_>>
+        ensures { ShowsDecided self.entry.now.pool self.entry.now.resolved result }
     {
-        match &self.decided {
-            Some(decided) => Some(Own {
-                number: decided.line,
+        match &self.resolved {
+            Some(resolved) => Some(LineEntry {
+                number: resolved.line,
                 line: b"",
-                said: &decided.said,
-                of: decided.of,
-                message: self.message(&decided.shown),
-                carried: decided.carried,
+                parsed: &resolved.parsed,
+                transaction: resolved.transaction,
+                message: self.message(&resolved.completed),
+                data_len: resolved.data_len,
             }),
             None => None,
         }
     }
 
-    /// Returns whether a request that holds its channel, or was answered last there, can name a credential that the key
-    /// had before the log. A reset leaves none.
-    pub fn can_name_former(&self, of: &Transaction) -> bool {
-        match self.channels.last_on(of.channel) {
-            Some(last) if last.transaction.line == of.line => {
-                last.named.names_one && !self.credentials.is_reset
+    /// Returns whether the request that holds its channel, or the last one there that got a response, may name a
+    /// credential from before the log. After a reset there are none.
+    pub fn may_name_prior_credential(&self, transaction: &Transaction) -> bool {
+        match self.channels.last_transaction_on(transaction.channel) {
+            Some(last) if last.transaction.line == transaction.line => {
+                last.named.may_name_prior && !self.credentials.is_reset
             }
             _ => false,
         }
     }
 
-    /// Returns a message that ends at a line.
-    pub fn message(&self, shown: &Option<Shown>) -> Option<CborMessage<'_>>
-        ensures { shown_bytes result ≡ ended_bytes self.entry.now.pool shown.now }
+    /// Returns a completed message.
+    pub fn message(&self, completed: &Option<CompletedMessage>) -> Option<CborMessage<'_>>
+        ensures { shown_bytes result ≡ ended_bytes self.entry.now.pool completed.now }
     {
-        let Some(shown) = shown else {
+        let Some(completed) = completed else {
             return None;
         };
-        let exchange = match shown.place {
+        let exchange = match completed.place {
             Some(place) => match self.channels.list.get(place) {
-                Some(channel) => channel.told.exchange.as_ref(),
+                Some(channel) => channel.last_response.exchange.as_ref(),
                 None => None,
             },
             None => None,
         };
         Some(CborMessage {
-            is_request: shown.place.is_none(),
-            bytes: self.pool.bytes(shown.line),
+            is_request: completed.place.is_none(),
+            bytes: self.pool.bytes(completed.line),
             exchange,
         })
     }

@@ -1,31 +1,31 @@
-//! The RP id that a request names.
+//! The RP ID of a request.
 
-use crate::pairs::{item_at, value_at};
+use crate::map_iter::{item_at, value_at};
 use ctap_cbor::Item;
 
-/// The most bytes of an RP id that is kept: those of the longest domain name.
-const LONGEST: usize = 253;
+/// Maximum length in bytes of an RP ID that is kept: that of a domain name.
+const MESSAGE_BUFFER_LEN: usize = 253;
 
-/// An RP id, or none. A longer one isn't kept.
+/// An RP ID, or none. Longer ones are not kept.
 #[derive(Clone, Copy)]
 pub struct RpId {
-    bytes: [u8; LONGEST],
+    bytes: [u8; MESSAGE_BUFFER_LEN],
     len: usize,
 }
 
 impl Default for RpId {
-    /// Returns that of a request that names none.
+    /// Returns no RP ID.
     fn default() -> Self {
         RpId {
-            bytes: [0; LONGEST],
+            bytes: [0; MESSAGE_BUFFER_LEN],
             len: 0,
         }
     }
 }
 
 impl RpId {
-    /// Returns that of a request to this command, which follows the command byte: the `id` in the member `rp` of
-    /// authenticatorMakeCredential, and the member `rpId` of authenticatorGetAssertion.
+    /// Returns the RP ID of a request, whose CBOR follows the command byte: `id` in member `rp` of
+    /// authenticatorMakeCredential, or member `rpId` of authenticatorGetAssertion.
     pub fn of_request(command: u8, item: &[u8]) -> Self {
         let (map, key) = match command {
             0x01 => (value_at(item, Item::Int(2)), Item::Text("id")),
@@ -35,7 +35,7 @@ impl RpId {
         let mut rp_id = RpId::default();
         if let Some(map) = map
             && let Some(Item::Text(text)) = item_at(map, key)
-            && text.len() <= LONGEST
+            && text.len() <= MESSAGE_BUFFER_LEN
         {
             rp_id.bytes[..text.len()].copy_from_slice(text.as_bytes());
             rp_id.len = text.len();
@@ -43,12 +43,12 @@ impl RpId {
         rp_id
     }
 
-    /// Its bytes; none where there is no RP id.
+    /// Returns its bytes, empty if there is none.
     pub fn bytes(&self) -> &[u8] {
         self.bytes.get(..self.len).unwrap_or(b"")
     }
 
-    /// Returns it as a text, where there is one.
+    /// Returns it as text, if any.
     pub fn text(&self) -> Option<&str> {
         match std::str::from_utf8(self.bytes()) {
             Ok(text) if !text.is_empty() => Some(text),

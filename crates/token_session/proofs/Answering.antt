@@ -4,17 +4,17 @@ use Rattle.std.proofs.Common.{None, option_map, Ok, refl, sym, ◌∙◌, ap, ar
 use Rattle.std.proofs.lemmas.Bool.Decides.{nat_tests}
 use Rattle.ctap_message.specs.{Answers.info_answer, Asked.GetInfo, Requests.read_of}
 use Rattle.authn_core.{specs.State.Request, proofs.Facts.info_answered}
-use Rattle.authn_core.specs.Turn.{Start, working, waiting}
+use Rattle.authn_core.specs.Turn.{Start, working_channel, waiting}
 use Rattle.hid_assemble.specs.{Table.Open, Table.Ruling, Table.ruling_of, Assembly.Message, Assembly.message_after}
-use Rattle.hid_packet.specs.{Carries.Carries, Carries.joined, Commands.CBOR, Commands.PING}
+use Rattle.hid_packet.specs.{Carries.Carries, Carries.joined_data, Commands.CBOR, Commands.PING}
 use Rattle.hid_packet.specs.declared.packet.Packet.{Packet as Packet64}
-use Rattle.hid_packet.specs.{Message.written, Packet.Fields, Packet.fields, Packet.message_length}
-use Rattle.token_session.specs.{Inputs.Judged, Inputs.end, Inputs.given, Effects.verdict_event, Effects.verdict_packets}
-use Rattle.token_session.specs.Messages.{finished_at, finished, open_at, as_open}
-use Rattle.token_session.specs.History.{admits, core, event, judge, judged, packet_event, service_packets}
+use Rattle.hid_packet.specs.{Message.message_packets, Packet.Fields, Packet.fields, Packet.message_length}
+use Rattle.token_session.specs.{Inputs.ReceivedInput, Inputs.latest_time, Inputs.channels_allocated, Effects.verdict_event, Effects.verdict_packets}
+use Rattle.token_session.specs.Messages.{message_completed_at, completed_message, open_at, as_open}
+use Rattle.token_session.specs.History.{admits, core, event, receive, received, packet_event, service_packets}
 use Rattle.token_session.{specs.History.table_packets, specs.Events.event_packets, proofs.Serve.serves}
 use Rattle.hid_assemble.specs.{Verdicts.ruling_verdict, declared.verdict.Verdict.Verdict}
-use Rattle.token_session.specs.Replies.{answer_packets, asker, ping_packets, status_of}
+use Rattle.token_session.specs.Replies.{answer_packets, response_channel, ping_packets, status_of}
 use Rattle.token_session.specs.declared.input.{Input.Input, Input.TheVariants.Packet, Timed.Timed}
 use Rattle.token_session.proofs.Follows.{Good, good_judged, judged_at, safe_at}
 
@@ -29,14 +29,14 @@ asked : (g : ℕ) (w : Option ℕ) (o : Option Open) (f : Fields) (m : Message) 
 unfolding message_after ruling_verdict
 asked g w o f m r h is = record { quiet = grind (arith, nat_tests); asks = grind (arith, nat_tests) }
 
-request_at : (start : Start) (t : ℕ) (h : List Judged) (i : Input) (m : Message) → Good start h → end start h ≤ t
-    → finished (open_at h t) (judged_at start t h i).admitted i ≡ Some m → m.cmd ≡ CBOR
+request_at : (start : Start) (t : ℕ) (h : List ReceivedInput) (i : Input) (m : Message) → Good start h → latest_time start h ≤ t
+    → completed_message (open_at h t) (judged_at start t h i).admitted i ≡ Some m → m.cmd ≡ CBOR
     → service_packets start (judged_at start t h i) h ≡ event_packets (core start h) t (Some (Request m.cid m.bytes))
-unfolding service_packets event finished
+unfolding service_packets event completed_message
 request_at start t h (Packet x) m good le fin is =
-    let g = given h in
+    let g = channels_allocated h in
     let o = open_at h t in
-    let w = working (core start h) in
+    let w = working_channel (core start h) in
     let row = ruling_of g (option_map as_open o) w (fields x.0) in
     let s = serves g o w t x (safe_at start t h good le) in
     let after : message_after (option_map as_open o) (fields x.0) row ≡ Some m = sym s.message ∙ fin in
@@ -47,33 +47,33 @@ request_at start t h (Packet x) m good le fin is =
 request_at start t h other m good le fin is = cc
 
 -- The AAGUID after every history is that of the start.
-pub core_aaguid : (start : Start) (h : List Judged) → (core start h).setup.aaguid ≡ start.aaguid
+pub core_aaguid : (start : Start) (h : List ReceivedInput) → (core start h).setup.aaguid ≡ start.aaguid
 unfolding core
 core_aaguid start [] = refl
 core_aaguid start (e ∷ h) = search (rules, arith, core_aaguid start h)
 
 -- A request is answered on its channel, as the authenticator's turn says.
 pub requests_answered : (start : Start) (h : List Timed) (x : Timed) (m : Message)
-    → finished_at (judge start x (judged start h)) (judged start h) ≡ Some m → m.cmd ≡ CBOR
-    → service_packets start (judge start x (judged start h)) (judged start h)
-    ≡ event_packets (core start (judged start h)) (judge start x (judged start h)).at (Some (Request m.cid m.bytes))
-unfolding judge
+    → message_completed_at (receive start x (received start h)) (received start h) ≡ Some m → m.cmd ≡ CBOR
+    → service_packets start (receive start x (received start h)) (received start h)
+    ≡ event_packets (core start (received start h)) (receive start x (received start h)).at (Some (Request m.cid m.bytes))
+unfolding receive
 requests_answered start h x m fin is = grind (arith, good_judged, request_at)
 
 pub info_is_answered : (start : Start) (h : List Timed) (x : Timed) (m : Message)
-    → finished_at (judge start x (judged start h)) (judged start h) ≡ Some m → m.cmd ≡ CBOR → m.bytes ≡ 0x04 ∷ []
-    → service_packets start (judge start x (judged start h)) (judged start h)
-    ≡ written m.cid CBOR (info_answer start.aaguid)
+    → message_completed_at (receive start x (received start h)) (received start h) ≡ Some m → m.cmd ≡ CBOR → m.bytes ≡ 0x04 ∷ []
+    → service_packets start (receive start x (received start h)) (received start h)
+    ≡ message_packets m.cid CBOR (info_answer start.aaguid)
 unfolding answer_packets read_of
 info_is_answered start h x m fin is bytes =
-    let past = judged start h in
+    let past = received start h in
     let k = core start past in
-    let t = (judge start x past).at in
+    let t = (receive start x past).at in
     let asks : read_of m.bytes ≡ Ok GetInfo = ap read_of bytes in
     requests_answered start h x m fin is
-    ∙ ap (answer_packets (asker (waiting k) (Request m.cid m.bytes)) (status_of (waiting k)))
+    ∙ ap (answer_packets (response_channel (waiting k) (Request m.cid m.bytes)) (status_of (waiting k)))
     (info_answered k t m.cid m.bytes asks)
-    ∙ ap (λ aaguid. written m.cid CBOR (info_answer aaguid)) (core_aaguid start past)
+    ∙ ap (λ aaguid. message_packets m.cid CBOR (info_answer aaguid)) (core_aaguid start past)
 
 -- A packet that begins such a message is admitted where nothing is open and no work waits.
 pub admitted_first : (g c k : ℕ) (p : List ℕ) (others : List (List ℕ)) (b : List ℕ) → Carries p others c k b
@@ -86,13 +86,13 @@ admitted_first g c k p others b carries served low high = grind (arith, nat_test
 pub one_packet_finishes : (start : Start) (h : List Timed) (x : Timed) (p : Packet64) (c k : ℕ) (b : List ℕ)
     → x.input ≡ Packet p
     → Carries p.0 [] c k b
-    → (k ≡ PING) ⊎ ((k ≡ CBOR) × (1 ≤ length b)) → 1 ≤ c → c ≤ given (judged start h)
-    → open_at (judged start h) (judge start x (judged start h)).at ≡ None → working (core start (judged start h)) ≡ None
-    → finished_at (judge start x (judged start h)) (judged start h) ≡ Some (record { cid = c; cmd = k; bytes = b })
-unfolding judge finished
+    → (k ≡ PING) ⊎ ((k ≡ CBOR) × (1 ≤ length b)) → 1 ≤ c → c ≤ channels_allocated (received start h)
+    → open_at (received start h) (receive start x (received start h)).at ≡ None → working_channel (core start (received start h)) ≡ None
+    → message_completed_at (receive start x (received start h)) (received start h) ≡ Some (record { cid = c; cmd = k; bytes = b })
+unfolding receive completed_message
 one_packet_finishes start h x p c k b came carries served low high none idle =
     let least = carries.least in
     let n = carries.counts in
     let few : nat_le (message_length p.0) 57 ≡ true = grind (arith, nat_tests) in
-    rw (came, none, idle, admitted_first (given (judged start h)) c k p.0 [] b carries served low high, few)
-    (λ i. Some (record { cid = carries.on i; cmd = carries.asks i; bytes = (ap (λ m. take m (joined p.0 [])) n ∙ sym carries.joins) i }))
+    rw (came, none, idle, admitted_first (channels_allocated (received start h)) c k p.0 [] b carries served low high, few)
+    (λ i. Some (record { cid = carries.on i; cmd = carries.asks i; bytes = (ap (λ m. take m (joined_data p.0 [])) n ∙ sym carries.joins) i }))

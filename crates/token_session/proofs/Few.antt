@@ -1,21 +1,21 @@
 -- One input sends at most 130 packets.
 use Rattle.std.proofs.Common.{◌≡◌, ℕ, ◌≤◌, suc, List, [], ◌++◌, append-nil, length, Option, Some, arith, length-append}
 use Rattle.std.proofs.lemmas.{Bool.Decides.nat_tests, List.drop_all}
-use Rattle.hid_packet.{proofs.Carrying.few_written, specs.Message.continuation_packets, specs.Message.written}
+use Rattle.hid_packet.{proofs.Carrying.few_written, specs.Message.continuation_packets, specs.Message.message_packets}
 use Rattle.authn_core.{proofs.Facts.drop_answers_nothing, specs.Turn.CoreState}
 use Rattle.authn_core.specs.State.{Answer, Drop, Event}
 use Rattle.hid_assemble.specs.declared.verdict.Verdict.{Verdict}
 use Rattle.token_session.specs.{Effects.verdict_event, Effects.verdict_packets, Events.event_packets}
 use Rattle.token_session.specs.Machine.{MachineState, time_passed, served, turn}
-use Rattle.token_session.specs.Replies.{answer_packets, greeting}
+use Rattle.token_session.specs.Replies.{answer_packets, init_response}
 use Rattle.token_session.specs.declared.input.{Input.Input, Timed.Timed}
 
 no_more : (c : ℕ) → suc (length (continuation_packets 128 c 0 [])) ≤ 1
 unfolding continuation_packets
 no_more c = omega arith
 
-one_packet : (c k : ℕ) (b : List ℕ) → length b ≤ 57 → length (written c k b) ≤ 1
-unfolding written
+one_packet : (c k : ℕ) (b : List ℕ) → length b ≤ 57 → length (message_packets c k b) ≤ 1
+unfolding message_packets
 one_packet c k b h = let e = drop_all 57 b h in rw e (no_more c)
 
 pub drop_sends_nothing : (k : CoreState) (t : ℕ) → event_packets k t (Some Drop) ≡ []
@@ -31,7 +31,7 @@ event_few k t e = grind (arith, answer_few)
 
 pub verdict_few : (k : CoreState) (t : ℕ) (v : Verdict) (bytes : List ℕ)
     → length (verdict_packets v bytes ++ event_packets k t (verdict_event v bytes)) ≤ 129
-unfolding greeting
+unfolding init_response
 verdict_few k t v bytes = grind (arith, few_written, event_few, drop_sends_nothing, append-nil, nat_tests)
 
 pub time_few : (s : MachineState) (t : ℕ) → length (time_passed s t).packets ≤ 1

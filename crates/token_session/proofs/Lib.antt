@@ -7,7 +7,7 @@ pub mod Few
 pub mod Passing
 pub mod Serving
 pub mod Metering
-mod Rows
+mod Examples
 pub mod Sizes
 pub mod Carrying
 pub mod Answering

@@ -6,9 +6,9 @@ use Rattle.ctap_message.specs.Requests.{steps_of, LARGEST}
 use Rattle.authn_core.specs.Turn.{Start}
 use Rattle.token_session.specs.declared.input.{Timed.Timed, Meters.Meters}
 use Rattle.token_session.{specs.Effects.request_in, proofs.Follows.turn_after}
-use Rattle.token_session.specs.{Inputs.Judged, Inputs.given, Law.named, Law.event_at, Law.IsAfter}
+use Rattle.token_session.specs.{Inputs.ReceivedInput, Inputs.channels_allocated, Law.state_of, Law.event_at, Law.IsAfter}
 use Rattle.token_session.specs.Messages.{open_at, open_among}
-use Rattle.token_session.specs.History.{judged, judge, held, core, last_keepalive}
+use Rattle.token_session.specs.History.{received, receive, held, core, last_keepalive}
 use Rattle.token_session.specs.Machine.{MachineState, turn, start_state}
 use Rattle.cred_table.specs.Waiting.{pending_count}
 use Rattle.std.specs.List.{cons_option}
@@ -16,8 +16,8 @@ use Rattle.token_session.specs.Meters.{AreBounded, peak_rows, peak_pending, requ
 use Rattle.token_session.specs.Meters.{metered, SessionState, StandsAfter, stepped, session_of}
 
 -- the bytes held are those that the history names
-pub held_named : (start : Start) (h : List Judged) → held_bytes (named start h).current ≡ held start h
-unfolding named held
+pub held_named : (start : Start) (h : List ReceivedInput) → held_bytes (state_of start h).current ≡ held start h
+unfolding state_of held
 held_named start h = grind arith
 
 -- the meters of these requests
@@ -36,7 +36,7 @@ counted_more : (request : Option (List ℕ)) (held rows pending : ℕ) (rs : Lis
 unfolding counted
 counted_more x0 held rows pending rs = grind (arith, common_steps, sum_by-cons)
 
-pub meters_more : (start : Start) (e : Judged) (h : List Judged)
+pub meters_more : (start : Start) (e : ReceivedInput) (h : List ReceivedInput)
     → metered (meters_of start h) (held start (e ∷ h)) (length (core start (e ∷ h)).state.rows)
     (pending_count (core start (e ∷ h)).state.pending) (request_in (event_at start e h))
     ≡ meters_of start (e ∷ h)
@@ -46,11 +46,11 @@ meters_more start e h = search (rules, arith, counted_more)
 -- A session that stands after a history stands after the longer one.
 pub stands_longer : (s : SessionState) (start : Start) (h : List Timed) (x : Timed) → StandsAfter s start h
     → StandsAfter (stepped s x) start (x ∷ h)
-unfolding stepped session_of named judged
+unfolding stepped session_of state_of received
 stands_longer s start h x b =
-    let past = judged start h in
-    let e = judge start x past in
-    rw (b, turn_after (named start past) start h x refl, held_named start (e ∷ past), meters_more start e past) refl
+    let past = received start h in
+    let e = receive start x past in
+    rw (b, turn_after (state_of start past) start h x refl, held_named start (e ∷ past), meters_more start e past) refl
 
 -- A turn of the machine, counted, is a step of the session.
 pub stepped_is : (m n : MachineState) (k l : Meters) (s : SessionState) (x : Timed) (held rows pending : ℕ)
@@ -67,7 +67,7 @@ pub begins : (start : Start) (m : MachineState) (k : Meters) (rows : ℕ) → m 
     → k ≡ record { held = 0; rows = rows; pending = 0; requests = 0; bytes = 0; steps = 0 }
     → rows ≡ length m.core.state.rows
     → record { machine = m; meters = k } ≡ session_of start []
-unfolding start_state session_of named meters_of requests peak_held peak_rows peak_pending held given open_at open_among
+unfolding start_state session_of state_of meters_of requests peak_held peak_rows peak_pending held channels_allocated open_at open_among
     core last_keepalive
 begins start m k rows is first counted = rw (first, counted, is) refl
 
@@ -80,7 +80,7 @@ pub machine_after : (s : SessionState) (start : Start) (h : List Timed) → Stan
 unfolding session_of
 machine_after s start h b = ap (λ (v : SessionState). v.machine) b
 
-pub session_held : (start : Start) (h : List Judged) → held_bytes (session_of start h).machine.current ≡ held start h
+pub session_held : (start : Start) (h : List ReceivedInput) → held_bytes (session_of start h).machine.current ≡ held start h
 unfolding session_of
 session_held start h = held_named start h
 

@@ -5,21 +5,21 @@ use Rattle.std.proofs.Common.{length, append-nil, append_assoc, Option, Some, No
 use Rattle.std.proofs.{Common.nat_lt, Common.nat_le, Common.min, lemmas.List.map-append, lemmas.List.length-append}
 use Rattle.std.proofs.lemmas.{Bool.cond_both, Bool.Decides.nat_tests, Grind.flat_map-append}
 use Rattle.authn_core.{proofs.Facts.IsGiven, specs.State.Cancel, specs.State.Drop}
-use Rattle.hid_assemble.specs.Table.{Begins, Continues, LAST_CHANNEL, Ruling, Open, continuation_row, first_row}
-use Rattle.hid_assemble.specs.Table.{initialization_row, is_elsewhere, is_given, is_on, ruling_of}
+use Rattle.hid_assemble.specs.Table.{Begins, Continues, MAX_CHANNEL, Ruling, Open, cont_packet_row, first_row}
+use Rattle.hid_assemble.specs.Table.{init_packet_row, is_on_other, is_allocated, is_on, ruling_of}
 use Rattle.hid_assemble.specs.declared.table.ReplyRow.{ReplyRow, TheVariants.NoSuchCommand, TheVariants.Short}
 use Rattle.hid_assemble.specs.declared.table.ReplyRow.TheVariants.{BadLength, BrokenOff, BusyElsewhere, BusyHere}
 use Rattle.hid_assemble.specs.declared.table.ReplyRow.TheVariants.{CancelsNothing, CancelsWork, InitAgain, InitFull}
 use Rattle.hid_assemble.specs.declared.table.ReplyRow.TheVariants.{InitLength, InitNew, Long, NoSuchChannel}
-use Rattle.hid_assemble.specs.Assembly.{Message, begun, bytes_of, given_after, grown, message_after, open_after}
+use Rattle.hid_assemble.specs.Assembly.{Message, open_message, bytes_of, channels_after, with_continuation, message_after, open_after}
 use Rattle.hid_assemble.specs.Verdicts.{ruling_verdict}
 use Rattle.hid_packet.specs.Commands.{BROADCAST, CANCEL, CBOR, INIT, PING}
-use Rattle.hid_packet.specs.Limits.{data_capacity, INITIALIZATION_DATA, LONGEST_MESSAGE}
+use Rattle.hid_packet.specs.Limits.{data_capacity, INIT_PACKET_DATA, MAX_MESSAGE_LEN}
 use Rattle.hid_packet.specs.Packet.{Fields, channel, channel_of, command, continuation, continuation_data, fields}
 use Rattle.hid_packet.specs.Packet.{initialization, initialization_data, is_initialization, message_length, sequence}
 use Rattle.hid_packet.specs.declared.packet.Packet.{Packet as Packet64}
-use Rattle.token_session.specs.Inputs.{Judged, asks_channel, is_own, is_packet, packet}
-use Rattle.token_session.specs.Messages.{Begun, as_open, finished, finished_long, is_last, is_long, is_next, last_at}
+use Rattle.token_session.specs.Inputs.{ReceivedInput, requests_channel, is_channel_input, is_packet, packet}
+use Rattle.token_session.specs.Messages.{MessageStart, as_open, completed_message, completed_long_message, is_last_packet, is_long, is_next_packet, last_at}
 use Rattle.token_session.specs.History.{admits, packet_event, table_packets}
 use Rattle.token_session.specs.Effects.{verdict_event, verdict_packets}
 use Rattle.token_session.specs.Replies.{request_event, ping_packets, row_packets}
@@ -27,9 +27,9 @@ use Rattle.token_session.specs.declared.input.Input.{Input, TheVariants.Packet}
 use Rattle.token_session.proofs.Opens.{next, then_next}
 
 -- What an input that came at t makes of the open message.
-abbrev pub new_open : ℕ → Option Begun → Option ℕ → ℕ → Input → Option Begun
+abbrev pub new_open : ℕ → Option MessageStart → Option ℕ → ℕ → Input → Option MessageStart
 new_open g o w t i =
-    let e : Judged = record { at = t; input = i; admitted = is_packet (admits g o w) i } in
+    let e : ReceivedInput = record { at = t; input = i; admitted = is_packet (admits g o w) i } in
     cond (e.admitted && is_long (packet i)) (Some (record { packet = packet i; at = t; own = [] })) (then_next e o)
 
 -- these packets and those of a finished PING are what is sent under the ruling
@@ -38,11 +38,11 @@ SendsAs g c w f ps r = ps ++ ping_packets (message_after c f r)
     ≡ verdict_packets (ruling_verdict g c w f (message_after c f r) r) (bytes_of (message_after c f r))
 
 -- The ruling does to each part what the history says.
-pub record Serves (g : ℕ) (o : Option Begun) (w : Option ℕ) (t : ℕ) (x : Packet64) (f : Fields) (r : Ruling) : Type 0
+pub record Serves (g : ℕ) (o : Option MessageStart) (w : Option ℕ) (t : ℕ) (x : Packet64) (f : Fields) (r : Ruling) : Type 0
   where
-    pub channels : cond (asks_channel x.0) (min (g + 1) LAST_CHANNEL) g ≡ given_after g r
+    pub channels : cond (requests_channel x.0) (min (g + 1) MAX_CHANNEL) g ≡ channels_after g r
     pub current : option_map as_open (new_open g o w t (Packet x)) ≡ open_after (option_map as_open o) t f r
-    pub message : finished o (admits g o w x.0) (Packet x) ≡ message_after (option_map as_open o) f r
+    pub message : completed_message o (admits g o w x.0) (Packet x) ≡ message_after (option_map as_open o) f r
     pub event : packet_event w (message_after (option_map as_open o) f r) x.0
         ≡ verdict_event (ruling_verdict g (option_map as_open o) w f (message_after (option_map as_open o) f r) r)
         (bytes_of (message_after (option_map as_open o) f r))
@@ -79,17 +79,17 @@ abbrev tests : ℕ → (current work : Option ℕ) → List ℕ → Tests
 tests g current work p = record {
   cancel = command p == CANCEL;
   on = is_on work (channel p);
-  known = is_given g (channel p);
+  known = is_allocated g (channel p);
   broadcast = channel p == BROADCAST;
   init = command p == INIT;
   eight = message_length p == 8;
-  full = g == LAST_CHANNEL;
-  apart = is_elsewhere current (channel p) || is_elsewhere work (channel p);
+  full = g == MAX_CHANNEL;
+  apart = is_on_other current (channel p) || is_on_other work (channel p);
   here = is_on current (channel p);
   served = (command p == PING) || (command p == CBOR);
-  over = nat_lt LONGEST_MESSAGE (message_length p);
+  over = nat_lt MAX_MESSAGE_LEN (message_length p);
   empty = (command p == CBOR) && (message_length p == 0);
-  short = nat_le (message_length p) INITIALIZATION_DATA;
+  short = nat_le (message_length p) INIT_PACKET_DATA;
 }
 
 -- the row of the table that they name
@@ -111,7 +111,7 @@ pub record Agree (s : Tests) : Type 0 where
   pub here : s.here ≡ true → s.known ≡ true
   pub known : s.known ≡ true → s.broadcast ≡ false
 
-agree : (g : ℕ) (o w : Option ℕ) (p : List ℕ) → g ≤ LAST_CHANNEL → IsGiven g o → IsGiven g w → Agree (tests g o w p)
+agree : (g : ℕ) (o w : Option ℕ) (p : List ℕ) → g ≤ MAX_CHANNEL → IsGiven g o → IsGiven g w → Agree (tests g o w p)
 agree g o w p few og wg = grind (arith, nat_tests)
 
 -- whether it is admitted where nothing is open
@@ -119,11 +119,11 @@ abbrev admitted : Tests → Bool
 admitted s = (s.known && (s.served && not s.empty)) && not (s.apart || s.on)
 
 -- each part, whatever the tests say
-channels_row : (s : Tests) (g : ℕ) → Agree s → s.full ≡ (g == LAST_CHANNEL) → g ≤ LAST_CHANNEL
-    → cond ((s.init && s.eight) && s.broadcast) (min (g + 1) LAST_CHANNEL) g ≡ given_after g (Begins (row s))
+channels_row : (s : Tests) (g : ℕ) → Agree s → s.full ≡ (g == MAX_CHANNEL) → g ≤ MAX_CHANNEL
+    → cond ((s.init && s.eight) && s.broadcast) (min (g + 1) MAX_CHANNEL) g ≡ channels_after g (Begins (row s))
 channels_row s g a full few = grind (arith, nat_tests)
 
-open_none : (s : Tests) (t : ℕ) (f : Fields) (b : Begun) → Agree s → s.here ≡ false → as_open b ≡ begun t f
+open_none : (s : Tests) (t : ℕ) (f : Fields) (b : MessageStart) → Agree s → s.here ≡ false → as_open b ≡ open_message t f
     → option_map as_open (cond (admitted s && (not s.short && not s.over)) (Some b) None)
     ≡ open_after None t f (Begins (row s))
 unfolding open_after
@@ -143,7 +143,7 @@ event_row : (s : Tests) (w : Option ℕ) (g : ℕ) (o : Option Open) (f : Fields
 unfolding message_after ruling_verdict
 event_row s w g o f m a on is = grind arith
 
-open_some : (s : Tests) (t : ℕ) (f : Fields) (b : Begun) → Agree s → s.apart ≡ not s.here → s.on ≡ false
+open_some : (s : Tests) (t : ℕ) (f : Fields) (b : MessageStart) → Agree s → s.apart ≡ not s.here → s.on ≡ false
     → (channel b.packet == channel_of f) ≡ s.here
     → option_map as_open (cond (s.here && not s.cancel) None (Some b))
     ≡ open_after (Some (as_open b)) t f (Begins (row s))
@@ -167,19 +167,19 @@ admits_none : (g : ℕ) (w : Option ℕ) (p : List ℕ) → is_initialization p 
 unfolding admits
 admits_none g w p st = rw st (grind (arith, nat_tests))
 
-long_is : (p : List ℕ) → is_long p ≡ (not (nat_le (message_length p) INITIALIZATION_DATA) && not
-    (nat_lt LONGEST_MESSAGE (message_length p)))
+long_is : (p : List ℕ) → is_long p ≡ (not (nat_le (message_length p) INIT_PACKET_DATA) && not
+    (nat_lt MAX_MESSAGE_LEN (message_length p)))
 unfolding is_long
 long_is p = grind (arith, nat_tests)
 
-small : (n : ℕ) → nat_le n INITIALIZATION_DATA ≡ true → nat_lt LONGEST_MESSAGE n ≡ false
+small : (n : ℕ) → nat_le n INIT_PACKET_DATA ≡ true → nat_lt MAX_MESSAGE_LEN n ≡ false
 small n h = grind (arith, nat_tests)
 
-start_none : (g : ℕ) (w : Option ℕ) (t : ℕ) (x : Packet64) → g ≤ LAST_CHANNEL → IsGiven g w
+start_none : (g : ℕ) (w : Option ℕ) (t : ℕ) (x : Packet64) → g ≤ MAX_CHANNEL → IsGiven g w
     → is_initialization x.0 ≡ true
-    → Serves g None w t x (starts x.0) (Begins (initialization_row g None w (channel x.0) (command x.0)
+    → Serves g None w t x (starts x.0) (Begins (init_packet_row g None w (channel x.0) (command x.0)
     (message_length x.0)))
-unfolding asks_channel finished finished_long packet_event initialization_row message_after table_packets
+unfolding requests_channel completed_message completed_long_message packet_event init_packet_row message_after table_packets
 start_none g w t x few wg st =
     let s = tests g None w x.0 in
     let a = agree g None w x.0 few tt wg in
@@ -196,23 +196,23 @@ start_none g w t x few wg st =
 -- ---- where a message is open
 
 -- No start is admitted.
-pub never_admitted : (g : ℕ) (b : Begun) (w : Option ℕ) (p : List ℕ) → admits g (Some b) w p ≡ false
+pub never_admitted : (g : ℕ) (b : MessageStart) (w : Option ℕ) (p : List ℕ) → admits g (Some b) w p ≡ false
 unfolding admits
 never_admitted g b w p = grind arith
 
-abbrev pub now_came : ℕ → Packet64 → Judged
+abbrev pub now_came : ℕ → Packet64 → ReceivedInput
 now_came t x = record { at = t; input = Packet x; admitted = false }
 
-start_next : (b : Begun) (t : ℕ) (x : Packet64) → is_initialization x.0 ≡ true
+start_next : (b : MessageStart) (t : ℕ) (x : Packet64) → is_initialization x.0 ≡ true
     → next (now_came t x) b ≡ cond ((channel b.packet == channel x.0) && not (command x.0 == CANCEL)) None (Some b)
-unfolding next is_own is_next
+unfolding next is_channel_input is_next_packet
 start_next b t x st = rw st (grind arith)
 
-start_some : (g : ℕ) (b : Begun) (t : ℕ) (x : Packet64) → g ≤ LAST_CHANNEL → IsGiven g (Some (channel b.packet))
+start_some : (g : ℕ) (b : MessageStart) (t : ℕ) (x : Packet64) → g ≤ MAX_CHANNEL → IsGiven g (Some (channel b.packet))
     → is_initialization x.0 ≡ true
-    → Serves g (Some b) None t x (starts x.0) (Begins (initialization_row g (Some (channel b.packet)) None (channel x.0)
+    → Serves g (Some b) None t x (starts x.0) (Begins (init_packet_row g (Some (channel b.packet)) None (channel x.0)
     (command x.0) (message_length x.0)))
-unfolding asks_channel finished finished_long is_last packet_event initialization_row table_packets
+unfolding requests_channel completed_message completed_long_message is_last_packet packet_event init_packet_row table_packets
 start_some g b t x few og st =
     let s = tests g (Some (channel b.packet)) None x.0 in
     let a = agree g (Some (channel b.packet)) None x.0 few og tt in
@@ -227,42 +227,42 @@ start_some g b t x few og st =
 
 -- ---- continuation packets
 
-last_at_more : (es : List Judged) (t : ℕ) (e : Judged) → last_at t (es ++ e ∷ []) ≡ e.at
+last_at_more : (es : List ReceivedInput) (t : ℕ) (e : ReceivedInput) → last_at t (es ++ e ∷ []) ≡ e.at
 last_at_more [] t e = refl
 last_at_more (x ∷ es) t e = last_at_more es x.at e
 
-grown_as : (b : Begun) (t : ℕ) (x : Packet64)
+grown_as : (b : MessageStart) (t : ℕ) (x : Packet64)
     → as_open (record { packet = b.packet; at = b.at; own = b.own ++ now_came t x ∷ [] })
-    ≡ grown t (goes x.0) (as_open b)
+    ≡ with_continuation t (goes x.0) (as_open b)
 grown_as b t x = simp (map-append, flat_map-append, append-nil, append_assoc, length-append, last_at_more)
 
-more_next : (b : Begun) (t : ℕ) (x : Packet64) → is_initialization x.0 ≡ false
+more_next : (b : MessageStart) (t : ℕ) (x : Packet64) → is_initialization x.0 ≡ false
     → next (now_came t x) b ≡ cond (channel b.packet == channel x.0)
     (cond ((sequence x.0 == length b.own) && nat_lt (data_capacity (length b.own + 1)) (message_length b.packet))
     (Some (record { packet = b.packet; at = b.at; own = b.own ++ now_came t x ∷ [] })) None) (Some b)
-unfolding next is_own is_next
+unfolding next is_channel_input is_next_packet
 more_next b t x st = rw st (grind arith)
 
-more_row : (g : ℕ) (o : Option Begun) (w : Option ℕ) (t : ℕ) (x : Packet64) → is_initialization x.0 ≡ false
-    → Serves g o w t x (goes x.0) (Continues (continuation_row (option_map as_open o) (channel x.0) (sequence x.0)))
-unfolding asks_channel admits finished finished_long is_last packet_event continuation_row open_after message_after
+more_row : (g : ℕ) (o : Option MessageStart) (w : Option ℕ) (t : ℕ) (x : Packet64) → is_initialization x.0 ≡ false
+    → Serves g o w t x (goes x.0) (Continues (cont_packet_row (option_map as_open o) (channel x.0) (sequence x.0)))
+unfolding requests_channel admits completed_message completed_long_message is_last_packet packet_event cont_packet_row open_after message_after
     ruling_verdict table_packets
 more_row g x1 w t x st = grind (arith, append-nil, append_assoc, flat_map-append, grown_as, more_next)
 
 -- ---- any packet
 
 -- Nothing is open, or a message on a channel that was given out, while no work waits.
-abbrev pub OpenGiven : ℕ → Option Begun → Option ℕ → Type 0
+abbrev pub OpenGiven : ℕ → Option MessageStart → Option ℕ → Type 0
 OpenGiven g None w = Unit {0}
 OpenGiven g (Some b) w = (1 ≤ channel b.packet) × (channel b.packet ≤ g) × (w ≡ None)
 
 -- what holds after every history: at most one message is open or waits, on a channel that was given out
-pub record Safe (g : ℕ) (o : Option Begun) (w : Option ℕ) : Type 0 where
-  pub few : g ≤ LAST_CHANNEL
+pub record Safe (g : ℕ) (o : Option MessageStart) (w : Option ℕ) : Type 0 where
+  pub few : g ≤ MAX_CHANNEL
   pub works : IsGiven g w
   pub opens : OpenGiven g o w
 
-start_row : (g : ℕ) (o : Option Begun) (w : Option ℕ) (t : ℕ) (x : Packet64) → Safe g o w → is_initialization x.0 ≡ true
+start_row : (g : ℕ) (o : Option MessageStart) (w : Option ℕ) (t : ℕ) (x : Packet64) → Safe g o w → is_initialization x.0 ≡ true
     → Serves g o w t x (starts x.0) (ruling_of g (option_map as_open o) w (starts x.0))
 unfolding ruling_of
 start_row g None w t x s st = start_none g w t x s.few s.works st
@@ -270,7 +270,7 @@ start_row g (Some b) w t x s st =
     subst (λ v. Serves g (Some b) v t x (starts x.0) (ruling_of g (Some (as_open b)) v (starts x.0))) (sym (s.opens).2)
     (start_some g b t x s.few ((s.opens).0, (s.opens).1) st)
 
-pub serves : (g : ℕ) (o : Option Begun) (w : Option ℕ) (t : ℕ) (x : Packet64) → Safe g o w
+pub serves : (g : ℕ) (o : Option MessageStart) (w : Option ℕ) (t : ℕ) (x : Packet64) → Safe g o w
     → Serves g o w t x (fields x.0) (ruling_of g (option_map as_open o) w (fields x.0))
 unfolding ruling_of
 serves g o w t x s =

@@ -3,13 +3,13 @@ use Rattle.std.proofs.Common.{◌≡◌, ◌≤◌, ℕ, List, ◌++◌, max, Op
 use Rattle.std.proofs.Common.{sym, ◌∙◌, ap, arith, Some}
 use Rattle.hid_assemble.specs.{declared.verdict.Verdict.Verdict, Verdicts.verdict, Assembly.Assembly, Assembly.accepted}
 use Rattle.authn_core.specs.State.{Event}
-use Rattle.authn_core.specs.Turn.{CoreState, working}
+use Rattle.authn_core.specs.Turn.{CoreState, working_channel}
 use Rattle.token_session.specs.declared.input.{Input.Input, Input.TheVariants.Packet, Timed.Timed, Meters.Meters}
 use Rattle.std.specs.Option.{option_or}
 use Rattle.token_session.specs.declared.cause.Cause.{Cause}
 use Rattle.token_session.specs.Causes.{verdict_cause, event_cause, served_cause}
-use Rattle.token_session.specs.Machine.{MachineState, MachineTurn, event_keeps_alive, time_passed, turn, served}
-use Rattle.token_session.{specs.Machine.happens, proofs.Passing.whole}
+use Rattle.token_session.specs.Machine.{MachineState, MachineTurn, event_sends_keepalive, time_passed, turn, served}
+use Rattle.token_session.{specs.Machine.turn_packets, proofs.Passing.whole}
 use Rattle.token_session.specs.{Events.event_core, Events.event_packets, Meters.SessionState, Meters.counted}
 use Rattle.token_session.specs.Effects.{assembly_after, input_event, input_verdict, request_in, verdict_packets}
 
@@ -23,15 +23,15 @@ pub record IsServed (v : SessionState) (early : List (List ℕ)) (i : Input) (le
 
 module _ (n b : ℕ) (a d : Assembly) (k : CoreState) (m : Meters) (v : SessionState) (early : List (List ℕ))
     (w : Option ℕ)
-    (is : record { machine = whole n a k b; meters = m } ≡ v) (ew : w ≡ working k)
+    (is : record { machine = whole n a k b; meters = m } ≡ v) (ew : w ≡ working_channel k)
     (i : Input) (ed : d ≡ assembly_after a n w i) (V : Verdict) (eV : V ≡ input_verdict a w i) where
   turned : (E : Option Event) → E ≡ input_event i V d.finished
-      → happens n d.given d.current k b early (verdict_packets V d.finished) E ≡ served v.machine early i
+      → turn_packets n d.given d.current k b early (verdict_packets V d.finished) E ≡ served v.machine early i
   unfolding accepted verdict
   turned E eE = rw (← is, eE, eV) (input_turn i ed)
     where
       input_turn : (i : Input) → d ≡ assembly_after a n w i
-          → happens n d.given d.current k b early (verdict_packets (input_verdict a w i) d.finished)
+          → turn_packets n d.given d.current k b early (verdict_packets (input_verdict a w i) d.finished)
           (input_event i (input_verdict a w i) d.finished)
           ≡ served (whole n a k b) early i
       input_turn (Packet x) ed = rw (ed, ew) refl
@@ -68,7 +68,7 @@ module _ (n b : ℕ) (a d : Assembly) (k : CoreState) (m : Meters) (v : SessionS
       (eo : old ≡ early ++ verdict_packets V d.finished) where
     -- by an event
     pub served_by : (k' : CoreState) (b' : ℕ) (m' : Meters) (out : List (List ℕ)) → k' ≡ event_core k n (Some e)
-        → b' ≡ cond (event_keeps_alive k n (Some e)) n b → m' ≡ counted m (request_in (Some e)) →
+        → b' ≡ cond (event_sends_keepalive k n (Some e)) n b → m' ≡ counted m (request_in (Some e)) →
         out ≡ old ++ event_packets k n (Some e)
         → IsServed v early i (record { machine = whole n d k' b'; meters = m' }) out
         (option_or (verdict_cause V) (event_cause k n (Some e)))

@@ -16,11 +16,11 @@ table n = up 8 (up 8 (0 + up 8 (up 2 (up 2 (up 2 (up 2 (0 + n * 296) + 128) + 4)
 abbrev core : ℕ → ℕ
 core n = up 8 (up 8 (up 8 (up 8 (40 + table n) + up 8 (48 + ids n)) + 544) + ids n)
 
-abbrev keeper : ℕ → ℕ
-keeper n = up 8 (up 8 (up 8 (0 + core n) + 8) + 32)
+abbrev authenticator : ℕ → ℕ
+authenticator n = up 8 (up 8 (up 8 (0 + core n) + 8) + 32)
 
 abbrev session : ℕ → ℕ
-session n = up 8 (7664 + keeper n)
+session n = up 8 (7664 + authenticator n)
 
 -- a session of so few
 pub session_small : (n : ℕ) → n ≤ 256 → session n < 2 ^ 63
@@ -36,14 +36,14 @@ held e m h = omega (arith, h)
 kept : (t x y m : ℕ) → up 8 (up 8 (up 8 (up 8 (40 + t) + x) + 544) + y) < m → t < m
 kept t x y m h = omega (arith, h)
 
-pub core_held : (n : ℕ) → keeper n < 2 ^ 63 → core n < 2 ^ 63
+pub core_held : (n : ℕ) → authenticator n < 2 ^ 63 → core n < 2 ^ 63
 core_held n h = held (core n) (2 ^ 63) h
 
-pub table_held : (n : ℕ) → keeper n < 2 ^ 63 → table n < 2 ^ 63
+pub table_held : (n : ℕ) → authenticator n < 2 ^ 63 → table n < 2 ^ 63
 table_held n h = kept (table n) (up 8 (48 + ids n)) (ids n) (2 ^ 63) (core_held n h)
 
-pub keeper_within : (n : ℕ) → session n < 2 ^ 63 → keeper n < 2 ^ 63
-keeper_within n h = within (keeper n) (2 ^ 63) h
+pub keeper_within : (n : ℕ) → session n < 2 ^ 63 → authenticator n < 2 ^ 63
+keeper_within n h = within (authenticator n) (2 ^ 63) h
 
 pub core_within : (n : ℕ) → session n < 2 ^ 63 → core n < 2 ^ 63
 core_within n h = core_held n (keeper_within n h)

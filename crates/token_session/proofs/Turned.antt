@@ -4,7 +4,7 @@ use Rattle.hid_packet.specs.Packet.{fields}
 use Rattle.hid_assemble.{specs.Assembly.Assembly, proofs.Turned.noise_turned}
 use Rattle.authn_core.specs.declared.replies.{Presence.Presence as Reply, NewKey.NewKey}
 use Rattle.authn_core.specs.State.{Setup, State, PresenceIs, KeyIs, SignatureIs}
-use Rattle.authn_core.specs.Turn.{CoreState, turn, working}
+use Rattle.authn_core.specs.Turn.{CoreState, turn, working_channel}
 use Rattle.authn_core.specs.Views.{wants_presence, wants_key, wants_signature}
 use Rattle.token_session.specs.declared.input.Input.{Input, TheVariants.Packet, TheVariants.Tick, TheVariants.Presence}
 use Rattle.token_session.specs.declared.input.Input.TheVariants.{Key, Signature}
@@ -26,7 +26,7 @@ signature_taken u s t sig = unfold turn in grind arith
 
 pub noise_turned_away : (a : Assembly) (core : CoreState) (now : ℕ) (i : Input)
     → is_noise_among a.given a.current core i ≡ is_turned_away_by a core now i
-noise_turned_away a core now (Packet p) = noise_turned a (working core) (fields p.0)
+noise_turned_away a core now (Packet p) = noise_turned a (working_channel core) (fields p.0)
 noise_turned_away a core now (Presence reply) = presence_taken core.setup core.state now reply
 noise_turned_away a core now (Key key) = key_taken core.setup core.state now key
 noise_turned_away a core now (Signature sig) = signature_taken core.setup core.state now sig

@@ -1,13 +1,13 @@
--- A history's events, as the steps of its authenticator.
+-- A history's events, as steps of the authenticator.
 use Rattle.std.specs.Prelude.{ℕ, List, [], ◌∷◌, ◌++◌, Option, Some, None}
-use Rattle.authn_core.specs.{State.Event, Turn.Start, Marks.Step}
-use Rattle.token_session.specs.{Inputs.Judged, Law.event_at}
+use Rattle.authn_core.specs.{State.Event, Turn.Start, Marks.TimedEvent}
+use Rattle.token_session.specs.{Inputs.ReceivedInput, Law.event_at}
 
-abbrev pub step_of : ℕ → Option Event → List Step
+abbrev pub step_of : ℕ → Option Event → List TimedEvent
 step_of at None = []
 step_of at (Some e) = record { at = at; event = e } ∷ []
 
--- the events of a history with their moments, newest first
-unfoldable pub steps : Start → List Judged → List Step
+-- The events of a history with their times, newest first.
+unfoldable pub steps : Start → List ReceivedInput → List TimedEvent
 steps start [] = []
 steps start (e ∷ past) = step_of e.at (event_at start e past) ++ steps start past

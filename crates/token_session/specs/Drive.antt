@@ -1,36 +1,36 @@
--- What a drive does: inputs stepped one after the other, and what they send with the number of the input.
+-- Driving a session: processing a list of inputs, and collecting the packets with the number of their input.
 use Rattle.std.specs.Prelude.{◌≡◌, ℕ, ◌+◌, ◌<◌, ◌≤◌, ◌++◌, List, [], ◌∷◌, take, length, Result, Ok, Err}
-use Rattle.token_session.specs.declared.{input.Timed.Timed, input.Sent.Sent, driving.BothFault.BothFault}
-use Rattle.token_session.specs.declared.driving.DriveFault.{DriveFault, TheVariants.Full}
-use Rattle.token_session.specs.declared.driving.BothFault.TheVariants.{Full as BothFull}
-use Rattle.token_session.specs.{Law.numbered, Meters.SessionState, Meters.stepped, Meters.sent_by}
+use Rattle.token_session.specs.declared.{input.Timed.Timed, input.Sent.Sent, driver.BothFault.BothFault}
+use Rattle.token_session.specs.declared.driver.DriveFault.{DriveFault, TheVariants.Full}
+use Rattle.token_session.specs.declared.driver.BothFault.TheVariants.{Full as BothFull}
+use Rattle.token_session.specs.{Law.with_input_number, Meters.SessionState, Meters.stepped, Meters.sent_by}
 use Rattle.hid_packet.specs.Limits.{OUTBOX_CAPACITY}
 
--- a packet that was sent, with the number of its input
-abbrev pub as_pair : Sent → ℕ × List ℕ
-as_pair s = (s.input, (s.packet).0)
+-- A packet that was sent, with the number of its input.
+abbrev pub numbered_packet : Sent → ℕ × List ℕ
+numbered_packet s = (s.input, (s.packet).0)
 
 -- the packet alone
 abbrev pub packet_of : Sent → List ℕ
 packet_of s = (s.packet).0
 
--- the session after the inputs of a list, and what they send
-abbrev pub driven : SessionState → List Timed → SessionState
-driven s [] = s
-driven s (x ∷ xs) = driven (stepped s x) xs
+-- The session after the inputs of a list, and the packets that they send.
+abbrev pub state_after_inputs : SessionState → List Timed → SessionState
+state_after_inputs s [] = s
+state_after_inputs s (x ∷ xs) = state_after_inputs (stepped s x) xs
 
-abbrev pub driven_sends : ℕ → SessionState → List Timed → List (ℕ × List ℕ)
-driven_sends n s [] = []
-driven_sends n s (x ∷ xs) = numbered n (sent_by s x) ++ driven_sends (n + 1) (stepped s x) xs
+abbrev pub packets_of_inputs : ℕ → SessionState → List Timed → List (ℕ × List ℕ)
+packets_of_inputs n s [] = []
+packets_of_inputs n s (x ∷ xs) = with_input_number n (sent_by s x) ++ packets_of_inputs (n + 1) (stepped s x) xs
 
--- the numbers of the faults
+-- The numbers of the faults.
 abbrev pub drive_number : DriveFault → ℕ
 drive_number (Full done) = 1
 
 abbrev pub both_number : BothFault → ℕ
 both_number (BothFull first second) = 1
 
--- how many inputs of n were stepped
+-- How many of n inputs were processed.
 abbrev pub done_of : {A : Type 0} → ℕ → Result A DriveFault → ℕ
 done_of n (Ok x) = n
 done_of n (Err (Full done)) = done
@@ -43,15 +43,15 @@ abbrev pub second_done : {A : Type 0} → ℕ → Result A BothFault → ℕ
 second_done n (Ok x) = n
 second_done n (Err (BothFull first second)) = second
 
--- before each of these inputs 130 places were free
+-- Before each of these inputs the list had capacity for 130 packets.
 abbrev pub HadCapacity : ℕ → List (ℕ × List ℕ) → SessionState → List Timed → ℕ → Type 0
 HadCapacity places old s xs done = (j : ℕ) → j < done → length
-    (old ++ driven_sends 0 s (take j xs)) + OUTBOX_CAPACITY ≤ places
+    (old ++ packets_of_inputs 0 s (take j xs)) + OUTBOX_CAPACITY ≤ places
 
--- So many of the inputs were stepped: the session and the list of packets are exactly after them, and before each of
--- them 130 places were free.
+-- This many of the inputs were processed: the session and the list of packets are exactly those after them, and
+-- before each of them the list had capacity for 130 packets.
 pub record IsDriven (places : ℕ) (old new : SessionState) (before after : List (ℕ × List ℕ)) (inputs : List Timed)
     (done : ℕ) : Type 0 where
-  pub state : new ≡ driven old (take done inputs)
-  pub packets : after ≡ before ++ driven_sends 0 old (take done inputs)
+  pub state : new ≡ state_after_inputs old (take done inputs)
+  pub packets : after ≡ before ++ packets_of_inputs 0 old (take done inputs)
   pub capacity : HadCapacity places before old inputs done

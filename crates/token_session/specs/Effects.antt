@@ -1,21 +1,21 @@
--- What a verdict sends and hands to the authenticator, and the request that an event is (CTAP 2.1, section 11.2.9).
+-- The packets of a verdict, its event for the authenticator, and the request of an event (CTAP 2.1, section 11.2.9).
 use Rattle.std.specs.Prelude.{ℕ, ◌==◌, List, [], Option, Some, None, option_map, if◌then◌else◌}
-use Rattle.hid_packet.specs.{Commands.PING, Commands.CBOR, Message.written, Packet.fields}
+use Rattle.hid_packet.specs.{Commands.PING, Commands.CBOR, Message.message_packets, Packet.fields}
 use Rattle.hid_assemble.specs.{Assembly.Assembly, Assembly.accepted, Verdicts.verdict, Refusals.code_number}
 use Rattle.hid_assemble.specs.declared.verdict.Verdict.{Verdict, TheVariants.GreetAndDrop, TheVariants.CancelWork}
 use Rattle.hid_assemble.specs.declared.verdict.Verdict.TheVariants.{Ignored, Kept, Finished, Refuse, Greet}
 use Rattle.authn_core.specs.{State.Event, State.Request, State.Cancel, State.Drop, Turn.Work}
-use Rattle.token_session.specs.{Replies.error, Replies.greeting, Events.reply_in}
+use Rattle.token_session.specs.{Replies.error, Replies.init_response, Events.reply_event}
 use Rattle.token_session.specs.declared.input.Input.{Input, TheVariants.Packet}
 
--- the packets of a verdict on a packet that finished these bytes, except for those of an event
+-- The packets of a verdict on a packet that completed a message with these bytes, without those of an event.
 abbrev pub verdict_packets : Verdict → List ℕ → List (List ℕ)
 verdict_packets Ignored bytes = []
 verdict_packets Kept bytes = []
-verdict_packets (Finished cid cmd) bytes = if cmd == PING then written cid PING bytes else []
+verdict_packets (Finished cid cmd) bytes = if cmd == PING then message_packets cid PING bytes else []
 verdict_packets (Refuse cid why) bytes = error cid (code_number why)
-verdict_packets (Greet on cid nonce) bytes = greeting on cid nonce
-verdict_packets (GreetAndDrop on cid nonce) bytes = greeting on cid nonce
+verdict_packets (Greet on cid nonce) bytes = init_response on cid nonce
+verdict_packets (GreetAndDrop on cid nonce) bytes = init_response on cid nonce
 verdict_packets CancelWork bytes = []
 
 abbrev pub verdict_event : Verdict → List ℕ → Option Event
@@ -27,11 +27,11 @@ verdict_event (Greet on cid nonce) bytes = None
 verdict_event (GreetAndDrop on cid nonce) bytes = Some Drop
 verdict_event CancelWork bytes = Some Cancel
 
--- the channel of waiting work
+-- The channel of the pending request.
 abbrev pub channel_of : Option Work → Option ℕ
 channel_of work = option_map (λ (w : Work). w.cid) work
 
--- What the transport makes of an input: a verdict on a packet. It lets every other input be.
+-- The transport's verdict on an input. It ignores inputs other than packets.
 abbrev pub input_verdict : Assembly → Option ℕ → Input → Verdict
 input_verdict a work (Packet p) = verdict a work (fields p.0)
 input_verdict a work other = Ignored
@@ -40,12 +40,12 @@ abbrev pub assembly_after : Assembly → (at : ℕ) → Option ℕ → Input →
 assembly_after a at work (Packet p) = accepted a at work (fields p.0)
 assembly_after a at work other = a
 
--- the event of an input on which this verdict was given
+-- The event of an input with this verdict.
 abbrev pub input_event : Input → Verdict → List ℕ → Option Event
 input_event (Packet p) v bytes = verdict_event v bytes
-input_event other v bytes = reply_in other
+input_event other v bytes = reply_event other
 
--- the message of a finished request, where the event is one
+-- The message of a request, if the event is one.
 abbrev pub request_in : Option Event → Option (List ℕ)
 request_in None = None
 request_in (Some (Request cid bytes)) = Some bytes

@@ -1,37 +1,37 @@
--- What an event makes of the authenticator and sends, and when a KEEPALIVE is due (CTAP 2.1, sections
--- 11.2.9.1.5 and 11.2.9.1.7): a moment, the authenticator and an event are all that is looked at.
+-- The effect of an event on the authenticator, the packets it sends, and when a KEEPALIVE is due (CTAP 2.1, sections
+-- 11.2.9.1.5 and 11.2.9.1.7). They depend only on the time, the authenticator and the event.
 use Rattle.std.specs.Prelude.{ℕ, ◌+◌, Bool, false, nat_le, List, [], Option, Some, None}
 use Rattle.authn_core.specs.State.{Event, KeyIs, PresenceIs, SignatureIs}
 use Rattle.authn_core.specs.Turn.{Work, CoreState, turn, waiting}
 use Rattle.token_session.specs.declared.input.Input.{Input}
 use Rattle.token_session.specs.declared.input.Input.TheVariants.{Presence, Key, Signature}
-use Rattle.token_session.specs.Replies.{keepalive, status_of, asker, answer_packets}
+use Rattle.token_session.specs.Replies.{keepalive, status_of, response_channel, answer_packets}
 use Rattle.hid_packet.specs.Limits.{KEEPALIVE_PERIOD}
 
--- the event of a caller's reply
-abbrev pub reply_in : Input → Option Event
-reply_in (Presence reply) = Some (PresenceIs reply)
-reply_in (Key key) = Some (KeyIs key)
-reply_in (Signature signature) = Some (SignatureIs signature)
-reply_in other = None
+-- The event of a caller's reply.
+abbrev pub reply_event : Input → Option Event
+reply_event (Presence reply) = Some (PresenceIs reply)
+reply_event (Key key) = Some (KeyIs key)
+reply_event (Signature signature) = Some (SignatureIs signature)
+reply_event other = None
 
--- the authenticator after an event, if there is one
+-- The authenticator after an event, if there is one.
 abbrev pub event_core : CoreState → ℕ → Option Event → CoreState
 event_core core at None = core
 event_core core at (Some e) = record core { state = (turn core.setup core.state at e).state }
 
--- what an event sends
+-- The packets that an event sends.
 abbrev pub event_packets : CoreState → ℕ → Option Event → List (List ℕ)
 event_packets k at None = []
-event_packets k at (Some e) = answer_packets (asker (waiting k) e) (status_of (waiting k))
+event_packets k at (Some e) = answer_packets (response_channel (waiting k) e) (status_of (waiting k))
     (turn k.setup k.state at e).answer
 
--- KEEPALIVE_PERIOD after the last, while work waits (CTAP 2.1, section 11.2.9.1.7)
+-- KEEPALIVE_PERIOD after the last one, while a request is pending (CTAP 2.1, section 11.2.9.1.7).
 unfoldable pub keepalive_due : Option Work → ℕ → ℕ → Bool
 keepalive_due None keepalive_at at = false
 keepalive_due (Some w) keepalive_at at = nat_le (keepalive_at + KEEPALIVE_PERIOD) at
 
--- the KEEPALIVE of waiting work
+-- The KEEPALIVE of a pending request.
 abbrev pub keepalive_packets : Option Work → List (List ℕ)
 keepalive_packets None = []
 keepalive_packets (Some w) = keepalive w.cid w.status

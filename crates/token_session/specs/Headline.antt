@@ -1,36 +1,36 @@
--- What is promised of every start and every list of inputs (`drive_new`, in src/driving.rt).
+-- The theorem for every start and every list of inputs (`drive_new` in src/driver.rt).
 use Rattle.std.specs.Prelude.{◌≡◌, ℕ, ◌+◌, ◌-◌, ◌*◌, ◌≤◌, List, [], ◌∷◌, length, Some}
 use Rattle.std.specs.List.{AllByRecursion}
-use Rattle.hid_packet.specs.{Carries.CarriesMessage, Limits.LONGEST_MESSAGE}
+use Rattle.hid_packet.specs.{Carries.CarriesMessage, Limits.MAX_MESSAGE_LEN}
 use Rattle.hid_assemble.specs.Assembly.{Message}
 use Rattle.cred_table.specs.{declared.row.Row.Row, Waiting.pending_count}
 use Rattle.ctap_message.specs.Requests.{steps_of}
 use Rattle.authn_core.specs.Turn.{Start}
-use Rattle.token_session.specs.{declared.input.Timed.Timed, Carried.carriers_at, Inputs.Judged, Messages.finished_at}
+use Rattle.token_session.specs.{declared.input.Timed.Timed, Carried.carriers_at, Inputs.ReceivedInput, Messages.message_completed_at}
 use Rattle.authn_core.specs.Exchanges.{rows_after}
-use Rattle.token_session.specs.Answered.{happened, judged_told, sent_told}
-use Rattle.token_session.specs.{History.judged, History.held, History.core, Meters.requests}
+use Rattle.token_session.specs.Answered.{exchanges_of, received_inputs, packets_sent}
+use Rattle.token_session.specs.{History.received, History.held, History.core, Meters.requests}
 
 -- a session's start
 abbrev pub start_of : (aaguid : List ℕ) → (moment capacity : ℕ) → List Row → Start
 start_of aaguid moment capacity rows = record { aaguid = aaguid; moment = moment; capacity = capacity; rows = rows }
 
--- Each message that an input finished was carried by its channel's packets.
-abbrev pub AllCarried : List Judged → Type 0
+-- Each message that an input completes was received in its channel's packets.
+abbrev pub AllCarried : List ReceivedInput → Type 0
 AllCarried [] = Unit {0}
 AllCarried (e ∷ past) =
-    ((m : Message) → finished_at e past ≡ Some m → CarriesMessage (carriers_at e past) m.cid m.cmd m.bytes)
+    ((m : Message) → message_completed_at e past ≡ Some m → CarriesMessage (carriers_at e past) m.cid m.cmd m.bytes)
     × AllCarried past
 
--- What holds after a history, newest first, in which these packets were sent: all by what happened, with no state of
--- the authenticator.
+-- Properties of a history, newest first, in which these packets were sent, stated without an authenticator's state.
 pub record IsAnswered (start : Start) (h : List Timed) (packets : List (List ℕ)) : Type 0 where
-  pub sent : packets ≡ sent_told start (judged_told start h)
-  pub held : held start (judged_told start h) ≤ LONGEST_MESSAGE
-  pub rows : length (rows_after start (happened start (judged_told start h))) ≤ start.capacity
+  pub sent : packets ≡ packets_sent start (received_inputs start h)
+  pub held : held start (received_inputs start h) ≤ MAX_MESSAGE_LEN
+  pub rows : length (rows_after start (exchanges_of start (received_inputs start h))) ≤ start.capacity
 
--- What no packet depends on.
+-- Properties of a history that its packets don't show: completed messages are those that their packets carry, and the
+-- number of pending assertions and the steps of parsing are bounded.
 pub record IsBounded (start : Start) (h : List Timed) : Type 0 where
-  pub carried : AllCarried (judged start h)
-  pub pending : pending_count (core start (judged start h)).state.pending ≤ start.capacity
-  pub steps : AllByRecursion (λ m. steps_of m ≤ 4 * (length m - 1) + 2) (requests start (judged start h))
+  pub carried : AllCarried (received start h)
+  pub pending : pending_count (core start (received start h)).state.pending ≤ start.capacity
+  pub steps : AllByRecursion (λ m. steps_of m ≤ 4 * (length m - 1) + 2) (requests start (received start h))

@@ -1,74 +1,74 @@
--- What a history names of the composed turn's state, and what runs of it send.
+-- The composed machine's state after a history, and the packets that it sends.
 use Rattle.std.specs.Prelude.{◌≡◌, Bool, ◌&&◌, is_some, is_none, ℕ, ◌+◌, List, [], ◌∷◌, ◌++◌, option_map, Option}
 use Rattle.std.specs.{Prelude.if◌then◌else◌, List.list_any}
 use Rattle.hid_packet.specs.{Commands.KEEPALIVE, Packet.is_command}
 use Rattle.authn_core.specs.{State.Event, Turn.Start}
-use Rattle.token_session.specs.{declared.input.Timed.Timed, Inputs.Judged, Inputs.end, Inputs.given}
+use Rattle.token_session.specs.{declared.input.Timed.Timed, Inputs.ReceivedInput, Inputs.latest_time, Inputs.channels_allocated}
 use Rattle.token_session.specs.Machine.{MachineState, machine, turn}
-use Rattle.token_session.specs.Messages.{begun_by, is_open, Begun, open_at, as_open}
-use Rattle.token_session.specs.History.{event_to, judged_after, judged, sent_at, core, last_keepalive}
+use Rattle.token_session.specs.Messages.{message_start, is_open, MessageStart, open_at, as_open}
+use Rattle.token_session.specs.History.{event_after, received_after, received, sent_at, core, last_keepalive}
 
--- the state that a history names
-unfoldable pub named : Start → List Judged → MachineState
-named start h = record {
-  now = end start h;
-  given = given h;
-  current = option_map as_open (open_at h (end start h));
+-- The state that a history defines.
+unfoldable pub state_of : Start → List ReceivedInput → MachineState
+state_of start h = record {
+  now = latest_time start h;
+  given = channels_allocated h;
+  current = option_map as_open (open_at h (latest_time start h));
   core = core start h;
   keepalive_at = last_keepalive start h;
 }
 
--- The state holds what the history names.
+-- The state is the one that the history defines.
 abbrev pub IsAfter : MachineState → Start → List Timed → Type 0
-IsAfter s start h = s ≡ named start (judged start h)
+IsAfter s start h = s ≡ state_of start (received start h)
 
--- the packets that x sends after h
+-- The packets that input x sends after history h.
 unfoldable pub sent_now : Start → List Timed → Timed → List (List ℕ)
-sent_now start h x = sent_at start (judged_after start h x) (judged start h)
+sent_now start h x = sent_at start (received_after start h x) (received start h)
 
--- the event that an input is after a history
-abbrev pub event_at : Start → Judged → List Judged → Option Event
-event_at start e past = event_to (core start past) e past
+-- The event of an input after a history.
+abbrev pub event_at : Start → ReceivedInput → List ReceivedInput → Option Event
+event_at start e past = event_after (core start past) e past
 
--- the inputs of a list, in order, after a history
-abbrev pub onto : List Timed → List Timed → List Timed
-onto [] h = h
-onto (x ∷ xs) h = onto xs (x ∷ h)
+-- The inputs of a list after a history, in order, each with its time and whether it is admitted.
+abbrev pub append_inputs : List Timed → List Timed → List Timed
+append_inputs [] h = h
+append_inputs (x ∷ xs) h = append_inputs xs (x ∷ h)
 
--- the packets of an input, with its number
-abbrev pub numbered : ℕ → List (List ℕ) → List (ℕ × List ℕ)
-numbered n [] = []
-numbered n (p ∷ ps) = (n, p) ∷ numbered n ps
+-- The packets of an input, each with the input's number.
+abbrev pub with_input_number : ℕ → List (List ℕ) → List (ℕ × List ℕ)
+with_input_number n [] = []
+with_input_number n (p ∷ ps) = (n, p) ∷ with_input_number n ps
 
--- what the inputs of a list send after a history, in order, with the number of the input
+-- The packets that the inputs of a list send after a history, in order, each with the number of its input.
 abbrev pub sent_from : ℕ → Start → List Timed → List Timed → List (ℕ × List ℕ)
 sent_from n start h [] = []
-sent_from n start h (x ∷ xs) = numbered n (sent_now start h x) ++ sent_from (n + 1) start (x ∷ h) xs
+sent_from n start h (x ∷ xs) = with_input_number n (sent_now start h x) ++ sent_from (n + 1) start (x ∷ h) xs
 
--- the same by the composed turn
+-- The same, by the composed machine.
 abbrev pub run_state : MachineState → List Timed → MachineState
 run_state s [] = s
 run_state s (x ∷ xs) = run_state (turn s x).state xs
 
 abbrev pub run_sent : ℕ → MachineState → List Timed → List (ℕ × List ℕ)
 run_sent n s [] = []
-run_sent n s (x ∷ xs) = numbered n (turn s x).packets ++ run_sent (n + 1) (turn s x).state xs
+run_sent n s (x ∷ xs) = with_input_number n (turn s x).packets ++ run_sent (n + 1) (turn s x).state xs
 
--- the packets that the composed turn sends for the inputs of a history, in order
+-- The packets that the composed machine sends for the inputs of a history, in order.
 unfoldable pub turns_send : Start → List Timed → List (List ℕ)
 turns_send start [] = []
 turns_send start (x ∷ past) = turns_send start past ++ (turn (machine start past) x).packets
 
--- all initialization packets of a history whose messages are open at t, the newest first
-unfoldable pub all_open : List Judged → List Judged → ℕ → List Begun
+-- All initialization packets of a history whose messages are open at time t, newest first.
+unfoldable pub all_open : List ReceivedInput → List ReceivedInput → ℕ → List MessageStart
 all_open later [] t = []
 all_open later (e ∷ before) t =
-    if is_open e later t then begun_by e later ∷ all_open (e ∷ later) before t else all_open (e ∷ later) before t
+    if is_open e later t then message_start e later ∷ all_open (e ∷ later) before t else all_open (e ∷ later) before t
 
--- whether one of these packets is a KEEPALIVE
-abbrev pub keeps_alive : List (List ℕ) → Bool
-keeps_alive packets = list_any (is_command KEEPALIVE) packets
+-- Whether one of these packets is a KEEPALIVE.
+abbrev pub has_keepalive : List (List ℕ) → Bool
+has_keepalive packets = list_any (is_command KEEPALIVE) packets
 
--- whether a message was open at the end of a history, and isn't any more: its time is over
-abbrev pub is_cut : Option Begun → Option Begun → Bool
-is_cut before now = is_some before && is_none now
+-- Whether a message was open at the end of a history, and has timed out since.
+abbrev pub is_timed_out : Option MessageStart → Option MessageStart → Bool
+is_timed_out before now = is_some before && is_none now

@@ -1,36 +1,36 @@
--- The meters of a session: what a history names, and what one turn adds.
+-- The meters of a session: those that a history defines, and what one turn adds.
 use Rattle.std.specs.Prelude.{◌≡◌, ◌≤◌, ℕ, ◌+◌, ◌-◌, ◌*◌, List, [], ◌∷◌, length, max, min, sum_by, Option, Some, None}
 use Rattle.std.specs.List.{cons_option}
 use Rattle.hid_assemble.specs.Assembly.{held_bytes}
 use Rattle.authn_core.specs.Turn.{Start}
-use Rattle.cred_table.specs.{Rows.Lawful, Waiting.pending_count}
+use Rattle.cred_table.specs.{Rows.ValidRows, Waiting.pending_count}
 use Rattle.ctap_message.specs.Requests.{steps_of, LARGEST}
 use Rattle.token_session.specs.declared.input.{Timed.Timed, Meters.Meters}
-use Rattle.token_session.specs.{Effects.request_in, Inputs.Judged, Law.named}
-use Rattle.token_session.specs.History.{judged, held, core, event_to}
+use Rattle.token_session.specs.{Effects.request_in, Inputs.ReceivedInput, Law.state_of}
+use Rattle.token_session.specs.History.{received, held, core, event_after}
 use Rattle.token_session.specs.Machine.{MachineState, MachineTurn, turn}
 
--- the messages of the requests that a history finished, the newest first
-unfoldable pub requests : Start → List Judged → List (List ℕ)
+-- The messages of the requests that a history completed, newest first.
+unfoldable pub requests : Start → List ReceivedInput → List (List ℕ)
 requests start [] = []
-requests start (e ∷ past) = cons_option (request_in (event_to (core start past) e past)) (requests start past)
+requests start (e ∷ past) = cons_option (request_in (event_after (core start past) e past)) (requests start past)
 
--- the most data bytes held of an open message, at the start and after each input
-unfoldable pub peak_held : Start → List Judged → ℕ
+-- The maximum number of data bytes of an open message, at the start and after each input.
+unfoldable pub peak_held : Start → List ReceivedInput → ℕ
 peak_held start [] = held start []
 peak_held start (e ∷ past) = max (peak_held start past) (held start (e ∷ past))
 
--- the most credential rows, and the most pending assertions, at the start and after each input
-unfoldable pub peak_rows : Start → List Judged → ℕ
+-- The maximum number of credentials, and of pending assertions, at the start and after each input.
+unfoldable pub peak_rows : Start → List ReceivedInput → ℕ
 peak_rows start [] = length (core start []).state.rows
 peak_rows start (e ∷ past) = max (peak_rows start past) (length (core start (e ∷ past)).state.rows)
 
-unfoldable pub peak_pending : Start → List Judged → ℕ
+unfoldable pub peak_pending : Start → List ReceivedInput → ℕ
 peak_pending start [] = pending_count (core start []).state.pending
 peak_pending start (e ∷ past) = max (peak_pending start past) (pending_count (core start (e ∷ past)).state.pending)
 
--- The meters that a history names.
-unfoldable pub meters_of : Start → List Judged → Meters
+-- The meters that a history defines.
+unfoldable pub meters_of : Start → List ReceivedInput → Meters
 meters_of start h = record {
   held = peak_held start h;
   rows = peak_rows start h;
@@ -40,8 +40,8 @@ meters_of start h = record {
   steps = min (sum_by steps_of (requests start h)) LARGEST;
 }
 
--- The totals with a request that was finished, if one was: one more, its bytes after the command byte, and the steps
--- that reading it takes.
+-- The totals with a completed request, if there is one: one more, its bytes after the command byte, and the steps of
+-- parsing it.
 unfoldable pub counted : Meters → Option (List ℕ) → Meters
 counted m None = m
 counted m (Some message) = record m {
@@ -50,17 +50,17 @@ counted m (Some message) = record m {
   steps = min (m.steps + steps_of message) LARGEST;
 }
 
--- the meters after a turn, with the bytes, rows and pending assertions held after it
+-- The meters after a turn, by the bytes, rows and pending assertions after it.
 unfoldable pub metered : Meters → (held rows pending : ℕ) → Option (List ℕ) → Meters
 metered m held rows pending request =
     let n = counted m request in
     record n { held = max n.held held; rows = max n.rows rows; pending = max n.pending pending }
 
--- Reading took at most four steps for each byte after a command byte, and two for each request.
+-- Parsing takes at most four steps for each byte after a command byte, and two for each request.
 abbrev pub AreBounded : Meters → Type 0
 AreBounded m = m.steps ≤ 4 * m.bytes + 2 * m.requests
 
--- A session: the composed turn's state, and its meters.
+-- A session: the composed machine's state, and the meters.
 pub record SessionState : Type 0 where
   pub machine : MachineState
   pub meters : Meters
@@ -70,26 +70,26 @@ metered_by m t =
     metered m (held_bytes t.state.current) (length t.state.core.state.rows) (pending_count t.state.core.state.pending)
     (request_in t.event)
 
--- the session after one input more
+-- The session after one more input.
 unfoldable pub stepped : SessionState → Timed → SessionState
 stepped s x = record {
   machine = (turn s.machine x).state;
   meters = metered_by s.meters (turn s.machine x);
 }
 
--- the packets that the input sends
+-- The packets that the input sends.
 abbrev pub sent_by : SessionState → Timed → List (List ℕ)
 sent_by s x = (turn s.machine x).packets
 
--- the session that a history names
-unfoldable pub session_of : Start → List Judged → SessionState
-session_of start h = record { machine = named start h; meters = meters_of start h }
+-- The session that a history defines.
+unfoldable pub session_of : Start → List ReceivedInput → SessionState
+session_of start h = record { machine = state_of start h; meters = meters_of start h }
 
--- The session is after a history.
+-- The session's state is the one after this history.
 abbrev pub StandsAfter : SessionState → Start → List Timed → Type 0
-StandsAfter s start h = s ≡ session_of start (judged start h)
+StandsAfter s start h = s ≡ session_of start (received start h)
 
--- It is after a history of a start whose credentials are lawful, as those of each table are.
+-- The same, for a start with valid credentials, as in every table.
 pub record FollowsFrom (s : SessionState) (start : Start) (h : List Timed) : Type 0 where
-  pub lawful : Lawful start.capacity start.rows
+  pub lawful : ValidRows start.capacity start.rows
   pub stands : StandsAfter s start h

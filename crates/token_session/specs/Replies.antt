@@ -1,34 +1,35 @@
--- The packets that are sent: those of each row of the reply table, of errors, of KEEPALIVEs and of answers
--- (CTAP 2.1, section 11.2.9).
+-- The packets that are sent: those of each row of the reply table, of errors, of KEEPALIVEs and of responses (CTAP
+-- 2.1, section 11.2.9).
 use Rattle.std.specs.Prelude.{ℕ, ◌+◌, ◌==◌, List, [], ◌∷◌, ◌++◌, take, Option, Some, None, option_map, if◌then◌else◌}
 use Rattle.byteorder.specs.Endian.{big_bytes}
 use Rattle.hid_packet.specs.Commands.{PING, INIT, CBOR, KEEPALIVE, ERROR, BROADCAST}
-use Rattle.hid_packet.specs.{Packet.channel, Packet.initialization_data, Message.written}
+use Rattle.hid_packet.specs.{Packet.channel, Packet.initialization_data, Message.message_packets}
 use Rattle.hid_assemble.specs.{Table.is_on, Assembly.Message}
 use Rattle.hid_assemble.specs.declared.table.ReplyRow.{ReplyRow, TheVariants.NoSuchCommand, TheVariants.BadLength}
 use Rattle.hid_assemble.specs.declared.table.ReplyRow.TheVariants.{NoSuchChannel, InitLength, InitFull, InitNew}
 use Rattle.hid_assemble.specs.declared.table.ReplyRow.TheVariants.{InitAgain, BusyElsewhere, BusyHere, BrokenOff}
 use Rattle.authn_core.specs.{State.Event, State.Request, State.Answer, State.Answered, State.Waits, Turn.Work}
 
--- The answer to INIT: nonce, channel, protocol 2, device 1.0.0, CBOR and NMSG (CTAP 2.1, section 11.2.9.1.3).
-unfoldable pub greeting : (on cid : ℕ) → (nonce : List ℕ) → List (List ℕ)
-greeting on cid nonce = written on INIT (nonce ++ big_bytes 4 cid ++ 2 ∷ 1 ∷ 0 ∷ 0 ∷ 0x0c ∷ [])
+-- The response to INIT: nonce, channel, protocol version 2, device version 1.0.0, capabilities CBOR and NMSG (CTAP
+-- 2.1, section 11.2.9.1.3).
+unfoldable pub init_response : (on cid : ℕ) → (nonce : List ℕ) → List (List ℕ)
+init_response on cid nonce = message_packets on INIT (nonce ++ big_bytes 4 cid ++ 2 ∷ 1 ∷ 0 ∷ 0 ∷ 0x0c ∷ [])
 
 -- an ERROR (CTAP 2.1, section 11.2.9.1.6)
 abbrev pub error : ℕ → ℕ → List (List ℕ)
-error cid code = written cid ERROR (code ∷ [])
+error cid code = message_packets cid ERROR (code ∷ [])
 
 -- a KEEPALIVE (CTAP 2.1, section 11.2.9.1.7)
 abbrev pub keepalive : ℕ → ℕ → List (List ℕ)
-keepalive cid status = written cid KEEPALIVE (status ∷ [])
+keepalive cid status = message_packets cid KEEPALIVE (status ∷ [])
 
--- what a row itself sends
+-- The packets that are sent because of a row of the reply table alone.
 unfoldable pub row_packets : ℕ → List ℕ → ReplyRow → List (List ℕ)
 row_packets given p NoSuchChannel = error (channel p) 0x0b
 row_packets given p InitLength = error (channel p) 0x03
 row_packets given p InitFull = error (channel p) 0x7f
-row_packets given p InitNew = greeting BROADCAST (given + 1) (take 8 (initialization_data p))
-row_packets given p InitAgain = greeting (channel p) (channel p) (take 8 (initialization_data p))
+row_packets given p InitNew = init_response BROADCAST (given + 1) (take 8 (initialization_data p))
+row_packets given p InitAgain = init_response (channel p) (channel p) (take 8 (initialization_data p))
 row_packets given p BusyElsewhere = error (channel p) 0x06
 row_packets given p BusyHere = error (channel p) 0x06
 row_packets given p BrokenOff = error (channel p) 0x04
@@ -36,27 +37,27 @@ row_packets given p NoSuchCommand = error (channel p) 0x01
 row_packets given p BadLength = error (channel p) 0x03
 row_packets given p _ = []
 
--- A PING is answered by itself (CTAP 2.1, section 11.2.9.1.4).
+-- The response to a PING is the same message (CTAP 2.1, section 11.2.9.1.4).
 abbrev pub ping_packets : Option Message → List (List ℕ)
 ping_packets None = []
-ping_packets (Some m) = if m.cmd == PING then written m.cid PING m.bytes else []
+ping_packets (Some m) = if m.cmd == PING then message_packets m.cid PING m.bytes else []
 
--- A finished CBOR message is a request.
+-- A complete CBOR message is a request.
 abbrev pub request_event : Option Message → Option Event
 request_event None = None
 request_event (Some m) = if m.cmd == CBOR then Some (Request m.cid m.bytes) else None
 
--- the status of waiting work
+-- The status of a pending request.
 abbrev pub status_of : Option Work → Option ℕ
 status_of work = option_map (λ w. w.status) work
 
--- where an answer goes
-abbrev pub asker : Option Work → Event → Option ℕ
-asker work (Request cid bytes) = Some cid
-asker work e = option_map (λ w. w.cid) work
+-- The channel of a response.
+abbrev pub response_channel : Option Work → Event → Option ℕ
+response_channel work (Request cid bytes) = Some cid
+response_channel work e = option_map (λ w. w.cid) work
 
--- Work that begins, or changes its status, sends a KEEPALIVE.
+-- A request that becomes pending or changes its status sends a KEEPALIVE.
 unfoldable pub answer_packets : Option ℕ → Option ℕ → Answer → List (List ℕ)
-answer_packets (Some cid) before (Answered bytes) = written cid CBOR bytes
+answer_packets (Some cid) before (Answered bytes) = message_packets cid CBOR bytes
 answer_packets (Some cid) before (Waits status) = if is_on before status then [] else keepalive cid status
 answer_packets _ before _ = []

@@ -5,22 +5,22 @@ ghost use Rattle.token_session.specs.Meters.{counted};
 use authn_core::{NewKey, Presence, Signature};
 use hid_packet::Packet;
 
-/// What comes in.
+/// The inputs of a session.
 #[derive(Clone, Copy)]
 pub enum Input {
     /// A packet from a host.
     Packet(Packet),
     /// Time has passed, and nothing else happened.
     Tick,
-    /// The caller's reply to a test of user presence.
+    /// The caller's reply to a request for user presence.
     Presence(Presence),
-    /// A new key pair for a credential, or that there is none.
+    /// A key pair for a new credential, or a refusal.
     Key(Option<NewKey>),
-    /// A signature, or that there is none.
+    /// A signature, or a refusal.
     Signature(Option<Signature>),
 }
 
-/// An input with its moment, in milliseconds.
+/// An input with its timestamp in milliseconds.
 #[derive(Clone, Copy)]
 pub struct Timed {
     pub at: u64,
@@ -34,25 +34,25 @@ pub struct Sent {
     pub packet: Packet,
 }
 
-/// What a session has held and served.
+/// A session's meters.
 #[derive(Clone, Copy, Debug, PartialEq, Eq)]
 pub struct Meters {
-    /// The most data bytes of an open message, at the start and after each input.
+    /// Maximum number of data bytes of an open message, at the start and after each input.
     pub held: u16,
-    /// The most credential rows.
+    /// Maximum number of credentials.
     pub rows: u16,
-    /// The most pending assertions.
+    /// Maximum number of pending assertions.
     pub pending: u16,
-    /// How many CBOR requests were finished, at most 2^64-1.
+    /// Number of complete CBOR requests, at most 2^64-1.
     pub requests: u64,
     /// Their bytes after the command byte, at most 2^64-1.
     pub bytes: u64,
-    /// The steps that reading them took, at most 2^64-1.
+    /// Number of steps that parsing them took, at most 2^64-1.
     pub steps: u64,
 }
 
 impl Meters {
-    /// Counts a request, with the steps that reading it took.
+    /// Counts a request, with the number of steps that parsing it took.
     #[tactic(auto, unfolding(crate::specs::Meters::counted))]
     pub(crate) fn count(&mut self, message: &[u8], steps: u64)
         requires { steps ≡ min (steps_of message.now) LARGEST }

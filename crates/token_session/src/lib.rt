@@ -1,4 +1,4 @@
-//! The transport and the authenticator together: a session takes inputs, one at a time, and returns the packets to
+//! The transport and the authenticator together: a session handles one input at a time, and returns the packets to
 //! send.
 //!
 //! An example, which the gate runs (`crates/page_tests/src/token_session_page.rt`):
@@ -19,15 +19,15 @@
 //! ```
 #![tactic(auto)]
 
+mod authenticator_state;
 mod cause;
-mod driving;
+mod driver;
 mod input;
 pub mod laws;
-mod service;
 mod session;
 
+pub use authenticator_state::KEEPALIVE_PERIOD;
 pub use cause::{Cause, Causes};
-pub use driving::{BothFault, DriveFault, drive, drive_both, drive_new};
+pub use driver::{BothFault, DriveFault, drive, drive_both, drive_new};
 pub use input::{Input, Meters, Sent, Timed};
-pub use service::KEEPALIVE_PERIOD;
 pub use session::Session;

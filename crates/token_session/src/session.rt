@@ -1,14 +1,15 @@
 ghost use Rattle.std.specs.Prelude.{◌≡◌, ◌≤◌, [], ◌∷◌, List, Ok, length, MatchResult, OnOk};
 ghost use Rattle.hid_assemble.specs.Assembly.{held_bytes};
 ghost use Rattle.authn_core.specs.Needs.{IsNeed};
-ghost use Rattle.authn_core.specs.Views.{first_held, needs, needed};
+ghost use Rattle.authn_core.specs.Views.{first_contents, needs, needed_reply};
 ghost use Rattle.cred_table.specs.declared.row.Row.{Row as AnyRow};
 ghost use Rattle.cred_table.specs.Snapshots.{Loads, Refuses};
 ghost use Rattle.cred_table.specs.Waiting.{pending_count};
 ghost use Rattle.authn_core.specs.Turn.{Start};
+ghost use Rattle.token_session.specs.declared.input.Input.TheVariants as inputs;
 ghost use Rattle.token_session.specs.declared.input.Timed.{Timed as OneInput};
-ghost use Rattle.token_session.specs.History.{judged_after, judged, held};
-ghost use Rattle.token_session.specs.Answered.{told_now};
+ghost use Rattle.token_session.specs.History.{received_after, received, held};
+ghost use Rattle.token_session.specs.Answered.{packets_sent_now};
 ghost use Rattle.token_session.specs.Law.{sent_now};
 ghost use Rattle.token_session.specs.Effects.{request_in};
 ghost use Rattle.token_session.specs.Meters.{AreBounded, FollowsFrom, SessionState, StandsAfter, counted, stepped, sent_by, session_of};
@@ -17,28 +18,29 @@ ghost use Rattle.token_session.specs.Machine.{time_passed, served};
 ghost use Rattle.token_session.specs.Noise.{is_noise_at, is_noise_after};
 ghost use Rattle.hid_packet.specs.Limits.{LONGEST_HELD, OUTBOX_CAPACITY};
 
+use crate::authenticator_state::{
+    AuthenticatorState, KEEPALIVE_PERIOD, is_noise, send_init_response,
+};
 use crate::cause::{Cause, Causes};
 use crate::input::{Input, Meters};
 use crate::laws::answers_follow_history;
-use crate::service::{KEEPALIVE_PERIOD, Keeper, greet, is_noise};
 use authn_core::{Config, Core, Event, Need};
 use cred_table::{SnapshotFault, Store, Table};
 use hid_assemble::{Assembler, Refusal, Verdict};
-use hid_packet::Outbox;
 use hid_packet::command::{CBOR, ERROR, KEEPALIVE, PING};
+use hid_packet::{Outbox, Packet};
 use std::marker::Model;
 
-/// A session: what a FIDO2 key holds between power up and power down. `C` is how many credentials it has capacity for.
-/// It allocates nothing.
+/// A session of a FIDO2 key, from power-up to power-down, with capacity for `C` credentials. Allocates nothing.
 #[derive(Drop)]
 pub struct Session<const C: usize> {
-    /// The greatest moment of its start and its inputs.
+    /// The latest timestamp of its start and inputs.
     latest: u64,
     assembler: Assembler,
-    keeper: Keeper<C>,
+    authenticator: AuthenticatorState<C>,
 }
 
-// Clauses see the state of the composed turn, and the meters.
+// In contracts, a session is the state of the composed machine, and the meters.
 impl<const C: usize> Model for Session<C> {
     ghost use Rattle.std.specs.Prelude.{◌≤◌};
     ghost use Rattle.token_session.specs.Meters.{SessionState, AreBounded};
@@ -50,16 +52,16 @@ impl<const C: usize> Model for Session<C> {
         now = s.latest;
         given = s.assembler.given;
         current = s.assembler.current;
-        core = s.keeper.core.core;
-        keepalive_at = s.keeper.keepalive_at;
+        core = s.authenticator.core.core;
+        keepalive_at = s.authenticator.keepalive_at;
       };
-      meters = s.keeper.meters;
+      meters = s.authenticator.meters;
     } };
 
-    ghost invariant = { λ s. (s.keeper.core.latest ≤ s.latest) × AreBounded s.keeper.meters };
+    ghost invariant = { λ s. (s.authenticator.core.latest ≤ s.latest) × AreBounded s.authenticator.meters };
 }
 
-/// Returns the meters at a start with so many credentials.
+/// Returns the meters at a start with this many credentials.
 fn first_meters(rows: u16) -> Meters
     ensures { result ≡ record { held = 0; rows = rows; pending = 0; requests = 0; bytes = 0; steps = 0 } }
 {
@@ -73,19 +75,19 @@ fn first_meters(rows: u16) -> Meters
     }
 }
 
-/// Returns an authenticator without credentials, made where it stays.
+/// Returns an authenticator without credentials, created in place.
 #[inline(never)]
 fn empty_core<const C: usize>(aaguid: [u8; 16], start: u64) -> Core<Store<C>, C>
     requires some { 1 ≤ C }
     requires few { C ≤ 256 }
-    ensures { result ≡ first_held (record { aaguid = aaguid; moment = start; capacity = C; rows = [] }) }
+    ensures { result ≡ first_contents (record { aaguid = aaguid; moment = start; capacity = C; rows = [] }) }
 {
     Core::new(Config { aaguid }, Store::new(), start)
 }
 
 impl<const C: usize> Session<C> {
-    /// Returns a session that begins at the moment `start`, in milliseconds, with these credentials. No channel is
-    /// given out, and no work waits.
+    /// Returns a session that starts at time `start`, in milliseconds, with these credentials. No channel is allocated,
+    /// and no request is pending.
     pub fn new(config: Config, rows: Store<C>, start: u64) -> Self
         ensures value { result ≡ session_of (record {
           aaguid = config.aaguid;
@@ -104,7 +106,7 @@ impl<const C: usize> Session<C> {
         Session {
             latest: start,
             assembler: Assembler::new(),
-            keeper: Keeper {
+            authenticator: AuthenticatorState {
                 core: Core::new(config, rows, start),
                 keepalive_at: 0,
                 meters: first_meters(credentials),
@@ -112,9 +114,9 @@ impl<const C: usize> Session<C> {
         }
     }
 
-    /// Returns a session without credentials that begins at the moment `start`, in milliseconds, for an authenticator
-    /// with this AAGUID. No channel is given out. It has capacity for 1 to 256 credentials.
-    // It is made where it stays: 31 kB that are moved are copied.
+    /// Returns a session without credentials that starts at time `start`, in milliseconds, for an authenticator with
+    /// this AAGUID. No channel is allocated. It has capacity for 1 to 256 credentials.
+    // Created in place: moving its 31 kB would copy them.
     #[inline(never)]
     pub fn bare(aaguid: [u8; 16], start: u64) -> Self
         requires some { 1 ≤ C }
@@ -125,7 +127,7 @@ impl<const C: usize> Session<C> {
         Session {
             latest: start,
             assembler: Assembler::new(),
-            keeper: Keeper {
+            authenticator: AuthenticatorState {
                 core: empty_core(aaguid, start),
                 keepalive_at: 0,
                 meters: first_meters(0),
@@ -133,8 +135,8 @@ impl<const C: usize> Session<C> {
         }
     }
 
-    /// Begins anew at the moment `start`, in milliseconds, with the credentials of a snapshot in place of its own. No
-    /// channel is given out, and no work waits. A snapshot that is refused leaves the session as it was.
+    /// Starts again at time `start`, in milliseconds, with the credentials of a snapshot in place of its own. No
+    /// channel is allocated, and no request is pending. A refused snapshot leaves the session as it was.
     pub fn load(&mut self, config: Config, snapshot: &[u8], start: u64) -> Result<(), SnapshotFault>
         ensures value { MatchResult result
             (λ _. (rows : List AnyRow) × Loads C snapshot.now (Ok tt) rows
@@ -143,35 +145,34 @@ impl<const C: usize> Session<C> {
         ensures follows { OnOk result ((rows : List AnyRow) × Loads C snapshot.now (Ok tt) rows
             × FollowsFrom self.new (record { aaguid = config.aaguid; moment = start; capacity = C; rows = rows }) []) }
     {
-        self.keeper.core.load(config, snapshot, start)?;
+        self.authenticator.core.load(config, snapshot, start)?;
         self.latest = start;
         self.assembler = Assembler::new();
-        self.keeper.keepalive_at = 0;
-        self.keeper.meters = first_meters(self.keeper.core.credentials() as u16);
+        self.authenticator.keepalive_at = 0;
+        self.authenticator.meters = first_meters(self.authenticator.core.credentials() as u16);
         Ok(())
     }
 
-    /// Takes one input that came at `at`, in milliseconds, and puts the packets to send into the outbox: at most 130. A
-    /// moment earlier than the latest counts as the latest. It always succeeds.
+    /// Processes one input at time `at`, in milliseconds, and puts the packets to send into the outbox: at most 130.
+    /// A time earlier than the latest counts as the latest. Always succeeds. Returns the causes of what was refused.
     pub fn step(&mut self, at: u64, input: Input, outbox: &mut Outbox) -> Causes
         requires { outbox.old ≡ [] }
-        // One turn of the composed machine.
+        // The new state and the packets are those of the composed machine.
         ensures state { self.new ≡ stepped self.old (record { at = at; input = input }) }
         ensures packets { outbox.new ≡ sent_by self.old (record { at = at; input = input }) }
         ensures few { length outbox.new ≤ OUTBOX_CAPACITY }
-        // After any history that the session is after, it is after the longer one, and it sent just what that history
-        // names for the input.
+        // For each history that leads to the session's state: the history with this input leads to its new state, and
+        // exactly the packets that the history defines for the input are sent.
         ensures after { (start : Start) (h : List OneInput) → StandsAfter self.old start h
             → StandsAfter self.new start (record { at = at; input = input } ∷ h) }
         ensures sent { (start : Start) (h : List OneInput) → StandsAfter self.old start h
             → outbox.new ≡ sent_now start h (record { at = at; input = input }) }
-        // Where it follows such a history, it follows the longer one, and it sent what is told of the input without a
-        // state of the authenticator.
+        // The same for histories whose packets are defined without an authenticator's state.
         ensures follows { (start : Start) (h : List OneInput) → FollowsFrom self.old start h
             → FollowsFrom self.new start (record { at = at; input = input } ∷ h) }
         ensures told { (start : Start) (h : List OneInput) → FollowsFrom self.old start h
-            → outbox.new ≡ told_now start h (record { at = at; input = input }) }
-        // Why it refuses, where it does.
+            → outbox.new ≡ packets_sent_now start h (record { at = at; input = input }) }
+        // The cause of a refusal.
         ensures why { result ≡ causes_of self.old.machine (record { at = at; input = input }) }
         ensures named { (start : Start) (h : List OneInput) → StandsAfter self.old start h
             → result ≡ causes_after start h (record { at = at; input = input }) }
@@ -179,53 +180,52 @@ impl<const C: usize> Session<C> {
         answers_follow_history();
         let now = self.latest.max(at);
         let time = self.pass_time(now, outbox);
-        let why = self.serve(input, outbox);
-        self.keeper.meters.held = self.keeper.meters.held.max(self.assembler.held());
-        self.keeper.meters.rows = self
-            .keeper
+        let why = self.serve(&input, outbox);
+        self.authenticator.meters.held = self.authenticator.meters.held.max(self.assembler.held());
+        self.authenticator.meters.rows = self
+            .authenticator
             .meters
             .rows
-            .max(self.keeper.core.credentials() as u16);
-        self.keeper.meters.pending = self
-            .keeper
+            .max(self.authenticator.core.credentials() as u16);
+        self.authenticator.meters.pending = self
+            .authenticator
             .meters
             .pending
-            .max(self.keeper.core.pending() as u16);
+            .max(self.authenticator.core.pending() as u16);
         Causes { time, input: why }
     }
 
-    /// Returns whether this input at `at` would be noise: when time has passed to `at`, it would change nothing more.
-    /// Noise is a CANCEL for which no work waits; a packet on a channel that was never given out, except for an INIT on
-    /// the broadcast channel; a packet that begins a message, except for INIT and CANCEL, while another channel has an
-    /// open message or any has work; a continuation packet with no message open on its channel; and a reply of the
-    /// caller that isn't needed. A tick isn't. The session stays as it is.
+    /// Returns whether this input at time `at` would be noise: once time has passed to `at`, it would change nothing.
+    /// Noise is a CANCEL without a pending request; a packet on a channel that was never allocated, except INIT on the
+    /// broadcast channel; an initialization packet, except INIT and CANCEL, while another channel has an open message
+    /// or any channel has a pending request; a continuation packet without an open message on its channel; and a reply
+    /// of the caller that isn't needed. A tick never is. The session stays as it is.
     pub fn noise(&self, at: u64, input: &Input) -> bool
         ensures state { result ≡ is_noise_at self.now.machine (record { at = at; input = input.now }) }
-        // It is noise after each history that the session is after.
+        // The input is noise after each history that leads to the session's state.
         ensures history { (start : Start) (h : List OneInput) → StandsAfter self.now start h → result
-            ≡ is_noise_after start (judged_after start h (record { at = at; input = input.now })) (judged start h) }
+            ≡ is_noise_after start (received_after start h (record { at = at; input = input.now })) (received start h) }
     {
         let now = self.latest.max(at);
-        is_noise(&self.assembler, &self.keeper.core, now, input)
+        is_noise(&self.assembler, &self.authenticator.core, now, input)
     }
 
-    /// Returns how many data bytes are held of the open message, at most 7550.
+    /// Returns the number of data bytes received of the open message, at most 7550.
     pub fn held(&self) -> u16
         ensures bytes { result ≡ held_bytes self.now.machine.current }
         ensures limit { result ≤ LONGEST_HELD }
         ensures named { (start : Start) (h : List OneInput) → StandsAfter self.now start h
-            → result ≡ held start (judged start h) }
+            → result ≡ held start (received start h) }
     {
         self.assembler.held()
     }
 
-    /// Returns what the authenticator needs of its caller before its work goes on, with the exact bytes to sign, at
-    /// most 196.
+    /// Returns what the authenticator needs from its caller, with the exact bytes to sign, at most 196.
     pub fn need(&self) -> Need<'_>
-        ensures value { needed result ≡ needs self.now.machine.core.state.work }
-        ensures sized { IsNeed (needed result) }
+        ensures value { needed_reply result ≡ needs self.now.machine.core.state.work }
+        ensures sized { IsNeed (needed_reply result) }
     {
-        self.keeper.core.need()
+        self.authenticator.core.need()
     }
 
     /// Returns the number of credentials, at most `C`.
@@ -233,7 +233,7 @@ impl<const C: usize> Session<C> {
         ensures value { result ≡ length self.now.machine.core.state.rows }
         ensures limit { result ≤ C }
     {
-        self.keeper.core.credentials()
+        self.authenticator.core.credentials()
     }
 
     /// Returns the number of pending assertions, at most `C`.
@@ -241,26 +241,26 @@ impl<const C: usize> Session<C> {
         ensures value { result ≡ pending_count self.now.machine.core.state.pending }
         ensures limit { result ≤ C }
     {
-        self.keeper.core.pending()
+        self.authenticator.core.pending()
     }
 
     /// Returns the credentials.
     pub fn table(&self) -> &Store<C>
         ensures { ⟦<Store<C> as Table<C>>⟧.rows result.now ≡ self.now.machine.core.state.rows }
     {
-        self.keeper.core.table()
+        self.authenticator.core.table()
     }
 
-    /// Returns what the session has held and served. Reading its requests took at most four steps for each byte after a
-    /// command byte, and two for each request.
+    /// Returns the session's meters. Parsing its requests took at most four steps for each byte after a command byte,
+    /// and two for each request.
     pub fn meters(&self) -> Meters
         ensures value { result ≡ self.now.meters }
         ensures bounded { AreBounded result }
     {
-        self.keeper.meters
+        self.authenticator.meters
     }
 
-    /// Lets time pass to `at`: a message may be dropped, or a KEEPALIVE sent.
+    /// Advances the time to `at`: a message may time out, or a KEEPALIVE be sent.
     #[tactic(auto, using(hid_packet::proofs::Carrying::few_written))]
     fn pass_time(&mut self, at: u64, outbox: &mut Outbox) -> Option<Refusal>
         requires sent { outbox.old ≡ [] }
@@ -277,11 +277,11 @@ impl<const C: usize> Session<C> {
             outbox.put_message(cid, ERROR, &[why.code()]);
             return Some(why);
         }
-        let Some(work) = self.keeper.core.work() else {
+        let Some(work) = self.authenticator.core.work() else {
             return None;
         };
-        if at.saturating_sub(self.keeper.keepalive_at) >= KEEPALIVE_PERIOD {
-            self.keeper.keepalive_at = at;
+        if at.saturating_sub(self.authenticator.keepalive_at) >= KEEPALIVE_PERIOD {
+            self.authenticator.keepalive_at = at;
             outbox.put_message(work.cid, KEEPALIVE, &[work.status.number()]);
             None
         } else {
@@ -289,53 +289,66 @@ impl<const C: usize> Session<C> {
         }
     }
 
-    /// Serves an input after the packets of time.
-    #[tactic(auto, using(hid_packet::proofs::Carrying::few_written))]
-    fn serve(&mut self, input: Input, outbox: &mut Outbox) -> Option<Cause>
+    /// Processes an input after the packets due by time.
+    fn serve(&mut self, input: &Input, outbox: &mut Outbox) -> Option<Cause>
         requires { length outbox.old ≤ 1 }
-        ensures state { self.new.machine ≡ (served self.old.machine outbox.old input).state }
+        ensures state { self.new.machine ≡ (served self.old.machine outbox.old input.now).state }
         ensures meters { self.new.meters
-            ≡ counted self.old.meters (request_in (served self.old.machine outbox.old input).event) }
-        ensures packets { outbox.new ≡ (served self.old.machine outbox.old input).packets }
-        ensures why { result ≡ served_cause self.old.machine input }
+            ≡ counted self.old.meters (request_in (served self.old.machine outbox.old input.now).event) }
+        ensures packets { outbox.new ≡ (served self.old.machine outbox.old input.now).packets }
+        ensures why { result ≡ served_cause self.old.machine input.now }
     {
         let now = self.latest;
         match input {
             Input::Tick => None,
-            Input::Presence(reply) => self.keeper.take(now, &Event::Presence(reply), outbox),
-            Input::Key(key) => self.keeper.take(now, &Event::Key(&key), outbox),
+            Input::Packet(packet) => self.serve_packet(packet, outbox),
+            Input::Presence(reply) => self
+                .authenticator
+                .take(now, &Event::Presence(*reply), outbox),
+            Input::Key(key) => self.authenticator.take(now, &Event::Key(key), outbox),
             Input::Signature(signature) => self
-                .keeper
-                .take(now, &Event::Signature(&signature), outbox),
-            Input::Packet(packet) => {
-                let working = self.keeper.core.work().map(|work| work.cid);
-                match self.assembler.accept(now, &packet, working) {
-                    Verdict::Ignored | Verdict::Kept => None,
-                    Verdict::Refuse { cid, why } => {
-                        outbox.put_message(cid, ERROR, &[why.code()]);
-                        Some(Cause::Transport(why))
-                    }
-                    Verdict::Greet { on, channel, nonce } => {
-                        greet(outbox, on, channel, &nonce);
-                        None
-                    }
-                    Verdict::GreetAndDrop { on, channel, nonce } => {
-                        greet(outbox, on, channel, &nonce);
-                        self.keeper.take(now, &Event::Drop, outbox)
-                    }
-                    Verdict::CancelWork => self.keeper.take(now, &Event::Cancel, outbox),
-                    Verdict::Finished { cid, cmd } => {
-                        let message = self.assembler.message();
-                        if cmd == PING {
-                            outbox.put_message(cid, PING, message);
-                            None
-                        } else if cmd == CBOR {
-                            self.keeper
-                                .take(now, &Event::Request { cid, message }, outbox)
-                        } else {
-                            None
-                        }
-                    }
+                .authenticator
+                .take(now, &Event::Signature(signature), outbox),
+        }
+    }
+
+    /// Processes a packet after the packets due by time.
+    #[tactic(auto, using(hid_packet::proofs::Carrying::few_written))]
+    fn serve_packet(&mut self, packet: &Packet, outbox: &mut Outbox) -> Option<Cause>
+        requires { length outbox.old ≤ 1 }
+        ensures state { self.new.machine ≡ (served self.old.machine outbox.old (inputs.Packet packet.now)).state }
+        ensures meters { self.new.meters
+            ≡ counted self.old.meters (request_in (served self.old.machine outbox.old (inputs.Packet packet.now)).event) }
+        ensures packets { outbox.new ≡ (served self.old.machine outbox.old (inputs.Packet packet.now)).packets }
+        ensures why { result ≡ served_cause self.old.machine (inputs.Packet packet.now) }
+    {
+        let now = self.latest;
+        let working = self.authenticator.core.work().map(|work| work.cid);
+        match self.assembler.accept(now, packet, working) {
+            Verdict::Ignored | Verdict::Kept => None,
+            Verdict::Refuse { cid, why } => {
+                outbox.put_message(cid, ERROR, &[why.code()]);
+                Some(Cause::Transport(why))
+            }
+            Verdict::Greet { on, channel, nonce } => {
+                send_init_response(outbox, on, channel, &nonce);
+                None
+            }
+            Verdict::GreetAndDrop { on, channel, nonce } => {
+                send_init_response(outbox, on, channel, &nonce);
+                self.authenticator.take(now, &Event::Drop, outbox)
+            }
+            Verdict::CancelWork => self.authenticator.take(now, &Event::Cancel, outbox),
+            Verdict::Finished { cid, cmd } => {
+                let message = self.assembler.message();
+                if cmd == PING {
+                    outbox.put_message(cid, PING, message);
+                    None
+                } else if cmd == CBOR {
+                    self.authenticator
+                        .take(now, &Event::Request { cid, message }, outbox)
+                } else {
+                    None
                 }
             }
         }

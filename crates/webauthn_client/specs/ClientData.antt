@@ -1,16 +1,17 @@
--- What clientDataJSON is (WebAuthn Level 3, section 5.8.1.1), for a top-level page, whose origin has no letter to escape.
+-- The bytes of clientDataJSON (WebAuthn Level 3, section 5.8.1.1), for a top-level page whose origin needs no
+-- escaping in JSON.
 use Rattle.std.specs.Prelude.{ℕ, List, ◌++◌, codes}
 use Rattle.base64.specs.GeneralPurpose.{encode_of}
 use Rattle.base64.specs.Engines.{url_safe_no_pad}
 use Rattle.webauthn_client.specs.declared.client_data.Ceremony.{Ceremony}
 use Rattle.webauthn_client.specs.declared.client_data.Ceremony.TheVariants.{Create, Get}
 
--- a ceremony's type
+-- The beginning of the client data, with its `type`, up to the challenge.
 abbrev pub kind_text : Ceremony → List ℕ
 kind_text Create = codes "{\"type\":\"webauthn.create\",\"challenge\":\""
 kind_text Get = codes "{\"type\":\"webauthn.get\",\"challenge\":\""
 
--- the bytes
+-- The client data JSON (WebAuthn Level 3, section 5.8.1.1).
 abbrev pub client_data : Ceremony → List ℕ → List ℕ → List ℕ
 client_data ceremony challenge origin =
     kind_text ceremony ++ encode_of url_safe_no_pad challenge ++ codes "\",\"origin\":\"" ++ origin ++ codes "\",\"crossOrigin\":false}"

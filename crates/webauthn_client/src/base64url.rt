@@ -11,10 +11,10 @@ use crate::text::{Text, push};
 use arrayvec::ArrayVec;
 use base64::engine::general_purpose::URL_SAFE_NO_PAD;
 
-/// How many letters are written at once.
+/// Number of characters written at a time.
 const LETTERS: usize = 12288;
 
-/// Returns the six bits of a letter.
+/// Returns the six bits of a base64url character.
 fn six_of(letter: u8) -> Option<u8>
     ensures { ForSome result (λ v. v < 64) }
 {
@@ -28,7 +28,7 @@ fn six_of(letter: u8) -> Option<u8>
     }
 }
 
-/// Returns the error of a text that isn't base64url.
+/// Returns the error for invalid base64url.
 fn refused(member: &'static str) -> Rejection
     ensures error { result.error ≡ Encoding }
     ensures member { result.member.now ≡ member.now }
@@ -40,7 +40,7 @@ fn refused(member: &'static str) -> Rejection
     }
 }
 
-/// Returns the bytes that a text says. Bits at its end that make no byte are dropped, as browsers do.
+/// Decodes base64url. Surplus bits at the end are ignored, as in browsers.
 pub fn decode(text: &[u8], member: &'static str) -> Result<Text, Rejection> {
     if text.len() % 4 == 1 {
         return Err(refused(member));
@@ -62,7 +62,7 @@ pub fn decode(text: &[u8], member: &'static str) -> Result<Text, Rejection> {
     Ok(bytes)
 }
 
-/// Appends bytes as text. Where there is no capacity it appends nothing, and fails.
+/// Appends the base64url encoding of bytes. Fails, and appends nothing, if the capacity is too small.
 pub fn encode<const N: usize>(bytes: &[u8], out: &mut ArrayVec<u8, N>) -> Result<(), ()>
     ensures { OnOk result (out.new.items ≡ out.old.items ++ encode_of url_safe_no_pad bytes.now) }
 {

@@ -1,11 +1,11 @@
-//! Whether bytes are one value of JSON (RFC 8259), in one pass, with the open brackets kept as bits.
+//! Validates JSON (RFC 8259) in one pass. The open brackets are kept as bits.
 
 use std::str::from_utf8;
 
-/// How many levels of arrays and objects are read.
+/// Maximum nesting of arrays and objects.
 const LEVELS: u8 = 64;
 
-/// Where a number is.
+/// The state within a number.
 #[derive(Clone, Copy)]
 enum Digits {
     Minus,
@@ -18,7 +18,7 @@ enum Digits {
     Exponent,
 }
 
-/// What may come next.
+/// The tokens that are allowed next.
 #[derive(Clone, Copy)]
 enum At {
     Value,
@@ -34,7 +34,7 @@ enum At {
     Number(Digits),
 }
 
-/// A check on its way: the open brackets are bits, an object's 1, the innermost lowest.
+/// The state of the validation. Open brackets are bits, 1 for an object, the innermost lowest.
 #[derive(Clone, Copy)]
 struct Checker {
     at: At,
@@ -51,7 +51,7 @@ impl Checker {
         self.levels > 0 && self.open % 2 == 1
     }
 
-    /// Opens an array or an object.
+    /// Handles an opening bracket.
     fn begin(self, is_object: bool) -> Option<Checker> {
         if self.levels >= LEVELS {
             return None;
@@ -68,7 +68,7 @@ impl Checker {
         })
     }
 
-    /// Closes an array or an object.
+    /// Handles a closing bracket.
     fn close(self, is_object: bool) -> Option<Checker> {
         if self.levels == 0 || self.is_in_object() != is_object {
             return None;
@@ -80,7 +80,7 @@ impl Checker {
         })
     }
 
-    /// Takes the first byte of a value.
+    /// Handles the first byte of a value.
     fn value(self, byte: u8) -> Option<Checker> {
         match byte {
             b'"' => self.go(At::Text(false)),
@@ -96,7 +96,7 @@ impl Checker {
         }
     }
 
-    /// Takes a byte after a value.
+    /// Handles a byte after a value.
     fn after(self, byte: u8) -> Option<Checker> {
         match byte {
             b' ' | b'\t' | b'\n' | b'\r' => self.go(At::Next),
@@ -116,7 +116,7 @@ impl Checker {
         }
     }
 
-    /// Takes a byte of a string, which may be a key.
+    /// Handles a byte of a string or key.
     fn text(self, is_key: bool, byte: u8) -> Option<Checker> {
         match byte {
             b'"' => self.go(if is_key { At::Colon } else { At::Next }),
@@ -126,7 +126,7 @@ impl Checker {
         }
     }
 
-    /// Takes the byte behind a backslash.
+    /// Handles the byte after a backslash.
     fn escape(self, is_key: bool, byte: u8) -> Option<Checker> {
         match byte {
             b'"' | b'\\' | b'/' | b'b' | b'f' | b'n' | b'r' | b't' => self.go(At::Text(is_key)),
@@ -135,7 +135,7 @@ impl Checker {
         }
     }
 
-    /// Takes a hexadecimal digit, after which so many come.
+    /// Handles a hexadecimal digit of a `\u` escape; `left` more digits follow.
     fn hex(self, is_key: bool, left: u8, byte: u8) -> Option<Checker> {
         if !byte.is_ascii_hexdigit() {
             return None;
@@ -146,7 +146,7 @@ impl Checker {
         self.go(At::Hex(is_key, left - 1))
     }
 
-    /// Takes a letter of a word.
+    /// Handles a letter of `true`, `false` or `null`.
     fn word(self, rest: &'static [u8], byte: u8) -> Option<Checker> {
         let (first, rest) = rest.split_first()?;
         if *first != byte {
@@ -159,7 +159,7 @@ impl Checker {
         })
     }
 
-    /// Takes a byte in or after a number.
+    /// Handles a byte in or after a number.
     fn number(self, digits: Digits, byte: u8) -> Option<Checker> {
         let next = match (digits, byte) {
             (Digits::Minus, b'0') => Digits::Zero,
@@ -180,7 +180,7 @@ impl Checker {
         self.go(At::Number(next))
     }
 
-    /// Takes a byte.
+    /// Handles a byte.
     fn step(self, byte: u8) -> Option<Checker> {
         let is_space = matches!(byte, b' ' | b'\t' | b'\n' | b'\r');
         match self.at {
@@ -199,7 +199,7 @@ impl Checker {
         }
     }
 
-    /// Takes the first byte of a key or a value, or a colon.
+    /// Handles the first byte of a key or value, or a colon.
     fn begins(self, byte: u8) -> Option<Checker> {
         match (self.at, byte) {
             (At::Colon, b':') => self.go(At::Value),
@@ -212,7 +212,7 @@ impl Checker {
         }
     }
 
-    /// Returns whether the text may end here.
+    /// Returns whether the input may end here.
     fn is_done(self) -> bool {
         self.levels == 0
             && match self.at {
@@ -231,7 +231,7 @@ fn ends(digits: Digits) -> bool {
     )
 }
 
-/// Returns whether bytes are a value of JSON in UTF-8, with at most 64 levels.
+/// Returns whether bytes are one JSON value in UTF-8, with at most 64 levels of nesting.
 pub fn is_json(text: &[u8]) -> bool {
     if from_utf8(text).is_err() {
         return false;

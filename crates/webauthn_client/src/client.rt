@@ -1,5 +1,5 @@
-//! A call of navigator.credentials: it begins with options, writes a request, takes the key's answer, and ends with a
-//! response or an error.
+//! A call of `navigator.credentials`: parses the options, encodes the CTAP2 request, and builds the page's response or
+//! error from the authenticator's response.
 
 ghost use Rattle.std.specs.Prelude.{◌≡◌, ◌≢◌, ◌∷◌, ℕ, List, OnOk, IfOk, IsTrue};
 ghost use Rattle.ctap_cbor.specs.Tree.{Tree};
@@ -19,7 +19,7 @@ use crate::response::{Response, authentication_json, registration_json, unreadab
 use crate::{registration, sign_in};
 use ctap_cbor::check;
 
-/// A call of navigator.credentials on its way. It lends the page's options and origin; it keeps nothing else.
+/// A pending call of `navigator.credentials`. Borrows the page's options and origin, and keeps nothing else.
 #[derive(Clone, Copy)]
 pub struct Client<'a> {
     ceremony: Ceremony,
@@ -28,14 +28,14 @@ pub struct Client<'a> {
     suffix: &'a [u8],
     abilities: Abilities,
     is_conditional: bool,
-    /// The time-out of the options in milliseconds; of a conditional call, which has none, the browser's own.
+    /// The time-out in the options, in milliseconds; for conditional mediation, which has none, the browser's default.
     pub timeout: u32,
 }
 
-/// The time-out of a call whose options have none, in milliseconds.
+/// The default time-out, in milliseconds.
 const TIMEOUT: u32 = 600_000;
 
-/// Returns what a page sees of a status.
+/// Returns the error that the page gets for a CTAP status code.
 fn rejection_of(status: u8) -> Rejection
     ensures excluded { status ≡ 25 → result.error ≡ InvalidState }
     ensures others { status ≢ 25 → result.error ≡ NotAllowed }
@@ -51,7 +51,7 @@ fn rejection_of(status: u8) -> Rejection
 }
 
 impl<'a> Client<'a> {
-    /// Begins a call with options of JSON at an origin. Refuses options of wrong types.
+    /// Begins a call with JSON options at an origin. Fails if an option has the wrong type.
     pub fn begin(
         ceremony: Ceremony,
         options: &'a [u8],
@@ -67,7 +67,7 @@ impl<'a> Client<'a> {
         let trimmed = options.trim_ascii();
         let options = public_key(trimmed)?;
         let Some(origin) = parse_origin(origin) else {
-            return Err(type_error("origin", "it is no origin, such as https://example.com"));
+            return Err(type_error("origin", "it is not an origin, such as https://example.com"));
         };
         match ceremony {
             Ceremony::Create => registration::check_types(options)?,
@@ -88,7 +88,7 @@ impl<'a> Client<'a> {
         })
     }
 
-    /// Appends the first message for the key. Refuses what browsers refuse of the options' values.
+    /// Appends the CTAP2 request. Fails if browsers would reject the options' values.
     pub fn request(&self, message: &mut Message) -> Result<(), Rejection> {
         match self.ceremony {
             Ceremony::Create => registration::request_of(
@@ -107,15 +107,15 @@ impl<'a> Client<'a> {
             )?,
         }
         if self.is_conditional && self.ceremony == Ceremony::Create {
-            return Err(not_allowed("the browser makes no credentials without a dialog"));
+            return Err(not_allowed("cannot create a credential with silent mediation"));
         }
         if self.timeout == 0 {
-            return Err(not_allowed("the timeout of the options is 0"));
+            return Err(not_allowed("the request's timeout is 0"));
         }
         Ok(())
     }
 
-    /// Returns whether the response claims user verification.
+    /// Returns whether the response's UV flag is set.
     pub fn is_verified(&self) -> Result<bool, Rejection>
         ensures { IfOk result (λ v. IsTrue v → self.now.abilities.verification ≡ Verified) }
     {
@@ -125,7 +125,7 @@ impl<'a> Client<'a> {
         }
     }
 
-    /// Returns the call's client data.
+    /// Returns the client data of the call.
     pub fn client_data(&self) -> Result<ClientData, Rejection> {
         match self.ceremony {
             Ceremony::Create => registration::client_data_of(self.options, &self.origin),
@@ -133,7 +133,7 @@ impl<'a> Client<'a> {
         }
     }
 
-    /// Appends the response that the map of the key's answer makes, which is one canonical item.
+    /// Appends the page's response for the authenticator's response map, one canonical item.
     fn response(&self, map: &[u8], out: &mut Response) -> Result<(), Rejection>
         ensures { OnOk result ((t : Tree) × IsCanonical t map.now) }
     {
@@ -151,7 +151,8 @@ impl<'a> Client<'a> {
         }
     }
 
-    /// Takes the key's answer, or that of the account which signs in, if there are several. Appends the response as JSON.
+    /// Appends the page's response as JSON, from the authenticator's response, or from that for the selected account if
+    /// there are several.
     pub fn answer(&self, answer: &[u8], out: &mut Response) -> Result<(), Rejection>
         ensures { OnOk result ((map : List ℕ) × (answer.now ≡ 0 ∷ map) × ((t : Tree) × IsCanonical t map)) }
     {

@@ -8,7 +8,7 @@ use crate::rejection::{Rejection, too_long};
 use crate::relying_party::Origin;
 use arrayvec::ArrayVec;
 
-/// What a page asks for.
+/// The call of the page: it creates a credential, or gets an assertion.
 #[derive(Clone, Copy, Debug, PartialEq, Eq)]
 pub enum Ceremony {
     Create,

@@ -1,4 +1,5 @@
-//! Extensions of clients: the key has none, so they are refused, ignored or answered as not supported, as in Chromium.
+//! Client extensions. The authenticator supports none, so they are rejected, ignored, or answered as unsupported, as in
+//! Chromium.
 
 ghost use Rattle.std.specs.Prelude.{◌≡◌};
 ghost use Rattle.webauthn_client.specs.declared.rejection.DomError.TheVariants.{NotSupported};
@@ -10,7 +11,7 @@ use crate::rejection::{DomError, Rejection, not_allowed, type_error};
 use crate::relying_party::{Origin, check_site};
 use crate::text::{is_word, text_of};
 
-/// Returns an extension, of extensions that are there.
+/// Returns an extension by its name.
 pub fn extension<'a>(extensions: Option<&'a [u8]>, name: &str) -> Option<&'a [u8]> {
     member(extensions?, name)
 }
@@ -20,12 +21,12 @@ pub fn inner<'a>(extensions: Option<&'a [u8]>, name: &str, inner: &str) -> Optio
     member(member(extensions?, name)?, inner)
 }
 
-/// Returns whether an extension is there, and true.
+/// Returns whether an extension's input is `true`.
 pub fn is_on(extensions: Option<&[u8]>, name: &str) -> bool {
     boolean(extension(extensions, name).unwrap_or(b"false"))
 }
 
-/// Returns the error of an extension in the wrong call, or with an input that browsers refuse.
+/// Returns the error for an extension that this call doesn't allow, or whose input is invalid.
 fn unsupported(member: &'static str, reason: &'static str) -> Rejection
     ensures error { result.error ≡ NotSupported }
     ensures member { result.member.now ≡ member.now }
@@ -37,14 +38,14 @@ fn unsupported(member: &'static str, reason: &'static str) -> Rejection
     }
 }
 
-/// Refuses inputs of prf whose types are wrong.
+/// Checks the types of the `prf` inputs.
 fn check_prf_values(value: &[u8]) -> Result<(), Rejection> {
     dictionary(value, "AuthenticationExtensionsPRFValuesJSON")?;
     required(value, "first")?;
     Ok(())
 }
 
-/// Refuses inputs by credential whose types are wrong.
+/// Checks the types of the `evalByCredential` inputs.
 fn check_by_credential(record: Option<&[u8]>) -> Result<(), Rejection> {
     let Some(record) = record else {
         return Ok(());
@@ -69,7 +70,7 @@ fn check_by_credential(record: Option<&[u8]>) -> Result<(), Rejection> {
     Ok(())
 }
 
-/// Refuses extensions whose types are wrong.
+/// Checks the types of the extension inputs.
 pub fn check_extension_types(extensions: Option<&[u8]>) -> Result<(), Rejection> {
     optional_dictionary(extensions, "extensions")?;
     optional_dictionary(extension(extensions, "largeBlob"), "largeBlob")?;
@@ -80,7 +81,7 @@ pub fn check_extension_types(extensions: Option<&[u8]>) -> Result<(), Rejection>
     check_by_credential(inner(extensions, "prf", "evalByCredential"))
 }
 
-/// Refuses inputs of prf that are no base64url.
+/// Checks that the `prf` inputs are base64url.
 fn check_prf_bytes(value: &[u8]) -> Result<(), Rejection> {
     bytes_of(required(value, "first")?, "extensions.prf.first")?;
     if let Some(second) = member(value, "second") {
@@ -89,7 +90,7 @@ fn check_prf_bytes(value: &[u8]) -> Result<(), Rejection> {
     Ok(())
 }
 
-/// Refuses extensions with texts that are no base64url.
+/// Checks that the extensions' binary inputs are base64url.
 pub fn check_extension_bytes(extensions: Option<&[u8]>) -> Result<(), Rejection> {
     if let Some(blob) = extension(extensions, "credBlob") {
         bytes_of(blob, "extensions.credBlob")?;
@@ -115,7 +116,7 @@ pub fn check_extension_bytes(extensions: Option<&[u8]>) -> Result<(), Rejection>
     Ok(())
 }
 
-/// Refuses a policy of credential protection that browsers refuse.
+/// Checks the credential protection policy.
 fn check_protection(
     extensions: Option<&[u8]>,
     verification: Option<&[u8]>,
@@ -138,12 +139,12 @@ fn check_protection(
         ));
     }
     if is_on(extensions, "enforceCredentialProtectionPolicy") && !is_optional {
-        return Err(not_allowed("the key has no credential protection, and it is enforced"));
+        return Err(not_allowed("credProtect is enforced, but the key does not support it"));
     }
     Ok(())
 }
 
-/// Refuses a URL of another site than the page's.
+/// Checks that an `appid` URL has the page's site.
 fn check_app_id(value: Option<&[u8]>, origin: &Origin) -> Result<(), Rejection> {
     let Some(value) = value else {
         return Ok(());
@@ -184,12 +185,12 @@ pub fn check_creation(
         inner(extensions, "largeBlob", "support").unwrap_or(b"null"),
         "required",
     ) {
-        return Err(not_allowed("the key has no large blobs, and they are required"));
+        return Err(not_allowed("largeBlob is required, but the key does not support it"));
     }
     Ok(())
 }
 
-/// Returns whether a text is there and not empty.
+/// Returns whether a string is present and not empty.
 fn is_text_there(value: Option<&[u8]>) -> bool {
     match value {
         Some(value) => !is_word(value, ""),
@@ -197,7 +198,7 @@ fn is_text_there(value: Option<&[u8]>) -> bool {
     }
 }
 
-/// Returns whether a record has members, and whether each of their names is base64url.
+/// Returns whether a record has members, and whether all their names are base64url.
 fn by_credential(record: &[u8]) -> (bool, bool) {
     let mut rest = inside(record);
     let mut has_any = false;

@@ -1,10 +1,10 @@
-//! JSON in place. A value is the bytes of its text, within a text that `is_json` accepted.
+//! Reads JSON in place. A value is a slice of a text that `is_json` accepted.
 
 ghost use Rattle.std.specs.Prelude.{◌≡◌, ◌≤◌, ◌<◌, length};
 
 use crate::text::is_named;
 
-/// What kind of value a text is.
+/// The type of a JSON value.
 #[derive(Clone, Copy, Debug, PartialEq, Eq)]
 pub enum Kind {
     Text,
@@ -16,7 +16,8 @@ pub enum Kind {
     Number,
 }
 
-/// Where a scan is: how many arrays and objects are open, and whether it is in a string, or behind a backslash there.
+/// The state of a scan: the number of open arrays and objects, and whether it is in a string, or after a backslash
+/// there.
 #[derive(Clone, Copy)]
 struct Scan {
     depth: usize,
@@ -24,14 +25,14 @@ struct Scan {
     is_escaped: bool,
 }
 
-/// What a byte makes of a scan.
+/// The result of scanning one byte.
 enum Scanned {
     On(Scan),
     EndsBehind,
     EndsBefore,
 }
 
-/// Returns the kind of a value.
+/// Returns the type of a value.
 pub fn kind_of(value: &[u8]) -> Kind {
     match value.first() {
         Some(b'"') => Kind::Text,
@@ -44,7 +45,7 @@ pub fn kind_of(value: &[u8]) -> Kind {
     }
 }
 
-/// Returns whether a byte stands between values.
+/// Returns whether a byte is white space, a comma or a colon.
 fn is_between(byte: u8) -> bool {
     matches!(byte, b' ' | b'\t' | b'\n' | b'\r' | b',' | b':')
 }
@@ -114,7 +115,7 @@ fn scan_byte(scan: Scan, byte: u8) -> Scanned {
     }
 }
 
-/// Returns how many bytes the value at a text's front has.
+/// Returns the length of the value at the beginning of the text.
 fn value_len(text: &[u8]) -> usize
     ensures { result ≤ length text.now }
 {
@@ -133,7 +134,7 @@ fn value_len(text: &[u8]) -> usize
     text.len()
 }
 
-/// Returns how many bytes of a text's front are between values.
+/// Returns the number of white space bytes, commas and colons at the beginning of the text.
 fn between_len(text: &[u8]) -> usize
     ensures { result ≤ length text.now }
 {
@@ -145,7 +146,7 @@ fn between_len(text: &[u8]) -> usize
     text.len()
 }
 
-/// Returns the value at a text's front, and the text after it; None where an array or an object ends.
+/// Returns the value at the beginning of the text and the rest of the text, or None at the end of an array or object.
 pub fn next_value<'a>(text: &'a [u8]) -> Option<(&'a [u8], &'a [u8])> {
     let text = &text[between_len(text)..];
     let len = value_len(text);
@@ -155,7 +156,7 @@ pub fn next_value<'a>(text: &'a [u8]) -> Option<(&'a [u8], &'a [u8])> {
     Some(text.split_at(len))
 }
 
-/// Returns what is within an array's or an object's brackets, and after them; nothing of another value.
+/// Returns what follows the opening bracket of an array or object; an empty slice for other values.
 pub fn inside(value: &[u8]) -> &[u8] {
     match value.split_first() {
         Some((b'{' | b'[', rest)) => rest,
@@ -163,7 +164,7 @@ pub fn inside(value: &[u8]) -> &[u8] {
     }
 }
 
-/// Returns the member of an object by its name: the last, where there are several; None of another value.
+/// Returns the member of an object by name, the last if there are several. None for other values.
 pub fn member<'a>(object: &'a [u8], name: &str) -> Option<&'a [u8]> {
     if kind_of(object) != Kind::Object {
         return None;

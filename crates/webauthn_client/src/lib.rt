@@ -1,5 +1,5 @@
-//! A WebAuthn client: options of JSON at an origin in, a CTAP2 message out, the key's answer in, and in the end the
-//! response's JSON or the DOM's error. It has no input or output, no clock and no randomness, and allocates nothing.
+//! A WebAuthn client: converts JSON options and an origin to a CTAP2 request, and the authenticator's response to the
+//! page's JSON response or DOM exception. It has no I/O, clock or randomness, and allocates nothing.
 #![tactic(auto)]
 
 mod base64url;

@@ -1,4 +1,4 @@
-//! Messages to the authenticator, in canonical CBOR.
+//! Encodes CTAP2 requests in canonical CBOR.
 
 ghost use Rattle.std.specs.Prelude.{◌≡◌, ◌<◌, ◌≤◌, ◌-◌, ◌++◌, OnOk, length};
 ghost use Rattle.ctap_cbor.specs.Head.{head};
@@ -7,7 +7,7 @@ use crate::rejection::{Rejection, too_long};
 use arrayvec::ArrayVec;
 use ctap_cbor::head_into;
 
-/// A message of CTAPHID_CBOR: a command's byte and its parameters.
+/// The data of a CTAPHID_CBOR message: a command byte and its parameters.
 pub type Message = ArrayVec<u8, 7609>;
 
 /// Appends bytes.
@@ -38,7 +38,7 @@ pub fn put_bytes(message: &mut Message, bytes: &[u8]) -> Result<(), Rejection>
     put(message, bytes)
 }
 
-/// Appends a text.
+/// Appends a text string.
 pub fn put_text(message: &mut Message, text: &[u8]) -> Result<(), Rejection>
     ensures { OnOk result (message.new.items ≡ (message.old.items ++ head 3 (length text.now)) ++ text.now) }
 {
@@ -46,7 +46,7 @@ pub fn put_text(message: &mut Message, text: &[u8]) -> Result<(), Rejection>
     put(message, text)
 }
 
-/// Appends an integer of 32 bits with its sign, as it is in two's complement.
+/// Appends a signed 32-bit integer.
 pub fn put_long(message: &mut Message, long: u32) -> Result<(), Rejection>
     ensures positive { OnOk result (long < 2147483648 → message.new.items ≡ message.old.items ++ head 0 long) }
     ensures negative { OnOk result (2147483648 ≤ long → message.new.items ≡ message.old.items ++ head 1 (4294967295 - long)) }

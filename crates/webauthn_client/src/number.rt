@@ -1,12 +1,12 @@
-//! WebIDL's numbers of 32 bits, of values of JSON. The texts of numbers are read as decimal numbers without an exponent;
-//! another text is no number, and so 0.
+//! Conversion of JSON values to WebIDL's 32-bit numbers. Strings are parsed as decimal numbers without an exponent; any
+//! other string converts to 0.
 
 ghost use Rattle.std.specs.Prelude.{◌≤◌, length};
 
 use crate::json::{Kind, inside, kind_of, next_value};
 use crate::text::text_of;
 
-/// Returns the whole part of a decimal number modulo 2^32, and 0 of another text.
+/// Returns the integer part of a decimal number modulo 2^32, or 0 for other strings.
 fn decimal(text: &[u8]) -> u32 {
     let (is_negative, digits) = match text.split_first() {
         Some((b'-', rest)) => (true, rest),
@@ -35,7 +35,7 @@ fn decimal(text: &[u8]) -> u32 {
     }
 }
 
-/// Returns a value as an unsigned long.
+/// Converts a value to an unsigned long.
 pub fn unsigned_long(value: &[u8]) -> u32 {
     match kind_of(value) {
         Kind::True => 1,
@@ -47,7 +47,7 @@ pub fn unsigned_long(value: &[u8]) -> u32 {
     }
 }
 
-/// Returns whether ECMAScript takes a value as true.
+/// Returns whether a value is truthy in ECMAScript.
 pub fn boolean(value: &[u8]) -> bool {
     match kind_of(value) {
         Kind::False | Kind::Null => false,
@@ -57,7 +57,7 @@ pub fn boolean(value: &[u8]) -> bool {
     }
 }
 
-/// Returns how many items an array has.
+/// Returns the number of items of an array.
 pub fn count(array: &[u8]) -> usize
     ensures { result ≤ length array.now }
 {

@@ -1,5 +1,5 @@
-//! The options of navigator.credentials.create and get as JSON, as Chromium reads them: what has to be there, of which
-//! type, in WebIDL's order.
+//! Parses the JSON options of `navigator.credentials.create` and `get` as Chromium does: required members and types, in
+//! WebIDL's order.
 
 ghost use Rattle.std.specs.Prelude.{◌≡◌, IfOk, IsTrue};
 ghost use Rattle.webauthn_client.specs.declared.options.Verification.TheVariants.{Verified};
@@ -11,7 +11,7 @@ use crate::number::count;
 use crate::rejection::{DomError, Rejection, not_allowed, type_error};
 use crate::text::{Text, is_word, text_of};
 
-/// What comes of asking for the user's verification.
+/// The outcome of the user verification requirement.
 #[derive(Clone, Copy, Debug, PartialEq, Eq)]
 pub enum Verification {
     None,
@@ -19,7 +19,7 @@ pub enum Verification {
     Failed,
 }
 
-/// What the authenticator can do.
+/// The authenticator's capabilities.
 #[derive(Clone, Copy)]
 pub struct Abilities {
     pub verification: Verification,
@@ -28,16 +28,16 @@ pub struct Abilities {
 }
 
 impl Abilities {
-    /// Returns how the browser reaches the authenticator.
+    /// Returns the authenticator's transport.
     pub fn transport(self) -> &'static str {
         if self.is_platform { "internal" } else { "usb" }
     }
 }
 
-/// How many credentials a list has at most.
+/// Maximum number of credentials in a list.
 const LIST: usize = 64;
 
-/// Refuses a value that is no dictionary. An array is one without members.
+/// Checks that a value is a dictionary. An array counts as one without members.
 pub fn dictionary(value: &[u8], name: &'static str) -> Result<(), Rejection> {
     match kind_of(value) {
         Kind::Object | Kind::Array => Ok(()),
@@ -45,7 +45,7 @@ pub fn dictionary(value: &[u8], name: &'static str) -> Result<(), Rejection> {
     }
 }
 
-/// Refuses a value that is no dictionary whose members are all optional, which null is too.
+/// Checks that a value is a dictionary without required members, or null.
 pub fn optional_dictionary(value: Option<&[u8]>, name: &'static str) -> Result<(), Rejection> {
     match value {
         Some(value) if kind_of(value) != Kind::Null => dictionary(value, name),
@@ -53,7 +53,7 @@ pub fn optional_dictionary(value: Option<&[u8]>, name: &'static str) -> Result<(
     }
 }
 
-/// Refuses a value that is no list.
+/// Checks that a value is a list.
 pub fn sequence(value: &[u8], name: &'static str) -> Result<(), Rejection> {
     match kind_of(value) {
         Kind::Array => Ok(()),
@@ -68,7 +68,7 @@ pub fn sequence(value: &[u8], name: &'static str) -> Result<(), Rejection> {
     }
 }
 
-/// Returns a member that has to be there.
+/// Returns a required member.
 pub fn required<'a>(object: &'a [u8], name: &'static str) -> Result<&'a [u8], Rejection> {
     match member(object, name) {
         Some(value) => Ok(value),
@@ -76,7 +76,7 @@ pub fn required<'a>(object: &'a [u8], name: &'static str) -> Result<&'a [u8], Re
     }
 }
 
-/// Refuses a descriptor of a credential without an id or a type, or with transports that are no list.
+/// Checks that a credential descriptor has an ID and a type, and that its transports are a list.
 fn check_descriptor(item: &[u8]) -> Result<(), Rejection> {
     dictionary(item, "PublicKeyCredentialDescriptorJSON")?;
     required(item, "id")?;
@@ -87,7 +87,7 @@ fn check_descriptor(item: &[u8]) -> Result<(), Rejection> {
     Ok(())
 }
 
-/// Refuses a list of credentials whose types are wrong.
+/// Checks the types in a list of credential descriptors.
 pub fn check_descriptors(list: Option<&[u8]>, name: &'static str) -> Result<(), Rejection> {
     let Some(list) = list else {
         return Ok(());
@@ -104,13 +104,13 @@ pub fn check_descriptors(list: Option<&[u8]>, name: &'static str) -> Result<(), 
     Ok(())
 }
 
-/// Returns the bytes of a member in base64url.
+/// Decodes a base64url member.
 pub fn bytes_of(value: &[u8], name: &'static str) -> Result<Text, Rejection> {
     let text = text_of(value)?;
     decode(text.as_slice(), name)
 }
 
-/// Refuses a list of credentials whose ids are no base64url.
+/// Checks that the IDs in a list of credential descriptors are base64url.
 pub fn check_ids(list: Option<&[u8]>, name: &'static str) -> Result<(), Rejection> {
     let list = list.unwrap_or(b"");
     let mut rest = inside(list);
@@ -124,7 +124,7 @@ pub fn check_ids(list: Option<&[u8]>, name: &'static str) -> Result<(), Rejectio
     Ok(())
 }
 
-/// Refuses a list of credentials that is too long.
+/// Checks the length of a list of credential descriptors.
 pub fn check_length(list: Option<&[u8]>, name: &'static str) -> Result<(), Rejection> {
     if count(list.unwrap_or(b"")) > LIST {
         return Err(Rejection {
@@ -136,7 +136,7 @@ pub fn check_length(list: Option<&[u8]>, name: &'static str) -> Result<(), Rejec
     Ok(())
 }
 
-/// Returns whether an item of a list has the type public-key.
+/// Returns whether a list entry has the type `public-key`.
 pub fn is_public_key(item: &[u8]) -> bool {
     match member(item, "type") {
         Some(kind) => is_word(kind, "public-key"),
@@ -144,7 +144,7 @@ pub fn is_public_key(item: &[u8]) -> bool {
     }
 }
 
-/// Returns how many items of a list have the type public-key.
+/// Returns the number of list entries of the type `public-key`.
 pub fn known_count(list: &[u8]) -> u64 {
     let mut known = 0u64;
     let mut rest = inside(list);
@@ -160,7 +160,7 @@ pub fn known_count(list: &[u8]) -> u64 {
     known
 }
 
-/// Appends the ids of a list as CTAP2 lists credentials.
+/// Appends a list of credential descriptors in CTAP2's encoding.
 pub fn put_descriptors(message: &mut Message, list: &[u8]) -> Result<(), Rejection> {
     put_head(message, 4, known_count(list))?;
     let mut rest = inside(list);
@@ -179,7 +179,8 @@ pub fn put_descriptors(message: &mut Message, list: &[u8]) -> Result<(), Rejecti
     Ok(())
 }
 
-/// Returns whether the user is verified. As in Chromium, a registration wants that wherever the key can do it.
+/// Returns whether user verification is requested. As in Chromium, a registration requests it if the authenticator
+/// supports it.
 pub fn is_verified(
     wanted: Option<&[u8]>,
     verification: Verification,
@@ -192,18 +193,18 @@ pub fn is_verified(
         Verification::None => {
             if is_word(wanted, "required") {
                 return Err(not_allowed(
-                    "userVerification is required, and the key verifies no users",
+                    "userVerification is required, and the key has no user verification",
                 ));
             }
             Ok(false)
         }
         _ if !is_registration && is_word(wanted, "discouraged") => Ok(false),
-        Verification::Failed => Err(not_allowed("the user failed the verification")),
+        Verification::Failed => Err(not_allowed("user verification failed")),
         Verification::Verified => Ok(true),
     }
 }
 
-/// Returns the options for a public key: what is given, or its member publicKey.
+/// Returns the public key options: the given ones, or their member `publicKey`.
 pub fn public_key(given: &[u8]) -> Result<&[u8], Rejection> {
     if kind_of(given) != Kind::Object {
         return Err(type_error("publicKey", "the options are no object"));
@@ -218,7 +219,7 @@ pub fn public_key(given: &[u8]) -> Result<&[u8], Rejection> {
     Ok(member(given, "publicKey").unwrap_or(given))
 }
 
-/// Refuses a mediation that is none of the four. Returns whether it is conditional.
+/// Checks that the mediation is one of the four values. Returns whether it is conditional.
 pub fn is_conditional(mediation: &[u8]) -> Result<bool, Rejection> {
     if mediation == b"conditional".as_slice() {
         return Ok(true);

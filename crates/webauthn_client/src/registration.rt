@@ -1,4 +1,4 @@
-//! Registration: what of a page's options goes to the key, as authenticatorMakeCredential (CTAP 2.1, section 6.1).
+//! Registration: converts the page's options to an authenticatorMakeCredential request (CTAP 2.1, section 6.1).
 
 ghost use Rattle.std.specs.Prelude.{◌≡◌, IfOk, IsTrue};
 ghost use Rattle.webauthn_client.specs.declared.options.Verification.TheVariants.{Verified};
@@ -17,7 +17,7 @@ use crate::relying_party::{Origin, rp_id_of};
 use crate::text::{is_word, text_of};
 use sha2::{Digest, Sha256};
 
-/// Refuses parameters of keys whose types are wrong.
+/// Checks the types in `pubKeyCredParams`.
 fn check_parameters(list: &[u8]) -> Result<(), Rejection> {
     sequence(list, "pubKeyCredParams")?;
     let mut rest = inside(list);
@@ -33,7 +33,7 @@ fn check_parameters(list: &[u8]) -> Result<(), Rejection> {
     Ok(())
 }
 
-/// Refuses a user or a relying party whose members are missing.
+/// Checks the required members of `user` and `rp`.
 fn check_entities(options: &[u8]) -> Result<(), Rejection> {
     let rp = required(options, "rp")?;
     dictionary(rp, "PublicKeyCredentialRpEntity")?;
@@ -46,7 +46,7 @@ fn check_entities(options: &[u8]) -> Result<(), Rejection> {
     Ok(())
 }
 
-/// Refuses options whose types are wrong, and texts in them that are no base64url.
+/// Checks the options' types, and that binary members are base64url.
 pub fn check_types(options: &[u8]) -> Result<(), Rejection> {
     dictionary(options, "PublicKeyCredentialCreationOptionsJSON")?;
     optional_dictionary(
@@ -69,12 +69,12 @@ pub fn check_types(options: &[u8]) -> Result<(), Rejection> {
     check_extension_bytes(extensions)
 }
 
-/// Returns a member of authenticatorSelection.
+/// Returns a member of `authenticatorSelection`.
 fn selection<'a>(options: &'a [u8], name: &str) -> Option<&'a [u8]> {
     member(member(options, "authenticatorSelection")?, name)
 }
 
-/// Returns whether a credential is to be discoverable.
+/// Returns whether a discoverable credential is requested.
 pub fn is_discoverable(options: &[u8], abilities: Abilities) -> Result<bool, Rejection> {
     let wanted = selection(options, "residentKey").unwrap_or(b"null");
     let is_known = is_word(wanted, "required")
@@ -87,13 +87,13 @@ pub fn is_discoverable(options: &[u8], abilities: Abilities) -> Result<bool, Rej
         is_asked
     };
     if is_required && !abilities.has_resident_key {
-        return Err(not_allowed("a resident key is required, and the key makes none"));
+        return Err(not_allowed("a resident key is required, but the key does not support it"));
     }
     let is_preferred = is_known && is_word(wanted, "preferred");
     Ok((is_required || is_preferred) && abilities.has_resident_key)
 }
 
-/// Refuses what the authenticator can't do.
+/// Checks that the authenticator has the required capabilities.
 fn check_abilities(options: &[u8], abilities: Abilities) -> Result<(), Rejection> {
     if let Some(wanted) = selection(options, "authenticatorAttachment") {
         if is_word(
@@ -110,7 +110,7 @@ fn check_abilities(options: &[u8], abilities: Abilities) -> Result<(), Rejection
     Ok(())
 }
 
-/// Appends the parameters of the keys that the page takes.
+/// Appends `pubKeyCredParams`.
 fn put_parameters(message: &mut Message, list: &[u8]) -> Result<(), Rejection> {
     if count(list) == 0 {
         return put(
@@ -155,7 +155,7 @@ fn put_entities(message: &mut Message, options: &[u8], rp_id: &[u8]) -> Result<(
     put_text(message, text_of(required(user, "displayName")?)?.as_slice())
 }
 
-/// Refuses what browsers refuse of options whose types are right, before they ask for the relying party.
+/// Checks the options' values, as browsers do before they check the RP ID.
 fn check_values(options: &[u8], origin: &Origin) -> Result<(), Rejection> {
     if bytes_of(required(required(options, "user")?, "id")?, "user.id")?.len() > 64 {
         return Err(type_error("user.id", "User handle exceeds 64 bytes"));
@@ -176,7 +176,7 @@ fn check_values(options: &[u8], origin: &Origin) -> Result<(), Rejection> {
     )
 }
 
-/// Returns whether the user is verified.
+/// Returns whether user verification is requested.
 pub fn verifies(options: &[u8], abilities: Abilities) -> Result<bool, Rejection>
     ensures { IfOk result (λ v. IsTrue v → abilities.verification ≡ Verified) }
 {

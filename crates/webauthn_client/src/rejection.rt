@@ -1,9 +1,9 @@
-//! What a page sees of a failed call.
+//! Errors of a failed call, as the page gets them.
 
 ghost use Rattle.std.specs.Prelude.{◌≡◌};
 ghost use Rattle.webauthn_client.specs.declared.rejection.DomError.TheVariants.{«Type», NotAllowed, Range};
 
-/// The name of a DOM error.
+/// The name of a DOM exception.
 #[derive(Clone, Copy, Debug, PartialEq, Eq)]
 pub enum DomError {
     Type,
@@ -17,7 +17,7 @@ pub enum DomError {
 }
 
 impl DomError {
-    /// Returns the name that scripts see.
+    /// Returns the exception's `name`.
     pub fn name(self) -> &'static str {
         match self {
             DomError::Type => "TypeError",
@@ -32,7 +32,7 @@ impl DomError {
     }
 }
 
-/// A call's error: its DOM name, the member of the options that is at fault (or empty), and the reason.
+/// An error: the DOM exception's name, the invalid option (or empty), and the reason.
 #[derive(Clone, Copy)]
 pub struct Rejection {
     pub error: DomError,
@@ -40,7 +40,7 @@ pub struct Rejection {
     pub reason: &'static str,
 }
 
-/// Returns the error of a member of a wrong type.
+/// Returns the error for a member of the wrong type.
 pub fn type_error(member: &'static str, reason: &'static str) -> Rejection
     ensures error { result.error ≡ «Type» }
     ensures member { result.member.now ≡ member.now }
@@ -52,7 +52,7 @@ pub fn type_error(member: &'static str, reason: &'static str) -> Rejection
     }
 }
 
-/// Returns an error of the authenticator or the user.
+/// Returns the error if the authenticator or the user rejects the call.
 pub fn not_allowed(reason: &'static str) -> Rejection
     ensures { result.error ≡ NotAllowed }
 {
@@ -63,7 +63,7 @@ pub fn not_allowed(reason: &'static str) -> Rejection
     }
 }
 
-/// Returns the error of a text or a list that is longer than this client's buffers.
+/// Returns the error for a string or list that exceeds this client's buffers.
 pub fn too_long() -> Rejection
     ensures { result.error ≡ Range }
 {

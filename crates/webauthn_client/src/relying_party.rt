@@ -1,4 +1,4 @@
-//! Whose page it is, and which RP ids it may use.
+//! The page's origin, and the RP IDs that it may use.
 
 ghost use Rattle.std.specs.Prelude.{◌≡◌, ◌↔◌, ◌∷◌, ◌<◌, IsTrue, IfOk, List, ℕ, length};
 ghost use Rattle.webauthn_client.specs.RelyingParty.{MayUse};
@@ -6,7 +6,7 @@ ghost use Rattle.webauthn_client.specs.declared.rejection.DomError.TheVariants.{
 
 use crate::rejection::{DomError, Rejection};
 
-/// An origin as browsers write it: `scheme://host` or `scheme://host:port`, in small letters.
+/// A serialized origin: `scheme://host` or `scheme://host:port`, in lower case.
 #[derive(Clone, Copy)]
 pub struct Origin<'a> {
     pub text: &'a [u8],
@@ -14,7 +14,7 @@ pub struct Origin<'a> {
     pub is_secure_scheme: bool,
 }
 
-/// Returns the error of a page or of an RP id.
+/// Returns the error for an origin or RP ID that isn't allowed.
 fn security(reason: &'static str) -> Rejection
     ensures { result.error ≡ Security }
 {
@@ -25,12 +25,12 @@ fn security(reason: &'static str) -> Rejection
     }
 }
 
-/// Returns whether a byte may be in a host's name. None of these is escaped in JSON.
+/// Returns whether a byte may occur in a host name. None of these needs escaping in JSON.
 fn is_of_host(byte: u8) -> bool {
     matches!(byte, b'a'..=b'z' | b'0'..=b'9' | b'-' | b'.' | b'_')
 }
 
-/// Returns a host of a text after a scheme, and checks the port after it.
+/// Parses the host after the scheme, and checks the port after it.
 fn host_of(rest: &[u8]) -> Option<&[u8]> {
     let len = rest
         .iter()
@@ -50,7 +50,7 @@ fn host_of(rest: &[u8]) -> Option<&[u8]> {
     }
 }
 
-/// Returns an origin's parts; None where it is no serialized origin of http or https with a domain or an IPv4 address.
+/// Parses an origin. Returns None unless it is a serialized http or https origin with a domain or an IPv4 address.
 pub fn parse_origin<'a>(text: &'a [u8]) -> Option<Origin<'a>> {
     let (is_secure_scheme, rest) = match (
         text.strip_prefix(b"https://"),
@@ -68,7 +68,7 @@ pub fn parse_origin<'a>(text: &'a [u8]) -> Option<Origin<'a>> {
     })
 }
 
-/// Returns the name after the last full stop.
+/// Returns the label after the last dot.
 fn last_label(host: &[u8]) -> &[u8] {
     for i in 0..host.len() {
         let place = host.len() - 1 - i;
@@ -79,12 +79,12 @@ fn last_label(host: &[u8]) -> &[u8] {
     host
 }
 
-/// Returns whether a host is an IPv4 address: its last label is a number.
+/// Returns whether a host is an IPv4 address: its last label is numeric.
 fn is_address(host: &[u8]) -> bool {
     last_label(host).iter().all(|&byte| byte.is_ascii_digit())
 }
 
-/// Returns whether bytes are a full stop and these.
+/// Returns whether a text is a dot followed by this suffix.
 fn is_behind_stop(tail: &[u8], id: &[u8]) -> bool
     ensures { IsTrue result ↔ (tail.now ≡ 46 ∷ id.now) }
 {
@@ -94,7 +94,7 @@ fn is_behind_stop(tail: &[u8], id: &[u8]) -> bool
     }
 }
 
-/// Returns whether a domain is a host itself, or one above it that is longer than the host's public suffix.
+/// Returns whether a domain is the host or a registrable suffix of it: longer than the host's public suffix.
 pub fn may_use(id: &[u8], host: &[u8], suffix: &[u8]) -> bool
     ensures { IsTrue result ↔ MayUse id.now host.now suffix.now }
 {
@@ -105,7 +105,7 @@ pub fn may_use(id: &[u8], host: &[u8], suffix: &[u8]) -> bool
     is_behind_stop(tail, id)
 }
 
-/// Returns whether browsers have WebAuthn on a page: over https, or at localhost.
+/// Returns whether the page is a secure context: https, or localhost.
 fn check_context(origin: &Origin) -> Result<(), Rejection> {
     if is_address(origin.host) {
         return Err(security(
@@ -121,8 +121,8 @@ fn check_context(origin: &Origin) -> Result<(), Rejection> {
     Ok(())
 }
 
-/// Returns the RP id of a page: the one that is given, where the page may use it, or its host. Where the embedding knows
-/// no public suffix of the host, its last label is taken for that.
+/// Returns the RP ID: the given one if the page may use it, or else its host. If the caller passes no public suffix,
+/// the last label is used.
 pub fn rp_id_of<'a>(
     given: Option<&'a [u8]>,
     origin: &Origin<'a>,
@@ -148,7 +148,7 @@ pub fn rp_id_of<'a>(
     Ok(id)
 }
 
-/// Refuses a URL that is none, and one that isn't of this page's site over https, as the page is.
+/// Checks that a URL is valid and has the page's site, over https if the page does.
 pub fn check_site(url: &[u8], origin: &Origin) -> Result<(), Rejection> {
     let path = match url.iter().position(|&byte| byte == b'/') {
         Some(_) => url,

@@ -1,4 +1,4 @@
-//! What the page gets: RegistrationResponseJSON and AuthenticationResponseJSON (WebAuthn Level 3, section 5.1).
+//! The page's response: RegistrationResponseJSON and AuthenticationResponseJSON (WebAuthn Level 3, section 5.1).
 
 ghost use Rattle.std.specs.Prelude.{◌≡◌, ◌++◌, OnOk};
 ghost use Rattle.base64.specs.GeneralPurpose.{encode_of};
@@ -14,31 +14,31 @@ use crate::text::is_word;
 use arrayvec::ArrayVec;
 use ctap_cbor::{Cursor, Item};
 
-/// A response in JSON.
+/// A JSON response.
 pub type Response = ArrayVec<u8, 16384>;
 
-/// An attestation object, or one that is on its way.
+/// A buffer for an attestation object.
 type Attestation = ArrayVec<u8, 7680>;
 
-/// The front of a P-256 key as SubjectPublicKeyInfo (RFC 5480).
+/// The prefix of a P-256 public key as SubjectPublicKeyInfo (RFC 5480).
 const SPKI: &[u8] =
     b"\x30\x59\x30\x13\x06\x07\x2a\x86\x48\xce\x3d\x02\x01\x06\x08\x2a\x86\x48\xce\x3d\x03\x01\x07\x03\x42\x00\x04";
 
-/// The parts of an answer: its members by number, each with its whole encoding, and the content where it is a string.
+/// The members of a response map by number: the whole encoding of each, and its content if it is a string.
 #[derive(Clone, Copy)]
 struct Part<'a> {
     whole: &'a [u8],
     content: &'a [u8],
 }
 
-/// Returns the error of an answer that can't be read.
+/// Returns the error for an invalid authenticator response.
 pub fn unreadable() -> Rejection
     ensures { result.error ≡ NotAllowed }
 {
     not_allowed("the key's answer can't be read")
 }
 
-/// Returns the member of an answer's map by its number.
+/// Returns a member of a response map by its number.
 fn part_of<'a>(map: &'a [u8], number: i128) -> Option<Part<'a>> {
     let mut cursor = Cursor::new(map);
     let Ok(Item::Map(count)) = cursor.item(1) else {
@@ -77,7 +77,7 @@ fn push<const N: usize>(out: &mut ArrayVec<u8, N>, bytes: &[u8]) -> Result<(), R
     Ok(())
 }
 
-/// Appends bytes in base64url.
+/// Appends bytes as base64url.
 fn push_encoded(out: &mut Response, bytes: &[u8]) -> Result<(), Rejection>
     ensures { OnOk result (out.new.items ≡ out.old.items ++ encode_of url_safe_no_pad bytes.now) }
 {
@@ -87,7 +87,7 @@ fn push_encoded(out: &mut Response, bytes: &[u8]) -> Result<(), Rejection>
     Ok(())
 }
 
-/// Appends the front of a response, with the credential's id.
+/// Appends the beginning of a response, with the credential ID.
 fn push_front(out: &mut Response, id: &[u8], client_data: &ClientData) -> Result<(), Rejection> {
     push(out, b"{\"id\":\"")?;
     push_encoded(out, id)?;
@@ -97,7 +97,7 @@ fn push_front(out: &mut Response, id: &[u8], client_data: &ClientData) -> Result
     push_encoded(out, client_data.as_slice())
 }
 
-/// Appends the end of a response, behind the results of its extensions.
+/// Appends the end of a response, after the extension results.
 fn push_end(out: &mut Response, abilities: Abilities) -> Result<(), Rejection> {
     if abilities.is_platform {
         push(
@@ -112,8 +112,7 @@ fn push_end(out: &mut Response, abilities: Abilities) -> Result<(), Rejection> {
     }
 }
 
-/// Appends the public key that authenticator data has behind the credential's id, if it is on P-256, behind a text that
-/// is still open.
+/// Appends the P-256 public key from authenticator data, if any, to an unfinished JSON string.
 fn push_public_key(out: &mut Response, cose: &[u8]) -> Result<(), Rejection> {
     push(out, b"\"")?;
     if cose.len() < 77 || &cose[..10] != b"\xa5\x01\x02\x03\x26\x20\x01\x21\x58\x20".as_slice() {
@@ -131,7 +130,7 @@ fn push_public_key(out: &mut Response, cose: &[u8]) -> Result<(), Rejection> {
     push(out, b"\",\"publicKeyAlgorithm\":-7")
 }
 
-/// Appends a result, behind a comma where one is before it.
+/// Appends an extension result, after a comma if another one precedes it.
 fn push_result(
     out: &mut Response,
     has_any: &mut bool,
@@ -148,7 +147,7 @@ fn push_result(
     push(out, text)
 }
 
-/// Appends what a registration says of its extensions.
+/// Appends the extension results of a registration.
 fn push_creation_results(
     out: &mut Response,
     extensions: Option<&[u8]>,
@@ -193,7 +192,7 @@ fn push_creation_results(
     )
 }
 
-/// Appends what a sign-in says of its extensions.
+/// Appends the extension results of an authentication.
 fn push_request_results(out: &mut Response, extensions: Option<&[u8]>) -> Result<(), Rejection> {
     let blob: &[u8] = if inner(extensions, "largeBlob", "write").is_some() {
         b"\"largeBlob\":{\"written\":false}"
@@ -227,7 +226,7 @@ fn push_request_results(out: &mut Response, extensions: Option<&[u8]>) -> Result
     )
 }
 
-/// Appends the response of a registration, from the map of the key's answer.
+/// Appends the response of a registration, from the authenticator's response map.
 pub fn registration_json(
     map: &[u8],
     client_data: &ClientData,
@@ -271,7 +270,7 @@ pub fn registration_json(
     push_end(out, abilities)
 }
 
-/// Appends the response of a sign-in, from the map of the key's answer.
+/// Appends the response of an authentication, from the authenticator's response map.
 pub fn authentication_json(
     map: &[u8],
     client_data: &ClientData,
@@ -307,7 +306,7 @@ pub fn authentication_json(
     push_end(out, abilities)
 }
 
-/// Appends the user's handle, of the map of a user whose first member is the id. An empty one is left out.
+/// Appends the user handle from a user map, whose first member is the ID. An empty one is omitted.
 fn push_user(out: &mut Response, user: &[u8]) -> Result<(), Rejection> {
     let Some(id) = user.get(1..) else {
         return Ok(());

@@ -1,4 +1,4 @@
-//! Sign-in: what of a page's options goes to the key, as authenticatorGetAssertion (CTAP 2.1, section 6.2).
+//! Authentication: converts the page's options to an authenticatorGetAssertion request (CTAP 2.1, section 6.2).
 
 ghost use Rattle.std.specs.Prelude.{◌≡◌, IfOk, IsTrue};
 ghost use Rattle.webauthn_client.specs.declared.options.Verification.TheVariants.{Verified};
@@ -16,7 +16,7 @@ use crate::relying_party::{Origin, rp_id_of};
 use crate::text::{is_word, text_of};
 use sha2::{Digest, Sha256};
 
-/// Refuses options whose types are wrong, and texts in them that are no base64url.
+/// Checks the options' types, and that binary members are base64url.
 pub fn check_types(options: &[u8]) -> Result<(), Rejection> {
     dictionary(options, "PublicKeyCredentialRequestOptionsJSON")?;
     let allowed = member(options, "allowCredentials");
@@ -32,7 +32,7 @@ pub fn check_types(options: &[u8]) -> Result<(), Rejection> {
     check_extension_bytes(extensions)
 }
 
-/// Returns whether a value names a transport.
+/// Returns whether a value is this transport's name.
 fn is_transport(value: &[u8]) -> bool {
     let text = match text_of(value) {
         Ok(text) => text,
@@ -47,7 +47,7 @@ fn is_transport(value: &[u8]) -> bool {
         || name == b"internal".as_slice()
 }
 
-/// Returns whether a credential may be reached by a transport: it names that, or none that is known.
+/// Returns whether a credential is usable over a transport: its descriptor has this transport, or no known one.
 fn is_reached(item: &[u8], transport: &str) -> bool {
     let list = member(item, "transports").unwrap_or(b"");
     let mut rest = inside(list);
@@ -67,7 +67,7 @@ fn is_reached(item: &[u8], transport: &str) -> bool {
     !has_named
 }
 
-/// Returns whether a list has a credential that may be reached by a transport, or none at all.
+/// Returns whether the list is empty, or has a credential that is usable over this transport.
 fn is_any_reached(list: &[u8], transport: &str) -> bool {
     if known_count(list) == 0 {
         return true;
@@ -85,7 +85,7 @@ fn is_any_reached(list: &[u8], transport: &str) -> bool {
     false
 }
 
-/// Returns whether the user is verified.
+/// Returns whether user verification is requested.
 pub fn verifies(options: &[u8], abilities: Abilities) -> Result<bool, Rejection>
     ensures { IfOk result (λ v. IsTrue v → abilities.verification ≡ Verified) }
 {
@@ -96,13 +96,13 @@ pub fn verifies(options: &[u8], abilities: Abilities) -> Result<bool, Rejection>
     )
 }
 
-/// Returns the client data of a sign-in.
+/// Returns the client data of an authentication.
 pub fn client_data_of(options: &[u8], origin: &Origin) -> Result<ClientData, Rejection> {
     let challenge = bytes_of(required(options, "challenge")?, "challenge")?;
     write_client_data(Ceremony::Get, challenge.as_slice(), origin)
 }
 
-/// Appends the request of a sign-in.
+/// Appends the request of an authentication.
 pub fn request_of(
     options: &[u8],
     origin: &Origin,

@@ -1,4 +1,4 @@
-//! What ECMAScript makes of a value as text.
+//! ECMAScript's conversion of JSON values to strings.
 
 ghost use Rattle.std.specs.Prelude.{◌≡◌, ◌<◌, ◌++◌, OnOk};
 
@@ -6,10 +6,10 @@ use crate::json::{Kind, inside, kind_of, next_value};
 use crate::rejection::{Rejection, too_long};
 use arrayvec::ArrayVec;
 
-/// A text in UTF-8, or bytes.
+/// A buffer for UTF-8 text or bytes.
 pub type Text = ArrayVec<u8, 2048>;
 
-/// What comes next in a string.
+/// The parser's state within a string.
 #[derive(Clone, Copy)]
 enum Mode {
     Plain,
@@ -17,7 +17,7 @@ enum Mode {
     Hex(u8),
 }
 
-/// A string on its way: the unit that is read in hexadecimal, and the high surrogate before it, or 0.
+/// A string parser: the UTF-16 code unit of the current escape, and the preceding high surrogate, or 0.
 #[derive(Clone, Copy)]
 struct Reader {
     mode: Mode,
@@ -35,7 +35,7 @@ pub fn push(out: &mut Text, bytes: &[u8]) -> Result<(), Rejection>
     Ok(())
 }
 
-/// Returns the value of a hexadecimal digit, and 0 of another letter.
+/// Returns the value of a hexadecimal digit, or 0 for other bytes.
 fn digit_of(letter: u8) -> u32
     ensures { result < 16 }
 {
@@ -47,7 +47,7 @@ fn digit_of(letter: u8) -> u32
     }
 }
 
-/// Returns the byte that a letter behind a backslash stands for.
+/// Returns the byte for a one-letter escape.
 fn escaped(letter: u8) -> u8 {
     match letter {
         b'b' => 8,
@@ -59,7 +59,7 @@ fn escaped(letter: u8) -> u8 {
     }
 }
 
-/// Appends a code point in UTF-8.
+/// Appends a code point as UTF-8.
 fn push_code(out: &mut Text, code: u32) -> Result<(), Rejection> {
     let last = (code % 64 + 128) as u8;
     let third = (code / 64 % 64 + 128) as u8;
@@ -79,7 +79,7 @@ fn push_code(out: &mut Text, code: u32) -> Result<(), Rejection> {
 }
 
 impl Reader {
-    /// Appends what stands for a high surrogate that is alone.
+    /// Appends U+FFFD for an unpaired high surrogate.
     fn flush(self, out: &mut Text) -> Result<(), Rejection> {
         if self.high == 0 {
             return Ok(());
@@ -87,7 +87,7 @@ impl Reader {
         push_code(out, 0xfffd)
     }
 
-    /// Takes a whole unit of UTF-16.
+    /// Handles a complete UTF-16 code unit.
     fn unit(self, unit: u32, out: &mut Text) -> Result<Reader, Rejection> {
         let mut next = Reader {
             mode: Mode::Plain,
@@ -109,7 +109,7 @@ impl Reader {
         Ok(next)
     }
 
-    /// Takes a byte.
+    /// Handles a byte.
     fn step(self, byte: u8, out: &mut Text) -> Result<Reader, Rejection> {
         match self.mode {
             Mode::Plain => {
@@ -145,7 +145,7 @@ impl Reader {
         }
     }
 
-    /// Takes a byte that is no part of an escape.
+    /// Handles a byte outside of escapes.
     fn plain(self, byte: u8, out: &mut Text) -> Result<Reader, Rejection> {
         self.flush(out)?;
         push(out, &[byte])?;
@@ -157,7 +157,7 @@ impl Reader {
     }
 }
 
-/// Appends what a string says.
+/// Appends the content of a JSON string.
 fn push_string(value: &[u8], out: &mut Text) -> Result<(), Rejection> {
     let mut reader = Reader {
         mode: Mode::Plain,
@@ -172,7 +172,7 @@ fn push_string(value: &[u8], out: &mut Text) -> Result<(), Rejection> {
     reader.flush(out)
 }
 
-/// Appends what a value that is no array is as text.
+/// Appends the conversion of a value that isn't an array.
 fn push_scalar(value: &[u8], out: &mut Text) -> Result<(), Rejection> {
     match kind_of(value) {
         Kind::Text => push_string(value, out),
@@ -181,7 +181,7 @@ fn push_scalar(value: &[u8], out: &mut Text) -> Result<(), Rejection> {
     }
 }
 
-/// Appends what a value is as text. Of arrays within an array this takes none.
+/// Appends the conversion of a value. Nested arrays convert to empty strings.
 pub fn push_value(value: &[u8], out: &mut Text) -> Result<(), Rejection> {
     if kind_of(value) != Kind::Array {
         return push_scalar(value, out);
@@ -204,14 +204,14 @@ pub fn push_value(value: &[u8], out: &mut Text) -> Result<(), Rejection> {
     Ok(())
 }
 
-/// Returns what a value is as text.
+/// Converts a value to a string.
 pub fn text_of(value: &[u8]) -> Result<Text, Rejection> {
     let mut text = Text::new();
     push_value(value, &mut text)?;
     Ok(text)
 }
 
-/// Returns whether a value is this word as text.
+/// Returns whether a value converts to this string.
 pub fn is_word(value: &[u8], word: &str) -> bool {
     if kind_of(value) == Kind::Text && !value.contains(&b'\\') {
         return value.get(1..value.len().saturating_sub(1)) == Some(word.as_bytes());
@@ -222,7 +222,7 @@ pub fn is_word(value: &[u8], word: &str) -> bool {
     }
 }
 
-/// Returns whether a key is this name.
+/// Returns whether an object's key is this name.
 pub fn is_named(key: &[u8], name: &str) -> bool {
     if key.len() == name.len() + 2 && &key[1..key.len() - 1] == name.as_bytes() {
         return true;

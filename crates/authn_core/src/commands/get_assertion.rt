@@ -8,15 +8,15 @@ ghost use Rattle.ctap_message.specs.Descriptors.{ids_of};
 ghost use Rattle.ctap_message.specs.Members.{has_entries};
 ghost use Rattle.ctap_message.specs.DescriptorWalk.{list_of, left_of};
 ghost use Rattle.sha2.specs.Sha256.{sha256};
-ghost use Rattle.authn_core.specs.State.{SignsAssert, signs};
+ghost use Rattle.authn_core.specs.State.{AwaitAssertSignature, await_signature};
 ghost use Rattle.authn_core.specs.GetAssertion as get;
-ghost use Rattle.authn_core.specs.Views.{Takes, TakesWork, asserting_of};
+ghost use Rattle.authn_core.specs.Views.{TakesTurn, TakesWork, assert_state_of};
 ghost use Rattle.authn_core.specs.Ready.{IsPendingAlone, SignsItsAnswer};
 
 use crate::authenticator::{Core, Turn};
 use crate::refusal::{Refusal, not_granted};
 use crate::replies::{Presence, Signature};
-use crate::task::{Asserting, Task};
+use crate::task::{AssertState, Task};
 use crate::work::KeepaliveStatus;
 use arrayvec::ArrayVec;
 use cred_table::Table;
@@ -24,10 +24,10 @@ use ctap_message::{Answer, AssertRequest, Descriptors, write_assertion};
 use fido_authdata::{ASSERTION_LEN, AuthData, to_sign};
 use sha2::{Digest, Sha256};
 
-/// How long after an assertion's answer the next one may be asked for, in milliseconds.
+/// Milliseconds after an assertion within which the next one may be requested.
 const NEXT_LIMIT: u64 = 30_000;
 
-/// Returns the counter of the row with the id, 0 where there is none.
+/// Returns the signature counter of the credential with this ID, or 0 if there is none.
 fn counter_of<T: Table<C>, const C: usize>(table: &T, id: &[u8; 32]) -> u32
     ensures { result ≡ counter_of id.now (T.rows table.now) }
 {
@@ -37,9 +37,9 @@ fn counter_of<T: Table<C>, const C: usize>(table: &T, id: &[u8; 32]) -> u32
     }
 }
 
-/// Returns the user handle of the row with the id, where it is discoverable.
+/// Returns the user handle of the credential with this ID, if it is discoverable.
 fn user_of<'a, T: Table<C>, const C: usize>(table: &'a T, id: &[u8; 32]) -> Option<&'a [u8]>
-    ensures value { option_copied result ≡ get.user_in (find (has_id id.now) (T.rows table.now)) }
+    ensures value { option_copied result ≡ get.user_handle_in (find (has_id id.now) (T.rows table.now)) }
     ensures short { ForSome result (λ u. length u.now ≤ 64) }
 {
     match table.find(id) {
@@ -48,8 +48,8 @@ fn user_of<'a, T: Table<C>, const C: usize>(table: &'a T, id: &[u8; 32]) -> Opti
     }
 }
 
-/// Writes the ids of the applicable rows.
-fn put_applicable<T: Table<C>, const C: usize>(
+/// Collects the IDs of the applicable credentials.
+fn collect_applicable<T: Table<C>, const C: usize>(
     table: &T,
     rp: &[u8; 32],
     allow: Descriptors<'_>,
@@ -57,7 +57,7 @@ fn put_applicable<T: Table<C>, const C: usize>(
 )
     requires fresh { list_of allow ≡ left_of allow }
     requires empty { found.old.items ≡ [] }
-    ensures { found.new.items ≡ ids (get.applicable (T.rows table.now) rp.now (has_entries (left_of allow.entry))
+    ensures { found.new.items ≡ ids (get.applicable_rows (T.rows table.now) rp.now (has_entries (left_of allow.entry))
         (ids_of (left_of allow.entry))) }
 {
     if !allow.is_given() {
@@ -72,7 +72,7 @@ fn put_applicable<T: Table<C>, const C: usize>(
 }
 
 impl<T: Table<C>, const C: usize> Core<T, C> {
-    /// Lets the first applicable row sign.
+    /// Begins an assertion with the first applicable credential.
     pub(crate) fn begin_assert(
         &mut self,
         cid: u32,
@@ -81,10 +81,10 @@ impl<T: Table<C>, const C: usize> Core<T, C> {
     ) -> Turn
         requires hash { length asked.hash.now ≡ 32 }
         requires fresh { list_of asked.allow ≡ left_of asked.allow }
-        ensures { Takes self.old self.new result answer.new.items
-            (get.begins self.old.core.state.rows self.old.latest cid
+        ensures { TakesTurn self.old self.new result answer.new.items
+            (get.assertion_turn self.old.core.state.rows self.old.latest cid
             asked.entry.hash.now (sha256 asked.entry.rp_id.now) asked.entry.presence
-            (has_entries (left_of asked.entry.allow)) (ids (get.applicable self.old.core.state.rows
+            (has_entries (left_of asked.entry.allow)) (ids (get.applicable_rows self.old.core.state.rows
             (sha256 asked.entry.rp_id.now) (has_entries (left_of asked.entry.allow))
             (ids_of (left_of asked.entry.allow))))) }
     {
@@ -94,14 +94,14 @@ impl<T: Table<C>, const C: usize> Core<T, C> {
         client.copy_from_slice(asked.hash);
         let given = asked.allow.is_given();
         self.applicable.clear();
-        put_applicable(&self.table, &rp, asked.allow, &mut self.applicable);
+        collect_applicable(&self.table, &rp, asked.allow, &mut self.applicable);
         let ids = self.applicable.as_slice();
         self.pending.fill(cid, &client, presence, self.latest, ids);
         let count = ids.len();
         self.begin_by(cid, &client, &rp, presence, given, count, answer)
     }
 
-    /// Lets the row with the first of so many pending ids sign. With `presence` the user is asked first.
+    /// Begins an assertion with the first of the pending credentials. With `presence` the user is asked first.
     fn begin_by(
         &mut self,
         cid: u32,
@@ -115,8 +115,8 @@ impl<T: Table<C>, const C: usize> Core<T, C> {
         requires { (ids : List (List ℕ)) × IsPendingAlone self.old.core.state.pending cid hash.now presence
             self.old.latest ids count }
         ensures { (ids : List (List ℕ)) → IsPendingAlone self.old.core.state.pending cid hash.now presence
-            self.old.latest ids count → Takes self.old self.new result answer.new.items
-            (get.begins self.old.core.state.rows
+            self.old.latest ids count → TakesTurn self.old self.new result answer.new.items
+            (get.assertion_turn self.old.core.state.rows
             self.old.latest cid hash.now rp.now presence given ids) }
     {
         let Some(first) = self.pending.next() else {
@@ -126,7 +126,7 @@ impl<T: Table<C>, const C: usize> Core<T, C> {
             return self.refuse_all(Refusal::CounterSpent, answer);
         }
         let number = (count > 1 && !given).then_some(count as u16);
-        let a = Asserting {
+        let a = AssertState {
             hash: *hash,
             rp: *rp,
             id: first,
@@ -136,34 +136,37 @@ impl<T: Table<C>, const C: usize> Core<T, C> {
         if !presence {
             return Turn::Waits(self.sign(cid, &a));
         }
-        Turn::Waits(self.wait(cid, Task::AsksAssert(a)))
+        Turn::Waits(self.wait(cid, Task::AwaitAssertPresence(a)))
     }
 
-    /// Lets an assertion go on: its row's counter is raised, and it waits for the signature.
-    pub(crate) fn sign(&mut self, cid: u32, a: &Asserting) -> KeepaliveStatus
+    /// Continues an assertion: raises the credential's counter, and waits for the signature.
+    pub(crate) fn sign(&mut self, cid: u32, a: &AssertState) -> KeepaliveStatus
         requires there { is_some (find (has_id a.now.id) self.old.core.state.rows) ≡ true }
         requires below { counter_of a.now.id self.old.core.state.rows < 2 ^ 32 - 1 }
-        ensures { TakesWork self.old self.new result (signs self.old.core.state.rows self.old.core.state.pending cid
-            (asserting_of a.now)) }
+        ensures { TakesWork self.old self.new result (await_signature self.old.core.state.rows self.old.core.state.pending cid
+            (assert_state_of a.now)) }
     {
         self.work = None;
         let counter = self.table.raise(&a.id);
         let data = AuthData::assertion(&a.rp, a.presence, counter);
-        self.wait(cid, Task::SignsAssert(*a, counter, to_sign(&data, &a.hash)))
+        self.wait(
+            cid,
+            Task::AwaitAssertSignature(*a, counter, to_sign(&data, &a.hash)),
+        )
     }
 
-    /// Lets the row sign where the user consents.
-    pub(crate) fn assert_presence(
+    /// Continues the assertion if the user consents.
+    pub(crate) fn on_assert_presence(
         &mut self,
         cid: u32,
-        a: Asserting,
+        a: AssertState,
         reply: Presence,
         answer: &mut Answer,
     ) -> Turn
         requires there { is_some (find (has_id a.id) self.old.core.state.rows) ≡ true }
         requires below { counter_of a.id self.old.core.state.rows < 2 ^ 32 - 1 }
-        ensures { Takes self.old self.new result answer.new.items (get.assert_asked self.old.core.state.rows
-            self.old.core.state.pending cid (asserting_of a) reply) }
+        ensures { TakesTurn self.old self.new result answer.new.items (get.assertion_after_presence self.old.core.state.rows
+            self.old.core.state.pending cid (assert_state_of a) reply) }
     {
         match reply {
             Presence::Granted => Turn::Waits(self.sign(cid, &a)),
@@ -171,18 +174,19 @@ impl<T: Table<C>, const C: usize> Core<T, C> {
         }
     }
 
-    /// Answers with the signature and the authenticator data that were signed, and the time to ask for the next one begins.
-    pub(crate) fn assert_signature(
+    /// Responds with the signature and the authenticator data that were signed, and starts the time for the next
+    /// assertion.
+    pub(crate) fn on_assert_signature(
         &mut self,
-        a: Asserting,
+        a: AssertState,
         counter: u32,
         signed: &ArrayVec<u8, 196>,
         signature: &Option<Signature>,
         answer: &mut Answer,
     ) -> Turn
-        requires { SignsItsAnswer self.old.core.setup.aaguid (SignsAssert (asserting_of a) counter signed.now.items) }
-        ensures { Takes self.old self.new result answer.new.items (get.assert_signed self.old.core.state.rows
-            self.old.core.state.pending self.old.latest (asserting_of a) counter signature.now) }
+        requires { SignsItsAnswer self.old.core.setup.aaguid (AwaitAssertSignature (assert_state_of a) counter signed.now.items) }
+        ensures { TakesTurn self.old self.new result answer.new.items (get.assertion_after_signature self.old.core.state.rows
+            self.old.core.state.pending self.old.latest (assert_state_of a) counter signature.now) }
     {
         let Some(signature) = signature else {
             return self.refuse_all(Refusal::SignatureRefused, answer);
@@ -197,9 +201,9 @@ impl<T: Table<C>, const C: usize> Core<T, C> {
 
     // ---- the next one
 
-    /// Lets the first pending row sign.
+    /// Begins an assertion with the first pending credential.
     pub(crate) fn next(&mut self, cid: u32, answer: &mut Answer) -> Turn
-        ensures { Takes self.old self.new result answer.new.items (get.next_begins self.old.core.state.rows
+        ensures { TakesTurn self.old self.new result answer.new.items (get.next_assertion_turn self.old.core.state.rows
             self.old.core.state.pending self.old.latest cid) }
     {
         let pending = &self.pending;
@@ -227,7 +231,7 @@ impl<T: Table<C>, const C: usize> Core<T, C> {
         if row.counter >= u32::MAX {
             return self.refuse_all(Refusal::CounterSpent, answer);
         }
-        let a = Asserting {
+        let a = AssertState {
             hash,
             rp,
             id,

@@ -2,18 +2,18 @@
 
 ghost use Rattle.std.specs.Prelude.{None};
 ghost use Rattle.ctap_message.specs.Answers.{info_answer};
-ghost use Rattle.authn_core.specs.State.{answers};
-ghost use Rattle.authn_core.specs.Views.{Takes};
+ghost use Rattle.authn_core.specs.State.{respond};
+ghost use Rattle.authn_core.specs.Views.{TakesTurn};
 
 use crate::authenticator::{Core, Turn};
 use cred_table::Table;
 use ctap_message::{Answer, write_info};
 
 impl<T: Table<C>, const C: usize> Core<T, C> {
-    /// Answers with what the authenticator is.
-    pub(crate) fn inform(&mut self, answer: &mut Answer) -> Turn
-        ensures { Takes self.old self.new result answer.new.items
-            (answers self.old.core.state.rows None (info_answer self.old.core.setup.aaguid)) }
+    /// Responds with the authenticator's capabilities.
+    pub(crate) fn get_info(&mut self, answer: &mut Answer) -> Turn
+        ensures { TakesTurn self.old self.new result answer.new.items
+            (respond self.old.core.state.rows None (info_answer self.old.core.setup.aaguid)) }
     {
         self.pending.clear();
         self.work = None;

@@ -2,18 +2,18 @@
 
 ghost use Rattle.std.specs.Prelude.{◌≡◌, ◌≤◌, true, false, length, is_some};
 ghost use Rattle.std.specs.List.{find};
-ghost use Rattle.cred_table.specs.Rows.{has_id, stored};
+ghost use Rattle.cred_table.specs.Rows.{has_id, rows_with};
 ghost use Rattle.ctap_message.specs.Descriptors.{ids_of};
 ghost use Rattle.ctap_message.specs.DescriptorWalk.{left_of};
 ghost use Rattle.authn_core.specs.MakeCredential as make;
-ghost use Rattle.authn_core.specs.State.{SignsMake};
+ghost use Rattle.authn_core.specs.State.{AwaitMakeSignature};
 ghost use Rattle.authn_core.specs.Ready.{SignsItsAnswer};
-ghost use Rattle.authn_core.specs.Views.{Takes, TakesWork, making_of};
+ghost use Rattle.authn_core.specs.Views.{TakesTurn, TakesWork, make_state_of};
 
 use crate::authenticator::{Core, Turn};
 use crate::refusal::{Refusal, not_granted};
 use crate::replies::{NewKey, Presence, Signature};
-use crate::task::{Making, Task};
+use crate::task::{MakeState, Task};
 use crate::work::KeepaliveStatus;
 use arrayvec::ArrayVec;
 use cred_table::{Name, Row, Table};
@@ -21,7 +21,7 @@ use ctap_message::{Answer, Descriptors, MakeRequest, write_created};
 use fido_authdata::{AuthData, CREATED_LEN, to_sign};
 use sha2::{Digest, Sha256};
 
-/// Returns whether one of the ids names a row of the RP.
+/// Returns whether one of the IDs names a credential of the RP.
 fn names_one<T: Table<C>, const C: usize>(table: &T, rp: &[u8; 32], ids: Descriptors<'_>) -> bool
     ensures { result ≡ make.names_one rp.now (T.rows table.now) (ids_of (left_of ids.entry)) }
 {
@@ -34,13 +34,13 @@ fn names_one<T: Table<C>, const C: usize>(table: &T, rp: &[u8; 32], ids: Descrip
     false
 }
 
-/// Stores the row of a new credential, in place of the one that it replaces.
-fn store<T: Table<C>, const C: usize>(table: &mut T, making: Making, key: NewKey)
-    requires capacity { make.fits C (making_of making) (T.rows table.old) ≡ true }
+/// Stores a new credential, replacing that of the same account.
+fn store<T: Table<C>, const C: usize>(table: &mut T, making: MakeState, key: NewKey)
+    requires capacity { make.has_capacity C (make_state_of making) (T.rows table.old) ≡ true }
     requires fresh { is_some (find (has_id key.id) (T.rows table.old)) ≡ false }
-    ensures { T.rows table.new ≡ stored (make.new_row (making_of making) key) (T.rows table.old) }
+    ensures { T.rows table.new ≡ rows_with (make.new_row (make_state_of making) key) (T.rows table.old) }
 {
-    let Making {
+    let MakeState {
         rp,
         user,
         name,
@@ -70,15 +70,15 @@ fn store<T: Table<C>, const C: usize>(table: &mut T, making: Making, key: NewKey
 }
 
 impl<T: Table<C>, const C: usize> Core<T, C> {
-    /// Asks for the user's presence, also where a credential is excluded.
+    /// Asks for user presence, even if a credential is excluded.
     pub(crate) fn begin_make(&mut self, cid: u32, asked: MakeRequest<'_>) -> KeepaliveStatus
         requires hash { length asked.hash.now ≡ 32 }
         requires user { length asked.user_id.now ≤ 64 }
-        ensures { TakesWork self.old self.new result (make.make_begins self.old.core.state.rows cid
-            (make.making asked.entry.hash.now asked.entry.rp_id.now asked.entry.user_id.now asked.entry.user_name.now
+        ensures { TakesWork self.old self.new result (make.make_turn self.old.core.state.rows cid
+            (make.new_make_state asked.entry.hash.now asked.entry.rp_id.now asked.entry.user_id.now asked.entry.user_name.now
             asked.entry.discoverable) (ids_of (left_of asked.entry.exclude))) }
     {
-        let mut making = Making {
+        let mut making = MakeState {
             hash: [0; 32],
             rp: Sha256::digest(asked.rp_id),
             user: ArrayVec::new(),
@@ -89,20 +89,20 @@ impl<T: Table<C>, const C: usize> Core<T, C> {
         making.user.try_extend_from_slice(asked.user_id).unwrap();
         let excluded = names_one(&self.table, &making.rp, asked.exclude);
         self.pending.clear();
-        self.wait(cid, Task::AsksMake(making, excluded))
+        self.wait(cid, Task::AwaitMakePresence(making, excluded))
     }
 
-    /// Asks for a key where the user consents and there is capacity.
-    pub(crate) fn make_presence(
+    /// Asks for a key pair if the user consents and there is capacity.
+    pub(crate) fn on_make_presence(
         &mut self,
         cid: u32,
-        making: Making,
+        making: MakeState,
         excluded: bool,
         reply: Presence,
         answer: &mut Answer,
     ) -> Turn
-        ensures { Takes self.old self.new result answer.new.items (make.make_asked C self.old.core.state.rows
-            self.old.core.state.pending cid (making_of making) excluded reply) }
+        ensures { TakesTurn self.old self.new result answer.new.items (make.make_after_presence C self.old.core.state.rows
+            self.old.core.state.pending cid (make_state_of making) excluded reply) }
     {
         if excluded {
             return self.refuse(Refusal::Excluded, answer);
@@ -115,20 +115,20 @@ impl<T: Table<C>, const C: usize> Core<T, C> {
         if is_full && !(making.discoverable && self.table.same_user(&making.rp, user).is_some()) {
             return self.refuse(Refusal::Full, answer);
         }
-        Turn::Waits(self.wait(cid, Task::WantsKey(making)))
+        Turn::Waits(self.wait(cid, Task::AwaitKeyPair(making)))
     }
 
-    /// Asks for a signature by a key with a new id.
-    pub(crate) fn make_key(
+    /// Asks for a signature by a key with a new ID.
+    pub(crate) fn on_make_key_pair(
         &mut self,
         cid: u32,
-        making: Making,
+        making: MakeState,
         key: &Option<NewKey>,
         answer: &mut Answer,
     ) -> Turn
-        requires { make.fits C (making_of making) self.old.core.state.rows ≡ true }
-        ensures { Takes self.old self.new result answer.new.items (make.key_wanted self.old.core.setup.aaguid
-            self.old.core.state.rows self.old.core.state.pending cid (making_of making) key.now) }
+        requires { make.has_capacity C (make_state_of making) self.old.core.state.rows ≡ true }
+        ensures { TakesTurn self.old self.new result answer.new.items (make.make_after_key self.old.core.setup.aaguid
+            self.old.core.state.rows self.old.core.state.pending cid (make_state_of making) key.now) }
     {
         let Some(key) = key else {
             return self.refuse(Refusal::KeyRefused, answer);
@@ -138,23 +138,23 @@ impl<T: Table<C>, const C: usize> Core<T, C> {
         }
         let data = AuthData::created(&making.rp, &self.config.aaguid, &key.id, &key.x, &key.y);
         let signed = to_sign(&data, &making.hash);
-        Turn::Waits(self.wait(cid, Task::SignsMake(making, *key, signed)))
+        Turn::Waits(self.wait(cid, Task::AwaitMakeSignature(making, *key, signed)))
     }
 
-    /// Stores the row once it is signed. The answer has the authenticator data that were signed.
-    pub(crate) fn make_signature(
+    /// Stores the credential once it is signed. The response has the authenticator data that were signed.
+    pub(crate) fn on_make_signature(
         &mut self,
-        making: Making,
+        making: MakeState,
         key: NewKey,
         signed: &ArrayVec<u8, 196>,
         signature: &Option<Signature>,
         answer: &mut Answer,
     ) -> Turn
-        requires capacity { make.fits C (making_of making) self.old.core.state.rows ≡ true }
+        requires capacity { make.has_capacity C (make_state_of making) self.old.core.state.rows ≡ true }
         requires fresh { is_some (find (has_id key.id) self.old.core.state.rows) ≡ false }
-        requires signed { SignsItsAnswer self.old.core.setup.aaguid (SignsMake (making_of making) key signed.now.items) }
-        ensures { Takes self.old self.new result answer.new.items (make.make_signed self.old.core.setup.aaguid
-            self.old.core.state.rows self.old.core.state.pending (making_of making) key signature.now) }
+        requires signed { SignsItsAnswer self.old.core.setup.aaguid (AwaitMakeSignature (make_state_of making) key signed.now.items) }
+        ensures { TakesTurn self.old self.new result answer.new.items (make.make_after_signature self.old.core.setup.aaguid
+            self.old.core.state.rows self.old.core.state.pending (make_state_of making) key signature.now) }
     {
         let Some(signature) = signature else {
             return self.refuse(Refusal::SignatureRefused, answer);

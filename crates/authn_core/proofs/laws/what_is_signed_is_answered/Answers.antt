@@ -1,5 +1,5 @@
 use Rattle.std.proofs.Common.{arith}
-use Rattle.authn_core.specs.{Marks.core_at, Signed.heard, Turn.first_state, Turn.turn}
+use Rattle.authn_core.specs.{Marks.core_at, Signed.requests_of, Turn.first_state, Turn.turn}
 use Rattle.authn_core.proofs.{Readiness.core_sound, Signed.turn_signs, Signed.signs_at, Signed.work_answers}
 use Rattle.authn_core.proofs.laws.what_is_signed_is_answered.Goals as goal
 
@@ -10,5 +10,5 @@ returns c = record {
   answered = λ start h t id signed sig l o e.
       let s = (core_at (first_state start) h).state in
       unfold turn in rw (core_sound (first_state start) h (record { pending = tt; work = tt }) l).setup
-      (work_answers (first_state start).setup s t (heard h) s.work id signed sig (signs_at start h l o).work e);
+      (work_answers (first_state start).setup s t (requests_of h) s.work id signed sig (signs_at start h l o).work e);
 }

@@ -1,7 +1,7 @@
 use Rattle.std.proofs.Common.{true, sym, ap, ◌∙◌}
 use Rattle.std.specs.Prelude.{Bool}
 use Rattle.ctap_cbor.specs.{Telling.canonical_tree, Telling.outcome_of, Tree.Trees}
-use Rattle.ctap_message.specs.{Members.map_of, Walks.typed, Judged.AssertionParameters, Judged.assertion_judged}
+use Rattle.ctap_message.specs.{Members.map_of, Walks.typed, Judged.AssertionParameters, Judged.validated_assertion}
 use Rattle.ctap_message.specs.GetAssertion.{assertion_types, assertion_request}
 use Rattle.ctap_message.specs.CollectedRequests.{assertion_in, shown_assert}
 use Rattle.ctap_message.specs.RequestFaults.{checked_assertion, assertion_fault, fault_after}
@@ -26,8 +26,8 @@ pub unreachable-requires : goal.unreachable-requires
 unreachable-requires c =
     let first = accepted c.args.parameters.now c.new-cursor.result c.read_whole.new.cursor c.whole_readings.ensures
     c.new-cursor.ensures c.in_default.ensures in
-    never c.args.parameters.now c.read_whole.new.cursor c.rewind.new.self c.read_assert.new.cursor c.in-Err-read_assert.field-0
-    c.whole_readings.ensures first (c.rewind.ensures ∙ first.back) c.in-Err-read_assert.ensures
+    never c.args.parameters.now c.read_whole.new.cursor c.rewind.new.self c.parse_get_assertion.new.cursor c.in-Err-parse_get_assertion.field-0
+    c.whole_readings.ensures first (c.rewind.ensures ∙ first.back) c.in-Err-parse_get_assertion.ensures
 
 pub returns-clause-request : goal.returns-clause-request
 returns-clause-request c =
@@ -35,9 +35,9 @@ returns-clause-request c =
     c.new-cursor.ensures c.in_default.ensures in
     let h = c.in-Ok.ensures in
     let t = told (typed (map_of assertion_types) assertion_in) c.args.parameters.now (c.in-Ok.typed, shown_assert c.in-Ok.assert)
-    c.read_whole.new.cursor c.rewind.new.self h.0 c.read_assert.new.cursor c.whole_readings.ensures first
+    c.read_whole.new.cursor c.rewind.new.self h.0 c.parse_get_assertion.new.cursor c.whole_readings.ensures first
     (c.rewind.ensures ∙ first.back) h.1 h.2 in
-    c.judge_assert.ensures.request ∙ ap (λ (x : Bool × (AssertionParameters × Trees)). assertion_judged true x.0 x.1.0) t.value_is
+    c.validate_get_assertion.ensures.request ∙ ap (λ (x : Bool × (AssertionParameters × Trees)). validated_assertion true x.0 x.1.0) t.value_is
     ∙ sym (ap assertion_request t.tree_is)
 
 pub returns-clause-fault : goal.returns-clause-fault
@@ -46,9 +46,9 @@ returns-clause-fault c =
     c.new-cursor.ensures c.in_default.ensures in
     let h = c.in-Ok.ensures in
     let t = told (typed (map_of assertion_types) assertion_in) c.args.parameters.now (c.in-Ok.typed, shown_assert c.in-Ok.assert)
-    c.read_whole.new.cursor c.rewind.new.self h.0 c.read_assert.new.cursor c.whole_readings.ensures first
+    c.read_whole.new.cursor c.rewind.new.self h.0 c.parse_get_assertion.new.cursor c.whole_readings.ensures first
     (c.rewind.ensures ∙ first.back) h.1 h.2 in
-    c.judge_assert.ensures.fault ∙ ap (λ (x : Bool × (AssertionParameters × Trees)). assertion_fault x.0 x.1.0) t.value_is
+    c.validate_get_assertion.ensures.fault ∙ ap (λ (x : Bool × (AssertionParameters × Trees)). assertion_fault x.0 x.1.0) t.value_is
     ∙ sym (checked_whole (outcome_of c.args.parameters.now) t.tree checked_assertion t.tree_is)
 
 pub returns-clause-steps : goal.returns-clause-steps
@@ -57,6 +57,6 @@ returns-clause-steps c =
     c.new-cursor.ensures c.in_default.ensures in
     let h = c.in-Ok.ensures in
     let t = told (typed (map_of assertion_types) assertion_in) c.args.parameters.now (c.in-Ok.typed, shown_assert c.in-Ok.assert)
-    c.read_whole.new.cursor c.rewind.new.self h.0 c.read_assert.new.cursor c.whole_readings.ensures first
+    c.read_whole.new.cursor c.rewind.new.self h.0 c.parse_get_assertion.new.cursor c.whole_readings.ensures first
     (c.rewind.ensures ∙ first.back) h.1 h.2 in
     c.steps-in-Ok.ensures ∙ t.steps_are

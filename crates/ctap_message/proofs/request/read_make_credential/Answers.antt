@@ -1,7 +1,7 @@
 use Rattle.std.proofs.Common.{true, sym, ap, ◌∙◌}
 use Rattle.std.specs.Prelude.{Bool}
 use Rattle.ctap_cbor.specs.{Telling.canonical_tree, Telling.outcome_of, Tree.Trees}
-use Rattle.ctap_message.specs.{Members.map_of, Walks.typed, Judged.MakeParameters, Judged.make_judged}
+use Rattle.ctap_message.specs.{Members.map_of, Walks.typed, Judged.MakeParameters, Judged.validated_make}
 use Rattle.ctap_message.specs.MakeCredential.{make_types, make_request}
 use Rattle.ctap_message.specs.CollectedRequests.{make_in, shown_make}
 use Rattle.ctap_message.specs.RequestFaults.{checked_make, make_fault, fault_after}
@@ -26,8 +26,8 @@ pub unreachable-requires : goal.unreachable-requires
 unreachable-requires c =
     let first = accepted c.args.parameters.now c.new-cursor.result c.read_whole.new.cursor c.whole_readings.ensures
     c.new-cursor.ensures c.in_default.ensures in
-    never c.args.parameters.now c.read_whole.new.cursor c.rewind.new.self c.read_make.new.cursor c.in-Err-read_make.field-0
-    c.whole_readings.ensures first (c.rewind.ensures ∙ first.back) c.in-Err-read_make.ensures
+    never c.args.parameters.now c.read_whole.new.cursor c.rewind.new.self c.parse_make_credential.new.cursor c.in-Err-parse_make_credential.field-0
+    c.whole_readings.ensures first (c.rewind.ensures ∙ first.back) c.in-Err-parse_make_credential.ensures
 
 pub returns-clause-request : goal.returns-clause-request
 returns-clause-request c =
@@ -35,9 +35,9 @@ returns-clause-request c =
     c.new-cursor.ensures c.in_default.ensures in
     let h = c.in-Ok.ensures in
     let t = told (typed (map_of make_types) make_in) c.args.parameters.now (c.in-Ok.typed, shown_make c.in-Ok.make)
-    c.read_whole.new.cursor c.rewind.new.self h.0 c.read_make.new.cursor c.whole_readings.ensures first
+    c.read_whole.new.cursor c.rewind.new.self h.0 c.parse_make_credential.new.cursor c.whole_readings.ensures first
     (c.rewind.ensures ∙ first.back) h.1 h.2 in
-    c.judge_make.ensures.request ∙ ap (λ (x : Bool × (MakeParameters × Trees)). make_judged true x.0 x.1.0) t.value_is
+    c.validate_make_credential.ensures.request ∙ ap (λ (x : Bool × (MakeParameters × Trees)). validated_make true x.0 x.1.0) t.value_is
     ∙ sym (ap make_request t.tree_is)
 
 pub returns-clause-fault : goal.returns-clause-fault
@@ -46,9 +46,9 @@ returns-clause-fault c =
     c.new-cursor.ensures c.in_default.ensures in
     let h = c.in-Ok.ensures in
     let t = told (typed (map_of make_types) make_in) c.args.parameters.now (c.in-Ok.typed, shown_make c.in-Ok.make)
-    c.read_whole.new.cursor c.rewind.new.self h.0 c.read_make.new.cursor c.whole_readings.ensures first
+    c.read_whole.new.cursor c.rewind.new.self h.0 c.parse_make_credential.new.cursor c.whole_readings.ensures first
     (c.rewind.ensures ∙ first.back) h.1 h.2 in
-    c.judge_make.ensures.fault ∙ ap (λ (x : Bool × (MakeParameters × Trees)). make_fault x.0 x.1.0) t.value_is
+    c.validate_make_credential.ensures.fault ∙ ap (λ (x : Bool × (MakeParameters × Trees)). make_fault x.0 x.1.0) t.value_is
     ∙ sym (checked_whole (outcome_of c.args.parameters.now) t.tree checked_make t.tree_is)
 
 pub returns-clause-steps : goal.returns-clause-steps
@@ -57,6 +57,6 @@ returns-clause-steps c =
     c.new-cursor.ensures c.in_default.ensures in
     let h = c.in-Ok.ensures in
     let t = told (typed (map_of make_types) make_in) c.args.parameters.now (c.in-Ok.typed, shown_make c.in-Ok.make)
-    c.read_whole.new.cursor c.rewind.new.self h.0 c.read_make.new.cursor c.whole_readings.ensures first
+    c.read_whole.new.cursor c.rewind.new.self h.0 c.parse_make_credential.new.cursor c.whole_readings.ensures first
     (c.rewind.ensures ∙ first.back) h.1 h.2 in
     c.steps-in-Ok.ensures ∙ t.steps_are

@@ -4,4 +4,4 @@ use Rattle.hid_packet.proofs.fragments.continuation.Goals as goal
 
 pub returns : goal.returns
 unfolding continuation_packet
-returns c = c.put_continuation.ensures ∙ filled _ (5 + length c.args.part.now) (simp length-append (omega arith))
+returns c = c.write_cont_packet.ensures ∙ filled _ (5 + length c.args.part.now) (simp length-append (omega arith))

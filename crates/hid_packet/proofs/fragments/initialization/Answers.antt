@@ -4,4 +4,4 @@ use Rattle.hid_packet.proofs.fragments.initialization.Goals as goal
 
 pub returns : goal.returns
 unfolding initialization_packet
-returns c = c.put_initialization.ensures ∙ filled _ (7 + length c.args.part.now) (simp length-append (omega arith))
+returns c = c.write_init_packet.ensures ∙ filled _ (7 + length c.args.part.now) (simp length-append (omega arith))

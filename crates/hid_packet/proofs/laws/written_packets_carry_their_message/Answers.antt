@@ -1,6 +1,6 @@
-use Rattle.hid_packet.{specs.Message.written, proofs.Carrying.written_carries}
+use Rattle.hid_packet.{specs.Message.message_packets, proofs.Carrying.written_carries}
 use Rattle.hid_packet.proofs.laws.written_packets_carry_their_message.Goals as goal
 
 pub returns : goal.returns
-unfolding written
+unfolding message_packets
 returns c = written_carries

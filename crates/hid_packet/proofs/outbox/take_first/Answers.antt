@@ -1,6 +1,6 @@
 use Rattle.std.proofs.Common.{List, ℕ, ◌∷◌, ap, ap₂, sym, ◌∙◌, arith}
 use Rattle.hid_packet.specs.{Remaining.packets_left, Queue.waiting}
-use Rattle.hid_packet.specs.declared.entry.Queued.TheVariants.{Whole, Part}
+use Rattle.hid_packet.specs.declared.queued.Queued.TheVariants.{Whole, Part}
 use Rattle.hid_packet.proofs.Queueing.{waiting-pop, held-pop, part_more, part_last, first_set}
 use Rattle.hid_packet.proofs.outbox.take_first.Goals as goal
 

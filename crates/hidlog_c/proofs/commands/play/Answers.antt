@@ -1,5 +1,5 @@
 use Rattle.std.proofs.Common.{[], rules}
-use Rattle.session_log.specs.Replay.{Makes}
+use Rattle.session_log.specs.Replay.{PlaysWholeLog}
 use Rattle.hidlog_c.specs.{Commands.IsWritten, Commands.PlaysSliceIn, Switched.start_with}
 use Rattle.hidlog_c.proofs.Written.{by_command, written}
 use Rattle.hidlog_c.proofs.commands.play.Goals as goal
@@ -11,7 +11,7 @@ returns-clause-does c = λ rows stands.
     (IsWritten c.args.log.now after.writer.buffer.now after.writer.len c.play.result)
     (λ S world x later moves reach counted.
     written world x c.play.result c.args.log.now (c.new.result, after.reader) (c.args.writer.now, after.writer)
-    (Makes world x later)
+    (PlaysWholeLog world x later)
     (PlaysSliceIn world x) (λ bytes rest text made finds. (later, made, finds)) c.new.ensures.left (search rules) moves
     reach
     counted.2 counted.0 counted.1) (c.play.ensures.plays (start_with rows) [] stands)

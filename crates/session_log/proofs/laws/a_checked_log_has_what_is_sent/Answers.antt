@@ -1,10 +1,10 @@
 use Rattle.std.proofs.Common.{arith}
-use Rattle.session_log.specs.{Check.begun, Lines.lines, Session.histories}
+use Rattle.session_log.specs.{Check.first_comparison, Lines.lines, Session.history_course}
 use Rattle.session_log.proofs.Groups.{check_is_silent, same_groups, counts_on}
 use Rattle.session_log.proofs.laws.a_checked_log_has_what_is_sent.Goals as goal
 
 pub returns-clause-same : goal.returns-clause-same
-returns-clause-same c = λ start h bytes sound. same_groups (histories start) 1 (begun h) (lines bytes) sound
+returns-clause-same c = λ start h bytes sound. same_groups (history_course start) 1 (first_comparison h) (lines bytes) sound
 
 pub returns-clause-inputs : goal.returns-clause-inputs
 returns-clause-inputs c = search (arith, counts_on)
@@ -13,4 +13,4 @@ pub returns-clause-packets : goal.returns-clause-packets
 returns-clause-packets c = search (arith, counts_on)
 
 pub returns-clause-silent : goal.returns-clause-silent
-returns-clause-silent c = λ start h bytes. check_is_silent (histories start) 1 (begun h) (lines bytes)
+returns-clause-silent c = λ start h bytes. check_is_silent (history_course start) 1 (first_comparison h) (lines bytes)

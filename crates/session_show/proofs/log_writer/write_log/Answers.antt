@@ -6,14 +6,14 @@ use Rattle.session_log.proofs.{Cutting.last_line, Gathering.in_count}
 use Rattle.std.proofs.Common.{Result, append-nil, ◌-◌}
 use Rattle.session_log.specs.Ending.{Done, Ending, ended_by, ending_of, read_fails, write_fails}
 use Rattle.session_log.specs.{Replay.ReadsTo, Lines.lines, Log.text_of, Window.IsUnfinished}
-use Rattle.session_log.specs.{Streams.Counts, Streams.IsAllRead, declared.fault.LogFault.LogFault}
+use Rattle.session_log.specs.{Streams.Counts, Streams.IsAtEndOfInput, declared.fault.LogFault.LogFault}
 use Rattle.session_log.proofs.Through.{through_none, played_none}
 use Rattle.session_log.proofs.{Cutting.line_in_front, Failures.stops_unwritten}
 use Rattle.session_log.proofs.Exits.{read_on, short_in_front, some_left}
 use Rattle.session_log.proofs.Failures.{on_any, on_err, counts_none, counts_on, plays_counts, plays_unread}
 use Rattle.session_log.proofs.Lasts.{faulty_in_front, faulty_last, none_bad}
-use Rattle.session_show.specs.Shown.{Shows, ShowsLine, TellsEnd, TellsLine, reading, shown_in, unknown, failures_of}
-use Rattle.session_show.specs.declared.log_writer.LogForm.{LogForm}
+use Rattle.session_show.specs.Shown.{Shows, ShowsLine, WritesEnd, WritesLine, read_only_world, shown_in, unknown, failures_of}
+use Rattle.session_show.specs.declared.log_writer.OutputFormat.{OutputFormat}
 use Rattle.session_show.proofs.Told.{as_err, behind_nothing, behind_reach, behind_reads, behind_writes, shown_on, told_behind}
 use Rattle.session_show.proofs.Told.{told_last, told_line, told_none, told_to_line, told_to_read, unwritten_back}
 use Rattle.session_show.proofs.log_writer.write_log.Goals as goal
@@ -28,14 +28,14 @@ lines-init g c =
       reads = refl;
       writes = refl;
       counted = omega arith;
-      form = refl;
+      format = refl;
       done = (
         [],
         [],
         subst (Consumes (left c.args.reader.now) (left c.args.reader.now)) (sym c.new-window.ensures)
             (Consumes-nil (left c.args.reader.now)),
-        through_none reading tt,
-        ([], Appends-nil (g.T.Target.taken c.args.writer.now), told_none (shown_in c.args.log_writer.now.form)),
+        through_none read_only_world tt,
+        ([], Appends-nil (g.T.Target.taken c.args.writer.now), told_none (shown_in c.args.log_writer.now.format)),
       );
     }
 
@@ -51,8 +51,8 @@ lines-preserved g c =
     let is_line : line ≡ take c.in-Some.end w = c.split_at.ensures.front
     ∙ ap (take c.in-Some.end) c.as_slice.ensures.value in
     let shown = c.in_ok-tell.ensures.shown in
-    let same = c.lines.invariant.form in
-    let text = subst (λ (f : LogForm). TellsLine (shown_in f) c.lines.number line
+    let same = c.lines.invariant.format in
+    let text = subst (λ (f : OutputFormat). WritesLine (shown_in f) c.lines.number line
     (taken c.lines.writer, taken c.tell.new.writer) Done) same c.in_ok-tell.ensures.text in
     let read = read_on (left c.args.reader.now) (left c.lines.reader) (left c.next_line.new.reader) before.0
     c.lines.window w before.2 c.in_ok-end.ensures.bytes in
@@ -62,17 +62,17 @@ lines-preserved g c =
       reads = ◌∙◌ {b = g.S.Source.failed c.lines.reader} c.in_ok-end.ensures.reads c.lines.invariant.reads;
       writes = shown.3.1 ∙ c.lines.invariant.writes;
       counted = omega (arith, has.counted);
-      form = c.in_ok-tell.ensures.form ∙ same;
+      format = c.in_ok-tell.ensures.format ∙ same;
       done = (
         before.0 ++ take (c.in-Some.end + 1) w,
-        before.1 ++ text_of reading tt line,
+        before.1 ++ text_of read_only_world tt line,
         next.0,
         next.1,
         (
           before.4.0 ++ text.0,
           Appends-trans (taken c.args.writer.now) (taken c.lines.writer) (taken c.tell.new.writer) before.4.0 text.0
               before.4.1 text.1,
-          told_line (shown_in c.args.log_writer.now.form) before.1 before.4.0 line text.0 c.lines.number before.4.2.0 before.4.2.1 shown.0
+          told_line (shown_in c.args.log_writer.now.format) before.1 before.4.0 line text.0 c.lines.number before.4.2.0 before.4.2.1 shown.0
               text.2,
         ),
       );
@@ -85,19 +85,19 @@ returns-in_err-end g c =
     let e = c.in_err-end.field-0.0 in
     let r = c.from_residual.result in
     let w = c.next_line.new.window in
-    let all = IsAllRead left g.S.Source.ended c.next_line.new.reader in
+    let all = IsAtEndOfInput left g.S.Source.ended c.next_line.new.reader in
     let stopped = c.in_err-end.ensures.stopped in
     let from = err_from_is_err_and r c.from_residual.ensures.1 in
     let is : r ≡ Err e = from.1 ∙ ap (λ (f : LogFault). Err f) from.2 in
     let read = read_on (left c.args.reader.now) (left c.lines.reader) (left c.next_line.new.reader) before.0
     c.lines.window w before.2 c.in_err-end.ensures.bytes in
     record {
-      shown = as_err r e (λ (q : Ending). Shows (shown_in c.args.log_writer.now.form) (left c.args.reader.now, left c.next_line.new.reader)
+      shown = as_err r e (λ (q : Ending). Shows (shown_in c.args.log_writer.now.format) (left c.args.reader.now, left c.next_line.new.reader)
           (g.T.Target.taken c.args.writer.now, g.T.Target.taken c.lines.writer) q) is
-          (told_to_read (shown_in c.args.log_writer.now.form) (left c.args.reader.now) (left c.next_line.new.reader)
+          (told_to_read (shown_in c.args.log_writer.now.format) (left c.args.reader.now) (left c.next_line.new.reader)
           (g.T.Target.taken c.args.writer.now) (g.T.Target.taken c.lines.writer)
           before.0 before.1 before.4.0 w c.lines.number e read before.3 before.4.1 before.4.2.0 stopped);
-      reach = as_err r e (λ (q : Ending). ReadsTo reading tt (left c.args.reader.now) (left c.next_line.new.reader) all
+      reach = as_err r e (λ (q : Ending). ReadsTo read_only_world tt (left c.args.reader.now) (left c.next_line.new.reader) all
           q) is
           (none_bad before.3 (left c.args.reader.now) (left c.next_line.new.reader) w read all e
           c.lines.invariant.counted stopped);
@@ -120,7 +120,7 @@ returns-in_err-tell g c =
     let e = c.in_err-tell.field-0.0 in
     let r = c.from_residual-in_err-tell.result in
     let w = c.next_line.new.window in
-    let all = IsAllRead left g.S.Source.ended c.next_line.new.reader in
+    let all = IsAtEndOfInput left g.S.Source.ended c.next_line.new.reader in
     let has = rw c.in-Some.is at c.in_ok-end.ensures.found in
     let line = c.split_at.result.0.now in
     let is_line : line ≡ take c.in-Some.end w = c.split_at.ensures.front
@@ -131,18 +131,18 @@ returns-in_err-tell g c =
     let read = read_on (left c.args.reader.now) (left c.lines.reader) (left c.next_line.new.reader) before.0
     c.lines.window w before.2 c.in_ok-end.ensures.bytes in
     record {
-      shown = as_err r e (λ (q : Ending). Shows (shown_in c.args.log_writer.now.form) (left c.args.reader.now, left c.next_line.new.reader)
+      shown = as_err r e (λ (q : Ending). Shows (shown_in c.args.log_writer.now.format) (left c.args.reader.now, left c.next_line.new.reader)
           (taken c.args.writer.now, taken c.tell.new.writer) q) is
-          (told_to_line (shown_in c.args.log_writer.now.form) (left c.args.reader.now) (left c.next_line.new.reader)
+          (told_to_line (shown_in c.args.log_writer.now.format) (left c.args.reader.now) (left c.next_line.new.reader)
           (taken c.args.writer.now) (taken c.lines.writer) (taken c.tell.new.writer)
           (failed c.lines.writer, failed c.tell.new.writer) before.0 before.1 before.4.0 w line
           (lines (drop (c.in-Some.end + 1) w)) c.lines.number e read before.3 before.4.1 before.4.2.0
           (line_in_front w c.in-Some.end has.feed ∙ ap (λ (l : List ℕ). l ∷ lines (drop (c.in-Some.end + 1) w))
           (sym is_line))
           (omega (arith, ap length is_line, short_in_front w c.lines.number c.in-Some.end has)) has.counted shown
-          (subst (λ (f : LogForm). TellsLine (shown_in f) c.lines.number line
-          (taken c.lines.writer, taken c.tell.new.writer) (ended_by e)) c.lines.invariant.form c.in_err-tell.ensures.text));
-      reach = as_err r e (λ (q : Ending). ReadsTo reading tt (left c.args.reader.now) (left c.next_line.new.reader) all
+          (subst (λ (f : OutputFormat). WritesLine (shown_in f) c.lines.number line
+          (taken c.lines.writer, taken c.tell.new.writer) (ended_by e)) c.lines.invariant.format c.in_err-tell.ensures.text));
+      reach = as_err r e (λ (q : Ending). ReadsTo read_only_world tt (left c.args.reader.now) (left c.next_line.new.reader) all
           q) is
           (faulty_in_front before.3 (left c.args.reader.now) (left c.next_line.new.reader) w read all unknown
           failures_of
@@ -152,12 +152,12 @@ returns-in_err-tell g c =
       end = on_err all r e is;
       reads = as_err r e (λ (q : Ending). Counts g.S.Source.failed (c.args.reader.now, c.next_line.new.reader)
           (read_fails q)) is
-          (counts_none _ _ _ (plays_unread reading unknown failures_of c.lines.number tt tt line
+          (counts_none _ _ _ (plays_unread read_only_world unknown failures_of c.lines.number tt tt line
           (failed c.lines.writer, failed c.tell.new.writer) (ended_by e) shown)
           (◌∙◌ {b = g.S.Source.failed c.lines.reader} c.in_ok-end.ensures.reads c.lines.invariant.reads));
       writes = as_err r e (λ (q : Ending). Counts failed (c.args.writer.now, c.tell.new.writer) (write_fails q)) is
           (counts_on (failed c.lines.writer) (failed c.args.writer.now) _ _ c.lines.invariant.writes
-          (plays_counts reading unknown failures_of c.lines.number tt tt line
+          (plays_counts read_only_world unknown failures_of c.lines.number tt tt line
           (failed c.lines.writer, failed c.tell.new.writer) (ended_by e) shown));
     }
 
@@ -168,7 +168,7 @@ returns-in_err-tell-2 g c =
     let taken = g.T.Target.taken in
     let failed = g.T.Target.failed in
     let before = c.lines.invariant.done in
-    let form = c.args.log_writer.now.form in
+    let format = c.args.log_writer.now.format in
     let e = c.in_err-tell-2.field-0.0 in
     let r = c.from_residual-in_err-tell-2.result in
     let window = c.next_line.new.window in
@@ -177,7 +177,7 @@ returns-in_err-tell-2 g c =
     let at = rw c.in_default.is at c.in_ok-end.ensures.found in
     let some : 0 < length w = some_left (length w) (λ e. cc (c.if-is_empty.ensures.1 (sym is ∙ nil_from_length w e))) in
     let small : length window < 256 = at.0.short in
-    let all = IsAllRead left g.S.Source.ended c.next_line.new.reader in
+    let all = IsAtEndOfInput left g.S.Source.ended c.next_line.new.reader in
     let read = read_on (left c.args.reader.now) (left c.lines.reader) (left c.next_line.new.reader) before.0
     c.lines.window window before.2 c.in_ok-end.ensures.bytes in
     let last = subst (IsUnfinished c.lines.number) (sym is) at.0 in
@@ -185,31 +185,31 @@ returns-in_err-tell-2 g c =
     let from = err_from_is_err_and r c.from_residual-in_err-tell-2.ensures.1 in
     let stopped : r ≡ Err e = from.1 ∙ ap (λ (f : LogFault). Err f) from.2 in
     record {
-      shown = as_err r e (λ (q : Ending). Shows (shown_in form) (left c.args.reader.now, left c.next_line.new.reader)
+      shown = as_err r e (λ (q : Ending). Shows (shown_in format) (left c.args.reader.now, left c.next_line.new.reader)
           (taken c.args.writer.now, taken c.tell-2.new.writer) q) stopped
-          (told_to_line (shown_in form) (left c.args.reader.now) (left c.next_line.new.reader)
+          (told_to_line (shown_in format) (left c.args.reader.now) (left c.next_line.new.reader)
           (taken c.args.writer.now) (taken c.lines.writer) (taken c.tell-2.new.writer)
           (failed c.lines.writer, failed c.tell-2.new.writer) before.0 before.1 before.4.0 w w [] c.lines.number e
           (subst (λ (l : List ℕ). Consumes (left c.args.reader.now) (left c.next_line.new.reader) (before.0 ++ l))
           (sym is) read)
           before.3 before.4.1 before.4.2.0 (last_line w last.no_feed some) last.short
           (in_count c.lines.number w last.counted some) shown
-          (subst (λ (f : LogForm). TellsLine (shown_in f) c.lines.number w
-          (taken c.lines.writer, taken c.tell-2.new.writer) (ended_by e)) c.lines.invariant.form
+          (subst (λ (f : OutputFormat). WritesLine (shown_in f) c.lines.number w
+          (taken c.lines.writer, taken c.tell-2.new.writer) (ended_by e)) c.lines.invariant.format
           c.in_err-tell-2.ensures.text));
-      reach = as_err r e (λ (q : Ending). ReadsTo reading tt (left c.args.reader.now) (left c.next_line.new.reader) all
+      reach = as_err r e (λ (q : Ending). ReadsTo read_only_world tt (left c.args.reader.now) (left c.next_line.new.reader) all
           q) stopped
           (faulty_last before.3 (left c.args.reader.now) (left c.next_line.new.reader) window read all
           (fails_by e) c.in_err-tell-2.ensures.own (omega (arith, small)) at.1);
       end = on_err all r e stopped;
       reads = as_err r e (λ (q : Ending). Counts g.S.Source.failed (c.args.reader.now, c.next_line.new.reader)
           (read_fails q)) stopped
-          (counts_none _ _ _ (plays_unread reading unknown failures_of c.lines.number tt tt w
+          (counts_none _ _ _ (plays_unread read_only_world unknown failures_of c.lines.number tt tt w
           (failed c.lines.writer, failed c.tell-2.new.writer) (ended_by e) shown)
           (◌∙◌ {b = g.S.Source.failed c.lines.reader} c.in_ok-end.ensures.reads c.lines.invariant.reads));
       writes = as_err r e (λ (q : Ending). Counts failed (c.args.writer.now, c.tell-2.new.writer) (write_fails q)) stopped
           (counts_on (failed c.lines.writer) (failed c.args.writer.now) _ _ c.lines.invariant.writes
-          (plays_counts reading unknown failures_of c.lines.number tt tt w
+          (plays_counts read_only_world unknown failures_of c.lines.number tt tt w
           (failed c.lines.writer, failed c.tell-2.new.writer) (ended_by e) shown));
     }
 
@@ -218,7 +218,7 @@ pub returns-then-number-eq1 : goal.returns-then-number-eq1
 returns-then-number-eq1 g c =
     let left = g.S.Source.left in
     let before = c.lines.invariant.done in
-    let form = c.args.log_writer.now.form in
+    let format = c.args.log_writer.now.format in
     let w = c.next_line.new.window in
     let none : w ≡ [] = c.if-is_empty.ensures.0 refl in
     let at = rw c.in_default.is at c.in_ok-end.ensures.found in
@@ -239,7 +239,7 @@ returns-then-number-eq1 g c =
             behind = [];
             text_is = sym (append-nil before.4.0);
             shown = told;
-            last = behind_nothing form (length told.told);
+            last = behind_nothing format (length told.told);
           },
         ),
       );
@@ -258,32 +258,32 @@ returns-then-is_empty g c =
     let taken = g.T.Target.taken in
     let failed = g.T.Target.failed in
     let before = c.lines.invariant.done in
-    let form = c.args.log_writer.now.form in
+    let format = c.args.log_writer.now.format in
     let r = c.tell_end.result in
     let w = c.next_line.new.window in
     let none : w ≡ [] = c.if-is_empty.ensures.0 refl in
     let at = rw c.in_default.is at c.in_ok-end.ensures.found in
-    let all = IsAllRead left g.S.Source.ended c.next_line.new.reader in
+    let all = IsAtEndOfInput left g.S.Source.ended c.next_line.new.reader in
     let read = read_on (left c.args.reader.now) (left c.lines.reader) (left c.next_line.new.reader) before.0
     c.lines.window w before.2 c.in_ok-end.ensures.bytes in
     let count = before.4.2.1 in
-    let tells = subst (λ (f : LogForm). TellsEnd (shown_in f) taken failed (c.lines.number - 1) (c.lines.writer, c.tell_end.new.writer) (ending_of r))
-    c.lines.invariant.form c.tell_end.ensures in
+    let tells = subst (λ (f : OutputFormat). WritesEnd (shown_in f) taken failed (c.lines.number - 1) (c.lines.writer, c.tell_end.new.writer) (ending_of r))
+    c.lines.invariant.format c.tell_end.ensures in
     record {
-      shown = told_behind (shown_in form) taken failed r (left c.args.reader.now) (left c.next_line.new.reader)
+      shown = told_behind (shown_in format) taken failed r (left c.args.reader.now) (left c.next_line.new.reader)
           (taken c.args.writer.now) (c.lines.writer, c.tell_end.new.writer) (before.0 ++ []) before.1 before.4.0 (c.lines.number - 1)
           (subst (λ (l : List ℕ). Consumes (left c.args.reader.now) (left c.next_line.new.reader) (before.0 ++ l)) none
           read)
           (played_none before.3) before.4.1 before.4.2.0 (omega (arith, count))
           (unwritten_back before.3 (omega (arith, count, c.if-number-eq1))) tells;
-      reach = behind_reach (shown_in form) taken failed (c.lines.number - 1) (c.lines.writer, c.tell_end.new.writer) (ending_of r)
+      reach = behind_reach (shown_in format) taken failed (c.lines.number - 1) (c.lines.writer, c.tell_end.new.writer) (ending_of r)
           (left c.args.reader.now) (left c.next_line.new.reader) all tells;
       end = on_any r at.1;
-      reads = counts_none _ _ _ (behind_reads (shown_in form) taken failed (c.lines.number - 1) (c.lines.writer, c.tell_end.new.writer) (ending_of r)
+      reads = counts_none _ _ _ (behind_reads (shown_in format) taken failed (c.lines.number - 1) (c.lines.writer, c.tell_end.new.writer) (ending_of r)
           tells)
           (◌∙◌ {b = g.S.Source.failed c.lines.reader} c.in_ok-end.ensures.reads c.lines.invariant.reads);
       writes = counts_on (failed c.lines.writer) (failed c.args.writer.now) _ _ c.lines.invariant.writes
-          (behind_writes (shown_in form) taken failed (c.lines.number - 1) (c.lines.writer, c.tell_end.new.writer) (ending_of r) tells);
+          (behind_writes (shown_in format) taken failed (c.lines.number - 1) (c.lines.writer, c.tell_end.new.writer) (ending_of r) tells);
     }
 
 pub returns : goal.returns
@@ -292,26 +292,26 @@ returns g c =
     let taken = g.T.Target.taken in
     let failed = g.T.Target.failed in
     let before = c.lines.invariant.done in
-    let form = c.args.log_writer.now.form in
+    let format = c.args.log_writer.now.format in
     let r = c.tell_end-2.result in
     let window = c.next_line.new.window in
     let w = c.as_slice-2.result.now in
     let is : w ≡ window = c.as_slice-2.ensures.value in
     let at = rw c.in_default.is at c.in_ok-end.ensures.found in
     let some : 0 < length w = some_left (length w) (λ e. cc (c.if-is_empty.ensures.1 (sym is ∙ nil_from_length w e))) in
-    let all = IsAllRead left g.S.Source.ended c.next_line.new.reader in
+    let all = IsAtEndOfInput left g.S.Source.ended c.next_line.new.reader in
     let read = read_on (left c.args.reader.now) (left c.lines.reader) (left c.next_line.new.reader) before.0
     c.lines.window window before.2 c.in_ok-end.ensures.bytes in
     let shown = c.in_ok-tell-2.ensures.shown in
-    let same = c.lines.invariant.form in
-    let text = subst (λ (f : LogForm). TellsLine (shown_in f) c.lines.number w
+    let same = c.lines.invariant.format in
+    let text = subst (λ (f : OutputFormat). WritesLine (shown_in f) c.lines.number w
     (taken c.lines.writer, taken c.tell-2.new.writer) Done) same c.in_ok-tell-2.ensures.text in
-    let last = told_last (shown_in form) before.0 before.1 before.4.0 w text.0 c.lines.number before.3 before.4.2.0
+    let last = told_last (shown_in format) before.0 before.1 before.4.0 w text.0 c.lines.number before.3 before.4.2.0
     before.4.2.1 (subst (IsUnfinished c.lines.number) (sym is) at.0) some shown.0 shown.2 text.2 in
-    let tells = subst (λ (f : LogForm). TellsEnd (shown_in f) taken failed c.lines.number (c.tell-2.new.writer, c.tell_end-2.new.writer) (ending_of r))
-    (c.in_ok-tell-2.ensures.form ∙ same) c.tell_end-2.ensures in
+    let tells = subst (λ (f : OutputFormat). WritesEnd (shown_in f) taken failed c.lines.number (c.tell-2.new.writer, c.tell_end-2.new.writer) (ending_of r))
+    (c.in_ok-tell-2.ensures.format ∙ same) c.tell_end-2.ensures in
     record {
-      shown = told_behind (shown_in form) taken failed r (left c.args.reader.now) (left c.next_line.new.reader)
+      shown = told_behind (shown_in format) taken failed r (left c.args.reader.now) (left c.next_line.new.reader)
           (taken c.args.writer.now) (c.tell-2.new.writer, c.tell_end-2.new.writer) (before.0 ++ w) _ (before.4.0 ++ text.0) c.lines.number
           (subst (λ (l : List ℕ). Consumes (left c.args.reader.now) (left c.next_line.new.reader) (before.0 ++ l))
           (sym is) read)
@@ -319,12 +319,12 @@ returns g c =
           (Appends-trans (taken c.args.writer.now) (taken c.lines.writer) (taken c.tell-2.new.writer) before.4.0 text.0
           before.4.1 text.1)
           last.1.0 last.1.1 last.2 tells;
-      reach = behind_reach (shown_in form) taken failed c.lines.number (c.tell-2.new.writer, c.tell_end-2.new.writer) (ending_of r) (left c.args.reader.now)
+      reach = behind_reach (shown_in format) taken failed c.lines.number (c.tell-2.new.writer, c.tell_end-2.new.writer) (ending_of r) (left c.args.reader.now)
           (left c.next_line.new.reader) all tells;
       end = on_any r at.1;
-      reads = counts_none _ _ _ (behind_reads (shown_in form) taken failed c.lines.number (c.tell-2.new.writer, c.tell_end-2.new.writer) (ending_of r) tells)
+      reads = counts_none _ _ _ (behind_reads (shown_in format) taken failed c.lines.number (c.tell-2.new.writer, c.tell_end-2.new.writer) (ending_of r) tells)
           (◌∙◌ {b = g.S.Source.failed c.lines.reader} c.in_ok-end.ensures.reads c.lines.invariant.reads);
       writes = counts_on (failed c.tell-2.new.writer) (failed c.args.writer.now) _ _
           (shown.3.1 ∙ c.lines.invariant.writes)
-          (behind_writes (shown_in form) taken failed c.lines.number (c.tell-2.new.writer, c.tell_end-2.new.writer) (ending_of r) tells);
+          (behind_writes (shown_in format) taken failed c.lines.number (c.tell-2.new.writer, c.tell_end-2.new.writer) (ending_of r) tells);
     }

@@ -1,7 +1,7 @@
 use Rattle.std.proofs.Common.{◌≡◌, ◌-◌, ◌+◌, ◌^◌, ◌≤◌, List, ℕ, ◌++◌, length}
 use Rattle.std.specs.Io.KnownBytes.{Appends, Consumes}
 use Rattle.session_log.proofs.Through.{Through}
-use Rattle.session_show.specs.Shown.{IsShownText, reading, shown_in}
+use Rattle.session_show.specs.Shown.{IsShownText, read_only_world, shown_in}
 use Rattle.session_show.proofs.log_writer.write_log.Given as goal
 
 -- whole lines were read and shown, and what was read after them stands in the window
@@ -11,12 +11,12 @@ invariant-lines g l =
       reads : g.S.Source.failed l.reader ≡ g.S.Source.failed l.fn.reader;
       writes : g.T.Target.failed l.writer ≡ g.T.Target.failed l.fn.writer;
       counted : l.number ≤ 2 ^ 32;
-      form : l.log_writer.form ≡ l.fn.log_writer.form;
+      format : l.log_writer.format ≡ l.fn.log_writer.format;
       done : (read : List ℕ) × (shown : List ℕ) × Consumes (g.S.Source.left l.fn.reader) (g.S.Source.left l.reader)
           (read ++ l.window)
-          × Through reading tt read shown tt l.number
+          × Through read_only_world tt read shown tt l.number
           × ((text : List ℕ) × Appends (g.T.Target.taken l.fn.writer) (g.T.Target.taken l.writer) text
-          × ((t : IsShownText (shown_in l.fn.log_writer.form) shown text) × (l.number ≡ length t.told + 1)));
+          × ((t : IsShownText (shown_in l.fn.log_writer.format) shown text) × (l.number ≡ length t.told + 1)));
     }
 
 abbrev pub decreases-lines : goal.decreases-lines

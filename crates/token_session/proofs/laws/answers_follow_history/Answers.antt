@@ -1,15 +1,15 @@
 use Rattle.std.proofs.Common.{ap, ◌∙◌}
-use Rattle.token_session.specs.{Answered.sent_told, Credentials.steps, History.judge, History.judged}
-use Rattle.cred_table.specs.Rows.{Lawful}
+use Rattle.token_session.specs.{Answered.packets_sent, Credentials.steps, History.receive, History.received}
+use Rattle.cred_table.specs.Rows.{ValidRows}
 use Rattle.authn_core.specs.Turn.{Start}
 use Rattle.token_session.proofs.Credentials.{core_is, orderly}
 use Rattle.token_session.proofs.Answered.{Law, judged_told_so, happened_steps, waits_told, sent_told_so}
 use Rattle.token_session.proofs.laws.answers_follow_history.Goals as goal
 
 pub returns : goal.returns
-unfolding judge
+unfolding receive
 returns c =
-    let law : (start : Start) → Lawful start.capacity start.rows → Law start = λ start l. record {
+    let law : (start : Start) → ValidRows start.capacity start.rows → Law start = λ start l. record {
       answers = λ h x o. c.answers_follow_history.ensures.answers start h x l o;
       waits = λ h o. c.answers_follow_history.ensures.waits start h l o;
     } in
@@ -18,9 +18,9 @@ returns c =
           let k = judged_told_so start (law start l) h in
           record {
             inputs = k;
-            packets = sent_told_so start (law start l) h ∙ ap (sent_told start) k;
-            rows = rw (← k) (rw (core_is start (judged start h), happened_steps start (law start l) h)
-                (c.answers_follow_history.ensures.rows start (steps start (judged start h)) l (orderly start h)));
+            packets = sent_told_so start (law start l) h ∙ ap (packets_sent start) k;
+            rows = rw (← k) (rw (core_is start (received start h), happened_steps start (law start l) h)
+                (c.answers_follow_history.ensures.rows start (steps start (received start h)) l (orderly start h)));
           };
       waits = λ start h l. waits_told start (law start l) h;
     }

@@ -1,16 +1,16 @@
 use Rattle.std.proofs.Common.{refl}
-use Rattle.token_session.specs.History.{judged}
+use Rattle.token_session.specs.History.{received}
 use Rattle.token_session.proofs.Credentials.{core_is, first_ready, orderly}
 use Rattle.token_session.proofs.laws.credentials_follow_history.Goals as goal
 
 pub returns : goal.returns
 returns c = record {
-  rows = λ start h. rw (core_is start (judged start h)) (c.rows_follow_history.ensures.rows _ _ (orderly start h));
-  lawful = λ start h l. rw (core_is start (judged start h)) (c.rows_follow_history.ensures.lawful _ _
+  rows = λ start h. rw (core_is start (received start h)) (c.rows_follow_history.ensures.rows _ _ (orderly start h));
+  lawful = λ start h l. rw (core_is start (received start h)) (c.rows_follow_history.ensures.lawful _ _
       (first_ready start) l);
   texts = λ start h l. c.texts_to_sign_differ.ensures.differ _ _ (first_ready start) l (orderly start h);
   rise = λ start h l. c.texts_to_sign_differ.ensures.rise _ _ (first_ready start) l (orderly start h);
   newest = λ start h id l e.
-      let k = core_is start (judged start h) in
+      let k = core_is start (received start h) in
       rw k (c.texts_to_sign_differ.ensures.newest _ _ id refl (first_ready start) l (orderly start h) (rw k at e));
 }

@@ -1,8 +1,8 @@
 use Rattle.std.proofs.Common.{arith, length, ◌≤◌, ◌∙◌, subst, List}
-use Rattle.token_session.specs.Inputs.{Judged}
-use Rattle.hid_packet.specs.Limits.{LONGEST_MESSAGE}
+use Rattle.token_session.specs.Inputs.{ReceivedInput}
+use Rattle.hid_packet.specs.Limits.{MAX_MESSAGE_LEN}
 use Rattle.cred_table.specs.declared.row.Row.{Row}
-use Rattle.token_session.{specs.History.judged, specs.History.held, specs.History.core, proofs.Bounds.held_few}
+use Rattle.token_session.{specs.History.received, specs.History.held, specs.History.core, proofs.Bounds.held_few}
 use Rattle.token_session.proofs.Credentials.{core_is, first_ready}
 use Rattle.token_session.proofs.Headline.{turns_send_sent, all_carried, all_few}
 use Rattle.token_session.proofs.laws.every_history_is_answered.Goals as goal
@@ -11,19 +11,19 @@ pub returns : goal.returns
 returns c = record {
   answered = λ start h lawful.
       let told = c.answers_follow_history.ensures.told start h lawful in
-      let least = held_few start (judged start h) in
-      let few : held start (judged start h) ≤ LONGEST_MESSAGE = omega (arith, least) in
-      let kept : length (core start (judged start h)).state.rows ≤ start.capacity =
-      rw (core_is start (judged start h)) (c.rows_follow_history.ensures.lawful _ _ (first_ready start) lawful).few in
+      let least = held_few start (received start h) in
+      let few : held start (received start h) ≤ MAX_MESSAGE_LEN = omega (arith, least) in
+      let kept : length (core start (received start h)).state.rows ≤ start.capacity =
+      rw (core_is start (received start h)) (c.rows_follow_history.ensures.lawful _ _ (first_ready start) lawful).few in
       record {
         sent = turns_send_sent start h ∙ told.packets;
-        held = subst (λ (j : List Judged). held start j ≤ LONGEST_MESSAGE) told.inputs few;
+        held = subst (λ (j : List ReceivedInput). held start j ≤ MAX_MESSAGE_LEN) told.inputs few;
         rows = subst (λ (r : List Row). length r ≤ start.capacity) told.rows kept;
       };
   bounded = λ start h lawful packets. record {
     carried = all_carried start h packets;
-    pending = rw (core_is start (judged start h)) (c.rows_follow_history.ensures.pending _ _ (first_ready start) lawful
+    pending = rw (core_is start (received start h)) (c.rows_follow_history.ensures.pending _ _ (first_ready start) lawful
         (omega arith));
-    steps = all_few c.steps_are_bounded.ensures start (judged start h);
+    steps = all_few c.steps_are_bounded.ensures start (received start h);
   };
 }

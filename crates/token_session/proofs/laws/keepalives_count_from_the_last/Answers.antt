@@ -1,7 +1,7 @@
 use Rattle.std.proofs.Common.{refl}
-use Rattle.token_session.specs.{History.judged, History.last_keepalive, History.sent_at, Law.sent_now}
+use Rattle.token_session.specs.{History.received, History.last_keepalive, History.sent_at, Law.sent_now}
 use Rattle.token_session.proofs.laws.keepalives_count_from_the_last.Goals as goal
 
 pub returns : goal.returns
-unfolding judged sent_now sent_at last_keepalive
+unfolding received sent_now sent_at last_keepalive
 returns c = λ start h x. refl

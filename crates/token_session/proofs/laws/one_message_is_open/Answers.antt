@@ -1,11 +1,11 @@
 use Rattle.std.proofs.Common.{[]}
-use Rattle.token_session.specs.{Messages.open_at, History.judged}
+use Rattle.token_session.specs.{Messages.open_at, History.received}
 use Rattle.token_session.proofs.{Bounds.one_open, Bounds.held_few, Follows.good_judged}
 use Rattle.token_session.proofs.laws.one_message_is_open.Goals as goal
 
 pub returns : goal.returns
 unfolding open_at
 returns c = record {
-  one = λ start t h le. one_open (judged start h) [] start t (good_judged start h).lawful tt le;
-  held = λ start h. held_few start (judged start h);
+  one = λ start t h le. one_open (received start h) [] start t (good_judged start h).lawful tt le;
+  held = λ start h. held_few start (received start h);
 }

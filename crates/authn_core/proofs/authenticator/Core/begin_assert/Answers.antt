@@ -1,7 +1,7 @@
 use Rattle.std.proofs.Common.{◌≡◌, ◌∙◌, refl, rules, arith}
 use Rattle.cred_table.specs.Rows.{ids}
 use Rattle.ctap_message.specs.{Members.has_entries, Descriptors.ids_of, DescriptorWalk.left_of}
-use Rattle.authn_core.{specs.GetAssertion.applicable, proofs.Readiness.applicable_there}
+use Rattle.authn_core.{specs.GetAssertion.applicable_rows, proofs.Readiness.applicable_there}
 use Rattle.authn_core.proofs.authenticator.Core.begin_assert.Goals as goal
 
 pub invariant_of-self : goal.invariant_of-self
@@ -10,8 +10,8 @@ invariant_of-self g c = grind (arith, applicable_there)
 pub returns : goal.returns
 returns g c =
     let allow = left_of c.args.asked.allow in
-    let found : c.as_slice-ids.result.now ≡ ids (applicable (g.T.Table.rows c.self.inside.table) c.digest-rp.result
-    (has_entries allow) (ids_of allow)) = c.as_slice-ids.ensures.value ∙ c.put_applicable.ensures in
+    let found : c.as_slice-ids.result.now ≡ ids (applicable_rows (g.T.Table.rows c.self.inside.table) c.digest-rp.result
+    (has_entries allow) (ids_of allow)) = c.as_slice-ids.ensures.value ∙ c.collect_applicable.ensures in
     let begun = c.begin_by.ensures c.as_slice-ids.result.now
     (record { are = c.fill.ensures; counted = refl; few = grind arith }) in
     let named = rw found at begun in search rules

@@ -5,5 +5,5 @@ use Rattle.authn_core.proofs.authenticator.Core.reply.Goals as goal
 pub returns-in_default-2 : goal.returns-in_default-2
 returns-in_default-2 g c = grind arith steps 40000000
 
-pub returns-in-SignsMake-Signature : goal.returns-in-SignsMake-Signature
-returns-in-SignsMake-Signature g c = grind arith steps 40000000
+pub returns-in-AwaitMakeSignature-Signature : goal.returns-in-AwaitMakeSignature-Signature
+returns-in-AwaitMakeSignature-Signature g c = grind arith steps 40000000

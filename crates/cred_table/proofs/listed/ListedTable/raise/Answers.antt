@@ -1,5 +1,5 @@
 use Rattle.std.proofs.Common.{sym, subst, List, arith}
-use Rattle.cred_table.specs.{declared.row.Row.Row, Rows.Lawful}
+use Rattle.cred_table.specs.{declared.row.Row.Row, Rows.ValidRows}
 use Rattle.cred_table.proofs.{Places.written_is, Places.counter_is, Raised.Lawful-raised}
 use Rattle.cred_table.proofs.listed.ListedTable.raise.Goals as goal
 
@@ -13,7 +13,7 @@ invariant_of-self g c =
     written_is c.args.id.now before.list.items c.as_mut_slice.result.now c.index-as_mut_slice-place.result
     c.place-place.result before.lawful.distinct c.requires.there c.place-place.ensures.value
     c.as_mut_slice.ensures.value c.index-as_mut_slice-place.is in
-    let P : List Row → Type 0 = λ rows. Lawful g.row.C rows in
+    let P : List Row → Type 0 = λ rows. ValidRows g.row.C rows in
     record {
       lawful = subst P (sym written) (Lawful-raised g.row.C c.args.id.now before.list.items before.lawful);
       some = before.some;

@@ -1,5 +1,5 @@
 use Rattle.std.proofs.Common.{arith, sym, ◌∙◌, subst, List}
-use Rattle.cred_table.specs.{declared.row.Row.Row, Rows.is_user, Rows.Lawful}
+use Rattle.cred_table.specs.{declared.row.Row.Row, Rows.is_user, Rows.ValidRows}
 use Rattle.cred_table.proofs.Places.{replaced_rows, id_found, replaced_is, Lawful-replace}
 use Rattle.cred_table.proofs.listed.ListedTable.replace.Goals as goal
 
@@ -15,7 +15,7 @@ invariant_of-self g c =
     replaced_rows c.args.old.now c.args.new before.list.items c.remove.new.self.items c.push.new.self.items
     c.place-place.result there before.lawful.distinct c.place-place.ensures.value c.remove.ensures.items
     c.push.ensures.items in
-    let P : List Row → Type 0 = λ rows. Lawful g.row.C rows in
+    let P : List Row → Type 0 = λ rows. ValidRows g.row.C rows in
     record {
       lawful = subst P (sym appended) (Lawful-replace g.row.C c.args.old.now c.args.new before.list.items before.lawful
           c.requires.fresh c.requires.same_user);

@@ -1,5 +1,5 @@
 use Rattle.std.proofs.Common.{Ok, subst}
-use Rattle.ctap_cbor.specs.{Reading.Takes, Views.part_of, Views.TakesOnly}
+use Rattle.ctap_cbor.specs.{Reading.Takes, Views.part_of, Views.ReadsItem}
 use Rattle.ctap_message.proofs.Naming.{begins, no_fault, no_other}
 use Rattle.ctap_message.proofs.descriptors.Descriptors.over.Goals as goal
 
@@ -13,7 +13,7 @@ unreachable-requires-in_default-item c = no_other c.args.list.now c.requires.0 c
 
 pub invariant_of-result : goal.invariant_of-result
 invariant_of-result c =
-    let only = subst (λ i. TakesOnly 4 c.new-cursor.result c.item.new.self (Ok i)) c.in-Array.is c.in-Ok.ensures.only in
+    let only = subst (λ i. ReadsItem 4 c.new-cursor.result c.item.new.self (Ok i)) c.in-Array.is c.in-Ok.ensures.only in
     let takes = subst (λ i. Takes 4 c.new-cursor.result c.item.new.self (part_of i)) c.in-Array.is c.in-Ok.ensures.takes
     in
     (begins c.bytes_tell.ensures c.items_are_found.ensures c.args.list.now c.requires.0 c.new-cursor.result
@@ -21,7 +21,7 @@ invariant_of-result c =
 
 pub returns : goal.returns
 returns c = λ ts h.
-    let only = subst (λ i. TakesOnly 4 c.new-cursor.result c.item.new.self (Ok i)) c.in-Array.is c.in-Ok.ensures.only in
+    let only = subst (λ i. ReadsItem 4 c.new-cursor.result c.item.new.self (Ok i)) c.in-Array.is c.in-Ok.ensures.only in
     let takes = subst (λ i. Takes 4 c.new-cursor.result c.item.new.self (part_of i)) c.in-Array.is c.in-Ok.ensures.takes
     in
     (begins c.bytes_tell.ensures c.items_are_found.ensures c.args.list.now ts c.new-cursor.result c.item.new.self

@@ -11,8 +11,8 @@ pub returns-then-is_some-clause-gives : goal.returns-then-is_some-clause-gives
 returns-then-is_some-clause-gives c =
     gives_some c.one_tree_passes.ensures c.args.self.now.cursor c.loop-self.self.cursor c.read_descriptor.new.cursor
     c.args.self.now.left c.loop-self.self.left (c.in-Ok.field-0-0, shown_descriptor c.in-Ok.descriptor)
-    (option_copied c.key_id-id.result) c.loop-self.invariant.walked c.loop-self-test.true c.in-Ok.ensures
-    c.key_id-id.ensures (copied_some c.key_id-id.result ∙ sym c.is_some.ensures ∙ c.if-is_some.true)
+    (option_copied c.public_key_id-id.result) c.loop-self.invariant.walked c.loop-self-test.true c.in-Ok.ensures
+    c.public_key_id-id.ensures (copied_some c.public_key_id-id.result ∙ sym c.is_some.ensures ∙ c.if-is_some.true)
 
 pub loop-self-preserved : goal.loop-self-preserved
 loop-self-preserved c =
@@ -21,7 +21,7 @@ loop-self-preserved c =
           c.read_descriptor.new.cursor c.args.self.now.left c.loop-self.self.left
           (c.in-Ok.field-0-0, shown_descriptor c.in-Ok.descriptor) c.loop-self.invariant.walked c.loop-self-test.true
           c.in-Ok.ensures
-          (sym c.key_id-id.ensures ∙ none_is (option_copied c.key_id-id.result) (copied_some c.key_id-id.result
+          (sym c.public_key_id-id.ensures ∙ none_is (option_copied c.public_key_id-id.result) (copied_some c.public_key_id-id.result
           ∙ sym c.is_some.ensures ∙ c.if-is_some.false));
       fewer = omega arith;
     }

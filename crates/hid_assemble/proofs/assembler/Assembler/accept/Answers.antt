@@ -1,13 +1,13 @@
 use Rattle.std.proofs.Common.{subst, sym}
-use Rattle.hid_assemble.{specs.Assembly.IsLawful, proofs.Lawful.stays_lawful}
+use Rattle.hid_assemble.{specs.Assembly.IsValidAssembly, proofs.Lawful.stays_lawful}
 use Rattle.hid_assemble.proofs.assembler.Assembler.accept.Goals as goal
 
 pub returns-in-Start-clause-lawful : goal.returns-in-Start-clause-lawful
 returns-in-Start-clause-lawful c =
-    subst IsLawful (sym c.begin.ensures.state) (stays_lawful _ c.args.at c.args.working _ c.in-Start.ensures.data
+    subst IsValidAssembly (sym c.begin.ensures.state) (stays_lawful _ c.args.at c.args.working _ c.in-Start.ensures.data
     c.forget_finished.ensures.lawful)
 
 pub returns-in-More-clause-lawful : goal.returns-in-More-clause-lawful
 returns-in-More-clause-lawful c =
-    subst IsLawful (sym (c.go_on.ensures.state c.args.working))
+    subst IsValidAssembly (sym (c.go_on.ensures.state c.args.working))
     (stays_lawful _ c.args.at c.args.working _ c.in-More.ensures.data c.forget_finished.ensures.lawful)

@@ -1,12 +1,12 @@
 use Rattle.std.proofs.Common.{◌≡◌, length, subst, sym, ◌∙◌, arith}
-use Rattle.hid_assemble.{specs.Table.initialization_row, proofs.Says.RowSays, proofs.Says.row_says}
+use Rattle.hid_assemble.{specs.Table.init_packet_row, proofs.Says.RowSays, proofs.Says.row_says}
 use Rattle.hid_assemble.proofs.Keeping.{given-is, one_more, short_state, long_state}
 use Rattle.hid_assemble.proofs.assembler.Assembler.begin.Goals as goal
 
 pub invariant_of-self : goal.invariant_of-self
 invariant_of-self c =
     let says = subst (RowSays c.self.inside.given c.args.cid c.args.cmd c.args.len)
-    (sym c.initialization_row.ensures ∙ c.in-InitNew.is)
+    (sym c.init_packet_row.ensures ∙ c.in-InitNew.is)
     (row_says c.self.inside.given c.open_on.result c.args.working c.args.cid c.args.cmd c.args.len
     c.self.invariant.channels) in
     one_more _ _ _ c.self.invariant says
@@ -14,7 +14,7 @@ invariant_of-self c =
 pub invariant_of-self-in-Short : goal.invariant_of-self-in-Short
 invariant_of-self-in-Short c =
     let says = subst (RowSays c.self.inside.given c.args.cid c.args.cmd c.args.len)
-    (sym c.initialization_row.ensures ∙ c.in-Short.is)
+    (sym c.init_packet_row.ensures ∙ c.in-Short.is)
     (row_says c.self.inside.given c.open_on.result c.args.working c.args.cid c.args.cmd c.args.len
     c.self.invariant.channels) in
     let size : length c.put_data.new.message ≡ 7609 = omega arith in
@@ -23,7 +23,7 @@ invariant_of-self-in-Short c =
 pub invariant_of-self-in-Long : goal.invariant_of-self-in-Long
 invariant_of-self-in-Long c =
     let says = subst (RowSays c.self.inside.given c.args.cid c.args.cmd c.args.len)
-    (sym c.initialization_row.ensures ∙ c.in-Long.is)
+    (sym c.init_packet_row.ensures ∙ c.in-Long.is)
     (row_says c.self.inside.given c.open_on.result c.args.working c.args.cid c.args.cmd c.args.len
     c.self.invariant.channels) in
     let size : length c.put_data-in-Long.new.message ≡ 7609 = omega arith in
@@ -36,7 +36,7 @@ invariant_of-self-in-Long c =
 pub returns-in-Short-clause-state : goal.returns-in-Short-clause-state
 returns-in-Short-clause-state c =
     let same = given-is _ _ _ _ c.self.view_is in
-    let row = sym (c.initialization_row.ensures ∙ (λ i. initialization_row (same i) (c.open_on.ensures i) c.args.working
+    let row = sym (c.init_packet_row.ensures ∙ (λ i. init_packet_row (same i) (c.open_on.ensures i) c.args.working
     c.args.cid c.args.cmd c.args.len)) ∙ c.in-Short.is in
     let says = subst (RowSays c.args.self.now.given c.args.cid c.args.cmd c.args.len) row
     (row_says _ _ _ _ _ _ (omega (arith, same, c.self.invariant.channels))) in
@@ -46,7 +46,7 @@ returns-in-Short-clause-state c =
 pub returns-in-Long-clause-state : goal.returns-in-Long-clause-state
 returns-in-Long-clause-state c =
     let same = given-is _ _ _ _ c.self.view_is in
-    let row = sym (c.initialization_row.ensures ∙ (λ i. initialization_row (same i) (c.open_on.ensures i) c.args.working
+    let row = sym (c.init_packet_row.ensures ∙ (λ i. init_packet_row (same i) (c.open_on.ensures i) c.args.working
     c.args.cid c.args.cmd c.args.len)) ∙ c.in-Long.is in
     rw c.new.ensures (long_state _ _ _ _ c.self.view_is c.args.at _ c.args.cmd _ _ c.args.working c.args.part.now _
     c.requires.data c.put_data-in-Long.ensures row)

@@ -1,5 +1,5 @@
 use Rattle.std.proofs.Common.{◌+◌, ◌≤◌, ◌∷◌, ◌++◌, [], List, ℕ, length, ap, ap₂, ◌∙◌, refl, rules, arith}
-use Rattle.hid_packet.specs.{Queue.waiting, declared.entry.Queued.TheVariants.Whole}
+use Rattle.hid_packet.specs.{Queue.waiting, declared.queued.Queued.TheVariants.Whole}
 use Rattle.hid_packet.proofs.Queueing.{queued-push, space, waiting-push}
 use Rattle.hid_packet.proofs.outbox.Outbox.put_packet.Goals as goal
 

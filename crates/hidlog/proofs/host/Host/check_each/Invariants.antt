@@ -18,7 +18,7 @@ model g = record {
   taken = g.O.Target.taken;
   unput = g.O.Target.failed;
   waits = g.O.Output.waits;
-  said = g.E.Target.taken;
+  parsed = g.E.Target.taken;
   unsaid = g.E.Target.failed;
 }
 

@@ -8,7 +8,7 @@ returns-then-failures-gt0-clause-played g c =
 
 pub returns-clause-played : goal.returns-clause-played
 returns-clause-played g c =
-    let more = c.more_of-more in (
+    let more = c.further_report-more in (
       c.run-outcome.new.self,
       c.run-outcome.ensures.answered,
       ap (λ (h : Host g.row.D.Denot g.row.L.Denot g.row.O.Denot g.row.E.Denot). record h { faults = c.tell.new.faults })

@@ -10,8 +10,8 @@ returns-in-Err-look g c =
     let begun = c.in_default.ensures.begins in
     inr (begun.0, begun.1, inl (refl, c.in-Err-look.ensures))
 
-pub returns-in-Err-settled : goal.returns-in-Err-settled
-returns-in-Err-settled g c =
+pub returns-in-Err-flush_then : goal.returns-in-Err-flush_then
+returns-in-Err-flush_then g c =
     let begun = c.in_default.ensures.begins in
     let played = c.play-answer in
     inr (
@@ -19,12 +19,12 @@ returns-in-Err-settled g c =
       begun.1,
       inr (
         played.result,
-        c.settled.result,
+        c.flush_then.result,
         played.new.session,
         played.new.writer,
         played.ensures.plays (start_with begun.0) [] begun.2,
-        c.settled.ensures,
-        rw c.in-Err-settled.is (refl, refl),
+        c.flush_then.ensures,
+        rw c.in-Err-flush_then.is (refl, refl),
         refl,
       ),
     )
@@ -38,12 +38,12 @@ returns-in-Err-save_rows g c =
       begun.1,
       inr (
         played.result,
-        c.settled.result,
+        c.flush_then.result,
         played.new.session,
         played.new.writer,
         played.ensures.plays (start_with begun.0) [] begun.2,
-        c.settled.ensures,
-        rw c.in_default-settled.is c.in-Err-save_rows.ensures,
+        c.flush_then.ensures,
+        rw c.in_default-flush_then.is c.in-Err-save_rows.ensures,
         refl,
       ),
     )
@@ -57,12 +57,12 @@ returns-in-Ok g c =
       begun.1,
       inr (
         played.result,
-        c.settled.result,
+        c.flush_then.result,
         played.new.session,
         played.new.writer,
         played.ensures.plays (start_with begun.0) [] begun.2,
-        c.settled.ensures,
-        rw c.in_default-settled.is c.in-Ok.ensures,
+        c.flush_then.ensures,
+        rw c.in_default-flush_then.is c.in-Ok.ensures,
         refl,
       ),
     )

@@ -1,5 +1,5 @@
 use Rattle.std.proofs.Common.{ℕ, List, Some, to_z, w32, subst}
-use Rattle.hidlog_c.specs.{declared.outcome.CallOutcome.CallOutcome, Key.DeviceState, Key.no_causes, Lines.PlaysOn}
+use Rattle.hidlog_c.specs.{declared.outcome.CResult.CResult, Key.DeviceState, Key.no_causes, Lines.PlaysOn}
 use Rattle.hidlog_c.proofs.Kept.{plays_on, status_as}
 use Rattle.hidlog_c.proofs.device.Device.play.Goals as goal
 
@@ -8,7 +8,7 @@ returns c =
     let s = c.self.inside in
     let t = c.play_lines.new.session in
     let out : List ℕ × List ℕ = (c.args.out.now, c.play_lines.new.out) in
-    let outcome : CallOutcome × CallOutcome = (c.args.outcome.now, c.play_lines.result) in
+    let outcome : CResult × CResult = (c.args.outcome.now, c.play_lines.result) in
     subst
     (λ (d : DeviceState). PlaysOn d d.waiting (Some (record { aaguid = s.aaguid; session = t; waiting = s.outbox; causes = no_causes }))
     c.args.log.now out outcome (to_z w32 c.play_lines.result.status)) c.self.view_is

@@ -1,12 +1,12 @@
 use Rattle.std.proofs.Common.{ap, ◌∙◌}
 use Rattle.hid_assemble.specs.Assembly.{held_bytes}
-use Rattle.token_session.{specs.History.judged, specs.Meters.SessionState, proofs.Metering.session_held}
+use Rattle.token_session.{specs.History.received, specs.Meters.SessionState, proofs.Metering.session_held}
 use Rattle.token_session.proofs.session.Session.held.Goals as goal
 
 pub returns-clause-named : goal.returns-clause-named
 returns-clause-named g c = λ start h b.
     c.held.ensures.bytes ∙ ap (λ (v : SessionState). held_bytes v.machine.current) (c.self.view_is ∙ b)
-    ∙ session_held start (judged start h)
+    ∙ session_held start (received start h)
 
 pub returns-clause-bytes : goal.returns-clause-bytes
 returns-clause-bytes g c =

@@ -1,12 +1,12 @@
 use Rattle.std.proofs.Common.{ap, arith}
-use Rattle.authn_core.specs.Turn.{Held}
-use Rattle.token_session.specs.{History.judged, Machine.start_state}
+use Rattle.authn_core.specs.Turn.{CoreContents}
+use Rattle.token_session.specs.{History.received, Machine.start_state}
 use Rattle.token_session.proofs.{Metering.begins, Metering.bounded_first, Passing.whole, Serving.at_most}
 use Rattle.token_session.proofs.Sizes.{core_within, table_within}
 use Rattle.token_session.proofs.session.Session.load.Goals as goal
 
 pub returns : goal.returns
-unfolding start_state judged
+unfolding start_state received
 returns g c =
     let e = c.in_ok-load.ensures in
     let begun = begins _ _ _ _ (λ i. whole c.args.start (c.new-self-inside.ensures.value i) (e.2 i).core 0)
@@ -33,7 +33,7 @@ invariant_of-self g c = (rw c.in_err-load.ensures.1 c.self.invariant.0, c.self.i
 
 pub invariant_of-self-2 : goal.invariant_of-self-2
 invariant_of-self-2 g c = (
-  at_most _ _ (ap (λ (h : Held). h.latest) c.in_ok-load.ensures.2),
+  at_most _ _ (ap (λ (h : CoreContents). h.latest) c.in_ok-load.ensures.2),
   bounded_first _ _ c.first_meters-self-inside.ensures,
 )
 

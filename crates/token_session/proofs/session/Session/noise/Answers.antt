@@ -5,8 +5,8 @@ use Rattle.token_session.proofs.session.Session.noise.Goals as goal
 
 pub returns-clause-state : goal.returns-clause-state
 returns-clause-state g c =
-    noise_now _ c.self.inside.latest c.self.inside.keeper.keepalive_at c.args.at c.max-now.result
-    c.self.inside.assembler c.self.inside.keeper.core.core c.args.input.now
+    noise_now _ c.self.inside.latest c.self.inside.authenticator.keepalive_at c.args.at c.max-now.result
+    c.self.inside.assembler c.self.inside.authenticator.core.core c.args.input.now
     _ (ap (λ (v : SessionState). v.machine) c.self.view_is) c.max-now.ensures c.is_noise.ensures
 
 pub returns-clause-history : goal.returns-clause-history

@@ -25,7 +25,7 @@ returns-in_default-work g c =
 pub returns-then-saturating_sub-ge-KEEPALIVE_PERIOD : goal.returns-then-saturating_sub-ge-KEEPALIVE_PERIOD
 unfolding keepalive_due
 returns-then-saturating_sub-ge-KEEPALIVE_PERIOD g c =
-    let is = due c.args.at c.self.inside.keeper.keepalive_at _ c.saturating_sub.ensures
+    let is = due c.args.at c.self.inside.authenticator.keepalive_at _ c.saturating_sub.ensures
     c.if-saturating_sub-ge-KEEPALIVE_PERIOD.true in
     let p = due_passed _ _ c.args.at _ c.pass.new.self _ _ _ _ c.self.view_is c.pass.ensures.state
     c.in_default.ensures.dropped (rw (c.in-Some-work.ensures, is) refl)
@@ -35,7 +35,7 @@ returns-then-saturating_sub-ge-KEEPALIVE_PERIOD g c =
 pub returns-else-saturating_sub-ge-KEEPALIVE_PERIOD : goal.returns-else-saturating_sub-ge-KEEPALIVE_PERIOD
 unfolding keepalive_due
 returns-else-saturating_sub-ge-KEEPALIVE_PERIOD g c =
-    let is = early c.args.at c.self.inside.keeper.keepalive_at _ c.saturating_sub.ensures
+    let is = early c.args.at c.self.inside.authenticator.keepalive_at _ c.saturating_sub.ensures
     c.if-saturating_sub-ge-KEEPALIVE_PERIOD.false in
     let p = quiet_passed _ _ c.args.at _ c.pass.new.self _ _ _ _ c.self.view_is c.pass.ensures.state
     c.in_default.ensures.dropped (rw (c.in-Some-work.ensures, is) refl) c.requires.sent in

@@ -1,6 +1,0 @@
-use Rattle.std.proofs.Common.{rules}
-use Rattle.cred_table.proofs.CutNames.{cut_is}
-use Rattle.cred_table.proofs.cutting.cut_name.Goals as goal
-
-pub returns-clause-only : goal.returns-clause-only
-returns-clause-only c = cut_is c.args.name.now _ (search rules)

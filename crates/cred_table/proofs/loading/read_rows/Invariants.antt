@@ -1,5 +1,0 @@
-use Rattle.cred_table.specs.Parsing.{TakesRows}
-use Rattle.cred_table.proofs.loading.read_rows.Given as goal
-
-abbrev pub invariant-loop-place : goal.invariant-loop-place
-invariant-loop-place g l = TakesRows l.named l.place l.fn.cursor l.cursor l.rows.list.items

@@ -1,7 +1,0 @@
-use Rattle.std.proofs.Common.{arith, ◌-◌}
-use Rattle.cred_table.proofs.Typed.{key_read}
-use Rattle.cred_table.proofs.parsing.read_key.Goals as goal
-
-pub returns : goal.returns
-returns c = key_read (5 - c.args.level) c.args.key c.args.cursor.now c.take.new.cursor _ _ (omega arith)
-    c.take.ensures c.key_of.ensures

@@ -1,7 +1,0 @@
-use Rattle.std.proofs.Common.{arith, ◌-◌}
-use Rattle.cred_table.proofs.Typed.{map_read}
-use Rattle.cred_table.proofs.parsing.read_map.Goals as goal
-
-pub returns : goal.returns
-returns c = map_read (5 - c.args.level) c.args.count c.args.cursor.now c.take.new.cursor _ _ (omega arith) (omega arith)
-    c.take.ensures c.map_of.ensures

@@ -1,5 +1,0 @@
-use Rattle.cred_table.proofs.Typed.{version_read}
-use Rattle.cred_table.proofs.parsing.read_version.Goals as goal
-
-pub returns : goal.returns
-returns c = version_read 1 c.args.cursor.now c.read_member.new.cursor _ _ c.read_member.ensures c.named_of.ensures

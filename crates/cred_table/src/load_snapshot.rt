@@ -1,0 +1,119 @@
+//! Loading snapshots.
+
+ghost use Rattle.std.specs.Prelude.{◌≡◌, ◌<◌, ◌≤◌, [], ◌∷◌, ◌++◌, not, if◌then◌else◌, length, List, OnErr, MatchResult};
+ghost use Rattle.cred_table.specs.Rows.{ValidRows};
+ghost use Rattle.cred_table.specs.Snapshots.{Loads, clashes};
+ghost use Rattle.cred_table.specs.Parsing.{ReadsEntry, ReadsRows};
+
+use crate::copy::copy_row;
+use crate::fault::SnapshotFault;
+use crate::listed::Listed;
+use crate::parse::{read_heads, read_row};
+use crate::row::Row;
+use crate::table::Table;
+use ctap_cbor::laws::{no_item_begins_another, none_begins_another};
+use ctap_cbor::{Cursor, check};
+
+/// Returns whether a row conflicts with one of a table: both have the same ID, or both are discoverable with the same
+/// RP and user handle.
+fn clashes<T: Table<C>, const C: usize>(table: &T, row: &Row) -> bool
+    ensures { result ≡ clashes row.now (T.rows table.now) }
+{
+    if table.find(&row.id).is_some() {
+        return true;
+    }
+    if !row.discoverable {
+        return false;
+    }
+    table.same_user(&row.rp, &row.user).is_some()
+}
+
+/// Appends a row, unless it conflicts with one in the table: both have the same ID, or both are discoverable with the
+/// same RP and user handle. Returns whether it was appended.
+pub fn put_new<T: Table<C>, const C: usize>(table: &mut T, row: Row) -> bool
+    requires capacity { length (T.rows table.old) < C }
+    ensures value { result ≡ not (clashes row (T.rows table.old)) }
+    ensures rows { T.rows table.new ≡ (if clashes row (T.rows table.old) then T.rows table.old
+        else T.rows table.old ++ row ∷ []) }
+{
+    if clashes(table, &row) {
+        return false;
+    }
+    table.put(row);
+    true
+}
+
+/// Reads an entry and appends it. Returns whether it was a valid row.
+fn read_entry<const C: usize>(cursor: &mut Cursor, named: bool, rows: &mut Listed<C>) -> bool
+    requires capacity { length rows.old.list.items < C }
+    ensures { ReadsEntry named cursor.old cursor.new rows.old.list.items rows.new.list.items result }
+{
+    none_begins_another();
+    match read_row(cursor, named) {
+        Some(row) => put_new(rows, row),
+        None => false,
+    }
+}
+
+/// Reads `count` entries into the empty rows, up to the first invalid one.
+fn read_rows<const C: usize>(
+    cursor: &mut Cursor,
+    named: bool,
+    count: usize,
+    rows: &mut Listed<C>,
+) -> Result<(), SnapshotFault>
+    requires empty { rows.old.list.items ≡ [] }
+    requires capacity { count ≤ C }
+    ensures { ReadsRows named C count cursor.old cursor.new rows.new.list.items result }
+{
+    for place in 0..count {
+        if !read_entry(cursor, named, rows) {
+            return Err(SnapshotFault::RowBroken(place));
+        }
+    }
+    Ok(())
+}
+
+/// Reads a snapshot into the empty rows.
+fn read_snapshot<const C: usize>(bytes: &[u8], rows: &mut Listed<C>) -> Result<(), SnapshotFault>
+    requires { rows.old.list.items ≡ [] }
+    ensures { Loads C bytes.now result rows.new.list.items }
+{
+    if check(bytes).result.is_err() {
+        return Err(SnapshotFault::NotSnapshot);
+    }
+    none_begins_another();
+    no_item_begins_another();
+    let mut cursor = Cursor::new(bytes);
+    match read_heads(&mut cursor) {
+        None => Err(SnapshotFault::NotSnapshot),
+        Some((_, count)) if count > C as u64 => Err(SnapshotFault::TooMany),
+        Some((named, count)) => read_rows(&mut cursor, named, count as usize, rows),
+    }
+}
+
+/// Puts the rows into an empty table, copying each in place, so that the list isn't on the stack twice.
+fn load_rows<T: Table<C>, const C: usize>(rows: &Listed<C>, table: &mut T)
+    requires { T.rows table.old ≡ [] }
+    ensures { T.rows table.new ≡ rows.now.list.items }
+{
+    for row in rows.iter() {
+        table.put(copy_row(row));
+    }
+}
+
+/// Loads a snapshot into a table, replacing its rows. Allocates nothing.
+///
+/// Refuses, in this order, bytes that aren't a snapshot, more entries than the table has capacity for, and an entry
+/// that isn't a row or conflicts with one before it. After an error the table is unchanged.
+#[inline(never)]
+pub fn load<T: Table<C>, const C: usize>(bytes: &[u8], table: &mut T) -> Result<(), SnapshotFault>
+    ensures loads { Loads C bytes.now result (T.rows table.new) }
+    ensures unchanged { OnErr result (T.rows table.new ≡ T.rows table.old) }
+{
+    let mut rows = Listed::new();
+    read_snapshot(bytes, &mut rows)?;
+    table.clear();
+    load_rows(&rows, table);
+    Ok(())
+}

@@ -1,0 +1,244 @@
+//! Decodes the parts of a snapshot, in place.
+
+ghost use Rattle.std.specs.Prelude.{◌≡◌, ◌-◌, ◌≤◌, ◌<◌, ◌^◌, pos, option_map, ⊤};
+ghost use Rattle.ctap_cbor.specs.Tree.{Int, Bytes, Flag};
+ghost use Rattle.ctap_cbor.specs.Head.{head};
+ghost use Rattle.ctap_cbor.specs.Grammar.{scalar_text};
+ghost use Rattle.ctap_cbor.specs.Parts.{One, OpensArray, item_text};
+ghost use Rattle.cred_table.specs.Snapshots.{IsHash, IsShort, IsName, IsRow, version};
+ghost use Rattle.ctap_cbor.specs.Views.{part_of};
+ghost use Rattle.cred_table.specs.Parsing.{Reads, ReadsPart, ReadsMember, member_text, map_in, key_in, and_then, hash_in, short_in, flag_in, counter_in, name_in, count_in, has_names_in, name_text, heads_text, row_text, members_of};
+
+use crate::name::Name;
+use crate::row::Row;
+use arrayvec::ArrayVec;
+use ctap_cbor::{Cursor, Item};
+
+/// Reads an item: its head, and the content of a string.
+fn take<'a>(cursor: &mut Cursor<'a>, level: u8) -> Option<Item<'a>>
+    requires low { 1 ≤ level }
+    requires high { level ≤ 5 }
+    ensures { ReadsPart (5 - level) item_text cursor.old cursor.new (option_map part_of result) }
+{
+    match cursor.item(level) {
+        Ok(item) => Some(item),
+        Err(_) => None,
+    }
+}
+
+/// Reads the head of a map with this number of members.
+fn read_map(cursor: &mut Cursor, level: u8, count: u64) -> Option<()>
+    requires low { 1 ≤ level }
+    requires high { level ≤ 4 }
+    ensures { Reads (λ _. ⊤) (λ _. head 5 count) cursor.old cursor.new result }
+{
+    map_of(take(cursor, level), count)
+}
+
+/// Reads this unsigned integer, as a key.
+fn read_key(cursor: &mut Cursor, level: u8, key: u8) -> Option<()>
+    requires low { 1 ≤ level }
+    requires high { level ≤ 5 }
+    ensures { Reads (λ _. ⊤) (λ _. scalar_text (Int (pos key))) cursor.old cursor.new result }
+{
+    key_of(take(cursor, level), key)
+}
+
+/// Reads a member of a map: the key and the head of its value, or a whole string.
+fn read_member<'a>(cursor: &mut Cursor<'a>, level: u8, key: u8) -> Option<Item<'a>>
+    requires low { 1 ≤ level }
+    requires high { level ≤ 5 }
+    ensures { ReadsPart (5 - level) (member_text key) cursor.old cursor.new (option_map part_of result) }
+{
+    read_key(cursor, level, key)?;
+    take(cursor, level)
+}
+
+/// Checks for the head of a map with this number of members.
+fn map_of(item: Option<Item>, count: u64) -> Option<()>
+    ensures { result ≡ and_then (map_in count) (option_map part_of item.entry) }
+{
+    match item {
+        Some(Item::Map(found)) if found == count => Some(()),
+        _ => None,
+    }
+}
+
+/// Checks for this integer.
+fn key_of(item: Option<Item>, key: u8) -> Option<()>
+    ensures { result ≡ and_then (key_in key) (option_map part_of item.entry) }
+{
+    match item {
+        Some(Item::Int(found)) if found == key as i128 => Some(()),
+        _ => None,
+    }
+}
+
+/// Checks for a byte string of 32 bytes.
+fn hash_of(item: Option<Item>) -> Option<[u8; 32]>
+    ensures { result ≡ and_then hash_in (option_map part_of item.entry) }
+{
+    match item {
+        Some(Item::Bytes(bytes)) => bytes.try_into().ok(),
+        _ => None,
+    }
+}
+
+/// Checks for a byte string of at most 64 bytes.
+fn short_of(item: Option<Item>) -> Option<ArrayVec<u8, 64>>
+    ensures { option_map (λ v. v.items) result ≡ and_then short_in (option_map part_of item.entry) }
+{
+    match item {
+        Some(Item::Bytes(bytes)) if bytes.len() <= 64 => {
+            let mut short = ArrayVec::new();
+            short.try_extend_from_slice(bytes).unwrap();
+            Some(short)
+        }
+        _ => None,
+    }
+}
+
+/// Checks for a Boolean.
+fn flag_of(item: Option<Item>) -> Option<bool>
+    ensures { result ≡ and_then flag_in (option_map part_of item.entry) }
+{
+    match item {
+        Some(Item::Bool(flag)) => Some(flag),
+        _ => None,
+    }
+}
+
+/// Checks for an integer from 0 to 2^32-1.
+fn counter_of(item: Option<Item>) -> Option<u32>
+    ensures { result ≡ and_then counter_in (option_map part_of item.entry) }
+{
+    match item {
+        Some(Item::Int(value)) if 0 <= value && value <= 0xffff_ffff => Some(value as u32),
+        _ => None,
+    }
+}
+
+/// Checks for a text string of at most 64 bytes.
+fn name_of(item: Option<Item>) -> Option<Name>
+    ensures { result ≡ and_then name_in (option_map part_of item.entry) }
+{
+    match item {
+        Some(Item::Text(text)) => Name::new(text),
+        _ => None,
+    }
+}
+
+/// Checks for an array, and returns the number of its items.
+fn count_of(item: Option<Item>) -> Option<u64>
+    ensures { result ≡ and_then count_in (option_map part_of item.entry) }
+{
+    match item {
+        Some(Item::Array(count)) => Some(count),
+        _ => None,
+    }
+}
+
+/// Checks for a version. Returns whether its rows have user names.
+fn has_names_of(item: Option<Item>) -> Option<bool>
+    ensures { result ≡ and_then has_names_in (option_map part_of item.entry) }
+{
+    match item {
+        Some(Item::Int(1)) => Some(false),
+        Some(Item::Int(2)) => Some(true),
+        _ => None,
+    }
+}
+
+/// Reads a member of 32 bytes.
+fn read_hash(cursor: &mut Cursor, key: u8) -> Option<[u8; 32]>
+    ensures { ReadsMember IsHash (λ s. One (Bytes s)) key cursor.old cursor.new result }
+{
+    hash_of(read_member(cursor, 4, key))
+}
+
+/// Reads a member of at most 64 bytes.
+fn read_short(cursor: &mut Cursor, key: u8) -> Option<ArrayVec<u8, 64>>
+    ensures { ReadsMember IsShort (λ s. One (Bytes s)) key cursor.old cursor.new (option_map (λ v. v.items) result) }
+{
+    short_of(read_member(cursor, 4, key))
+}
+
+/// Reads a Boolean member.
+fn read_flag(cursor: &mut Cursor, key: u8) -> Option<bool>
+    ensures { ReadsMember (λ _. ⊤) (λ b. One (Flag b)) key cursor.old cursor.new result }
+{
+    flag_of(read_member(cursor, 4, key))
+}
+
+/// Reads an integer member from 0 to 2^32-1.
+fn read_counter(cursor: &mut Cursor, key: u8) -> Option<u32>
+    ensures { ReadsMember (λ n. n < 2 ^ 32) (λ n. One (Int (pos n))) key cursor.old cursor.new result }
+{
+    counter_of(read_member(cursor, 4, key))
+}
+
+/// Reads the user name, or returns an empty one if the version has none.
+fn read_name(cursor: &mut Cursor, named: bool) -> Option<Name>
+    ensures { Reads (IsName named) (name_text named) cursor.old cursor.new result }
+{
+    if !named {
+        return Some(Name::default());
+    }
+    name_of(read_member(cursor, 4, 8))
+}
+
+/// Reads the version. Returns whether rows have user names.
+fn read_version(cursor: &mut Cursor) -> Option<bool>
+    ensures { ReadsMember (λ _. ⊤) (λ named. One (Int (pos (version named)))) 1 cursor.old cursor.new result }
+{
+    has_names_of(read_member(cursor, 2, 1))
+}
+
+/// Reads the head of the entries' array, and returns their number.
+fn read_count(cursor: &mut Cursor) -> Option<u64>
+    ensures { ReadsMember (λ n. n < 2 ^ 64) OpensArray 2 cursor.old cursor.new result }
+{
+    count_of(read_member(cursor, 2, 2))
+}
+
+/// Reads the beginning of a snapshot. Returns whether its rows have user names, and the number of entries.
+pub(crate) fn read_heads(cursor: &mut Cursor) -> Option<(bool, u64)>
+    ensures { Reads (λ h. h.1 < 2 ^ 64) heads_text cursor.old cursor.new result }
+{
+    read_map(cursor, 1, 2)?;
+    let named = read_version(cursor)?;
+    let count = read_count(cursor)?;
+    Some((named, count))
+}
+
+/// Reads a row.
+pub(crate) fn read_row(cursor: &mut Cursor, named: bool) -> Option<Row>
+    ensures { Reads (IsRow named) (row_text named) cursor.old cursor.new result }
+{
+    read_map(cursor, 3, members_of(named))?;
+    let rp = read_hash(cursor, 1)?;
+    let id = read_hash(cursor, 2)?;
+    let x = read_hash(cursor, 3)?;
+    let y = read_hash(cursor, 4)?;
+    let user = read_short(cursor, 5)?;
+    let discoverable = read_flag(cursor, 6)?;
+    let counter = read_counter(cursor, 7)?;
+    let name = read_name(cursor, named)?;
+    Some(Row {
+        rp,
+        id,
+        x,
+        y,
+        user,
+        discoverable,
+        counter,
+        name,
+    })
+}
+
+/// Returns the number of members of a row.
+fn members_of(named: bool) -> u64
+    ensures { result ≡ members_of named }
+{
+    if named { 8 } else { 7 }
+}

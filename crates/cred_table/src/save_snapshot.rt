@@ -1,0 +1,269 @@
+//! Saving snapshots.
+
+ghost use Rattle.std.specs.Prelude.{◌≡◌, ◌<◌, ◌≤◌, ◌+◌, ◌++◌, pos, true, length, take, drop, vec_capacity, OnOk, OnErr, IfErr};
+ghost use Rattle.std.specs.List.{AllByRecursion};
+ghost use Rattle.ctap_cbor.specs.Tree.{Int, Bytes, Text};
+ghost use Rattle.ctap_cbor.specs.Grammar.{scalar_text, text};
+ghost use Rattle.ctap_cbor.specs.Writing.{space_of, Appends, SameBuffer};
+ghost use Rattle.cred_table.specs.declared.fault.SnapshotFault.TheVariants.{Memory};
+ghost use Rattle.cred_table.specs.Snapshots.{IsRow, IsHash, IsShort, IsName, Saves, saved_len, snapshot};
+ghost use Rattle.cred_table.specs.Parsing.{row_text, heads_text};
+ghost use Rattle.cred_table.specs.Saving.{AppendsUpTo, Extends, SavesInto, longest};
+
+use crate::fault::SnapshotFault;
+use crate::name::Name;
+use crate::row::Row;
+use crate::table::Table;
+use arrayvec::ArrayVec;
+use ctap_cbor::Sink;
+use ctap_cbor::laws::known_bytes;
+use std::alloc::AllocError;
+
+/// Maximum length of an encoded row, in bytes.
+const LONGEST_ROW: usize = 283;
+
+/// Maximum length of a snapshot without its rows, in bytes.
+const LONGEST_HEADS: usize = 13;
+
+/// The version that is written, whose rows have user names.
+const VERSION: u64 = 2;
+
+impl From<AllocError> for SnapshotFault {
+    ghost from_gives = { λ _ fault. fault ≡ Memory };
+
+    fn from(_error: AllocError) -> Self {
+        SnapshotFault::Memory
+    }
+}
+
+/// States the bounds that a row's type implies. Does nothing.
+fn known_row(row: &Row)
+    ensures { IsRow true row.now }
+{
+    known_hash(&row.rp);
+    known_hash(&row.id);
+    known_hash(&row.x);
+    known_hash(&row.y);
+    known_short(&row.user);
+    known_name(&row.name);
+    let _counter = row.counter;
+}
+
+fn known_hash(hash: &[u8; 32])
+    ensures { IsHash hash.now }
+{
+    known_bytes(hash);
+}
+
+fn known_short(bytes: &ArrayVec<u8, 64>)
+    ensures { IsShort bytes.now.items }
+{
+    known_bytes(bytes.as_slice());
+}
+
+fn known_name(name: &Name)
+    ensures { IsName true name.now }
+{
+    let _text = name.as_str();
+}
+
+/// Writes 32 bytes.
+fn put_hash(sink: &mut Sink<'_>, hash: &[u8; 32])
+    requires { 34 ≤ space_of sink.old }
+    ensures appends { Appends sink.old sink.new (scalar_text (Bytes hash.now)) 34 }
+    ensures same { SameBuffer sink.old sink.new }
+{
+    sink.bytes(hash);
+}
+
+/// Writes at most 64 bytes.
+fn put_short(sink: &mut Sink<'_>, bytes: &[u8])
+    requires short { length bytes.now ≤ 64 }
+    requires space { 66 ≤ space_of sink.old }
+    ensures appends { AppendsUpTo sink.old sink.new (scalar_text (Bytes bytes.now)) 66 }
+    ensures space { space_of sink.old ≤ space_of sink.new + 66 }
+    ensures same { SameBuffer sink.old sink.new }
+{
+    sink.bytes(bytes);
+}
+
+/// Writes a text of at most 64 bytes.
+fn put_name(sink: &mut Sink<'_>, name: &str)
+    requires short { length name.now ≤ 64 }
+    requires space { 66 ≤ space_of sink.old }
+    ensures appends { AppendsUpTo sink.old sink.new (scalar_text (Text name.now)) 66 }
+    ensures space { space_of sink.old ≤ space_of sink.new + 66 }
+    ensures same { SameBuffer sink.old sink.new }
+{
+    sink.text(name);
+}
+
+/// Writes an integer from 0 to 2^32-1.
+fn put_counter(sink: &mut Sink<'_>, counter: u32)
+    requires { 5 ≤ space_of sink.old }
+    ensures appends { AppendsUpTo sink.old sink.new (scalar_text (Int (pos counter))) 5 }
+    ensures space { space_of sink.old ≤ space_of sink.new + 5 }
+    ensures same { SameBuffer sink.old sink.new }
+{
+    sink.uint(counter as u64);
+}
+
+/// Writes a row's map, its members in ascending order of their keys.
+fn put_row(sink: &mut Sink<'_>, row: &Row)
+    requires { LONGEST_ROW ≤ space_of sink.old }
+    ensures appends { AppendsUpTo sink.old sink.new (row_text true row.now) LONGEST_ROW }
+    ensures same { SameBuffer sink.old sink.new }
+{
+    sink.map(8);
+    sink.uint(1);
+    put_hash(sink, &row.rp);
+    sink.uint(2);
+    put_hash(sink, &row.id);
+    sink.uint(3);
+    put_hash(sink, &row.x);
+    sink.uint(4);
+    put_hash(sink, &row.y);
+    sink.uint(5);
+    put_short(sink, &row.user);
+    sink.uint(6);
+    sink.flag(row.discoverable);
+    sink.uint(7);
+    put_counter(sink, row.counter);
+    sink.uint(8);
+    put_name(sink, row.name.as_str());
+}
+
+/// Writes a row's map to the beginning of a buffer, and returns its length.
+fn row_into(buffer: &mut [u8], row: &Row) -> usize
+    requires { LONGEST_ROW ≤ length buffer.old }
+    ensures within { result ≤ LONGEST_ROW }
+    ensures front { take result buffer.new ≡ row_text true row.now }
+{
+    let mut sink = Sink::new(buffer);
+    put_row(&mut sink, row);
+    sink.len()
+}
+
+/// Writes the beginning of a snapshot: the version and the number of entries.
+fn put_heads(sink: &mut Sink<'_>, count: u64)
+    requires { LONGEST_HEADS ≤ space_of sink.old }
+    ensures appends { AppendsUpTo sink.old sink.new (heads_text (true, count)) LONGEST_HEADS }
+    ensures same { SameBuffer sink.old sink.new }
+{
+    sink.map(2);
+    sink.uint(1);
+    sink.uint(VERSION);
+    sink.uint(2);
+    sink.array(count);
+}
+
+/// Writes the beginning of a snapshot to the beginning of a buffer, and returns its length.
+fn heads_into(buffer: &mut [u8], count: u64) -> usize
+    requires { LONGEST_HEADS ≤ length buffer.old }
+    ensures within { result ≤ LONGEST_HEADS }
+    ensures front { take result buffer.new ≡ heads_text (true, count) }
+{
+    let mut sink = Sink::new(buffer);
+    put_heads(&mut sink, count);
+    sink.len()
+}
+
+/// Writes a snapshot of a table's rows.
+fn put_snapshot<T: Table<C>, const C: usize>(sink: &mut Sink<'_>, table: &T)
+    requires { longest C ≤ space_of sink.old }
+    ensures appends { AppendsUpTo sink.old sink.new (text (snapshot true (T.rows table.now))) (longest C) }
+    ensures same { SameBuffer sink.old sink.new }
+    ensures typed { AllByRecursion (IsRow true) (T.rows table.now) }
+{
+    put_heads(sink, table.len() as u64);
+    for row in table.iter() {
+        known_row(row);
+        put_row(sink, row);
+    }
+}
+
+/// Writes a snapshot of a table's rows to the beginning of a buffer that has space for the longest one, and returns its
+/// length.
+fn snapshot_into<T: Table<C>, const C: usize>(buffer: &mut [u8], table: &T) -> usize
+    requires { longest C ≤ length buffer.old }
+    ensures front { take result buffer.new ≡ text (snapshot true (T.rows table.now)) }
+    ensures rest { drop result buffer.new ≡ drop result buffer.old }
+    ensures within { result ≤ length buffer.new }
+    ensures typed { AllByRecursion (IsRow true) (T.rows table.now) }
+{
+    let mut sink = Sink::new(buffer);
+    put_snapshot(&mut sink, table);
+    sink.len()
+}
+
+/// Writes a snapshot of a table's rows to the beginning of `out`, and returns its length.
+///
+/// Returns None, and writes nothing, if `out` has fewer than 13 bytes and 283 for each row of the table's capacity.
+pub fn save_into<T: Table<C>, const C: usize>(table: &T, out: &mut [u8]) -> Option<usize>
+    ensures { SavesInto C (T.rows table.now) out.old out.new result }
+{
+    if out.len() < LONGEST_HEADS + LONGEST_ROW * C {
+        return None;
+    }
+    Some(snapshot_into(out, table))
+}
+
+/// Appends a row's map.
+fn write_row(row: &Row, out: &mut Vec<u8>) -> Result<(), AllocError>
+    ensures ok { OnOk result (out.new.items ≡ out.old.items ++ row_text true row.now) }
+    ensures err { OnErr result (out.new.items ≡ out.old.items) }
+    ensures full { OnErr result (vec_capacity out.old < length out.old.items + length (row_text true row.now)) }
+    ensures space { vec_capacity out.old ≤ vec_capacity out.new }
+{
+    let mut buffer = [0; LONGEST_ROW];
+    let len = row_into(&mut buffer, row);
+    out.extend_from_slice(&buffer[..len])
+}
+
+/// Appends the beginning of a snapshot.
+fn write_heads(count: u64, out: &mut Vec<u8>) -> Result<(), AllocError>
+    ensures ok { OnOk result (out.new.items ≡ out.old.items ++ heads_text (true, count)) }
+    ensures err { OnErr result (out.new.items ≡ out.old.items) }
+    ensures full { OnErr result (vec_capacity out.old < length out.old.items + length (heads_text (true, count))) }
+    ensures space { vec_capacity out.old ≤ vec_capacity out.new }
+{
+    let mut buffer = [0; LONGEST_HEADS];
+    let len = heads_into(&mut buffer, count);
+    out.extend_from_slice(&buffer[..len])
+}
+
+/// Appends the beginning and the rows.
+fn write_rows<T: Table<C>, const C: usize>(
+    table: &T,
+    out: &mut Vec<u8>,
+) -> Result<(), SnapshotFault>
+    ensures saved { OnOk result (Saves C (T.rows table.now) out.old.items out.new.items) }
+    ensures memory { IfErr result (λ fault. fault ≡ Memory) }
+    ensures extends { OnErr result (Extends out.old.items out.new.items) }
+    ensures full { OnErr result (vec_capacity out.old < length out.old.items + saved_len (T.rows table.now)) }
+{
+    write_heads(table.len() as u64, out)?;
+    for row in table.iter() {
+        known_row(row);
+        write_row(row, out)?;
+    }
+    Ok(())
+}
+
+/// Appends a snapshot of a table's rows, with the vector's own allocator.
+///
+/// Fails only if an allocation fails, and never if the vector has capacity for the snapshot. On failure, the vector is
+/// unchanged.
+pub fn save<T: Table<C>, const C: usize>(table: &T, out: &mut Vec<u8>) -> Result<(), SnapshotFault>
+    ensures saved { OnOk result (Saves C (T.rows table.now) out.old.items out.new.items) }
+    ensures memory { IfErr result (λ fault. fault ≡ Memory) }
+    ensures full { OnErr result (vec_capacity out.old < length out.old.items + saved_len (T.rows table.now)) }
+    ensures unchanged { OnErr result (out.new.items ≡ out.old.items) }
+{
+    let len = out.len();
+    let written = write_rows(table, out);
+    if written.is_err() {
+        out.truncate(len);
+    }
+    written
+}

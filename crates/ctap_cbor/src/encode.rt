@@ -1,0 +1,268 @@
+//! Encodes an owned [`Value`] as canonical CBOR.
+
+ghost use Rattle.std.specs.Prelude.{◌≡◌, ◌≢◌, ◌++◌, ◌∷◌, [], ◌<◌, ◌≤◌, length, drop, Some, Err, OnOk, OnErr, IfErr, MatchResult, vec_capacity};
+ghost use Rattle.std.specs.Option.{ForSome};
+ghost use Rattle.ctap_cbor.specs.Head.{head};
+ghost use Rattle.ctap_cbor.specs.Tree as tree;
+ghost use Rattle.ctap_cbor.specs.Grammar.{scalar_text, text, texts, pair_texts, IsCanonical};
+ghost use Rattle.ctap_cbor.specs.Faults.{AKey, is_above};
+ghost use Rattle.ctap_cbor.specs.Values.{tree_of, trees_of, pairs_of};
+ghost use Rattle.ctap_cbor.specs.Refusals.{refusal, refusal_all, refusal_pairs, own_refusal, range_refusal};
+ghost use Rattle.ctap_cbor.specs.Writes.{Writes, WritesAll, WritesPairs, WritesKey, WritesScalar, FailsWith, Extends, IsShort, last_text};
+
+use crate::fault::Kind;
+use crate::laws::known_bytes;
+use crate::sink::head_into;
+use crate::value::Value;
+use std::alloc::{AllocError, AllocFailed};
+
+/// The position of a key's encoding in the output.
+#[derive(Clone, Copy)]
+struct Span {
+    start: usize,
+    end: usize,
+}
+
+impl From<AllocError> for Kind {
+    ghost use Rattle.ctap_cbor.specs.declared.fault.Kind.TheVariants.{Memory};
+
+    ghost from_gives = { λ _ k. k ≡ Memory };
+
+    fn from(_error: AllocError) -> Self {
+        Kind::Memory
+    }
+}
+
+impl<T: Drop> From<AllocFailed<T>> for Kind {
+    ghost use Rattle.ctap_cbor.specs.declared.fault.Kind.TheVariants.{Memory};
+
+    ghost from_gives = { λ _ k. k ≡ Memory };
+
+    fn from(_error: AllocFailed<T>) -> Self {
+        Kind::Memory
+    }
+}
+
+/// Appends the canonical encoding of a value.
+///
+/// Fails with the first error in the order of encoding: for a key its type (5), its range (8), and its order in the map
+/// (6), and then its value; for an array or map too deep nesting (4), and then its content; for another integer its
+/// range (8). Fails with 10 if an allocation fails, which happens only if the vector's capacity is too small. On
+/// failure, the vector is unchanged.
+pub fn encode_value(value: &Value, out: &mut Vec<u8>) -> Result<(), Kind>
+    ensures ok { OnOk result (IsCanonical (tree_of value.now) (text (tree_of value.now))) }
+    ensures appends { OnOk result (out.new.items ≡ out.old.items ++ text (tree_of value.now)) }
+    ensures err { IfErr result (λ k. k ≢ Kind.Memory → refusal 4 (tree_of value.now) ≡ Some k) }
+    ensures unchanged { OnErr result (out.new.items ≡ out.old.items) }
+
+    // Memory is only needed if the vector has to grow.
+    ensures memory { result ≡ Err Kind.Memory → IsShort (vec_capacity out.old) out.old.items
+        (text (tree_of value.now)) }
+{
+    let len = out.len();
+    let written = write_value(value, out, 4);
+    if written.is_err() {
+        out.truncate(len);
+    }
+    written
+}
+
+/// Encodes a value with at most this many levels of arrays and maps.
+#[cycle(write)]
+fn write_value(value: &Value, out: &mut Vec<u8>, levels: u8) -> Result<(), Kind>
+    ensures writes { MatchResult result
+        (λ _. Writes levels (tree_of value.now) out.old.items out.new.items)
+        (λ k. FailsWith k (refusal levels (tree_of value.now)) out.old.items out.new.items) }
+    ensures grows { vec_capacity out.old ≤ vec_capacity out.new }
+    ensures short { IfErr result (λ k. k ≡ Kind.Memory
+        → IsShort (vec_capacity out.old) out.old.items (text (tree_of value.now))) }
+{
+    match value {
+        Value::Int(i) => write_int(*i, out),
+        Value::Bytes(bytes) => write_bytes(bytes, out),
+        Value::Text(text) => write_text(text, out),
+        Value::Array(items) => write_array(items, out, levels),
+        Value::Map(pairs) => write_map(pairs, out, levels),
+        Value::Bool(flag) => write_byte(if *flag { 0xf5 } else { 0xf4 }, out),
+        Value::Null => write_byte(0xf6, out),
+    }
+}
+
+/// Encodes an array: its head and its items.
+#[cycle(write)]
+fn write_array(items: &[Value], out: &mut Vec<u8>, levels: u8) -> Result<(), Kind>
+    ensures writes { MatchResult result
+        (λ _. Writes levels (tree.Array (trees_of items.now)) out.old.items out.new.items)
+        (λ k. FailsWith k (refusal levels (tree.Array (trees_of items.now))) out.old.items out.new.items) }
+    ensures grows { vec_capacity out.old ≤ vec_capacity out.new }
+    ensures short { IfErr result (λ k. k ≡ Kind.Memory
+        → IsShort (vec_capacity out.old) out.old.items (text (tree.Array (trees_of items.now)))) }
+{
+    if levels == 0 {
+        return Err(Kind::TooDeep);
+    }
+    write_head(4, items.len() as u64, out)?;
+    write_items(items, out, levels - 1)
+}
+
+/// Encodes a map: its head and its pairs.
+#[cycle(write)]
+fn write_map(pairs: &[(Value, Value)], out: &mut Vec<u8>, levels: u8) -> Result<(), Kind>
+    ensures writes { MatchResult result
+        (λ _. Writes levels (tree.Map (pairs_of pairs.now)) out.old.items out.new.items)
+        (λ k. FailsWith k (refusal levels (tree.Map (pairs_of pairs.now))) out.old.items out.new.items) }
+    ensures grows { vec_capacity out.old ≤ vec_capacity out.new }
+    ensures short { IfErr result (λ k. k ≡ Kind.Memory
+        → IsShort (vec_capacity out.old) out.old.items (text (tree.Map (pairs_of pairs.now)))) }
+{
+    if levels == 0 {
+        return Err(Kind::TooDeep);
+    }
+    write_head(5, pairs.len() as u64, out)?;
+    write_pairs(pairs, out, levels - 1)
+}
+
+/// Encodes the items of an array.
+#[cycle(write)]
+fn write_items(items: &[Value], out: &mut Vec<u8>, levels: u8) -> Result<(), Kind>
+    ensures writes { MatchResult result
+        (λ _. WritesAll levels (trees_of items.now) out.old.items out.new.items)
+        (λ k. FailsWith k (refusal_all levels (trees_of items.now)) out.old.items out.new.items) }
+    ensures grows { vec_capacity out.old ≤ vec_capacity out.new }
+    ensures short { IfErr result (λ k. k ≡ Kind.Memory
+        → IsShort (vec_capacity out.old) out.old.items (texts (trees_of items.now))) }
+{
+    for item in items {
+        write_value(item, out, levels)?;
+    }
+    Ok(())
+}
+
+/// Encodes the pairs of a map. The keys must be in ascending order.
+#[cycle(write)]
+fn write_pairs(pairs: &[(Value, Value)], out: &mut Vec<u8>, levels: u8) -> Result<(), Kind>
+    ensures writes { MatchResult result
+        (λ _. WritesPairs levels (pairs_of pairs.now) out.old.items out.new.items)
+        (λ k. FailsWith k (refusal_pairs levels None (pairs_of pairs.now)) out.old.items out.new.items) }
+    ensures grows { vec_capacity out.old ≤ vec_capacity out.new }
+    ensures short { IfErr result (λ k. k ≡ Kind.Memory
+        → IsShort (vec_capacity out.old) out.old.items (pair_texts (pairs_of pairs.now))) }
+{
+    let mut previous = None;
+    for pair in pairs {
+        let start = out.len();
+        write_key(&pair.0, out)?;
+        if !is_above_last(previous, out, start) {
+            return Err(Kind::KeyOrder);
+        }
+        previous = Some(Span {
+            start,
+            end: out.len(),
+        });
+        write_value(&pair.1, out, levels)?;
+    }
+    Ok(())
+}
+
+/// Encodes a key of a map, without checking the order.
+fn write_key(key: &Value, out: &mut Vec<u8>) -> Result<(), Kind>
+    ensures writes { MatchResult result
+        (λ _. WritesKey (tree_of key.now) out.old.items out.new.items)
+        (λ k. FailsWith k (own_refusal (tree_of key.now)) out.old.items out.new.items) }
+    ensures grows { vec_capacity out.old ≤ vec_capacity out.new }
+    ensures short { IfErr result (λ k. k ≡ Kind.Memory
+        → IsShort (vec_capacity out.old) out.old.items (text (tree_of key.now))) }
+{
+    match key {
+        Value::Int(i) => write_int(*i, out),
+        Value::Bytes(bytes) => write_bytes(bytes, out),
+        Value::Text(text) => write_text(text, out),
+        _ => Err(Kind::KeyType),
+    }
+}
+
+/// Returns whether the key that was written from `start` on is above the previous key.
+fn is_above_last(previous: Option<Span>, out: &[u8], start: usize) -> bool
+    requires span { ForSome previous (λ s. (s.start ≤ s.end) × (s.end ≤ length out.now)) }
+    requires start { start ≤ length out.now }
+    ensures { result ≡ is_above (AKey (last_text out.now previous)) (drop start out.now) }
+{
+    match previous {
+        None => true,
+        Some(span) => out[span.start..span.end].cmp(&out[start..]).is_lt(),
+    }
+}
+
+/// Encodes an integer.
+fn write_int(value: i128, out: &mut Vec<u8>) -> Result<(), Kind>
+    ensures writes { MatchResult result
+        (λ _. WritesScalar (tree.Int value) out.old.items out.new.items)
+        (λ k. FailsWith k (range_refusal (tree.Int value)) out.old.items out.new.items) }
+    ensures grows { vec_capacity out.old ≤ vec_capacity out.new }
+    ensures short { IfErr result (λ k. k ≡ Kind.Memory
+        → IsShort (vec_capacity out.old) out.old.items (scalar_text (tree.Int value))) }
+{
+    if !(-0x1_0000_0000_0000_0000 <= value && value <= 0xffff_ffff_ffff_ffff) {
+        return Err(Kind::Unsupported);
+    }
+    if value >= 0 {
+        write_head(0, value as u64, out)?;
+    } else {
+        write_head(1, (-1 - value) as u64, out)?;
+    }
+    Ok(())
+}
+
+/// Encodes a byte string.
+fn write_bytes(bytes: &[u8], out: &mut Vec<u8>) -> Result<(), Kind>
+    ensures writes { MatchResult result
+        (λ _. WritesScalar (tree.Bytes bytes.now) out.old.items out.new.items)
+        (λ k. (k ≡ Kind.Memory) × Extends out.old.items out.new.items) }
+    ensures grows { vec_capacity out.old ≤ vec_capacity out.new }
+    ensures short { IfErr result (λ k. k ≡ Kind.Memory
+        → IsShort (vec_capacity out.old) out.old.items (scalar_text (tree.Bytes bytes.now))) }
+{
+    known_bytes(bytes);
+    write_head(2, bytes.len() as u64, out)?;
+    out.extend_from_slice(bytes)?;
+    Ok(())
+}
+
+/// Encodes a text string.
+fn write_text(text: &str, out: &mut Vec<u8>) -> Result<(), Kind>
+    ensures writes { MatchResult result
+        (λ _. WritesScalar (tree.Text text.now) out.old.items out.new.items)
+        (λ k. (k ≡ Kind.Memory) × Extends out.old.items out.new.items) }
+    ensures grows { vec_capacity out.old ≤ vec_capacity out.new }
+    ensures short { IfErr result (λ k. k ≡ Kind.Memory
+        → IsShort (vec_capacity out.old) out.old.items (scalar_text (tree.Text text.now))) }
+{
+    write_head(3, text.len() as u64, out)?;
+    out.extend_from_slice(text.as_bytes())?;
+    Ok(())
+}
+
+/// Writes the shortest head of a major type with an argument.
+fn write_head(major: u8, argument: u64, out: &mut Vec<u8>) -> Result<(), AllocError>
+    requires { major < 8 }
+    ensures ok { OnOk result (out.new.items ≡ out.old.items ++ head major argument) }
+    ensures err { OnErr result (out.new.items ≡ out.old.items) }
+    ensures grows { vec_capacity out.old ≤ vec_capacity out.new }
+    ensures short { OnErr result (IsShort (vec_capacity out.old) out.old.items (head major argument)) }
+{
+    let mut buffer = [0u8; 9];
+    let len = head_into(major, argument, &mut buffer);
+    out.extend_from_slice(&buffer[..len])
+}
+
+/// Writes one byte.
+fn write_byte(byte: u8, out: &mut Vec<u8>) -> Result<(), Kind>
+    ensures writes { MatchResult result
+        (λ _. out.new.items ≡ out.old.items ++ byte ∷ [])
+        (λ k. (k ≡ Kind.Memory) × Extends out.old.items out.new.items) }
+    ensures grows { vec_capacity out.old ≤ vec_capacity out.new }
+    ensures short { IfErr result (λ k. k ≡ Kind.Memory → IsShort (vec_capacity out.old) out.old.items (byte ∷ [])) }
+{
+    out.push(byte)?;
+    Ok(())
+}

@@ -1,0 +1,51 @@
+//! Checks whole messages.
+
+ghost use Rattle.std.specs.Prelude.{MatchResult, IsOk, ◌↔◌, ◌⊎◌};
+ghost use Rattle.ctap_cbor.specs.Tree.{Tree};
+ghost use Rattle.ctap_cbor.specs.Grammar.{IsCanonical};
+ghost use Rattle.ctap_cbor.specs.Outcome.{Outcome, IsOutcome, Answers};
+ghost use Rattle.ctap_cbor.specs.Reading.{Reading, PassesOne, Fails, Ends, GoesOn};
+
+use crate::cursor::Cursor;
+use crate::fault::Fault;
+use crate::laws::known_bytes;
+
+/// The result of [`check`], and the number of its steps.
+#[derive(Clone, Copy, Debug, PartialEq, Eq)]
+pub struct Checked {
+    pub result: Result<(), Fault>,
+    /// At most 2 * n + 1 for n bytes, saturating at 2^64-1.
+    pub steps: u64,
+}
+
+/// Checks that the bytes are the canonical encoding of one data item. Returns the first error otherwise.
+pub fn check(bytes: &[u8]) -> Checked
+    // The bytes have an outcome of decoding, and the result and the number of steps are those of this outcome.
+    ensures found { (o : Outcome) × IsOutcome bytes.now o × Answers bytes.now o result.result result.steps }
+
+    // Every outcome of decoding the bytes has this result and this number of steps.
+    ensures only { (o : Outcome) → IsOutcome bytes.now o → Answers bytes.now o result.result result.steps }
+    ensures ok { IsOk result.result ↔ ((t : Tree) × IsCanonical t bytes.now) }
+{
+    known_bytes(bytes);
+    let mut cursor = Cursor::new(bytes);
+    let result = read_whole(&mut cursor);
+    Checked {
+        result,
+        steps: cursor.steps(),
+    }
+}
+
+/// Skips one item at the first level, and checks for the end of the input.
+///
+/// After an error in the item the cursor is where [`Cursor::skip`] leaves it; trailing bytes leave it at the first of
+/// them.
+pub fn read_whole(cursor: &mut Cursor) -> Result<(), Fault>
+    ensures { MatchResult result
+        (λ _. (middle : Reading) × PassesOne 4 cursor.old middle × Ends middle cursor.new)
+        (λ f. Fails 4 cursor.old cursor.new f.at f.kind
+        ⊎ ((middle : Reading) × PassesOne 4 cursor.old middle × GoesOn middle cursor.new f.at f.kind)) }
+{
+    cursor.skip(1)?;
+    cursor.end()
+}

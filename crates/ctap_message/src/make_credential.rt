@@ -1,0 +1,111 @@
+//! The parameters of authenticatorMakeCredential (CTAP 2.1, section 6.1).
+
+ghost use Rattle.std.specs.Prelude.{◌⊎◌, MatchResult};
+ghost use Rattle.ctap_cbor.specs.Reading.{Reading, PassesOne, Fails, Ends, GoesOn};
+ghost use Rattle.ctap_message.specs.Members.{map_of};
+ghost use Rattle.ctap_message.specs.Walks.{Reads, typed, HasPairs};
+ghost use Rattle.ctap_message.specs.MakeCredential.{make_types};
+ghost use Rattle.ctap_message.specs.CollectedRequests.{make_in, shown_make};
+
+use crate::descriptor::{DescriptorList, read_list};
+use crate::descriptors::Descriptors;
+use crate::item::{expect_map, read_members};
+use crate::options::Options;
+use crate::parameters::Parameters;
+use crate::rp::Rp;
+use crate::user::User;
+use ctap_cbor::{Cursor, Fault, Item, Members, read_array};
+
+/// The parameters of authenticatorMakeCredential found so far.
+#[derive(Drop)]
+pub(crate) struct Make<'a> {
+    pub hash: Option<&'a [u8]>,
+    pub rp: Rp<'a>,
+    pub user: User<'a>,
+    pub has_parameters: bool,
+    pub parameters: Parameters,
+    pub exclude: DescriptorList<'a>,
+    pub options: Options,
+    pub pin_uv_auth_param: Option<&'a [u8]>,
+    pub enterprise_attestation: Option<u64>,
+}
+
+impl<'a> Members<'a> for Make<'a> {
+    ghost Holds = { λ x ok ps. HasPairs make_types make_in (shown_make x) ok ps };
+
+    fn member(&mut self, cursor: &mut Cursor<'a>, key: Item<'a>, level: u8) -> Result<bool, Fault> {
+        match key {
+            Item::Int(0x02) => {
+                self.rp = Rp { id: None };
+                read_members(&mut self.rp, cursor, level)
+            }
+            Item::Int(0x03) => {
+                self.user = User {
+                    id: None,
+                    name: None,
+                };
+                read_members(&mut self.user, cursor, level)
+            }
+            Item::Int(0x04) => {
+                self.has_parameters = true;
+                self.parameters = Parameters::NONE;
+                Ok(read_array(&mut self.parameters, cursor, level)?.unwrap_or(false))
+            }
+            Item::Int(0x05) => read_list(&mut self.exclude, cursor, level),
+            Item::Int(0x07) => {
+                self.options = Options::NONE;
+                read_members(&mut self.options, cursor, level)
+            }
+            _ => {
+                let value = cursor.whole(level)?;
+                match key {
+                    Item::Int(0x01) => {
+                        self.hash = value.as_bytes();
+                        Ok(self.hash.is_some())
+                    }
+                    Item::Int(0x06) => Ok(expect_map(value)),
+                    Item::Int(0x08) => {
+                        self.pin_uv_auth_param = value.as_bytes();
+                        Ok(self.pin_uv_auth_param.is_some())
+                    }
+                    Item::Int(0x09) => Ok(value.as_uint().is_some()),
+                    Item::Int(0x0a) => {
+                        self.enterprise_attestation = value.as_uint();
+                        Ok(self.enterprise_attestation.is_some())
+                    }
+                    _ => Ok(true),
+                }
+            }
+        }
+    }
+}
+
+/// Reads all parameters. Returns whether they have the right types.
+pub(crate) fn parse_make_credential<'a>(cursor: &mut Cursor<'a>) -> Result<(bool, Make<'a>), Fault>
+    ensures { MatchResult result
+        (λ r. (middle : Reading) × Reads (typed (map_of make_types) make_in) 4 (r.0, shown_make r.1) cursor.old middle
+        × Ends middle cursor.new)
+        (λ f. Fails 4 cursor.old cursor.new f.at f.kind
+        ⊎ ((middle : Reading) × PassesOne 4 cursor.old middle × GoesOn middle cursor.new f.at f.kind)) }
+{
+    let mut found = Make {
+        hash: None,
+        rp: Rp { id: None },
+        user: User {
+            id: None,
+            name: None,
+        },
+        has_parameters: false,
+        parameters: Parameters::NONE,
+        exclude: DescriptorList {
+            is_whole: true,
+            list: Descriptors::none(),
+        },
+        options: Options::NONE,
+        pin_uv_auth_param: None,
+        enterprise_attestation: None,
+    };
+    let typed = read_members(&mut found, cursor, 1)?;
+    cursor.end()?;
+    Ok((typed, found))
+}

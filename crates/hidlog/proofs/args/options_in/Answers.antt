@@ -1,0 +1,17 @@
+use Rattle.std.proofs.Common.{codes}
+use Rattle.clap.specs.Matches.{found_of}
+use Rattle.hidlog.{specs.CommandLine.path_of, proofs.CommandLine.path_is}
+use Rattle.hidlog.proofs.args.options_in.Goals as goal
+
+pub returns : goal.returns
+returns c =
+    let found = found_of c.args.options.now in (
+      path_is found (codes "load") (path_of c.get_str.result) c.get_str.ensures,
+      path_is found (codes "save") (path_of c.get_str-2.result) c.get_str-2.ensures,
+      path_is found (codes "log") (path_of c.get_str-3.result) c.get_str-3.ensures,
+      c.is_set.ensures,
+      c.is_set-2.ensures,
+      c.is_set-3.ensures,
+      c.form_in.ensures,
+      c.manner_in.ensures,
+    )

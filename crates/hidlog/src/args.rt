@@ -1,0 +1,260 @@
+//! The program's command line arguments.
+ghost use Rattle.std.specs.Prelude.{◌≡◌, List, ℕ, Some, IfOk, IfErr, IfSome, option_map, option_and_then};
+ghost use Rattle.clap.specs.Words.{HasKind, subcommand_rows_of};
+ghost use Rattle.hidlog.specs.CommandLine.{AreFound, answers_to, ask_of, task_and_verbosity, asked_by, task_of, explains, form_of, is_set as is_found, logs_of, verbosity_of, task_for, texts_of};
+ghost use Rattle.clap.specs.Matches.{found_of};
+ghost use Rattle.clap.specs.Walk.{rows_of};
+
+use crate::cli::program;
+use crate::commands::Play;
+use clap::{ArgMatches, Error};
+use session_log::ReplayMode;
+use std::alloc::{AllocError, Global};
+
+/// The output format of `show`.
+#[derive(Clone, Copy)]
+pub enum Form {
+    /// Line by line.
+    Lines,
+    /// A summary of the session.
+    Summary,
+    /// JSON objects.
+    Json,
+    /// A summary as JSON objects.
+    JsonSummary,
+}
+
+/// The action, with the paths of snapshots and logs as given.
+#[derive(Clone, Copy)]
+pub enum Action<'a> {
+    /// `hidlog replay [--load F] [--save F] [FILE]`, the same with `live`, and `hidlog quiet [--load F] [FILE]`
+    Play(Play<'a>),
+    /// `hidlog check [--load F] [--all] [--json] [FILE]..`
+    Check {
+        load: Option<&'a str>,
+        is_all: bool,
+        is_json: bool,
+    },
+    /// `hidlog show [--summary] [--json] [--wide] [FILE]`
+    Show {
+        form: Form,
+        wide: bool,
+        log: Option<&'a str>,
+    },
+}
+
+/// The level of detail of messages.
+#[derive(Clone, Copy)]
+pub enum Verbosity {
+    /// Explained: with names, members, reasons and notes.
+    Explained,
+    /// For programs: the fixed texts.
+    Fixed,
+    /// For people if the output is a terminal.
+    ByTerminal,
+}
+
+impl Verbosity {
+    /// Returns whether texts are explained, given whether they go to a terminal.
+    pub fn explains(self, is_terminal: bool) -> bool
+        ensures { result ≡ explains self is_terminal }
+    {
+        match self {
+            Verbosity::Explained => true,
+            Verbosity::Fixed => false,
+            Verbosity::ByTerminal => is_terminal,
+        }
+    }
+}
+
+/// The action, and how much its texts explain.
+#[derive(Drop)]
+pub struct Invocation<'a> {
+    pub task: Action<'a>,
+    /// The paths of all logs, for `check`.
+    pub logs: Vec<&'a str>,
+    pub manner: Verbosity,
+}
+
+/// The arguments after a command's name, for any command.
+#[derive(Clone, Copy)]
+struct CommandOptions<'a> {
+    load: Option<&'a str>,
+    save: Option<&'a str>,
+    log: Option<&'a str>,
+    all: bool,
+    json: bool,
+    wide: bool,
+    form: Form,
+    manner: Verbosity,
+}
+
+impl<'a> CommandOptions<'a> {
+    /// Returns the action of the command with this name.
+    fn task(&self, name: &str) -> Option<Action<'a>>
+        ensures { (logs : List (List ℕ)) → option_map (λ task. task_of task logs) result ≡ task_for name.now self.now logs }
+    {
+        let mut play = Play {
+            command: ReplayMode::Replay,
+            load: self.load,
+            save: self.save,
+            log: self.log,
+        };
+        match name {
+            "replay" => {}
+            "live" => play.command = ReplayMode::Live,
+            "check" => {
+                return Some(Action::Check {
+                    load: self.load,
+                    is_all: self.all,
+                    is_json: self.json,
+                });
+            }
+            "quiet" => {
+                play.command = ReplayMode::Quiet;
+                play.save = None;
+            }
+            "show" => {
+                return Some(Action::Show {
+                    form: self.form,
+                    wide: self.wide,
+                    log: self.log,
+                });
+            }
+            _ => return None,
+        }
+        Some(Action::Play(play))
+    }
+}
+
+/// Returns whether a flag was given.
+fn is_set(options: &ArgMatches<'_>, name: &str) -> bool
+    ensures { result ≡ is_found name.now (rows_of (found_of options.now)) }
+{
+    match options.get_str(name) {
+        Some(text) => text == "true",
+        None => false,
+    }
+}
+
+/// Returns the format that was asked for.
+fn form_in(options: &ArgMatches<'_>) -> Form
+    ensures { result ≡ form_of (rows_of (found_of options.now)) }
+{
+    match (is_set(options, "json"), is_set(options, "summary")) {
+        (true, true) => Form::JsonSummary,
+        (true, false) => Form::Json,
+        (false, true) => Form::Summary,
+        (false, false) => Form::Lines,
+    }
+}
+
+/// Returns how much texts explain; `--plain` overrides `--explain`.
+fn manner_in(options: &ArgMatches<'_>) -> Verbosity
+    ensures { result ≡ verbosity_of (rows_of (found_of options.now)) }
+{
+    if is_set(options, "plain") {
+        Verbosity::Fixed
+    } else if is_set(options, "explain") {
+        Verbosity::Explained
+    } else {
+        Verbosity::ByTerminal
+    }
+}
+
+/// Returns the paths of the logs.
+fn logs_in<'a>(alloc: Global, options: &ArgMatches<'a>) -> Result<Vec<&'a str>, AllocError>
+    ensures { IfOk result (λ logs. texts_of logs.items ≡ logs_of (rows_of (found_of options.now))) }
+{
+    match options.get_strs("log") {
+        Some(paths) => {
+            let logs = paths.to_vec(alloc)?;
+            Ok(logs)
+        }
+        None => Ok(Vec::new(alloc)),
+    }
+}
+
+/// Returns the arguments after a command's name.
+fn options_in<'a>(options: &ArgMatches<'a>) -> CommandOptions<'a>
+    ensures { AreFound result (rows_of (found_of options.now)) }
+{
+    CommandOptions {
+        load: options.get_str("load"),
+        save: options.get_str("save"),
+        log: options.get_str("log"),
+        all: is_set(options, "all"),
+        json: is_set(options, "json"),
+        wide: is_set(options, "wide"),
+        form: form_in(options),
+        manner: manner_in(options),
+    }
+}
+
+/// Returns the action of the command that was given.
+fn task_in<'a>(
+    alloc: Global,
+    matches: &ArgMatches<'a>,
+) -> Result<Option<Invocation<'a>>, AllocError>
+    ensures { IfOk result (λ asked. option_map task_and_verbosity asked ≡ option_and_then ask_of (subcommand_rows_of matches.now)) }
+{
+    let Some((name, found)) = matches.subcommand() else {
+        return Ok(None);
+    };
+    let options = options_in(found);
+    match options.task(name) {
+        Some(task) => Ok(Some(Invocation {
+            task,
+            logs: logs_in(alloc, found)?,
+            manner: options.manner,
+        })),
+        None => Ok(None),
+    }
+}
+
+/// Returns the action of a command without options. Avoids clap, which takes a fifth of the instructions up to the
+/// first line.
+fn alone<'a>(alloc: Global, words: &[&str]) -> Option<Invocation<'a>>
+    ensures { IfSome result (λ asked. asked_by (texts_of words.now) ≡ Some (task_and_verbosity asked)) }
+{
+    let [_, name] = words else {
+        return None;
+    };
+    let options = CommandOptions {
+        load: None,
+        save: None,
+        log: None,
+        all: false,
+        json: false,
+        wide: false,
+        form: Form::Lines,
+        manner: Verbosity::ByTerminal,
+    };
+    match options.task(name) {
+        Some(task) => Some(Invocation {
+            task,
+            logs: Vec::new(alloc),
+            manner: options.manner,
+        }),
+        None => None,
+    }
+}
+
+/// Returns the action, or clap's help or error. The first argument is the program's name.
+#[inline(never)]
+pub fn parse_args<'a>(alloc: Global, words: &'a [&'a str]) -> Result<Invocation<'a>, Error>
+    ensures task { IfOk result (λ asked. asked_by (texts_of words.now) ≡ Some (task_and_verbosity asked)) }
+    ensures answer { IfErr result (λ error. HasKind (answers_to (texts_of words.now)) error) }
+{
+    if let Some(asked) = alone(alloc, words) {
+        return Ok(asked);
+    }
+    let matches = program(alloc)?.try_get_matches_from(words)?;
+    let asked = task_in(alloc, &matches);
+    drop(matches);
+    match asked? {
+        Some(asked) => Ok(asked),
+        // Clap refuses arguments without a command.
+        None => unreachable!(),
+    }
+}

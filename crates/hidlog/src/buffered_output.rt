@@ -1,0 +1,168 @@
+//! Output that is buffered while there are complete lines that were read but not yet played.
+ghost use Rattle.std.specs.Prelude.{◌≡◌, ◌<◌, ◌≤◌, ◌-◌, ◌^◌, ◌+◌, [], List, ℕ, length, drop, vec_len, is_ok, if◌then◌else◌, OnOk, OnErr};
+ghost use Rattle.std.specs.Io.KnownBytes.{Keeps, append_known};
+ghost use Rattle.hidlog.specs.Program.{FlushesPending};
+
+use session_log::{Failed, LogFault, Target};
+use std::cell::Cell;
+
+/// Capacity of the buffer in bytes.
+const HELD: usize = 8192;
+
+/// The last complete line that was read but not played, for which text may be written.
+#[derive(Clone, Copy)]
+pub enum Lookahead {
+    /// None.
+    Nothing,
+    /// A comment or an empty line.
+    Comment,
+    /// Another line: an input, or a line that is refused.
+    Input,
+}
+
+/// Distances from the end of the read bytes to the starts of the last complete lines, for which text may be written; 0
+/// if there is none.
+#[derive(Clone, Copy)]
+pub struct LineBoundaries {
+    input: usize,
+    /// The same for a comment after the input.
+    comment: usize,
+}
+
+impl LineBoundaries {
+    /// Returns the boundaries in these bytes. A line that began before them isn't included.
+    pub fn of(bytes: &[u8]) -> Self {
+        let mut last = LineBoundaries {
+            input: 0,
+            comment: 0,
+        };
+        let (mut first, mut is_whole) = (b'<', false);
+        for len in 0..bytes.len() {
+            let byte = bytes[bytes.len() - 1 - len];
+            if is_whole && byte == b'\n' {
+                // The first byte of a line, which may be its line feed, shows its kind.
+                match first {
+                    b'<' | b'=' => {}
+                    b'#' | b'\n' if last.comment > 0 => {}
+                    b'#' | b'\n' => last.comment = len,
+                    _ => last.input = len,
+                }
+            }
+            is_whole = is_whole || byte == b'\n';
+            if last.input > 0 {
+                break;
+            }
+            first = byte;
+        }
+        last
+    }
+
+    /// Returns how many of the last `len` bytes precede the next of these lines, and the line's kind; all of them if
+    /// there is none.
+    pub fn next(&self, len: usize) -> (usize, Lookahead) {
+        if 0 < self.input && self.input <= len {
+            (len - self.input, Lookahead::Input)
+        } else if 0 < self.comment && self.comment <= len {
+            (len - self.comment, Lookahead::Comment)
+        } else {
+            (len, Lookahead::Nothing)
+        }
+    }
+}
+
+/// Which output is buffered while there is a complete line that was read but not yet played.
+#[derive(Clone, Copy)]
+pub enum FlushPolicy {
+    /// None: `live`, which responds line by line, and `check`.
+    Nothing,
+    /// All while another input was read but not yet processed: `show`.
+    UntilNextInput,
+    /// All: commands that play a log.
+    All,
+}
+
+/// A target that may buffer its output.
+pub trait Output: Target {
+    ghost use Rattle.std.specs.Prelude.{◌≡◌, ◌<◌, ◌-◌, ◌^◌, ◌+◌, [], List, ℕ, length, is_ok, if◌then◌else◌, OnOk, OnErr};
+    ghost use Rattle.std.specs.Io.KnownBytes.{Keeps};
+
+    /// The buffered bytes.
+    ghost waits: { Self → List ℕ };
+
+    /// Flushes the buffer. A failed write is not retried.
+    fn settle(&mut self) -> Result<(), Failed>
+        requires { Self.failed self.old < 2 ^ 64 - 1 }
+        ensures kept { Keeps (Self.taken self.old) (Self.taken self.new) }
+        ensures none { OnOk result (waits self.new ≡ []) }
+        ensures some { OnErr result (0 < length (waits self.new)) }
+        ensures counted { Self.failed self.new
+            ≡ (if is_ok result then Self.failed self.old else Self.failed self.old + 1) };
+}
+
+/// Flushes the buffer, ignoring failures, and returns `result`.
+pub fn flush_then<O: Output>(output: &mut O, answer: Result<(), LogFault>) -> Result<(), LogFault>
+    ensures { FlushesPending O.taken O.failed O.waits answer (output.old, output.new) result }
+{
+    if let Err(LogFault::Write) = answer {
+        return answer;
+    }
+    if output.failures() == u64::MAX {
+        return Err(LogFault::Write);
+    }
+    match output.settle() {
+        Ok(()) => answer,
+        Err(_) => Err(LogFault::Write),
+    }
+}
+
+/// A target over another one, which buffers output while there is a line that was read but not yet played.
+#[derive(Drop)]
+pub struct BufferedOutput<'a, T> {
+    pub inner: T,
+    pub ahead: &'a Cell<Lookahead>,
+    pub holding: FlushPolicy,
+    pub bytes: Vec<u8>,
+    /// Number of bytes that were written.
+    pub at: usize,
+    ghost within: { at ≤ vec_len bytes },
+}
+
+impl<T: Target> Target for BufferedOutput<'_, T> {
+    ghost taken = { λ s. append_known (T.taken s.inner) (drop s.at s.bytes.items) };
+
+    ghost failed = { λ s. T.failed s.inner };
+
+    fn put(&mut self, piece: &[u8]) -> Result<usize, Failed> {
+        let lies_ahead = match (self.ahead.get(), self.holding) {
+            (Lookahead::Nothing, _)
+            | (_, FlushPolicy::Nothing)
+            | (Lookahead::Comment, FlushPolicy::UntilNextInput) => false,
+            _ => true,
+        };
+        if lies_ahead
+            && self.bytes.len().saturating_add(piece.len()) <= HELD
+            && self.bytes.extend_from_slice(piece).is_ok()
+        {
+            return Ok(piece.len());
+        }
+        self.settle()?;
+        self.inner.put(piece)
+    }
+
+    fn failures(&self) -> u64 {
+        self.inner.failures()
+    }
+}
+
+impl<T: Target> Output for BufferedOutput<'_, T> {
+    ghost waits = { λ s. drop s.at s.bytes.items };
+
+    fn settle(&mut self) -> Result<(), Failed> {
+        'waiting: while self.at < self.bytes.len() {
+            self.at += self.inner.put(self.bytes.as_slice().split_at(self.at).1)?;
+        }
+        self.bytes.clear();
+        self.at = 0;
+        Ok(())
+    }
+}

@@ -1,0 +1,263 @@
+//! Checks several logs, one after the other.
+ghost use Rattle.std.specs.Prelude.{◌≡◌, ◌<◌, ◌-◌, ◌^◌, ◌⊎◌, IfErr, OnOk};
+ghost use Rattle.hidlog.specs.CommandLine.{path_of, texts_of};
+ghost use Rattle.hidlog.specs.Commands.{Compares};
+ghost use Rattle.hidlog.specs.Model.{CanFail};
+ghost use Rattle.hidlog.specs.Several.{IsSameAt};
+
+use crate::buffered_output::Output;
+use crate::commands::{fresh, open_log};
+use crate::differences::report_differences;
+use crate::escape::{EscapedText, StreamFailure};
+use crate::fault::ProgramFault;
+use crate::files::Files;
+use crate::host::{Host, Modeled};
+use crate::json_report::ProgramFaultObject;
+use crate::logs::{LogState, Logs};
+use crate::notes::{CheckEnd, Notes};
+use crate::parse_hint::first_parse_hint;
+use crate::process::{WRITING_FAILED, say};
+use crate::report_options::{FaultLine, ReportOptions};
+use crate::snapshots::load;
+use crate::split::Pieces;
+use session_log::{LogFault, ReplayMode, Target, ToWrite};
+use session_show::{TextBuf, Written};
+
+/// Maximum length of a log that is read again to compare the signed bytes.
+const READ_AGAIN_AT_MOST: u64 = 1 << 26;
+
+/// The report that nothing differs, from its text: `same 14 inputs 22 packets`.
+#[derive(Clone, Copy)]
+struct SameLog<'a> {
+    wish: &'a ReportOptions<'a>,
+    text: &'a [u8],
+}
+
+impl Written for SameLog<'_> {
+    fn write(&self, buf: &mut TextBuf) {
+        if !self.wish.is_json {
+            self.wish.begin_line(buf);
+            buf.bytes(self.text);
+            return;
+        }
+        self.wish.begin_object(buf, "same");
+        let mut words = Pieces {
+            rest: self.text,
+            end: b' ',
+        };
+        let _ = words.next();
+        buf.text(",\"inputs\":");
+        buf.bytes(words.next().unwrap_or(b"0"));
+        let _ = words.next();
+        buf.text(",\"packets\":");
+        buf.bytes(words.next().unwrap_or(b"0"));
+        buf.text("}\n");
+    }
+}
+
+/// Reports why a line isn't a log line, or why reading failed, with this name of the log.
+pub fn report_cause<E: Target>(
+    state: &LogState<'_>,
+    name: Option<&str>,
+    fault: &LogFault,
+    faults: &mut E,
+) {
+    match fault {
+        LogFault::BadLine(_) | LogFault::TooLong(_) => {
+            if let Some(hint) = first_parse_hint(state.lines) {
+                say(faults, &hint);
+            }
+        }
+        LogFault::Read(_) => {
+            if let Some(error) = state.failure {
+                say(faults, &StreamFailure { name, error });
+            }
+        }
+        _ => {}
+    }
+}
+
+/// Reports what may be wrong with a log without differences, if explained or in JSON.
+pub fn report_note<D: Files, L: Logs, E: Target>(
+    files: &D,
+    wish: &ReportOptions<'_>,
+    input: &mut L,
+    ending: &CheckEnd,
+    faults: &mut E,
+)
+    ensures { input.new ≡ input.old }
+{
+    if !wish.explains && !wish.is_json {
+        return;
+    }
+    let seen = input.state().seen;
+    let len = seen.len;
+    let notes = Notes {
+        wish: &*wish,
+        seen,
+        ending: &*ending,
+    };
+    say(faults, &notes);
+    if ending.has_served && len <= READ_AGAIN_AT_MOST {
+        let mut same = *wish;
+        same.is_same = true;
+        let again = input.again(false);
+        report_differences(files, &same, again, None, faults);
+    }
+}
+
+impl<D: Files, L: Logs, O: Output, E: Target> Host<D, L, O, E> {
+    /// Checks the log at a path on a session of its own, writes the text of a match to `same`, and returns how the log
+    /// ended.
+    #[inline(never)]
+    fn compare<'a>(
+        &mut self,
+        wish: &ReportOptions<'a>,
+        path: &'a str,
+        same: &mut Vec<u8>,
+    ) -> Result<CheckEnd, ProgramFault<'a>>
+        requires { L.failed self.old.input < 2 ^ 64 - 1 }
+        ensures only { self.new ≡ record self.old { input = self.new.input } }
+        ensures same { OnOk result (IsSameAt ⟦<Self as Modeled>⟧.model (path_of wish.now.load) self.old.files path.now
+            (self.old.input, self.new.input)) }
+    {
+        let session = &mut fresh();
+        let input = &mut self.input;
+        if path == "-"
+            && let Err(error) = input.open(None)
+        {
+            return Err(ProgramFault::LogOpenError(path, error));
+        }
+        if let Err(fault) = open_log(input, Some(path)) {
+            return Err(fault);
+        }
+        if let Err(fault) = load(session, &self.files, wish.load) {
+            return Err(fault);
+        }
+        let mut writer = ToWrite::new(&mut *same);
+        match ReplayMode::Check.play(session, input, &mut writer) {
+            Ok(()) => Ok(CheckEnd::of(session)),
+            Err(fault) => Err(ProgramFault::Log(fault)),
+        }
+    }
+
+    /// Writes that nothing differs. The error is the exit status.
+    fn report_equal(&mut self, wish: &ReportOptions<'_>, text: &[u8]) -> Result<(), u8>
+        requires { O.failed self.old.output < 2 ^ 64 - 1 }
+        ensures status { IfErr result (λ code. code ≡ 1) }
+        ensures files { self.new.files ≡ self.old.files }
+        ensures input { self.new.input ≡ self.old.input }
+    {
+        if say(&mut self.output, &SameLog { wish, text }) {
+            return Ok(());
+        }
+        say(&mut self.faults, &EscapedText(WRITING_FAILED));
+        Err(1)
+    }
+
+    /// Reports a log's error, with details if explained, and the differences. Also as JSON, if requested.
+    fn report_failure(&mut self, wish: &ReportOptions<'_>, fault: &ProgramFault<'_>)
+        requires { E.failed self.old.faults < 2 ^ 64 - 1 }
+        ensures { self.new.files ≡ self.old.files }
+    {
+        // The other errors have no line.
+        if let ProgramFault::Log(told) = fault
+            && !matches!(told, LogFault::Write | LogFault::TooManyLines)
+        {
+            let fault = *told;
+            let faults = &mut self.faults;
+            if say(faults, &FaultLine { wish, fault }) && wish.explains {
+                report_cause(&self.input.state(), None, told, faults);
+            }
+            if let LogFault::Differs { .. } = told {
+                let again = self.input.again(true);
+                if wish.is_json {
+                    report_differences(&self.files, wish, again, Some(fault), &mut self.output);
+                } else {
+                    report_differences(&self.files, wish, again, Some(fault), faults);
+                }
+            }
+        } else {
+            self.tell(fault, wish.explains);
+            if !wish.explains
+                && let Some(notice) = fault.notice()
+            {
+                say(&mut self.faults, &notice);
+            }
+        }
+        if wish.is_json {
+            let output = &mut self.output;
+            say(output, &ProgramFaultObject { wish, fault });
+            if output.failures() > 0 {
+                say(&mut self.faults, &EscapedText(WRITING_FAILED));
+            }
+        }
+    }
+
+    /// Checks one of several logs, and reports the result with its path; as JSON if asked for. The error is the exit
+    /// status.
+    fn check_one<'a>(&mut self, wish: &ReportOptions<'a>, path: &'a str) -> Result<(), u8>
+        requires { CanFail ⟦<Self as Modeled>⟧.model self.old }
+        ensures status { IfErr result (λ code. (code ≡ 1) ⊎ (code ≡ 2)) }
+        ensures kept { self.new.files ≡ self.old.files }
+        ensures same { OnOk result (IsSameAt ⟦<Self as Modeled>⟧.model (path_of wish.now.load) self.old.files path.now
+            (self.old.input, self.new.input)) }
+    {
+        let mut same = Vec::new(self.alloc);
+        match self.compare(wish, path, &mut same) {
+            Ok(ending) => {
+                let parsed = self.report_equal(wish, &same);
+                if wish.is_json {
+                    report_note(
+                        &self.files,
+                        wish,
+                        &mut self.input,
+                        &ending,
+                        &mut self.output,
+                    );
+                    return parsed;
+                }
+                report_note(
+                    &self.files,
+                    wish,
+                    &mut self.input,
+                    &ending,
+                    &mut self.faults,
+                );
+                parsed
+            }
+            Err(fault) => {
+                self.report_failure(wish, &fault);
+                Err(fault.status())
+            }
+        }
+    }
+
+    /// Checks each log on a new session. The error is the exit status: 1 if a log differs or has an error.
+    /// If a snapshot cannot be loaded, no further log is read.
+    pub fn check_each(&mut self, wished: &ReportOptions<'_>, paths: &[&str]) -> Result<(), u8>
+        ensures status { IfErr result (λ code. (code ≡ 1) ⊎ (code ≡ 2)) }
+        ensures compares { Compares ⟦<Self as Modeled>⟧.model (path_of wished.now.load) (texts_of paths.now) result
+            self.old self.new }
+    {
+        let mut has_failed = false;
+        for path in paths {
+            if self.input.failures() == u64::MAX
+                || self.faults.failures() == u64::MAX
+                || self.output.failures() > 0
+            {
+                return Err(1);
+            }
+            let wish = ReportOptions {
+                path: if paths.len() == 1 { None } else { Some(*path) },
+                ..*wished
+            };
+            let one = self.check_one(&wish, path);
+            has_failed = has_failed || one.is_err();
+            if matches!(one, Err(2)) {
+                return Err(2);
+            }
+        }
+        if has_failed { Err(1) } else { Ok(()) }
+    }
+}

@@ -1,0 +1,184 @@
+//! Two packets side by side, in `show`'s words.
+use crate::split::{DIGITS, Pieces, after, count_leading, find_byte};
+use hid_packet::{Packet, View};
+use session_show::{Difference, TextBuf};
+
+/// Number of bytes of a packet around the first difference that are written.
+const ROW: usize = 16;
+
+/// The spaces before a mark under a row's last byte.
+const SPACES: &[u8] = b"                                                     ";
+
+/// Maximum depth of nested members that are named.
+const LEVELS: usize = 3;
+
+/// The first byte that differs in two packets, with both values.
+const IN_CHANNEL: &[u8] =
+    b"  byte %d of the packet, in the channel, is %x in the log and %x from the key:\n";
+
+const COMMAND: &[u8] =
+    b"  byte %d of the packet, the command, is %x in the log and %x from the key:\n";
+
+const SEQUENCE_NUMBER: &[u8] =
+    b"  byte %d of the packet, the sequence number, is %x in the log and %x from the key:\n";
+
+const IN_LENGTH: &[u8] =
+    b"  byte %d of the packet, in the length, is %x in the log and %x from the key:\n";
+
+const ELSEWHERE: &[u8] = b"  byte %d of the packet is %x in the log and %x from the key:\n";
+
+/// Writes the packet's line of one side, and those lines of its message that differ from the other side's line at the
+/// same place.
+fn write_side(buf: &mut TextBuf, own: &[u8], other: &[u8]) {
+    let mut others = Pieces {
+        rest: other,
+        end: b'\n',
+    };
+    let mut front: &[u8] = b"    ";
+    let mut is_packet = true;
+    let lines = Pieces {
+        rest: own,
+        end: b'\n',
+    };
+    for line in lines {
+        let other = others.next().unwrap_or(b"");
+        if is_packet || !line.is_empty() && line != other {
+            buf.bytes(front);
+            buf.bytes(after(line, count_leading(line, DIGITS)));
+            buf.text("\n");
+        }
+        front = b"   ";
+        is_packet = false;
+    }
+}
+
+/// Writes the log's packet and the key's packet, and the lines of their messages that differ.
+pub fn write_diff(buf: &mut TextBuf, difference: &Difference, logged: &[u8], sent: &[u8]) {
+    if difference.logged.is_some() {
+        buf.format(b"  the log has in line %d:\n", &[Some(difference.line)]);
+        write_side(buf, logged, sent);
+    } else {
+        buf.format(
+            b"  the log has no packet here, up to line %d\n",
+            &[Some(difference.line)],
+        );
+    }
+    if difference.sent.is_some() {
+        buf.text("  the key sends:\n");
+        write_side(buf, sent, logged);
+    } else {
+        buf.text("  the key sends no packet here\n");
+    }
+}
+
+/// Writes the first byte that differs, with those around it, and the members in which the messages differ first.
+pub fn write_first_difference(
+    buf: &mut TextBuf,
+    difference: &Difference,
+    logged: &[u8],
+    sent: &[u8],
+) {
+    let (Some(own), Some(other)) = (&difference.logged, &difference.sent) else {
+        return;
+    };
+    let Some((at, old, new)) = difference.byte() else {
+        return;
+    };
+    // The meaning of the byte, if it is the same in both and isn't data.
+    let form = match (at, own.view(), other.view()) {
+        (0..=3, _, _) => IN_CHANNEL,
+        (4, View::Start { .. }, View::Start { .. }) => COMMAND,
+        (4, View::More { .. }, View::More { .. }) => SEQUENCE_NUMBER,
+        (5 | 6, View::Start { .. }, View::Start { .. }) => IN_LENGTH,
+        _ => ELSEWHERE,
+    };
+    buf.format(
+        form,
+        &[Some(at as u64), Some(u64::from(old)), Some(u64::from(new))],
+    );
+    let column = at % ROW;
+    write_row(buf, "    log", own, at - column);
+    write_row(buf, "    key", other, at - column);
+    buf.bytes(SPACES.get(..3 * column + 8).unwrap_or(SPACES));
+    buf.text("^^\n");
+    write_path(buf, &differing_members(logged, sent));
+}
+
+/// Writes some bytes of a packet.
+fn write_row(buf: &mut TextBuf, name: &str, packet: &Packet, from: usize) {
+    buf.text(name);
+    let part = after(&packet.0, from);
+    for byte in part.get(..ROW).unwrap_or(part) {
+        buf.text(" ");
+        buf.hex(&[*byte]);
+    }
+    buf.text("\n");
+}
+
+/// Returns the depth and the name of a member from its line: `2 authData`, `signCount`.
+fn member_in(line: &[u8]) -> (Option<usize>, &[u8]) {
+    let text = after(line, count_leading(line, DIGITS));
+    let spaces = count_leading(text, b" ");
+    let level = match spaces {
+        _ if text.len() == line.len() => None,
+        5 => Some(0),
+        7 => Some(1),
+        9 => Some(2),
+        _ => None,
+    };
+    let text = after(text, spaces);
+    let colon = find_byte(text, b':');
+    let end = match text {
+        // A name that is a number or a quoted string ends with the colon.
+        [b'0'..=b'9' | b'-' | b'"' | b'h', ..] => colon,
+        _ => colon.min(find_byte(text, b' ')),
+    };
+    (level, text.get(..end).unwrap_or(text))
+}
+
+/// Returns the names of the members in which two messages differ first, outermost first.
+pub fn differing_members<'a>(logged: &'a [u8], sent: &[u8]) -> [&'a [u8]; LEVELS] {
+    let mut names: [&[u8]; LEVELS] = [b""; LEVELS];
+    let mut depth = 0;
+    let mut others = Pieces {
+        rest: sent,
+        end: b'\n',
+    };
+    let lines = Pieces {
+        rest: logged,
+        end: b'\n',
+    };
+    for line in lines {
+        let Some(other) = others.next() else {
+            break;
+        };
+        if line == other {
+            continue;
+        }
+        let (Some(level), name) = member_in(line) else {
+            continue;
+        };
+        if level != depth || level >= LEVELS || name != member_in(other).1 {
+            break;
+        }
+        names[level] = name;
+        depth = level + 1;
+    }
+    names
+}
+
+/// Writes the names of members, innermost first.
+fn write_path(buf: &mut TextBuf, names: &[&[u8]; LEVELS]) {
+    let mut front: &[u8] = b"  the messages differ first in ";
+    let mut end: &[u8] = b"";
+    for level in 0..LEVELS {
+        let name = names[LEVELS - 1 - level];
+        if !name.is_empty() {
+            buf.bytes(front);
+            buf.bytes(name);
+            front = b" of ";
+            end = b"\n";
+        }
+    }
+    buf.bytes(end);
+}

@@ -1,0 +1,274 @@
+//! The packets in which a log differs from those that the key sends.
+use crate::commands::fresh;
+use crate::fault::ProgramFault;
+use crate::files::Files;
+use crate::finding::{DifferenceReport, Finding};
+use crate::json_report::ProgramFaultObject;
+use crate::notes::{Note, NoteText};
+use crate::parse_hint::first_parse_hint;
+use crate::process::say;
+use crate::report_options::{FaultLine, ReportOptions};
+use crate::snapshots::load;
+use crate::terminal_output::{Style, StyledLines};
+use session_log::{CAPACITY, LogFault, Source, Target, ToWrite};
+use session_show::{Comparison, Difference, TextBuf, Written};
+use std::alloc::Global;
+use token_session::Session;
+
+/// Maximum number of differences that are written.
+const MOST: u64 = 20;
+
+/// The note if the log cannot be read again.
+const READ_ONCE: Note = Note::Differences(
+    "to see the packets, name the log as a file: hidlog check FILE",
+);
+
+/// The note if the log changed before it was read again.
+const CHANGED: Note = Note::Differences("the log changed while it was being checked");
+
+const INPUTS_ALONE: Note = Note::Differences(
+    "the log has no packets from the key; run `hidlog replay` first, then check its output",
+);
+
+/// Returns a comparison before the first line.
+// Takes 40 kB, which are never on the stack together with a session.
+#[inline(never)]
+fn begun(alloc: Global) -> Option<Box<Comparison>> {
+    Box::new(alloc, Comparison::new()).ok()
+}
+
+/// Reports the differences of a log after the fault's text: explained, or all if asked for. Without differences,
+/// reports signed bytes that differ from what this key asks to sign. Reads the log again, if possible.
+pub fn report_differences<D: Files, S: Source + Drop, E: Target>(
+    files: &D,
+    wish: &ReportOptions<'_>,
+    again: Option<S>,
+    told: Option<LogFault>,
+    faults: &mut E,
+) {
+    if !wish.explains && !wish.is_all && !wish.is_json {
+        return;
+    }
+    let Some(mut reader) = again else {
+        if !wish.is_same {
+            let (wish, remark) = (&*wish, READ_ONCE);
+            say(faults, &NoteText { wish, remark });
+        }
+        return;
+    };
+    compare_anew(files, wish, &mut reader, told, faults);
+}
+
+/// Compares the log on a session of its own and reports the differences. In a stack frame of its own, so that the
+/// session is on the stack only here.
+#[inline(never)]
+fn compare_anew<D: Files, S: Source, E: Target>(
+    files: &D,
+    wish: &ReportOptions<'_>,
+    reader: &mut S,
+    told: Option<LogFault>,
+    faults: &mut E,
+) {
+    let session = &mut fresh();
+    // The snapshot was loaded before, so it is valid.
+    if load(session, files, wish.load).is_err() {
+        return;
+    }
+    if let Some(mut comparison) = begun(wish.alloc) {
+        report_each(&mut *comparison, session, wish, reader, told, faults);
+    }
+}
+
+/// The differences of a log reported so far.
+#[derive(Clone, Copy, Default)]
+struct Parsed {
+    /// Number of differences.
+    count: u64,
+    /// Whether the two keys' credentials may differ because of one of these differences.
+    has_changed: bool,
+}
+
+/// Reports the differences that were asked for.
+fn report_each<S: Source, E: Target>(
+    comparison: &mut Comparison,
+    session: &mut Session<CAPACITY>,
+    wish: &ReportOptions<'_>,
+    reader: &mut S,
+    told: Option<LogFault>,
+    faults: &mut E,
+) {
+    let mut parsed = Parsed::default();
+    let mut fault = None;
+    for _ in 0..u64::MAX {
+        let difference = match comparison.find(reader, session) {
+            Ok(Some(difference)) => difference,
+            Ok(None) => break,
+            Err(other) => {
+                fault = Some(other);
+                break;
+            }
+        };
+        let is_told = match told {
+            Some(LogFault::Differs { line, packet }) => {
+                line == difference.input && packet == difference.number
+            }
+            _ => false,
+        };
+        if !is_told && parsed.count == 0 {
+            let (wish, remark) = (&*wish, CHANGED);
+            say(faults, &NoteText { wish, remark });
+            return;
+        }
+        let changes = report_one(comparison, wish, reader, &difference, parsed, faults);
+        parsed.count = parsed.count.saturating_add(1);
+        parsed.has_changed = parsed.has_changed || changes;
+        if !wish.is_all {
+            break;
+        }
+    }
+    report_end(comparison, wish, reader, parsed.count, fault, faults);
+}
+
+/// Reports the number of inputs with differences, if all were asked for; or, without differences, signed bytes that
+/// differ.
+fn report_end<S: Source, E: Target>(
+    comparison: &mut Comparison,
+    wish: &ReportOptions<'_>,
+    reader: &mut S,
+    count: u64,
+    fault: Option<LogFault>,
+    faults: &mut E,
+) {
+    if wish.is_same && fault.is_none() {
+        if let Some(otherwise) = comparison.signed_bytes_mismatch() {
+            let (wish, remark) = (&*wish, Note::Signed(otherwise));
+            say(faults, &NoteText { wish, remark });
+        }
+        return;
+    }
+    if wish.is_all {
+        let counted = DifferenceCount {
+            wish: &*wish,
+            count,
+            fault,
+            ahead: comparison.window.as_slice(),
+        };
+        say(faults, &counted);
+    }
+    if (wish.explains || wish.is_json) && comparison.has_only_inputs(reader) {
+        let (wish, remark) = (&*wish, INPUTS_ALONE);
+        say(faults, &NoteText { wish, remark });
+    }
+}
+
+/// Number of inputs with differences, and the error that ended the comparison, if any.
+#[derive(Clone, Copy)]
+struct DifferenceCount<'a> {
+    wish: &'a ReportOptions<'a>,
+    count: u64,
+    fault: Option<LogFault>,
+    /// The part of the log read so far, from the invalid line on.
+    ahead: &'a [u8],
+}
+
+impl Written for DifferenceCount<'_> {
+    fn write(&self, buf: &mut TextBuf) {
+        let wish = self.wish;
+        if wish.is_json {
+            if let Some(fault) = self.fault {
+                let fault = &ProgramFault::Log(fault);
+                let wish = self.wish;
+                ProgramFaultObject { wish, fault }.write(buf);
+            }
+            wish.begin_object(buf, "differences");
+            buf.format(b",\"inputs\":%d}\n", &[Some(self.count)]);
+            return;
+        }
+        if let Some(fault) = self.fault {
+            FaultLine { wish, fault }.write(buf);
+            if wish.explains
+                && matches!(fault, LogFault::BadLine(_) | LogFault::TooLong(_))
+                && let Some(hint) = first_parse_hint(self.ahead)
+            {
+                hint.write(buf);
+            }
+        }
+        wish.begin_line(buf);
+        let form: &[u8] = match self.count {
+            1 => b"%d input with differences\n",
+            0..=MOST => b"%d inputs with differences\n",
+            _ => b"%d inputs with differences, the first 20 are shown\n",
+        };
+        buf.format(form, &[Some(self.count)]);
+    }
+}
+
+/// Reports a difference, unless too many were reported. Lines are truncated at a terminal. Returns whether the keys'
+/// credentials may differ after it.
+fn report_one<S: Source, E: Target>(
+    comparison: &mut Comparison,
+    wish: &ReportOptions<'_>,
+    reader: &mut S,
+    difference: &Difference,
+    parsed: Parsed,
+    faults: &mut E,
+) -> bool {
+    if parsed.count >= MOST && !wish.is_json {
+        return false;
+    }
+    let texts = texts_of(comparison, wish, reader, difference);
+    let finding = Finding {
+        wish,
+        difference,
+        is_first: parsed.count == 0,
+        has_changed: parsed.has_changed,
+        texts: &texts,
+    };
+    if let Some(width) = wish.width
+        && !wish.is_json
+    {
+        let mut text = Vec::new(wish.alloc);
+        say(&mut ToWrite::new(&mut text), &finding);
+        let style = Style {
+            width,
+            has_colours: false,
+            numbers: 0,
+        };
+        let lines = StyledLines {
+            text: &text,
+            style: &style,
+        };
+        say(faults, &lines);
+    } else {
+        say(faults, &finding);
+    }
+    finding.can_change_credentials()
+}
+
+/// Returns the finding for a difference, if it is to be reported.
+fn texts_of<S: Source>(
+    comparison: &mut Comparison,
+    wish: &ReportOptions<'_>,
+    reader: &mut S,
+    difference: &Difference,
+) -> DifferenceReport {
+    let alloc = wish.alloc;
+    let mut texts = DifferenceReport {
+        transaction: None,
+        logged: Vec::new(alloc),
+        sent: Vec::new(alloc),
+        reason: Vec::new(alloc),
+        may_name_prior_credential: false,
+    };
+    if wish.explains || wish.is_json {
+        texts.transaction = comparison.explain(
+            difference,
+            reader,
+            &mut ToWrite::new(&mut texts.reason),
+            &mut ToWrite::new(&mut texts.logged),
+            &mut ToWrite::new(&mut texts.sent),
+        );
+        texts.may_name_prior_credential = comparison.may_name_prior_credential;
+    }
+    texts
+}

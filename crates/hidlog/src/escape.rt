@@ -1,0 +1,46 @@
+//! Foreign texts and system errors within the program's texts.
+use crate::split::Pieces;
+use session_show::{TextBuf, Written, write_escaped};
+use std::fmt::{Display, Write};
+use std::io::Error;
+
+/// Lines that end with line feeds, with invisible characters escaped.
+#[derive(Clone, Copy)]
+pub struct EscapedText<'a>(pub &'a [u8]);
+
+impl Written for EscapedText<'_> {
+    fn write(&self, buf: &mut TextBuf) {
+        let lines = Pieces {
+            rest: self.0,
+            end: b'\n',
+        };
+        for line in lines {
+            write_escaped(buf, line);
+            buf.text("\n");
+        }
+    }
+}
+
+/// Writes a `Display` value.
+pub fn write_display<T: Display>(buf: &mut TextBuf, what: &T) {
+    let _ = write!(buf, "{what}");
+}
+
+/// The error of a stream, with its name unless it was written before.
+#[derive(Clone, Copy)]
+pub struct StreamFailure<'a> {
+    pub name: Option<&'a str>,
+    pub error: &'a Error,
+}
+
+impl Written for StreamFailure<'_> {
+    fn write(&self, buf: &mut TextBuf) {
+        buf.text("  ");
+        if let Some(name) = self.name {
+            write_escaped(buf, name.as_bytes());
+            buf.text(": ");
+        }
+        write_display(buf, self.error);
+        buf.text("\n");
+    }
+}

@@ -1,0 +1,123 @@
+//! Notes beside the result of `check`.
+use crate::report_options::ReportOptions;
+use crate::source_stats::SourceStats;
+use session_log::CAPACITY;
+use session_show::{AwaitedReply, SignedBytesMismatch, TextBuf, Written};
+use token_session::Session;
+
+/// The session's state at the end of a log.
+#[derive(Clone, Copy)]
+pub struct CheckEnd {
+    /// The reply that the key needs from its caller.
+    awaited: Option<AwaitedReply>,
+    /// Number of bytes of the open message.
+    held: u16,
+    /// Whether it processed a request, so that something may have been signed.
+    pub has_served: bool,
+}
+
+impl CheckEnd {
+    /// Returns the end state of a session.
+    pub fn of(session: &Session<CAPACITY>) -> Self {
+        let need = session.need();
+        let awaited = AwaitedReply::of(&need);
+        CheckEnd {
+            awaited,
+            held: session.held(),
+            has_served: session.meters().requests > 0,
+        }
+    }
+}
+
+/// The note on a line whose signed bytes differ.
+const SIGNED_OTHERWISE: &[u8] =
+    b"line %d: the signed bytes differ from what this key asks to sign:  ";
+
+/// A note on a log beside its result.
+#[derive(Clone, Copy)]
+pub enum Note {
+    /// How to get more details about the differences.
+    Differences(&'static str),
+    /// A possible problem of a log without differences.
+    Doubt(&'static str),
+    /// The log ends while the key waits for this reply.
+    Waits(AwaitedReply),
+    /// It ends inside a message, after this many bytes.
+    EndsInside(u16),
+    /// Its signed bytes differ.
+    Signed(SignedBytesMismatch),
+}
+
+/// A note as a line or a JSON object. None of its characters is escaped in JSON.
+#[derive(Clone, Copy)]
+pub struct NoteText<'a> {
+    pub wish: &'a ReportOptions<'a>,
+    pub remark: Note,
+}
+
+impl Written for NoteText<'_> {
+    fn write(&self, buf: &mut TextBuf) {
+        if self.wish.is_json {
+            self.wish.begin_object(buf, "note");
+            buf.text(",\"text\":\"");
+        } else if let Note::Differences(_) = self.remark {
+            buf.text("  ");
+        } else {
+            self.wish.begin_line(buf);
+            buf.text("note: ");
+        }
+        match self.remark {
+            Note::Differences(text) | Note::Doubt(text) => buf.text(text),
+            Note::Waits(awaited) => {
+                buf.text("the log ends while the key is waiting for ");
+                buf.text(awaited.name());
+            }
+            Note::EndsInside(held) => buf.format(
+                b"the log ends inside a message, after %d bytes of it",
+                &[Some(u64::from(held))],
+            ),
+            Note::Signed(otherwise) => {
+                buf.format(SIGNED_OTHERWISE, &[Some(otherwise.line)]);
+                buf.text(otherwise.what);
+            }
+        }
+        buf.text(if self.wish.is_json { "\"}\n" } else { "\n" });
+    }
+}
+
+/// The possible problems of a log without differences, from its statistics and its end.
+#[derive(Clone, Copy)]
+pub struct Notes<'a> {
+    pub wish: &'a ReportOptions<'a>,
+    pub seen: &'a SourceStats,
+    pub ending: &'a CheckEnd,
+}
+
+impl Written for Notes<'_> {
+    fn write(&self, buf: &mut TextBuf) {
+        let wish = self.wish;
+        let doubt = if self.seen.len == 0 {
+            Some("the log is empty")
+        } else if !self.seen.has_input {
+            Some("the log has no inputs")
+        } else {
+            None
+        };
+        if let Some(text) = doubt {
+            let remark = Note::Doubt(text);
+            NoteText { wish, remark }.write(buf);
+        }
+        if !self.seen.ends_line {
+            let remark = Note::Doubt("the last line has no line feed, so the log may be cut off");
+            NoteText { wish, remark }.write(buf);
+        }
+        if let Some(awaited) = self.ending.awaited {
+            let remark = Note::Waits(awaited);
+            NoteText { wish, remark }.write(buf);
+        }
+        if self.ending.held > 0 {
+            let remark = Note::EndsInside(self.ending.held);
+            NoteText { wish, remark }.write(buf);
+        }
+    }
+}

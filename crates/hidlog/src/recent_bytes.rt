@@ -1,0 +1,116 @@
+//! The most recent bytes of a stream.
+ghost use Rattle.std.specs.Prelude.{◌≡◌, ◌<◌, ◌≤◌, ◌+◌, [], ◌++◌, length, take, drop, min, vec_len, IfOk, OnOk, OnErr};
+ghost use Rattle.std.specs.Io.KnownBytes.{Consumes, Keeps, IsAtEnd, prepend_known};
+ghost use Rattle.hidlog.specs.Streams.{unread};
+
+use crate::split::find_byte;
+use std::alloc::{AllocError, Global};
+use std::io::{self, Read};
+
+/// Capacity in bytes.
+const HELD: usize = 8192;
+
+/// Number of bytes that stay when the buffer is full. A line that is refused begins in the last 256 read.
+const KEPT: usize = 4096;
+
+/// The most recent bytes of a stream: consumed ones, then the others.
+#[derive(Drop)]
+pub struct RecentBytes {
+    held: Vec<u8>,
+    at: usize,
+    end: usize,
+    forgot: bool,
+    ghost size: { vec_len held ≡ 8192 },
+    ghost order: { at ≤ end },
+    ghost fits: { end ≤ 8192 },
+}
+
+/// Reads once, appending after `len` bytes.
+fn read_behind<R: Read>(stream: &mut R, held: &mut Vec<u8>, end: usize) -> io::Result<usize>
+    requires { end ≤ vec_len held.old }
+    ensures len { vec_len held.new ≡ vec_len held.old }
+    ensures bound { IfOk result (λ n. end + n ≤ vec_len held.new) }
+    ensures bytes { IfOk result (λ n. Consumes (R.remaining stream.old) (R.remaining stream.new) (take n (drop end held.new.items))) }
+    ensures end { IfOk result (λ n. n ≡ 0 → end < vec_len held.old → IsAtEnd (R.remaining stream.new)) }
+    ensures err { OnErr result (Keeps (R.remaining stream.old) (R.remaining stream.new)) }
+{
+    stream.read(held.as_mut_slice().split_at_mut(end).1)
+}
+
+impl RecentBytes {
+    /// Returns an empty buffer.
+    pub fn new(alloc: Global) -> Result<Self, AllocError>
+        ensures { IfOk result (λ recent. unread recent.held.items recent.at recent.end ≡ []) }
+    {
+        Ok(RecentBytes {
+            held: vec![in alloc; 0; HELD]?,
+            at: 0,
+            end: 0,
+            forgot: false,
+        })
+    }
+
+    /// Returns the bytes that weren't consumed.
+    pub fn unread(&self) -> &[u8]
+        ensures { result.now ≡ unread self.now.held.items self.now.at self.now.end }
+    {
+        self.held
+            .as_slice()
+            .split_at(self.end)
+            .0
+            .split_at(self.at)
+            .1
+    }
+
+    /// Reads once more, after all bytes were consumed.
+    pub fn fill<R: Read>(&mut self, stream: &mut R) -> io::Result<()>
+        requires { unread self.old.held.items self.old.at self.old.end ≡ [] }
+        ensures bytes { Keeps (R.remaining stream.old)
+            (prepend_known (unread self.new.held.items self.new.at self.new.end) (R.remaining stream.new)) }
+        ensures end { OnOk result (unread self.new.held.items self.new.at self.new.end ≡ [] → IsAtEnd (R.remaining stream.new)) }
+    {
+        self.forget();
+        let n = read_behind(stream, &mut self.held, self.end)?;
+        self.end += n;
+        Ok(())
+    }
+
+    /// Moves up to `most` unconsumed bytes to `out`, and returns their number.
+    pub fn take(&mut self, most: usize, out: &mut [u8]) -> usize
+        ensures count { result ≡ min (min (length (unread self.old.held.items self.old.at self.old.end)) (length out.old)) most }
+        ensures len { length out.new ≡ length out.old }
+        ensures bytes { unread self.old.held.items self.old.at self.old.end
+            ≡ take result out.new ++ unread self.new.held.items self.new.at self.new.end }
+    {
+        let new = self.unread();
+        let n = new.len().min(out.len()).min(most);
+        out[..n].copy_from_slice(&new[..n]);
+        self.at += n;
+        n
+    }
+
+    /// Returns the lines in the buffer, without the first part of a line that is only partly kept.
+    pub fn lines(&self) -> &[u8] {
+        let read = self.held.as_slice().split_at(self.end).0;
+        if self.forgot {
+            read.split_at(find_byte(read, b'\n')).1
+        } else {
+            read
+        }
+    }
+
+    /// Drops old bytes if there are many. All were consumed.
+    fn forget(&mut self)
+        ensures at { self.new.at ≡ self.new.end }
+        ensures space { self.new.end ≤ 4096 }
+    {
+        if self.end > KEPT {
+            self.held
+                .as_mut_slice()
+                .copy_within(self.end - KEPT..self.end, 0);
+            self.end = KEPT;
+            self.forgot = true;
+        }
+        self.at = self.end;
+    }
+}

@@ -1,0 +1,223 @@
+//! The operations on a key.
+ghost use Rattle.std.specs.Prelude.{◌≡◌, ◌≢◌, [], None, Some, IfErr, OnOk, is_some};
+ghost use Rattle.cred_table.specs.Snapshots.{Refuses};
+ghost use Rattle.hidlog_c.specs.Causes.{ReportsCause};
+ghost use Rattle.hidlog_c.specs.Held.{held};
+ghost use Rattle.hidlog_c.specs.Changed.{Adds, Clears, Removes, SavesKey};
+ghost use Rattle.hidlog_c.specs.Key.{Answers, Sends};
+ghost use Rattle.hidlog_c.specs.Words.{refusal_of};
+ghost use Rattle.hidlog_c.specs.Lines.{TakesLines};
+ghost use Rattle.hidlog_c.specs.Switched.{Begins};
+ghost use Rattle.hidlog_c.specs.Reports.{ReportsCredential, ReportsMeters, ReportsNeed, count_or, credential_count, pending_assertions, waiting_packets};
+
+use crate::capacity::CAPACITY;
+use crate::causes::CauseReport;
+use crate::device::Device;
+use crate::fault::{ERR_INVALID_ARGUMENT, ERR_NOT_INITIALIZED};
+use crate::key::{KeyHandle, STATE_DESTROYED, STATE_INITIALIZED, STATE_ZERO};
+use crate::outcome::CResult;
+use crate::structs::{CNeed, CStats, Credential};
+use cred_table::SnapshotFault;
+use token_session::Input;
+
+impl KeyHandle {
+    /// Returns whether it is initialized.
+    pub fn is_initialized(&self) -> bool
+        ensures { result ≡ is_some (held self.now) }
+    {
+        self.state == STATE_INITIALIZED
+    }
+
+    /// Initializes the key with a device that powers up at `at`, with the credentials of the snapshot; none if it is
+    /// empty. Fails if the key is initialized or the snapshot is refused.
+    // The snapshot is read into the device in place: moving its 39 kB would copy them.
+    pub fn make(&mut self, aaguid: [u8; 16], at: u64, snapshot: &[u8]) -> Result<(), SnapshotFault>
+        requires { held self.old ≡ None }
+        ensures made { OnOk result (Begins aaguid at snapshot.now (held self.new)) }
+        ensures refused { IfErr result (λ fault. (snapshot.now ≢ []) × Refuses CAPACITY snapshot.now fault) }
+        ensures unmade { IfErr result (λ _. held self.new ≡ None) }
+    {
+        let device = Device::bare(aaguid, at);
+        if self.state == STATE_ZERO {
+            self.memory.put(device);
+        } else {
+            *self.memory.device() = device;
+        }
+        self.state = STATE_DESTROYED;
+        if !snapshot.is_empty() {
+            self.memory.device().load(at, snapshot)?;
+        }
+        self.state = STATE_INITIALIZED;
+        Ok(())
+    }
+
+    /// Destroys the device.
+    pub fn free(&mut self)
+        ensures { held self.new ≡ None }
+    {
+        if self.state == STATE_INITIALIZED {
+            self.state = STATE_DESTROYED;
+        }
+    }
+
+    /// Takes an input, unless packets are queued.
+    pub fn take(&mut self, at: u64, input: Input) -> i32
+        ensures { Answers (held self.old) (held self.new) (record { at = at; input = input }) result }
+    {
+        if !self.is_initialized() {
+            return ERR_NOT_INITIALIZED;
+        }
+        self.memory.device().take(at, input)
+    }
+
+    /// Returns the error of an invalid argument.
+    pub fn refuse(&self) -> i32
+        ensures { result ≡ refusal_of (held self.now) }
+    {
+        if self.is_initialized() {
+            ERR_INVALID_ARGUMENT
+        } else {
+            ERR_NOT_INITIALIZED
+        }
+    }
+
+    /// Takes the next queued packet.
+    pub fn next(&mut self, packet: &mut [u8; 64]) -> i32
+        ensures { Sends (held self.old) (held self.new) (packet.old, packet.new) result }
+    {
+        if !self.is_initialized() {
+            return ERR_NOT_INITIALIZED;
+        }
+        self.memory.device().next(packet)
+    }
+
+    /// Plays lines of a log, unless packets are queued.
+    pub fn play(&mut self, log: &[u8], out: &mut [u8], outcome: &mut CResult) -> i32
+        ensures { TakesLines (held self.old) (held self.new) log.now (out.old, out.new) (outcome.old, outcome.new) result }
+    {
+        if !self.is_initialized() {
+            return ERR_NOT_INITIALIZED;
+        }
+        self.memory.device().play(log, out, outcome)
+    }
+
+    /// Writes why the last input was refused, or the cause of the timeout that was handled before it.
+    pub fn cause(&mut self, which: u32, report: &mut CauseReport, out: &mut [u8]) -> i32
+        ensures same { held self.new ≡ held self.old }
+        ensures cause { ReportsCause (held self.old) which (report.old, report.new) (out.old, out.new) result }
+    {
+        if !self.is_initialized() {
+            return ERR_NOT_INITIALIZED;
+        }
+        self.memory.device().cause(which, report, out)
+    }
+
+    /// Returns the number of queued packets.
+    pub fn waiting(&mut self) -> i32
+        ensures same { held self.new ≡ held self.old }
+        ensures count { result ≡ count_or waiting_packets (held self.old) }
+    {
+        if !self.is_initialized() {
+            return ERR_NOT_INITIALIZED;
+        }
+        self.memory.device().waiting() as i32
+    }
+
+    /// Writes what is needed, and returns its kind.
+    pub fn need(&mut self, need: &mut CNeed) -> i32
+        ensures same { held self.new ≡ held self.old }
+        ensures need { ReportsNeed (held self.old) (need.old, need.new) result }
+    {
+        if !self.is_initialized() {
+            return ERR_NOT_INITIALIZED;
+        }
+        *need = self.memory.device().need();
+        need.kind as i32
+    }
+
+    /// Returns the number of credentials.
+    pub fn credentials(&mut self) -> i32
+        ensures same { held self.new ≡ held self.old }
+        ensures count { result ≡ count_or credential_count (held self.old) }
+    {
+        if !self.is_initialized() {
+            return ERR_NOT_INITIALIZED;
+        }
+        self.memory.device().credentials() as i32
+    }
+
+    /// Returns the number of pending assertions.
+    pub fn pending(&mut self) -> i32
+        ensures same { held self.new ≡ held self.old }
+        ensures count { result ≡ count_or pending_assertions (held self.old) }
+    {
+        if !self.is_initialized() {
+            return ERR_NOT_INITIALIZED;
+        }
+        self.memory.device().pending() as i32
+    }
+
+    /// Writes the credential at an index, if there is one.
+    pub fn credential(&mut self, place: usize, credential: &mut Credential) -> i32
+        ensures same { held self.new ≡ held self.old }
+        ensures credential { ReportsCredential (held self.old) place (credential.old, credential.new) result }
+    {
+        if !self.is_initialized() {
+            return ERR_NOT_INITIALIZED;
+        }
+        self.memory.device().credential(place, credential)
+    }
+
+    /// Writes the session's meters.
+    pub fn meters(&mut self, meters: &mut CStats) -> i32
+        ensures same { held self.new ≡ held self.old }
+        ensures meters { ReportsMeters (held self.old) (meters.old, meters.new) result }
+    {
+        if !self.is_initialized() {
+            return ERR_NOT_INITIALIZED;
+        }
+        *meters = self.memory.device().meters();
+        0
+    }
+
+    /// Adds a credential, and begins a new session.
+    pub fn add(&mut self, at: u64, credential: &Credential) -> i32
+        ensures { Adds (held self.old) (held self.new) at credential.now result }
+    {
+        if !self.is_initialized() {
+            return ERR_NOT_INITIALIZED;
+        }
+        self.memory.device().add(at, credential)
+    }
+
+    /// Removes the credential with an ID, and begins a new session.
+    pub fn remove(&mut self, at: u64, id: &[u8; 32]) -> i32
+        ensures { Removes (held self.old) (held self.new) at id.now result }
+    {
+        if !self.is_initialized() {
+            return ERR_NOT_INITIALIZED;
+        }
+        self.memory.device().remove(at, id)
+    }
+
+    /// Removes all credentials, and begins a new session.
+    pub fn clear(&mut self, at: u64) -> i32
+        ensures { Clears (held self.old) (held self.new) at result }
+    {
+        if !self.is_initialized() {
+            return ERR_NOT_INITIALIZED;
+        }
+        self.memory.device().clear(at)
+    }
+
+    /// Writes a snapshot of the credentials, and returns its length.
+    pub fn save(&mut self, out: &mut [u8]) -> i32
+        ensures same { held self.new ≡ held self.old }
+        ensures saves { SavesKey (held self.old) (out.old, out.new) result }
+    {
+        if !self.is_initialized() {
+            return ERR_NOT_INITIALIZED;
+        }
+        self.memory.device().save(out)
+    }
+}

@@ -1,0 +1,51 @@
+use Rattle.std.proofs.Common.{◌≡◌, Ok, Err, ap, ◌∙◌, subst}
+use Rattle.std.proofs.lemmas.Result.{err_from_is_err_and}
+use Rattle.session_log.{specs.Sent.FitsMeters, proofs.Failures.on_err, proofs.Whole.logs_fault, proofs.Whole.logs_whole}
+use Rattle.session_log.specs.Session.{live_history, live_machine, session_needs, session_course}
+use Rattle.session_log.proofs.Histories.{live_follows, logs_history}
+use Rattle.session_log.proofs.Again.{live_again, live_logs, live_replayed, repeats_in, replay_logs}
+use Rattle.session_log.proofs.live_player.live.Goals as goal
+
+pub returns-in_err-play_log : goal.returns-in_err-play_log
+returns-in_err-play_log g c =
+    let r = c.from_residual.result in
+    let e = c.in_err-play_log.field-0.0 in
+    let from = err_from_is_err_and r c.from_residual.ensures.1 in
+    let is : r ≡ Err e = from.1 ∙ ap Err from.2 in
+    let s = c.args.session.now in
+    let new = c.play_log.new in
+    let through =
+    logs_fault live_machine s new.session g.S.Source.left g.S.Source.failed g.S.Source.ended g.T.Target.taken
+    g.T.Target.failed c.args.reader.now new.reader c.args.writer.now new.writer r e is c.in_err-play_log.ensures in
+    record {
+      lived = through;
+      again = on_err _ r e is;
+      replays = on_err _ r e is;
+      history = logs_history g.S.Source.left g.S.Source.failed g.S.Source.ended g.T.Target.taken g.T.Target.failed
+          (c.args.reader.now, new.reader) (c.args.writer.now, new.writer) live_machine live_history live_follows s
+          new.session r through;
+    }
+
+pub returns : goal.returns
+returns g c =
+    let s = c.args.session.now in
+    let new = c.play_log.new in
+    let h = c.in_ok-play_log.ensures in
+    let logs = live_logs session_course session_needs in
+    let copies = live_replayed session_course session_needs in
+    let again = live_again session_course session_needs in
+    let through =
+    logs_whole live_machine s new.session g.S.Source.left g.S.Source.failed g.S.Source.ended g.T.Target.taken
+    g.T.Target.failed c.args.reader.now new.reader c.args.writer.now new.writer _ c.meters_of.ensures.value h in
+    let held = subst FitsMeters c.meters_of.ensures.value c.meters_of.ensures.fits in
+    record {
+      lived = through;
+      again = repeats_in logs logs again _ _ s _ _ _ h.0.3 h.0.4.0 h.0.4.0.faultless h.0.4.1 held;
+      replays = repeats_in logs (replay_logs session_course) copies _ _ s _ _ _ h.0.3 h.0.4.0 h.0.4.0.faultless h.0.4.1 held;
+      history = logs_history g.S.Source.left g.S.Source.failed g.S.Source.ended g.T.Target.taken g.T.Target.failed
+          (c.args.reader.now, new.reader) (c.args.writer.now, new.writer) live_machine live_history live_follows s
+          new.session (Ok c.meters_of.result) through;
+    }
+
+pub meters_of-requires : goal.meters_of-requires
+meters_of-requires g c = assumption c.well_formed

@@ -1,6 +1,0 @@
-use Rattle.std.proofs.Common.{arith}
-use Rattle.session_log.proofs.{Histories.quiets_history, Whole.makes}
-use Rattle.session_log.proofs.quieting.quiet.Goals as goal
-
-pub returns : goal.returns
-returns g c = search (arith, makes, quiets_history)

@@ -1,6 +1,0 @@
-use Rattle.std.proofs.Common.{append_assoc, arith, length-drop, length-take}
-use Rattle.session_log.proofs.Tells.{pieces_more, one_less}
-use Rattle.session_log.proofs.text.push_signed.Goals as goal
-
-pub loop-rest-preserved : goal.loop-rest-preserved
-loop-rest-preserved c = search (arith, pieces_more, length-take, length-drop, one_less, append_assoc)

@@ -1,0 +1,64 @@
+//! Reading the lines of a log.
+ghost use Rattle.std.specs.Prelude.{◌≡◌, ◌<◌, ◌≤◌, ◌-◌, ◌^◌, ℕ, List, [], ◌++◌, length, IfOk, IfErr, MatchBool, MatchOption};
+ghost use Rattle.std.specs.Io.KnownBytes.{Consumes};
+ghost use Rattle.session_log.specs.Ending.{ending_of, read_fails};
+ghost use Rattle.session_log.specs.Streams.{Counts, IsAtEndOfInput};
+ghost use Rattle.session_log.specs.Window.{HasLine, IsUnfinished, Stops};
+
+use crate::fault::LogFault;
+use crate::source::Source;
+use crate::window::Window;
+
+/// Maximum number of lines of a log.
+const MOST_LINES: u64 = 0xFFFF_FFFF;
+
+/// Returns whether the window has the beginning of a line too many.
+fn is_too_many(window: &Window, number: u64) -> bool
+    ensures value { MatchBool result
+        ((2 ^ 32 ≤ number) × (0 < length window.now))
+        (2 ^ 32 ≤ number → window.now ≡ []) }
+    ensures fits { length window.now ≤ 256 }
+{
+    let held = window.len();
+    number > MOST_LINES && held > 0
+}
+
+/// Reads until the window begins with a complete line, which is line `number`, and returns its length without the line
+/// feed, or `None` at the reader's end, where the window has the last line without a line feed, or nothing. Reads only
+/// as much as the window has capacity for, and nothing if it has a complete line. Allocates nothing.
+///
+/// Fails with [`LogFault::TooManyLines`] where line 2^32 begins, with [`LogFault::TooLong`] at the 256th byte of a
+/// line, and with [`LogFault::Read`] if the reader failed; that isn't retried. What was read is in the window.
+// Inlined, since most lines are in the window already, and then this costs less than its call.
+#[inline(always)]
+pub fn next_line<S: Source>(
+    window: &mut Window,
+    reader: &mut S,
+    number: u64,
+) -> Result<Option<usize>, LogFault>
+    requires { S.failed reader.old < 2 ^ 64 - 1 }
+    ensures bytes { (more : List ℕ) × (window.new ≡ window.old ++ more)
+        × Consumes (S.left reader.old) (S.left reader.new) more }
+    ensures found { IfOk result (λ found. MatchOption found
+        (IsUnfinished number window.new × IsAtEndOfInput S.left S.ended reader.new)
+        (λ end. HasLine number window.new end)) }
+    ensures stopped { IfErr result (Stops number window.new) }
+    ensures reads { Counts S.failed (reader.old, reader.new) (read_fails (ending_of result)) }
+{
+    'reading: loop {
+        if is_too_many(window, number) {
+            return Err(LogFault::TooManyLines);
+        }
+        if let Some(end) = window.find_newline() {
+            return Ok(Some(end));
+        }
+        if window.is_full() {
+            return Err(LogFault::TooLong(number));
+        }
+        match window.fill(reader) {
+            Ok(true) => {}
+            Ok(false) => return Ok(None),
+            Err(_) => return Err(LogFault::Read(number)),
+        }
+    }
+}

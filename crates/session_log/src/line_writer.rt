@@ -1,0 +1,262 @@
+//! Writing lines: the text of a line is assembled, and written to the target at once.
+ghost use Rattle.std.specs.Prelude.{◌≡◌, ◌<◌, ◌≤◌, ◌+◌, ◌*◌, ◌-◌, ◌^◌, [], ◌∷◌, ◌++◌, length, flat_map, map, decimal, ◌/◌, OnOk, OnErr, IfErr};
+ghost use Rattle.std.specs.Io.KnownBytes.{Appends};
+ghost use Rattle.hex.specs.Hex.{encode_lower};
+ghost use Rattle.authn_core.specs.Needs.{IsNeed};
+ghost use Rattle.authn_core.specs.Views.{needed_reply};
+ghost use Rattle.session_log.specs.declared.line_writer.TheConstants.{LONGEST, PIECE, SENT_LINE};
+ghost use Rattle.session_log.specs.Needs.{need_lines, pieces_of, signature_line, signed_line};
+ghost use Rattle.session_log.specs.Sent.{FitsMeters};
+ghost use Rattle.session_log.specs.Text.{ArePackets, IsPacket, ended, sent_text, tick_text, meters_line, same_line};
+ghost use Rattle.session_log.specs.Streams.{PutsLine};
+
+use crate::fault::LogFault;
+use crate::hex_digits::write_digits;
+use crate::target::{Target, put_all};
+use arrayvec::ArrayVec;
+use authn_core::Need;
+use hid_packet::{Outbox, Packet};
+use itoa::Buffer;
+use token_session::Meters;
+
+/// Length of a packet's line in bytes.
+const SENT_LINE: usize = 131;
+
+/// Maximum number of bytes that are written for one line: the line with its line feed, the lines of 130 packets, and
+/// those of a need, which are longest for 196 bytes to sign: three lines, and that of the credential.
+const LONGEST: usize = 255 + 1 + 130 * SENT_LINE + 504;
+
+/// Maximum number of bytes to sign on one line.
+const PIECE: usize = 96;
+
+/// The text for a line.
+pub type Text = ArrayVec<u8, LONGEST>;
+
+/// Appends a line and its line feed.
+fn push_line(text: &mut Text, line: &[u8])
+    requires { length text.old.items + length line.now < LONGEST }
+    ensures { text.new.items ≡ text.old.items ++ ended line.now }
+{
+    let _ = text.try_extend_from_slice(line);
+    text.push(b'\n');
+}
+
+/// Appends the line of a packet that was sent.
+fn push_packet(text: &mut Text, packet: Packet)
+    requires { length text.old.items + SENT_LINE ≤ LONGEST }
+    ensures text { text.new.items ≡ text.old.items ++ sent_text packet.0 }
+    ensures short { length text.new.items ≤ length text.old.items + SENT_LINE }
+    ensures packet { IsPacket packet.0 }
+{
+    let mut digits = [b'0'; 128];
+    write_digits(packet.0.as_slice(), &mut digits);
+    let _ = text.try_extend_from_slice(b"< ");
+    let _ = text.try_extend_from_slice(&digits);
+    text.push(b'\n');
+}
+
+/// Appends the lines of the packets in the outbox, and empties it.
+fn push_packets(text: &mut Text, outbox: &mut Outbox)
+    requires { length text.old.items + SENT_LINE * length outbox.old ≤ LONGEST }
+    ensures text { text.new.items ≡ text.old.items ++ flat_map sent_text outbox.old }
+    ensures short { length text.new.items ≤ length text.old.items + SENT_LINE * length outbox.old }
+    ensures empty { outbox.new ≡ [] }
+    ensures packets { ArePackets outbox.old }
+{
+    while let Some(packet) = outbox.pop() {
+        push_packet(text, packet);
+    }
+}
+
+/// Appends bytes as hexadecimal digits.
+fn push_digits(text: &mut Text, bytes: &[u8])
+    requires few { length bytes.now ≤ PIECE }
+    requires space { length text.old.items + 2 * length bytes.now ≤ LONGEST }
+    ensures text { text.new.items ≡ text.old.items ++ encode_lower bytes.now }
+    ensures short { length text.new.items ≤ length text.old.items + 2 * length bytes.now }
+{
+    let mut digits = [0; 2 * PIECE];
+    let used = digits.split_at_mut(2 * bytes.len()).0;
+    let _ = hex::encode_to_slice(bytes, used);
+    let _ = text.try_extend_from_slice(used);
+}
+
+/// Appends a line with a piece of the bytes to sign.
+fn push_piece(text: &mut Text, piece: &[u8])
+    requires few { length piece.now ≤ PIECE }
+    requires space { length text.old.items + 10 + 2 * length piece.now ≤ LONGEST }
+    ensures text { text.new.items ≡ text.old.items ++ ended (signed_line piece.now) }
+    ensures short { length text.new.items ≤ length text.old.items + 10 + 2 * length piece.now }
+{
+    let _ = text.try_extend_from_slice(b"# signed ");
+    push_digits(text, piece);
+    text.push(b'\n');
+}
+
+/// Appends the lines of the bytes to sign.
+fn push_signed(text: &mut Text, signed: &[u8])
+    requires few { length signed.now ≤ 196 }
+    requires space { length text.old.items + 422 ≤ LONGEST }
+    ensures text { text.new.items ≡ text.old.items ++ flat_map ended (map signed_line (pieces_of signed.now)) }
+    ensures short { length text.new.items ≤ length text.old.items + 422 }
+{
+    let mut rest = signed;
+    while !rest.is_empty() {
+        let len = PIECE.min(rest.len());
+        push_piece(text, rest.split_at(len).0);
+        rest = rest.split_at(len).1;
+    }
+}
+
+/// Appends the line of the signing credential.
+fn push_signature(text: &mut Text, id: &[u8; 32])
+    requires { length text.old.items + 82 ≤ LONGEST }
+    ensures { text.new.items ≡ text.old.items ++ ended (signature_line id.now) }
+{
+    let _ = text.try_extend_from_slice(b"# need signature ");
+    push_digits(text, id);
+    text.push(b'\n');
+}
+
+/// Appends the lines of a need.
+fn push_need(text: &mut Text, need: Need<'_>)
+    requires sized { IsNeed (needed_reply need) }
+    requires space { length text.old.items + 504 ≤ LONGEST }
+    ensures { text.new.items ≡ text.old.items ++ flat_map ended (need_lines (needed_reply need.entry)) }
+{
+    match need {
+        Need::None => push_line(text, b"# need nothing"),
+        Need::Presence => push_line(text, b"# need presence"),
+        Need::Key => push_line(text, b"# need key"),
+        Need::Sign { id, signed } => {
+            push_signed(text, signed);
+            push_signature(text, id);
+        }
+    }
+}
+
+/// Appends a word and a number.
+fn push_count(text: &mut Text, word: &[u8], count: u64)
+    requires { length text.old.items + length word.now + 20 ≤ LONGEST }
+    ensures text { text.new.items ≡ text.old.items ++ word.now ++ decimal count }
+    ensures short { length text.new.items ≤ length text.old.items + length word.now + 20 }
+{
+    let _ = text.try_extend_from_slice(word);
+    let mut buffer = Buffer::new();
+    let digits = buffer.format(count).as_bytes();
+    let _ = text.try_extend_from_slice(digits);
+}
+
+/// Assembles the last line of a log.
+fn gather_meters(text: &mut Text, meters: Meters)
+    ensures text { text.new.items ≡ meters_line meters }
+    ensures fits { FitsMeters meters }
+{
+    text.clear();
+    push_count(text, b"= held ", meters.held as u64);
+    push_count(text, b" rows ", meters.rows as u64);
+    push_count(text, b" pending ", meters.pending as u64);
+    push_count(text, b" requests ", meters.requests);
+    push_count(text, b" bytes ", meters.bytes);
+    push_count(text, b" steps ", meters.steps);
+    text.push(b'\n');
+}
+
+/// Writes a text.
+pub fn put_text<T: Target>(writer: &mut T, text: &[u8]) -> Result<(), LogFault>
+    requires { T.failed writer.old < 2 ^ 64 - 1 }
+    ensures { PutsLine T.taken T.failed (writer.old, writer.new) text.now result }
+{
+    put_all(writer, text).map_err(|_| LogFault::Write)
+}
+
+/// Writes the line of a tick.
+pub fn put_tick<T: Target>(writer: &mut T, text: &mut Text, at: u64) -> Result<(), LogFault>
+    requires { T.failed writer.old < 2 ^ 64 - 1 }
+    ensures { PutsLine T.taken T.failed (writer.old, writer.new) (ended (tick_text at)) result }
+{
+    text.clear();
+    push_count(text, b"t ", at);
+    text.push(b'\n');
+    put_text(writer, text.as_slice())
+}
+
+/// Writes an input line, with its line feed, and the packets in the outbox, and empties it.
+pub fn put_input<T: Target>(
+    writer: &mut T,
+    text: &mut Text,
+    line: &[u8],
+    outbox: &mut Outbox,
+) -> Result<(), LogFault>
+    requires write { T.failed writer.old < 2 ^ 64 - 1 }
+    requires short { length line.now ≤ 256 }
+    requires few { length outbox.old ≤ 130 }
+    ensures puts { PutsLine T.taken T.failed (writer.old, writer.new)
+        (line.now ++ flat_map sent_text outbox.old) result }
+    ensures empty { outbox.new ≡ [] }
+    ensures packets { ArePackets outbox.old }
+{
+    // Most lines send nothing, and need no assembly.
+    if outbox.is_empty() {
+        return put_text(writer, line);
+    }
+    text.clear();
+    let _ = text.try_extend_from_slice(line);
+    push_packets(text, outbox);
+    put_text(writer, text.as_slice())
+}
+
+/// Writes an input line, with its line feed, the packets in the outbox, which it empties, and what is needed then.
+pub fn put_response<T: Target>(
+    writer: &mut T,
+    text: &mut Text,
+    line: &[u8],
+    sent: &mut Outbox,
+    need: Need<'_>,
+) -> Result<(), LogFault>
+    requires write { T.failed writer.old < 2 ^ 64 - 1 }
+    requires short { length line.now ≤ 256 }
+    requires few { length sent.old ≤ 130 }
+    requires sized { IsNeed (needed_reply need) }
+    ensures puts { PutsLine T.taken T.failed (writer.old, writer.new)
+        (line.now ++ flat_map sent_text sent.old ++ flat_map ended (need_lines (needed_reply need.entry))) result }
+    ensures empty { sent.new ≡ [] }
+    ensures packets { ArePackets sent.old }
+{
+    text.clear();
+    let _ = text.try_extend_from_slice(line);
+    push_packets(text, sent);
+    push_need(text, need);
+    put_text(writer, text.as_slice())
+}
+
+/// Writes the last line of a log.
+pub fn put_meters<T: Target>(
+    writer: &mut T,
+    text: &mut Text,
+    meters: Meters,
+) -> Result<(), LogFault>
+    requires { T.failed writer.old < 2 ^ 64 - 1 }
+    ensures puts { PutsLine T.taken T.failed (writer.old, writer.new) (meters_line meters) result }
+    ensures fits { FitsMeters meters }
+{
+    gather_meters(text, meters);
+    put_text(writer, text.as_slice())
+}
+
+/// Writes the number of equal inputs and packets.
+pub fn put_check_result<T: Target>(
+    writer: &mut T,
+    text: &mut Text,
+    inputs: u64,
+    packets: u64,
+) -> Result<(), LogFault>
+    requires { T.failed writer.old < 2 ^ 64 - 1 }
+    ensures { PutsLine T.taken T.failed (writer.old, writer.new) (same_line inputs packets) result }
+{
+    text.clear();
+    push_count(text, b"same ", inputs);
+    push_count(text, b" inputs ", packets);
+    let _ = text.try_extend_from_slice(b" packets\n");
+    put_text(writer, text.as_slice())
+}

@@ -1,0 +1,155 @@
+//! Replays a log, and writes the replies that the session needs.
+ghost use Rattle.std.specs.Prelude.{◌≡◌, ◌<◌, ◌-◌, ◌^◌, List, [], OnOk};
+ghost use Rattle.session_log.specs.Command.{PlaysThrough};
+ghost use Rattle.session_log.specs.Ending.{ending_of, read_fails, write_fails};
+ghost use Rattle.session_log.specs.Needs.{is_need_line as is_one};
+ghost use Rattle.session_log.specs.Replay.{Logs, Plays, ReadsTo, Writes};
+ghost use Rattle.session_log.specs.Session.{live_history, live_machine, Repeats, RepeatsIn};
+ghost use Rattle.token_session.specs.declared.input.Timed.{Timed as OneInput};
+ghost use Rattle.authn_core.specs.Turn.{Start};
+ghost use Rattle.token_session.specs.Meters.{SessionState, StandsAfter};
+ghost use Rattle.session_log.specs.Streams.{Counts, IsAtEndOfInput, Moves};
+
+use crate::fault::LogFault;
+use crate::line::Line;
+use crate::line_writer::{Text, put_meters, put_response, put_text};
+use crate::player::{Player, play_lines, play_log};
+use crate::replay_player::meters_of;
+use crate::source::Source;
+use crate::target::Target;
+use hid_packet::Outbox;
+use token_session::{Meters, Session};
+
+/// Copies each input line and comment, and writes after an input line the packets that are sent and the reply that is
+/// needed. Drops comments about needs from an earlier run.
+#[derive(Drop)]
+struct LivePlayer {
+    outbox: Outbox,
+    text: Text,
+}
+
+impl LivePlayer {
+    fn new() -> Self
+        ensures { result.outbox ≡ [] }
+    {
+        LivePlayer {
+            outbox: Outbox::new(),
+            text: Text::new(),
+        }
+    }
+}
+
+/// Returns whether a comment is about a need from an earlier run.
+fn is_need_line(comment: &[u8]) -> bool
+    ensures { result ≡ is_one comment.now }
+{
+    comment.starts_with(b"# need ") || comment.starts_with(b"# signed ")
+}
+
+impl<const C: usize> Player<C> for LivePlayer {
+    ghost State = { SessionState };
+
+    ghost world = { live_machine };
+
+    ghost state = { λ _ s. s };
+
+    ghost IsReady = { λ player n. player.outbox ≡ [] };
+
+    fn play<T: Target>(
+        &mut self,
+        meaning: Line,
+        line: &[u8],
+        text: &[u8],
+        _number: u64,
+        writer: &mut T,
+        session: &mut Session<C>,
+    ) -> Result<(), LogFault> {
+        match meaning {
+            Line::Sent(_) | Line::Count => Ok(()),
+            Line::Comment => {
+                if is_need_line(line) {
+                    Ok(())
+                } else {
+                    put_text(writer, text)
+                }
+            }
+            Line::Input(timed) => {
+                session.step(timed.at, timed.input, &mut self.outbox);
+                // The need is read after the input.
+                put_response(
+                    writer,
+                    &mut self.text,
+                    text,
+                    &mut self.outbox,
+                    session.need(),
+                )
+            }
+        }
+    }
+
+    fn finish<T: Target>(&mut self, writer: &mut T, session: &Session<C>) -> Result<(), LogFault> {
+        put_meters(writer, &mut self.text, session.meters())
+    }
+}
+
+/// Plays lines of a log on a session and writes what [`live`] writes for each, without the line of the meters: so a log
+/// can be played in parts, as it is recorded. The text for a line is written to the target at once. Allocates nothing.
+///
+/// Fails like [`live`], with line numbers from 1 in these lines.
+pub fn play_live_lines<S: Source, T: Target, const C: usize>(
+    reader: &mut S,
+    writer: &mut T,
+    session: &mut Session<C>,
+) -> Result<(), LogFault>
+    requires read { S.failed reader.old < 2 ^ 64 - 1 }
+    requires write { T.failed writer.old < 2 ^ 64 - 1 }
+    ensures played { Moves (S.left reader.old) (S.left reader.new) (T.taken writer.old) (T.taken writer.new)
+        (λ bytes text. Plays live_machine session.old session.new bytes text (ending_of result)) }
+    ensures end { OnOk result (IsAtEndOfInput S.left S.ended reader.new) }
+    ensures reach { ReadsTo live_machine session.old (S.left reader.old) (S.left reader.new)
+        (IsAtEndOfInput S.left S.ended reader.new) (ending_of result) }
+    // The same after any history, in terms of the history instead of the session's state.
+    ensures history { (start : Start) (h : List OneInput) → StandsAfter session.old start h
+        → (later : List OneInput) × StandsAfter session.new start later
+        × Moves (S.left reader.old) (S.left reader.new) (T.taken writer.old) (T.taken writer.new)
+        (λ bytes text. Writes (live_history start) h later bytes text (ending_of result))
+        × ReadsTo (live_history start) h (S.left reader.old) (S.left reader.new)
+        (IsAtEndOfInput S.left S.ended reader.new) (ending_of result) }
+    ensures reads { Counts S.failed (reader.old, reader.new) (read_fails (ending_of result)) }
+    ensures writes { Counts T.failed (writer.old, writer.new) (write_fails (ending_of result)) }
+{
+    let mut player = LivePlayer::new();
+    play_lines(&mut player, reader, writer, session)
+}
+
+/// Replays a log on a session like [`crate::replay`], and writes after the packets of each input line what the session
+/// needs ([`Session::need`]; docs/use/LOG_FORMAT.md): comments of which exactly the last begins with `# need `.
+/// Comments that begin with `# need ` or `# signed ` are dropped, so the output is its own log, for this and for
+/// replay. The text for a line is written at once, before more is read. Allocates nothing.
+///
+/// Fails like [`crate::replay`].
+pub fn live<S: Source, T: Target, const C: usize>(
+    reader: &mut S,
+    writer: &mut T,
+    session: &mut Session<C>,
+) -> Result<Meters, LogFault>
+    requires read { S.failed reader.old < 2 ^ 64 - 1 }
+    requires write { T.failed writer.old < 2 ^ 64 - 1 }
+    // At Ok no line is faulty, and the whole log was written with the needs. Faults are those of a replay.
+    ensures lived { PlaysThrough live_machine session.old
+        (λ bytes text. Logs live_machine session.old session.new bytes text result) S.left S.failed S.ended T.taken
+        T.failed result (reader.old, reader.new) (writer.old, writer.new) }
+    // Played again on an equal session, the output gives the same bytes.
+    ensures again { OnOk result (RepeatsIn live_machine (T.taken writer.old) (T.taken writer.new) session.old) }
+    // Replayed on an equal session, it gives the same bytes, too.
+    ensures replays { OnOk result (Repeats (T.taken writer.old) (T.taken writer.new) session.old) }
+    // The same after any history, in terms of the history instead of the session's state.
+    ensures history { (start : Start) (h : List OneInput) → StandsAfter session.old start h
+        → (later : List OneInput) × StandsAfter session.new start later
+        × PlaysThrough (live_history start) h (λ bytes text. Logs (live_history start) h later bytes text result)
+        S.left S.failed S.ended T.taken T.failed result (reader.old, reader.new) (writer.old, writer.new) }
+{
+    let mut player = LivePlayer::new();
+    play_log(&mut player, reader, writer, session)?;
+    Ok(meters_of(session))
+}

@@ -1,0 +1,114 @@
+//! Replaces the inputs of a log that the session ignores by ticks.
+ghost use Rattle.std.specs.Prelude.{◌≡◌, ◌<◌, ◌-◌, ◌^◌, List, []};
+ghost use Rattle.session_log.specs.Command.{PlaysLog, PlaysThrough};
+ghost use Rattle.session_log.specs.declared.command.ReplayMode.TheVariants as commands;
+ghost use Rattle.session_log.specs.Ending.{ending_of};
+ghost use Rattle.session_log.specs.Replay.{PlaysWholeLog};
+ghost use Rattle.session_log.specs.Session.{quiet_history, quiet_machine};
+ghost use Rattle.token_session.specs.declared.input.Timed.{Timed as OneInput};
+ghost use Rattle.authn_core.specs.Turn.{Start};
+ghost use Rattle.token_session.specs.Meters.{SessionState, StandsAfter};
+
+use crate::fault::LogFault;
+use crate::line::Line;
+use crate::line_writer::{Text, put_text, put_tick};
+use crate::player::{Player, play_log};
+use crate::source::Source;
+use crate::target::Target;
+use hid_packet::Outbox;
+use token_session::Session;
+
+/// Copies each input line and comment, with ticks in place of ignored inputs.
+#[derive(Drop)]
+struct QuietPlayer {
+    outbox: Outbox,
+    text: Text,
+}
+
+impl QuietPlayer {
+    fn new() -> Self
+        ensures { result.outbox ≡ [] }
+    {
+        QuietPlayer {
+            outbox: Outbox::new(),
+            text: Text::new(),
+        }
+    }
+}
+
+/// Drops the packets that were sent.
+fn drop_packets(outbox: &mut Outbox)
+    ensures { outbox.new ≡ [] }
+{
+    while outbox.pop().is_some() {}
+}
+
+impl<const C: usize> Player<C> for QuietPlayer {
+    ghost State = { SessionState };
+
+    ghost world = { quiet_machine };
+
+    ghost state = { λ _ s. s };
+
+    ghost IsReady = { λ player n. player.outbox ≡ [] };
+
+    fn play<T: Target>(
+        &mut self,
+        meaning: Line,
+        _line: &[u8],
+        text: &[u8],
+        _number: u64,
+        writer: &mut T,
+        session: &mut Session<C>,
+    ) -> Result<(), LogFault> {
+        match meaning {
+            Line::Sent(_) | Line::Count => Ok(()),
+            Line::Comment => put_text(writer, text),
+            Line::Input(timed) => {
+                // Whether the input is ignored depends on the state before it.
+                let noise = session.noise(timed.at, &timed.input);
+                session.step(timed.at, timed.input, &mut self.outbox);
+                drop_packets(&mut self.outbox);
+                if noise {
+                    put_tick(writer, &mut self.text, timed.at)
+                } else {
+                    put_text(writer, text)
+                }
+            }
+        }
+    }
+
+    fn finish<T: Target>(
+        &mut self,
+        _writer: &mut T,
+        _session: &Session<C>,
+    ) -> Result<(), LogFault> {
+        Ok(())
+    }
+}
+
+/// Makes a log quiet (docs/use/LOG_FORMAT.md): copies each input line and comment, with a tick at the same time in
+/// place of an input that is ignored ([`Session::noise`]). The session steps the inputs as they are read; its packets
+/// and meters aren't written. Replayed on an equal session, the output sends what the log sends, without the responses
+/// to ignored inputs, and ends with equal meters. Allocates nothing.
+///
+/// Fails like [`crate::replay`].
+pub fn quiet<S: Source, T: Target, const C: usize>(
+    reader: &mut S,
+    writer: &mut T,
+    session: &mut Session<C>,
+) -> Result<(), LogFault>
+    requires read { S.failed reader.old < 2 ^ 64 - 1 }
+    requires write { T.failed writer.old < 2 ^ 64 - 1 }
+    // At Ok all lines are valid, and the whole quiet log was written. Errors are those of a replay.
+    ensures made { PlaysThrough quiet_machine session.old
+        (λ bytes text. PlaysWholeLog quiet_machine session.old session.new bytes text (ending_of result)) S.left S.failed S.ended
+        T.taken T.failed result (reader.old, reader.new) (writer.old, writer.new) }
+    // The same after any history, with the inputs that are ignored after it.
+    ensures history { (start : Start) (h : List OneInput) → StandsAfter session.old start h
+        → PlaysLog commands.Quiet start h S.left S.failed S.ended T.taken T.failed result session.new (reader.old, reader.new)
+        (writer.old, writer.new) }
+{
+    let mut player = QuietPlayer::new();
+    play_log(&mut player, reader, writer, session)
+}

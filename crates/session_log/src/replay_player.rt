@@ -1,0 +1,120 @@
+//! Replays a log on a session.
+ghost use Rattle.std.specs.Prelude.{◌≡◌, ◌<◌, ◌-◌, ◌^◌, List, [], OnOk};
+ghost use Rattle.session_log.specs.Command.{PlaysThrough};
+ghost use Rattle.session_log.specs.Replay.{Logs};
+ghost use Rattle.session_log.specs.Sent.{FitsMeters};
+ghost use Rattle.session_log.specs.Session.{history, machine, exchange_history, Repeats};
+ghost use Rattle.token_session.specs.declared.input.Timed.{Timed as OneInput};
+ghost use Rattle.authn_core.specs.Turn.{Start};
+ghost use Rattle.token_session.specs.Meters.{FollowsFrom, SessionState, StandsAfter};
+
+use crate::fault::LogFault;
+use crate::line::Line;
+use crate::line_writer::{Text, put_input, put_meters, put_text};
+use crate::player::{Player, play_log};
+use crate::source::Source;
+use crate::target::Target;
+use hid_packet::Outbox;
+use token_session::laws::answers_follow_history;
+use token_session::{Meters, Session};
+
+/// Returns a session's meters, in numbers of at most 64 bits.
+pub fn meters_of<const C: usize>(session: &Session<C>) -> Meters
+    ensures value { result ≡ session.now.meters }
+    ensures fits { FitsMeters result }
+{
+    session.meters()
+}
+
+/// Copies each input line and comment, and writes after an input line the packets that are sent for it.
+#[derive(Drop)]
+struct ReplayPlayer {
+    outbox: Outbox,
+    text: Text,
+}
+
+impl ReplayPlayer {
+    fn new() -> Self
+        ensures { result.outbox ≡ [] }
+    {
+        ReplayPlayer {
+            outbox: Outbox::new(),
+            text: Text::new(),
+        }
+    }
+}
+
+impl<const C: usize> Player<C> for ReplayPlayer {
+    ghost State = { SessionState };
+
+    ghost world = { machine };
+
+    ghost state = { λ _ s. s };
+
+    ghost IsReady = { λ player n. player.outbox ≡ [] };
+
+    fn play<T: Target>(
+        &mut self,
+        meaning: Line,
+        _line: &[u8],
+        text: &[u8],
+        _number: u64,
+        writer: &mut T,
+        session: &mut Session<C>,
+    ) -> Result<(), LogFault> {
+        match meaning {
+            Line::Sent(_) | Line::Count => Ok(()),
+            Line::Comment => put_text(writer, text),
+            Line::Input(timed) => {
+                session.step(timed.at, timed.input, &mut self.outbox);
+                put_input(writer, &mut self.text, text, &mut self.outbox)
+            }
+        }
+    }
+
+    fn finish<T: Target>(&mut self, writer: &mut T, session: &Session<C>) -> Result<(), LogFault> {
+        put_meters(writer, &mut self.text, session.meters())
+    }
+}
+
+/// Replays a log on a session (docs/use/LOG_FORMAT.md): writes each input line and comment again, after an input line
+/// the packets that the session sends for it, and at the end the session's meters, which it also returns. The text for
+/// a line is written at once, before more is read. Allocates nothing.
+///
+/// After [`LogFault::BadLine`], [`LogFault::TooLong`] and [`LogFault::TooManyLines`] the texts of the lines before the
+/// faulty one were written; after [`LogFault::Read`] those of the complete lines that were read; after
+/// [`LogFault::Write`] a beginning of the text. The session is after the last input line that was stepped. A failed
+/// read or write is not retried. There are no other failures.
+pub fn replay<S: Source, T: Target, const C: usize>(
+    reader: &mut S,
+    writer: &mut T,
+    session: &mut Session<C>,
+) -> Result<Meters, LogFault>
+    requires read { S.failed reader.old < 2 ^ 64 - 1 }
+    requires write { T.failed writer.old < 2 ^ 64 - 1 }
+    // At Ok no line is faulty, and the whole log was written. A line fault is that of the first faulty line, and
+    // the lines before it were written. A read that failed names its line, and the lines before it were written.
+    // After a write that failed a beginning of the log was written. At a line fault at most 256 bytes were read after
+    // the lines before the faulty one; at Ok all that the reader held. A failure was counted exactly at Read, and
+    // exactly at Write.
+    ensures replayed { PlaysThrough machine session.old
+        (λ bytes text. Logs machine session.old session.new bytes text result) S.left S.failed S.ended T.taken T.failed
+        result (reader.old, reader.new) (writer.old, writer.new) }
+    // Replaying the output on an equal session gives the same output.
+    ensures again { OnOk result (Repeats (T.taken writer.old) (T.taken writer.new) session.old) }
+    // The same after any history, in terms of the history instead of the session's state.
+    ensures history { (start : Start) (h : List OneInput) → StandsAfter session.old start h
+        → (later : List OneInput) × StandsAfter session.new start later
+        × PlaysThrough (history start) h (λ bytes text. Logs (history start) h later bytes text result)
+        S.left S.failed S.ended T.taken T.failed result (reader.old, reader.new) (writer.old, writer.new) }
+    // The same in terms of the history's events and responses, without the authenticator's state.
+    ensures told { (start : Start) (h : List OneInput) → FollowsFrom session.old start h
+        → (later : List OneInput) × FollowsFrom session.new start later
+        × PlaysThrough (exchange_history start) h (λ bytes text. Logs (exchange_history start) h later bytes text result)
+        S.left S.failed S.ended T.taken T.failed result (reader.old, reader.new) (writer.old, writer.new) }
+{
+    answers_follow_history();
+    let mut player = ReplayPlayer::new();
+    play_log(&mut player, reader, writer, session)?;
+    Ok(meters_of(session))
+}

@@ -1,0 +1,86 @@
+//! A log as text, line by line.
+ghost use Rattle.std.specs.Prelude.{◌<◌, ◌-◌, ◌^◌, OnOk};
+ghost use Rattle.session_log.specs.Ending.{ending_of, read_fails, write_fails};
+ghost use Rattle.session_log.specs.Replay.{ReadsTo};
+ghost use Rattle.session_log.specs.Streams.{Counts, IsAtEndOfInput};
+ghost use Rattle.session_show.specs.Shown.{IsLineText, Shows, read_only_world};
+ghost use Rattle.session_show.specs.declared.detail.Detail.TheVariants.{Explained as explained, Fixed as fixed};
+
+use crate::detail::Detail;
+use crate::log_writer::{LogWriter, OutputFormat, write_log};
+use session_log::{LogFault, Source, Target};
+
+/// Shows a log in its fixed text (docs/use/LOG_FORMAT.md): a line for each packet, tick and reply, and after the last
+/// packet of a CBOR message a line with its item in diagnostic notation. Comments and counts are omitted. The text for
+/// a line is written before more is read.
+///
+/// Allocates nothing; its memory doesn't grow with the log.
+///
+/// After [`LogFault::BadLine`], [`LogFault::TooLong`] and [`LogFault::TooManyLines`] the texts of the lines before the
+/// faulty one were written; after [`LogFault::Read`] those of the complete lines that were read; after
+/// [`LogFault::Write`] a beginning of the text. A failed read or write is not retried.
+pub fn show<S: Source, T: Target>(reader: &mut S, writer: &mut T) -> Result<(), LogFault>
+    requires read { S.failed reader.old < 2 ^ 64 - 1 }
+    requires write { T.failed writer.old < 2 ^ 64 - 1 }
+    // At Ok every line is a log line and was shown: each packet, tick and reply by its number, a space and more, and
+    // nothing else. A line fault names the first faulty line, and the lines before it were shown. A failed read names
+    // its line, and the lines before it were shown. After a failed write the text is a beginning.
+    ensures shown { Shows (IsLineText fixed) (S.left reader.old, S.left reader.new) (T.taken writer.old, T.taken writer.new)
+        (ending_of result) }
+    // At a line fault at most 256 bytes after the lines before the faulty one were read.
+    ensures reach { ReadsTo read_only_world tt (S.left reader.old) (S.left reader.new)
+        (IsAtEndOfInput S.left S.ended reader.new) (ending_of result) }
+    // At Ok the reader was read to its end.
+    ensures end { OnOk result (IsAtEndOfInput S.left S.ended reader.new) }
+    // A failure was counted exactly at Read, and exactly at Write.
+    ensures reads { Counts S.failed (reader.old, reader.new) (read_fails (ending_of result)) }
+    ensures writes { Counts T.failed (writer.old, writer.new) (write_fails (ending_of result)) }
+{
+    write_log(
+        reader,
+        writer,
+        &mut LogWriter::new(OutputFormat::Text(Detail::Fixed)),
+    )
+}
+
+/// Explains a log (docs/use/EXPLAINED.md): the text of [`show`] with the standard's names for its numbers, comments,
+/// and after a message a line for each of its members. Otherwise like [`show`].
+pub fn explain<S: Source, T: Target>(reader: &mut S, writer: &mut T) -> Result<(), LogFault>
+    requires read { S.failed reader.old < 2 ^ 64 - 1 }
+    requires write { T.failed writer.old < 2 ^ 64 - 1 }
+    ensures shown { Shows (IsLineText explained) (S.left reader.old, S.left reader.new) (T.taken writer.old, T.taken writer.new)
+        (ending_of result) }
+    ensures reach { ReadsTo read_only_world tt (S.left reader.old) (S.left reader.new)
+        (IsAtEndOfInput S.left S.ended reader.new) (ending_of result) }
+    ensures end { OnOk result (IsAtEndOfInput S.left S.ended reader.new) }
+    ensures reads { Counts S.failed (reader.old, reader.new) (read_fails (ending_of result)) }
+    ensures writes { Counts T.failed (writer.old, writer.new) (write_fails (ending_of result)) }
+{
+    write_log(
+        reader,
+        writer,
+        &mut LogWriter::new(OutputFormat::Text(Detail::Explained)),
+    )
+}
+
+/// Writes the transaction of each line of a log (hidlog.h, `hidlog_transactions`): a line of numbers for each packet,
+/// tick and reply. Otherwise like [`crate::show`].
+///
+/// A continuation packet that may have arrived too late counts to its message. If it was too late, the next line says
+/// so.
+pub fn write_transactions<S: Source, T: Target>(
+    reader: &mut S,
+    writer: &mut T,
+) -> Result<(), LogFault>
+    requires read { S.failed reader.old < 2 ^ 64 - 1 }
+    requires write { T.failed writer.old < 2 ^ 64 - 1 }
+    ensures shown { Shows (IsLineText fixed) (S.left reader.old, S.left reader.new) (T.taken writer.old, T.taken writer.new)
+        (ending_of result) }
+    ensures reach { ReadsTo read_only_world tt (S.left reader.old) (S.left reader.new)
+        (IsAtEndOfInput S.left S.ended reader.new) (ending_of result) }
+    ensures end { OnOk result (IsAtEndOfInput S.left S.ended reader.new) }
+    ensures reads { Counts S.failed (reader.old, reader.new) (read_fails (ending_of result)) }
+    ensures writes { Counts T.failed (writer.old, writer.new) (write_fails (ending_of result)) }
+{
+    write_log(reader, writer, &mut LogWriter::new(OutputFormat::Page))
+}

@@ -1,0 +1,254 @@
+//! A chunk of a text.
+ghost use Rattle.std.specs.Prelude.{◌<◌, ◌≤◌, length};
+
+use crate::detail::Detail;
+use crate::status_names::name_for;
+use arrayvec::ArrayVec;
+use itoa::Buffer;
+use std::fmt;
+
+/// Length of a chunk in bytes.
+pub const CHUNK_LEN: usize = 8192;
+
+/// Number of bytes that are written as hexadecimal digits at a time.
+const AT_ONCE: usize = 32;
+
+/// Padding for columns.
+const SPACES: &[u8] = b"                                ";
+
+/// Holds one chunk of a text: bytes before the chunk are skipped, and those after it are dropped. So a text of any
+/// length is produced in chunks of fixed size, by writing it once for each chunk.
+#[derive(Drop)]
+pub struct TextBuf {
+    /// Whether names, members and comments are written.
+    pub(crate) explains: bool,
+    /// Number of bytes before this chunk.
+    first: usize,
+    /// Number of bytes still to skip.
+    pub(crate) before: usize,
+    part: ArrayVec<u8, CHUNK_LEN>,
+    /// Whether the text is inside a JSON string, where `"` and `\` are escaped.
+    pub(crate) is_quoted: bool,
+    /// Length of a part that the text has at most once, if known from an earlier chunk.
+    pub(crate) known: Option<usize>,
+}
+
+impl TextBuf {
+    /// Returns a buffer for a text's first chunk.
+    pub fn new(detail: Detail) -> Self {
+        TextBuf {
+            explains: matches!(detail, Detail::Explained),
+            first: 0,
+            before: 0,
+            part: ArrayVec::new(),
+            is_quoted: false,
+            known: None,
+        }
+    }
+
+    /// Begins the chunk after `passed` bytes.
+    pub fn begin(&mut self, before: usize) {
+        self.first = before;
+        self.before = before;
+        self.part.clear();
+        self.is_quoted = false;
+        if before == 0 {
+            self.known = None;
+        }
+    }
+
+    /// Returns the number of bytes written so far, skipped ones included.
+    pub fn place(&self) -> usize {
+        let passed = self.first.saturating_sub(self.before);
+        passed.saturating_add(self.part.len())
+    }
+
+    /// Returns the chunk so far.
+    pub fn part(&self) -> &[u8]
+        ensures { length result.now ≤ 8192 }
+    {
+        self.part.as_slice()
+    }
+
+    /// Returns whether the chunk is full.
+    pub fn is_full(&self) -> bool {
+        self.part.is_full()
+    }
+
+    /// Writes bytes.
+    pub fn bytes(&mut self, bytes: &[u8]) {
+        if bytes.len() <= self.before {
+            self.before -= bytes.len();
+            return;
+        }
+        let passed = self.before.min(bytes.len());
+        self.before -= passed;
+        let rest = bytes.split_at(passed).1;
+        let space = CHUNK_LEN - self.part.len();
+        let _ = self
+            .part
+            .try_extend_from_slice(rest.split_at(space.min(rest.len())).0);
+    }
+
+    /// Writes a text.
+    pub fn text(&mut self, text: &str) {
+        if self.is_quoted {
+            self.quoted(text);
+        } else {
+            self.bytes(text.as_bytes());
+        }
+    }
+
+    /// Writes a text inside a JSON string.
+    // Separate from `text`, which is called far more often.
+    fn quoted(&mut self, text: &str) {
+        for byte in text.as_bytes() {
+            if matches!(byte, b'"' | b'\\') {
+                self.bytes(b"\\");
+            }
+            self.bytes(&[*byte]);
+        }
+    }
+
+    /// Pads the text written since an offset with spaces to a width.
+    pub fn fill(&mut self, place: usize, width: usize) {
+        let written = self.place().saturating_sub(place);
+        self.bytes(SPACES.get(..width.saturating_sub(written)).unwrap_or(b""));
+    }
+
+    /// Writes a decimal number, padded with spaces on the left to a width.
+    pub fn column(&mut self, number: u64, width: usize) {
+        let mut buffer = Buffer::new();
+        let digits = buffer.format(number);
+        self.fill(self.place(), width.saturating_sub(digits.len()));
+        self.text(digits);
+    }
+
+    /// Writes a decimal number.
+    pub fn decimal(&mut self, number: u64) {
+        let mut buffer = Buffer::new();
+        self.text(buffer.format(number));
+    }
+
+    /// Writes a format: a text with a mark for each number, `%` and a letter (see `mark`). If a number or its name is
+    /// missing, the text before the mark is cut at its last comma.
+    pub fn format(&mut self, format: &[u8], numbers: &[Option<u64>]) {
+        let mut rest = format;
+        for number in numbers {
+            let (comma, place) = place_of_mark(rest);
+            let Some([_, mark, after @ ..]) = rest.get(place..) else {
+                break;
+            };
+            match number {
+                Some(number) => self.mark(*mark, *number, front(rest, place), front(rest, comma)),
+                None => self.bytes(front(rest, comma)),
+            }
+            rest = after;
+        }
+        self.bytes(rest);
+    }
+
+    /// Writes the text before a mark, and a number: `d` in decimal, `n` in decimal with a space after it, `x` and `w`
+    /// the last byte and the last four bytes in hexadecimal, `-` not at all. Other letters write its name (`name_for`),
+    /// upper case ones with a quotation mark after it; without a name, only `less` of the text is written.
+    fn mark(&mut self, mark: u8, number: u64, text: &[u8], less: &[u8]) {
+        match mark {
+            b'-' => self.bytes(text),
+            b'd' => {
+                self.bytes(text);
+                self.decimal(number);
+            }
+            b'n' => {
+                self.decimal(number);
+                self.bytes(b" ");
+            }
+            b'x' => {
+                self.bytes(text);
+                self.hex(&number.to_be_bytes()[7..]);
+            }
+            b'w' => {
+                self.bytes(text);
+                self.hex(&number.to_be_bytes()[4..]);
+            }
+            _ => match name_for(mark, number) {
+                Some(name) => {
+                    self.bytes(text);
+                    self.bytes(name.as_bytes());
+                    if mark < b'a' {
+                        self.bytes(b"\"");
+                    }
+                }
+                None => self.bytes(less),
+            },
+        }
+    }
+
+    /// Writes a decimal integer.
+    pub fn integer(&mut self, number: i128) {
+        // Most numbers are small; those take fewer steps.
+        if let Ok(small) = u64::try_from(number) {
+            self.decimal(small);
+            return;
+        }
+        let mut buffer = Buffer::new();
+        self.text(buffer.format(number));
+    }
+
+    /// Writes bytes as hexadecimal digits.
+    pub fn hex(&mut self, bytes: &[u8]) {
+        // Most of a long text is digits; skips them at once.
+        let passed = bytes.len().min(self.before / 2);
+        self.before -= 2 * passed;
+        for some in bytes.split_at(passed).1.chunks(AT_ONCE) {
+            let mut digits = [0; 2 * AT_ONCE];
+            if let Some(digits) = digits.get_mut(..some.len().saturating_mul(2)) {
+                let _ = hex::encode_to_slice(some, digits);
+                self.bytes(digits);
+            }
+        }
+    }
+
+    /// Writes a character as `\u` and four digits.
+    pub fn escape(&mut self, high: u8, low: u8) {
+        let len = if self.is_quoted { 7 } else { 6 };
+        // Most of a long text may be escapes; skips them at once.
+        if len <= self.before {
+            self.before -= len;
+            return;
+        }
+        if self.is_quoted {
+            self.bytes(b"\\");
+        }
+        let mut piece = *b"\\u0000";
+        let _ = hex::encode_to_slice([high, low].as_slice(), &mut piece[2..]);
+        self.bytes(&piece);
+    }
+}
+
+impl fmt::Write for TextBuf {
+    /// Writes a text. Never fails.
+    fn write_str(&mut self, text: &str) -> fmt::Result {
+        self.text(text);
+        Ok(())
+    }
+}
+
+/// Returns the offsets of the last comma before a format's first mark (0 if none) and of the mark.
+fn place_of_mark(format: &[u8]) -> (usize, usize) {
+    let mut comma = 0;
+    let mut place = 0_usize;
+    for byte in format {
+        match *byte {
+            b'%' => break,
+            b',' => comma = place,
+            _ => {}
+        }
+        place = place.saturating_add(1);
+    }
+    (comma, place)
+}
+
+/// Returns the first `len` bytes, or all.
+pub fn front(bytes: &[u8], len: usize) -> &[u8] {
+    bytes.get(..len).unwrap_or(bytes)
+}

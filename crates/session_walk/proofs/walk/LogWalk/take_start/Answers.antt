@@ -1,9 +1,0 @@
-use Rattle.std.proofs.Common.{subst}
-use Rattle.session_walk.specs.Messages.{KeepsOnly}
-use Rattle.session_walk.proofs.Keeps.{brings_past}
-use Rattle.session_walk.proofs.walk.LogWalk.take_start.Goals as goal
-
-pub returns-then-answer-eq-CBOR-clause-bytes : goal.returns-then-answer-eq-CBOR-clause-bytes
-returns-then-answer-eq-CBOR-clause-bytes c = brings_past _ _ _ _ _ _ _ _
-    (subst (λ first. KeepsOnly first c.release.new.self) c.decide_before.ensures.pool c.release.ensures.only)
-    c.decide.ensures.pool c.begin.ensures.brings

@@ -1,0 +1,404 @@
+//! Tracks the transactions of a log: which one each line belongs to, which messages a line completes, and which
+//! transactions it ends.
+ghost use Rattle.std.specs.Prelude.{◌≡◌, ◌<◌, ◌==◌, ℕ, None, Some, IfSome, option_map, if◌then◌else◌};
+ghost use Rattle.hid_packet.specs.Packet.{channel_of, fields};
+ghost use Rattle.hid_packet.specs.Commands.{CBOR as CBOR_COMMAND};
+ghost use Rattle.session_walk.specs.Messages.{AddsData, CanBeKept, KeepsOnly, new_message, continued, kept_at};
+ghost use Rattle.session_walk.specs.Lines.{PacketAddsData, PacketContinues, KeepsAll, PacketBeginsKept, LineAddsData, LineContinues, LineKeeps};
+ghost use Rattle.session_walk.specs.Completed.{EndsNothing};
+ghost use Rattle.std.specs.Prelude.{List, [], ◌∷◌, ◌+◌, length, true, false, slice_get};
+ghost use Rattle.hid_packet.specs.Commands.{ERROR as ERROR_COMMAND, INIT as INIT_COMMAND};
+ghost use Rattle.session_log.specs.declared.line.{Line.Line as AnyLine, Line.TheVariants.Input as InputLine};
+ghost use Rattle.session_walk.specs.declared.{channel.Channel.Channel as AnyChannel, ambiguous.Ambiguous.Ambiguous as AnyDoubtful};
+ghost use Rattle.session_walk.specs.Owners.{addressed, match_in};
+ghost use Rattle.session_walk.specs.Walks.{Follows, IsAt, answered, status_of, waiting_on, decided_of, ambiguity_of, current_time_at, channel_on, host_message, input_by, later, message_continued, of_continued};
+
+use crate::ambiguous::{Ambiguous, CompletedMessage, Resolved};
+use crate::awaited::AwaitedReply;
+use crate::channel::ContinuationMatch;
+use crate::channels::Channels;
+use crate::credentials::Credentials;
+use crate::device::MIN_TIMEOUT_MS;
+use crate::entry::{Role, channel_of};
+use crate::message_buffers::Pool;
+use crate::transaction::{EndedList, MessageProgress, Named, OpenTransaction, Transaction};
+use hid_packet::command::{CANCEL, CBOR, INIT};
+use hid_packet::{CONT_PACKET_DATA, Packet, View};
+use session_log::Line;
+use token_session::{Input, Timed};
+
+/// The transactions of a log's lines so far.
+#[derive(Drop)]
+pub struct TransactionTracker {
+    pub channels: Channels,
+    pub(crate) pool: Pool,
+    pub(crate) credentials: Credentials,
+    /// The latest timestamp.
+    pub(crate) now: u64,
+    /// Line of the last input.
+    pub(crate) input: u64,
+    pub(crate) ambiguous: Option<Ambiguous>,
+    /// Transactions that the last line ends.
+    pub ended: EndedList,
+    /// The last line's transaction, if any.
+    pub transaction: Option<Transaction>,
+    /// Line of the initialization packet of the last packet's message, or 0 if none.
+    pub message_start: u64,
+    /// Bytes of that message that the last packet carries.
+    pub(crate) data_len: usize,
+    /// The last line's role, if it belongs to no transaction.
+    pub role: Role,
+    /// The message that the last line completes.
+    pub completed: Option<CompletedMessage>,
+    /// The ambiguous packet that the last line resolves.
+    pub(crate) resolved: Option<Resolved>,
+}
+
+impl TransactionTracker {
+    /// Returns the state before the first line.
+    pub fn new() -> Self
+        ensures { Follows [] result }
+    {
+        TransactionTracker {
+            channels: Channels::default(),
+            pool: Pool::new(),
+            credentials: Credentials::new(),
+            now: 0,
+            input: 0,
+            ambiguous: None,
+            ended: EndedList::default(),
+            transaction: None,
+            message_start: 0,
+            data_len: 0,
+            role: Role::Owned,
+            completed: None,
+            resolved: None,
+        }
+    }
+
+    /// Processes the next line of the log. A packet begins or continues at most one message, with its data; the other
+    /// stored messages are unchanged.
+    pub fn take(&mut self, number: u64, parsed: &Line)
+        ensures bytes { kept_at self.old.pool number ≡ None
+            → LineAddsData number parsed.now self.new.message_start self.old.pool self.new.pool }
+        ensures kept { 0 < number → LineKeeps number parsed.now self.new.pool }
+        ensures goes_on { EndsNothing self.old
+            → LineContinues parsed.now self.new.message_start self.old.pool self.new.pool }
+        ensures completed { IfSome self.new.completed (λ message. message.line ≡ self.new.message_start) }
+        ensures moment { self.new.now ≡ later self.old.now parsed.now }
+        ensures input { self.new.input ≡ input_by self.old.input number parsed.now }
+        ensures follows { (before : List AnyLine) → number ≡ length before + 1 → Follows before self.old
+            → Follows (parsed.now ∷ before) self.new }
+    {
+        self.clear();
+        match parsed {
+            Line::Input(timed) => {
+                self.resolve(false);
+                self.now = self.now.max(timed.at);
+                self.input = number;
+                match &timed.input {
+                    Input::Packet(packet) => self.on_host_packet(number, timed, packet),
+                    input => self.on_reply(input),
+                }
+            }
+            Line::Sent(packet) => self.on_device_packet(number, packet),
+            Line::Comment | Line::Count => {}
+        }
+    }
+
+    /// Processes the end of the log: an ambiguous packet belongs to its message.
+    pub fn finish(&mut self)
+        ensures { KeepsOnly self.old.pool self.new.pool }
+    {
+        self.clear();
+        self.resolve(false);
+    }
+
+    /// Clears the fields that describe only the previous line.
+    fn clear(&mut self)
+        ensures only { KeepsOnly self.old.pool self.new.pool }
+        ensures all { EndsNothing self.old → KeepsAll self.old.pool self.new.pool }
+        ensures line { self.new.message_start ≡ 0 }
+        ensures completed { self.new.completed ≡ None }
+        ensures time { self.new.now ≡ self.old.now }
+        ensures last { self.new.input ≡ self.old.input }
+        ensures ambiguous { self.new.ambiguous ≡ self.old.ambiguous }
+        ensures channels { self.new.channels ≡ self.old.channels }
+        ensures resolved { self.new.resolved ≡ None }
+        ensures transaction { self.new.transaction ≡ None }
+        ensures ended { self.new.ended.0.items ≡ [] }
+    {
+        let mut completed = 0;
+        if let Some(message) = &self.completed {
+            completed = message.line;
+        }
+        let mut deferred = 0;
+        if let Some(resolved) = &self.resolved
+            && let Some(message) = &resolved.completed
+        {
+            deferred = message.line;
+        }
+        self.transaction = None;
+        self.message_start = 0;
+        self.data_len = 0;
+        self.role = Role::Owned;
+        self.completed = None;
+        self.resolved = None;
+        let pool = &mut self.pool;
+        pool.release(completed);
+        pool.release(deferred);
+        for ended in self.ended.0.as_slice() {
+            pool.release(ended.exchange.transaction.line);
+        }
+        self.ended.0.clear();
+    }
+
+    // ---- inputs
+
+    /// Handles a reply of the caller. It belongs to the message that waits for it according to a KEEPALIVE, or else to
+    /// the one without a response. With two such messages it is unknown which.
+    fn on_reply(&mut self, input: &Input)
+        ensures pool { self.new.pool ≡ self.old.pool }
+        ensures completed { self.new.completed ≡ self.old.completed }
+        ensures time { self.new.now ≡ self.old.now }
+        ensures last { self.new.input ≡ self.old.input }
+        ensures of_two { 1 < waiting_on self.old.channels.list → self.new.transaction ≡ self.old.transaction }
+    {
+        let Some(reply) = AwaitedReply::in_input(input) else {
+            return;
+        };
+        let requests = self.channels.waiting(false);
+        let mut waiting = self.channels.waiting(true);
+        if waiting.0 == 0 {
+            waiting = requests;
+        }
+        let (count, place) = waiting;
+        if count == 0 {
+            self.role = self.channels.without(Role::Reply);
+        } else if count == 1 && !self.channels.is_unclear(self.now) {
+            let (transaction, role) = self.channels.list[place].reply(reply, self.now);
+            self.transaction = transaction;
+            self.role = if requests.0 > 1 { Role::Owned } else { role };
+        }
+    }
+
+    /// Handles a host packet.
+    fn on_host_packet(&mut self, number: u64, timed: &Timed, packet: &Packet)
+        requires line { self.old.message_start ≡ 0 }
+        requires none { self.old.completed ≡ None }
+        ensures bytes { kept_at self.old.pool number ≡ None
+            → PacketAddsData number (fields packet.now.0) self.new.message_start self.old.pool self.new.pool }
+        ensures kept { 0 < number → PacketBeginsKept number (fields packet.now.0) self.new.pool }
+        ensures goes_on { PacketContinues (fields packet.now.0) self.new.message_start self.old.pool self.new.pool }
+        ensures completed { IfSome self.new.completed (λ message. message.line ≡ self.new.message_start) }
+        ensures time { self.new.now ≡ self.old.now }
+        ensures last { self.new.input ≡ self.old.input }
+        ensures message { (c : AnyChannel) → channel_on (channel_of (fields packet.now.0)) self.old.channels.list ≡ Some c
+            → self.new.message_start ≡ host_message number (fields packet.now.0) self.old.now c }
+    {
+        let channel = channel_of(packet);
+        let place = self.channels.place(channel, number, &mut self.ended);
+        match packet.view() {
+            View::Start { cmd, len, part, .. } => {
+                self.data_len = part.len().min(usize::from(len));
+                if cmd == CANCEL {
+                    let (transaction, role) = self.channels.list[place].cancel(number);
+                    self.transaction = transaction;
+                    self.role = self.channels.without(role);
+                    return;
+                }
+                let command = match part {
+                    [first, ..] if cmd == CBOR && len > 0 => Some(*first),
+                    _ => None,
+                };
+                let transaction = Transaction {
+                    channel,
+                    line: number,
+                    message: cmd,
+                    command,
+                };
+                self.begin(place, transaction, len, part);
+            }
+            View::More { seq, part, .. } => {
+                self.data_len = part.len();
+                self.go_on(place, number, timed, seq, part);
+            }
+        }
+    }
+
+    /// Handles the initialization packet of a host message.
+    fn begin(&mut self, place: usize, transaction: Transaction, length: u16, part: &[u8])
+        requires place { place < 6 }
+        requires none { self.old.completed ≡ None }
+        ensures bytes { kept_at self.old.pool transaction.line ≡ None
+            → AddsData transaction.line length part.now self.new.message_start self.old.pool self.new.pool }
+        ensures kept { IfSome transaction.command (λ command. 0 < transaction.line → CanBeKept length
+            → kept_at self.new.pool transaction.line ≡ Some (new_message transaction.line length part.now)) }
+        ensures completed { IfSome self.new.completed (λ message. message.line ≡ self.new.message_start) }
+        ensures request { IfSome self.new.completed (λ message. message.place ≡ None) }
+        ensures time { self.new.now ≡ self.old.now }
+        ensures last { self.new.input ≡ self.old.input }
+        ensures line { self.new.message_start ≡ transaction.line }
+        ensures transaction { self.new.transaction ≡ Some transaction }
+        ensures at { (c : AnyChannel) → IsAt place self.old c → c.current ≡ None → c.contender ≡ None
+            → (transaction.message ≡ INIT_COMMAND → ⊥) → current_time_at place self.new ≡ Some (Some self.old.now) }
+    {
+        let progress = MessageProgress {
+            length,
+            continuations: 0,
+        };
+        let begun = OpenTransaction {
+            transaction,
+            progress,
+            at: self.now,
+            ..OpenTransaction::default()
+        };
+        self.channels.list[place].begin(begun, part, &mut self.ended);
+        self.transaction = Some(transaction);
+        self.message_start = transaction.line;
+        if transaction.command.is_some() {
+            self.pool.begin(transaction.line, length, part);
+            if progress.is_whole() {
+                self.completed = self.complete(place, &transaction);
+            }
+        }
+    }
+
+    /// Handles a host's continuation packet.
+    fn go_on(&mut self, place: usize, number: u64, timed: &Timed, sequence: u8, part: &[u8])
+        requires place { place < 6 }
+        requires line { self.old.message_start ≡ 0 }
+        requires none { self.old.completed ≡ None }
+        ensures bytes { AddsData number 0 part.now self.new.message_start self.old.pool self.new.pool }
+        ensures goes_on { (line : ℕ) → kept_at self.new.pool line ≡ (if line == self.new.message_start
+            then option_map (continued part.now) (kept_at self.old.pool self.new.message_start)
+            else kept_at self.old.pool line) }
+        ensures completed { IfSome self.new.completed (λ message. message.line ≡ self.new.message_start) }
+        ensures request { IfSome self.new.completed (λ message. message.place ≡ None) }
+        ensures time { self.new.now ≡ self.old.now }
+        ensures last { self.new.input ≡ self.old.input }
+        ensures ambiguous { (c : AnyChannel) → IsAt place self.old c → self.new.ambiguous
+            ≡ ambiguity_of number (InputLine timed.now) (match_in sequence self.old.now (addressed sequence c)) self.old.ambiguous }
+        ensures transaction { (c : AnyChannel) → IsAt place self.old c → self.old.transaction ≡ None
+            → self.new.transaction ≡ of_continued (match_in sequence self.old.now (addressed sequence c)) }
+        ensures message { (c : AnyChannel) → IsAt place self.old c
+            → self.new.message_start ≡ message_continued (match_in sequence self.old.now (addressed sequence c)) }
+    {
+        let continuation = self.channels.list[place].go_on(sequence, self.now);
+        self.go_on_by(place, number, timed, part, &continuation);
+    }
+
+    /// Handles a host's continuation packet, given the message that it matches.
+    fn go_on_by(
+        &mut self,
+        place: usize,
+        number: u64,
+        timed: &Timed,
+        part: &[u8],
+        continuation: &Option<ContinuationMatch>,
+    )
+        requires place { place < 6 }
+        requires line { self.old.message_start ≡ 0 }
+        requires none { self.old.completed ≡ None }
+        requires next { IfSome continuation.now (λ k. k.is_whole ≡ true → k.is_next ≡ true) }
+        ensures bytes { AddsData number 0 part.now self.new.message_start self.old.pool self.new.pool }
+        ensures goes_on { (line : ℕ) → kept_at self.new.pool line ≡ (if line == self.new.message_start
+            then option_map (continued part.now) (kept_at self.old.pool self.new.message_start)
+            else kept_at self.old.pool line) }
+        ensures completed { IfSome self.new.completed (λ message. message.line ≡ self.new.message_start) }
+        ensures request { IfSome self.new.completed (λ message. message.place ≡ None) }
+        ensures time { self.new.now ≡ self.old.now }
+        ensures last { self.new.input ≡ self.old.input }
+        ensures ambiguous { self.new.ambiguous
+            ≡ ambiguity_of number (InputLine timed.now) continuation.now self.old.ambiguous }
+        ensures transaction { self.old.transaction ≡ None → self.new.transaction ≡ of_continued continuation.now }
+        ensures message { self.new.message_start ≡ message_continued continuation.now }
+    {
+        let Some(continuation) = *continuation else {
+            let role = self.channels.list[place].without(Role::Stray);
+            self.role = self.channels.without(role);
+            return;
+        };
+        let transaction = continuation.transaction;
+        self.transaction = Some(transaction);
+        self.data_len = continuation.data_len;
+        if continuation.is_next {
+            self.pool.add(transaction.line, part);
+            self.message_start = transaction.line;
+        }
+        let is_whole = continuation.is_whole && transaction.command.is_some();
+        if continuation.gap >= MIN_TIMEOUT_MS {
+            self.ambiguous = Some(Ambiguous {
+                line: number,
+                parsed: Line::Input(*timed),
+                transaction,
+                is_next: continuation.is_next,
+                is_whole,
+                data_len: continuation.data_len,
+            });
+        } else if is_whole {
+            self.completed = self.complete(place, &transaction);
+        }
+    }
+
+    /// Stores the RP ID and credentials of a complete request, and returns it as a completed message.
+    fn complete(&mut self, place: usize, transaction: &Transaction) -> Option<CompletedMessage>
+        requires place { place < 6 }
+        ensures pool { self.new.pool ≡ self.old.pool }
+        ensures line { self.new.message_start ≡ self.old.message_start }
+        ensures completed { self.new.completed ≡ self.old.completed }
+        ensures value { IfSome result (λ message. message.line ≡ transaction.now.line) }
+        ensures request { IfSome result (λ message. message.place ≡ None) }
+        ensures time { self.new.now ≡ self.old.now }
+        ensures last { self.new.input ≡ self.old.input }
+        ensures ambiguous { self.new.ambiguous ≡ self.old.ambiguous }
+        ensures transaction { self.new.transaction ≡ self.old.transaction }
+        ensures ended { self.new.ended ≡ self.old.ended }
+        ensures resolved { self.new.resolved ≡ self.old.resolved }
+        ensures at { current_time_at place self.new ≡ current_time_at place self.old }
+    {
+        let named = self.credentials.identify(transaction, &self.pool);
+        self.channels.list[place].name(transaction, named);
+        Some(CompletedMessage {
+            line: transaction.line,
+            place: None,
+        })
+    }
+
+    /// Resolves the ambiguous packet, if any: whether it arrived too late.
+    pub(crate) fn resolve(&mut self, is_late: bool)
+        ensures pool { self.new.pool ≡ self.old.pool }
+        ensures line { self.new.message_start ≡ self.old.message_start }
+        ensures completed { self.new.completed ≡ self.old.completed }
+        ensures time { self.new.now ≡ self.old.now }
+        ensures last { self.new.input ≡ self.old.input }
+        ensures settles { self.new.ambiguous ≡ None }
+        ensures transaction { (d : AnyDoubtful) → self.old.ambiguous ≡ Some d
+            → option_map (λ x. x.transaction) self.new.resolved ≡ Some (decided_of is_late d) }
+        ensures resolved { (d : AnyDoubtful) → self.old.ambiguous ≡ Some d
+            → option_map (λ x. x.line) self.new.resolved ≡ Some d.line }
+        ensures nothing { self.old.ambiguous ≡ None → self.new ≡ self.old }
+    {
+        let Some(ambiguous) = self.ambiguous else {
+            return;
+        };
+        self.ambiguous = None;
+        let mut resolved = Resolved {
+            line: ambiguous.line,
+            parsed: ambiguous.parsed,
+            transaction: None,
+            completed: None,
+            data_len: CONT_PACKET_DATA,
+        };
+        if !is_late {
+            resolved.transaction = Some(ambiguous.transaction);
+            resolved.data_len = ambiguous.data_len;
+            if ambiguous.is_whole
+                && let Some(place) = self.channels.find(ambiguous.transaction.channel)
+            {
+                resolved.completed = self.complete(place, &ambiguous.transaction);
+            }
+        }
+        self.resolved = Some(resolved);
+    }
+}

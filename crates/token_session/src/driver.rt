@@ -1,0 +1,209 @@
+//! Steps a session through a list of inputs, or two sessions through two lists.
+ghost use Rattle.std.specs.Prelude.{◌≡◌, ◌+◌, ◌<◌, ◌≤◌, ◌++◌, ◌⊎◌, List, [], length, map, reverse, take, IfErr, IfOk};
+ghost use Rattle.arrayvec.specs.ArrayVec.{array_vec_len};
+ghost use Rattle.authn_core.specs.Turn.{Start};
+ghost use Rattle.token_session.specs.declared.input.Timed.{Timed as OneInput};
+ghost use Rattle.token_session.specs.Carried.{ArriveWhole, IsWhole};
+ghost use Rattle.token_session.specs.Drive.{numbered_packet, packet_of, both_number, drive_number, done_of, first_done, second_done, HadCapacity, IsDriven};
+ghost use Rattle.token_session.specs.Headline.{IsAnswered, IsBounded, start_of};
+ghost use Rattle.token_session.specs.Answered.{packets_sent_from};
+ghost use Rattle.token_session.specs.Law.{with_input_number, append_inputs, sent_from};
+ghost use Rattle.token_session.specs.History.{received};
+ghost use Rattle.token_session.specs.Meters.{FollowsFrom, StandsAfter, meters_of, session_of};
+ghost use Rattle.token_session.specs.Noise.{HasTicksForNoise, quiet_from};
+ghost use Rattle.hid_packet.specs.Limits.{OUTBOX_CAPACITY};
+
+use crate::input::{Input, Meters, Sent, Timed};
+use crate::laws::{answers_follow_history, every_history_is_answered};
+use crate::session::Session;
+use arrayvec::ArrayVec;
+use authn_core::Config;
+use cred_table::{Store, Table};
+use hid_packet::{OUTBOX_CAPACITY, Outbox, Packet};
+use thiserror::Error;
+
+/// The error of [`drive`].
+#[derive(Clone, Copy, Debug, Error, PartialEq, Eq)]
+pub enum DriveFault {
+    /// 1: there was capacity for fewer than 130 packets before the next input. This many inputs were stepped.
+    #[error("the list of packets is full after {done} inputs")]
+    Full { done: usize },
+}
+
+impl DriveFault {
+    /// Returns the number of the fault.
+    pub fn number(&self) -> u8
+        ensures { result ≡ drive_number self.now }
+    {
+        match self {
+            DriveFault::Full { .. } => 1,
+        }
+    }
+}
+
+/// The error of [`drive_both`].
+#[derive(Clone, Copy, Debug, Error, PartialEq, Eq)]
+pub enum BothFault {
+    /// 1: one of the lists was full. This many inputs were stepped of each.
+    #[error("a list of packets is full after {first} and {second} inputs")]
+    Full { first: usize, second: usize },
+}
+
+impl BothFault {
+    /// Returns the number of the fault.
+    pub fn number(&self) -> u8
+        ensures { result ≡ both_number self.now }
+    {
+        match self {
+            BothFault::Full { .. } => 1,
+        }
+    }
+}
+
+/// Moves all packets to the list, with the number of the input that sent them.
+fn take_all<const N: usize>(outbox: &mut Outbox, number: u64, sent: &mut ArrayVec<Sent, N>)
+    requires { array_vec_len sent.old + length outbox.old ≤ N }
+    ensures sent { map numbered_packet sent.new.items ≡ map numbered_packet sent.old.items ++ with_input_number number outbox.old }
+    ensures empty { outbox.new ≡ [] }
+{
+    while let Some(packet) = outbox.pop() {
+        sent.push(Sent {
+            input: number,
+            packet,
+        });
+    }
+}
+
+/// States that a packet has 64 bytes. Does nothing.
+fn known_packet(packet: &Packet)
+    ensures { length packet.now.0 ≡ 64 }
+{
+    let _bytes = packet.0.as_slice();
+}
+
+/// States that the packet of an input, if it is one, has 64 bytes. Does nothing.
+fn known_input(input: &Input)
+    ensures { IsWhole input.now }
+{
+    if let Input::Packet(packet) = input {
+        known_packet(packet);
+    }
+}
+
+/// Steps a session through the inputs, and appends the packets that they send. Stops before the first input at which
+/// there is capacity for fewer than 130 packets.
+pub fn drive<const C: usize, const N: usize>(
+    session: &mut Session<C>,
+    inputs: &[Timed],
+    sent: &mut ArrayVec<Sent, N>,
+) -> Result<Meters, DriveFault>
+    // The session and the list are as after the stepped inputs.
+    ensures run { IsDriven N session.old session.new (map numbered_packet sent.old.items) (map numbered_packet sent.new.items)
+        inputs.now (done_of (length inputs.now) result) }
+    ensures meters { IfOk result (λ meters. meters ≡ session.new.meters) }
+    // Each packet of the stepped inputs has 64 bytes.
+    ensures whole { ArriveWhole (take (done_of (length inputs.now) result) inputs.now) }
+    // It fails exactly if there is too little capacity.
+    ensures full { IfErr result (λ e. (done_of 0 result < length inputs.now)
+        × (N < array_vec_len sent.new + OUTBOX_CAPACITY)) }
+    // After any history.
+    ensures after { (start : Start) (h : List OneInput) → StandsAfter session.old start h
+        → StandsAfter session.new start (append_inputs (take (done_of (length inputs.now) result) inputs.now) h) }
+    ensures sent { (start : Start) (h : List OneInput) → StandsAfter session.old start h
+        → map numbered_packet sent.new.items ≡ map numbered_packet sent.old.items
+        ++ sent_from 0 start h (take (done_of (length inputs.now) result) inputs.now) }
+    ensures follows { (start : Start) (h : List OneInput) → FollowsFrom session.old start h
+        → FollowsFrom session.new start (append_inputs (take (done_of (length inputs.now) result) inputs.now) h) }
+    ensures told { (start : Start) (h : List OneInput) → FollowsFrom session.old start h
+        → map numbered_packet sent.new.items ≡ map numbered_packet sent.old.items
+        ++ packets_sent_from 0 start h (take (done_of (length inputs.now) result) inputs.now) }
+{
+    answers_follow_history();
+    let mut outbox = Outbox::new();
+    for (i, timed) in inputs.iter().enumerate() {
+        if sent.remaining_capacity() < OUTBOX_CAPACITY {
+            return Err(DriveFault::Full { done: i });
+        }
+        known_input(&timed.input);
+        session.step(timed.at, timed.input, &mut outbox);
+        take_all(&mut outbox, i as u64, sent);
+    }
+    Ok(session.meters())
+}
+
+/// Creates a session and steps it through the inputs, replacing the content of `sent` by the packets that they send.
+/// Stops before the first input at which there is capacity for fewer than 130 packets. Its contract is the main
+/// theorem: for every start and every list of inputs, the packets sent are exactly those of the history's definition.
+pub fn drive_new<const C: usize, const N: usize>(
+    config: Config,
+    rows: Store<C>,
+    start: u64,
+    inputs: &[Timed],
+    sent: &mut ArrayVec<Sent, N>,
+) -> Result<Meters, DriveFault>
+    ensures answered { IsAnswered (start_of config.aaguid start C (⟦<Store<C> as Table<C>>⟧.rows rows.entry))
+        (reverse (take (done_of (length inputs.now) result) inputs.now)) (map packet_of sent.new.items) }
+    ensures bounded { IsBounded (start_of config.aaguid start C (⟦<Store<C> as Table<C>>⟧.rows rows.entry))
+        (reverse (take (done_of (length inputs.now) result) inputs.now)) }
+    // Each packet has the number of its input.
+    ensures numbers { map numbered_packet sent.new.items
+        ≡ packets_sent_from 0 (start_of config.aaguid start C (⟦<Store<C> as Table<C>>⟧.rows rows.entry)) []
+        (take (done_of (length inputs.now) result) inputs.now) }
+    ensures meters { IfOk result (λ meters. meters
+        ≡ meters_of (start_of config.aaguid start C (⟦<Store<C> as Table<C>>⟧.rows rows.entry))
+        (received (start_of config.aaguid start C (⟦<Store<C> as Table<C>>⟧.rows rows.entry)) (reverse inputs.now))) }
+    // It fails exactly if there is too little capacity.
+    ensures full { IfErr result (λ e. (done_of 0 result < length inputs.now)
+        × (N < array_vec_len sent.new + OUTBOX_CAPACITY)) }
+    // Before each input that was stepped there was capacity for 130 packets.
+    ensures capacity { HadCapacity N []
+        (session_of (start_of config.aaguid start C (⟦<Store<C> as Table<C>>⟧.rows rows.entry)) [])
+        inputs.now (done_of (length inputs.now) result) }
+{
+    every_history_is_answered();
+    sent.clear();
+    let mut session = Session::new(config, rows, start);
+    drive(&mut session, inputs, sent)
+}
+
+/// Steps one session through its inputs, and then another one. If the second list has ticks in place of ignored inputs
+/// of the first, both sessions end in the same state, and the second list of packets is the first without the responses
+/// to the ignored inputs.
+pub fn drive_both<const C: usize, const N: usize>(
+    first: &mut Session<C>,
+    second: &mut Session<C>,
+    inputs: &[Timed],
+    quiet: &[Timed],
+    sent: &mut ArrayVec<Sent, N>,
+    quiet_sent: &mut ArrayVec<Sent, N>,
+) -> Result<(Meters, Meters), BothFault>
+    // The contract of `drive` holds for both runs.
+    ensures first { IsDriven N first.old first.new (map numbered_packet sent.old.items) (map numbered_packet sent.new.items)
+        inputs.now (first_done (length inputs.now) result) }
+    ensures second { IsDriven N second.old second.new (map numbered_packet quiet_sent.old.items)
+        (map numbered_packet quiet_sent.new.items) quiet.now (second_done (length quiet.now) result) }
+    ensures meters { IfOk result (λ meters. (meters.0 ≡ first.new.meters) × (meters.1 ≡ second.new.meters)) }
+    // It fails if and only if one of the runs fails. If the first one fails, the second isn't begun.
+    ensures full { IfErr result (λ e.
+        ((first_done 0 result < length inputs.now) × (N < array_vec_len sent.new + OUTBOX_CAPACITY)
+        × (second_done 0 result ≡ 0))
+        ⊎ ((first_done 0 result ≡ length inputs.now) × (second_done 0 result < length quiet.now)
+        × (N < array_vec_len quiet_sent.new + OUTBOX_CAPACITY))) }
+    // After two histories with the same start, of which the second has ticks in place of ignored inputs, before and
+    // after.
+    ensures alike { (start : Start) (h g : List OneInput) → StandsAfter first.old start h
+        → StandsAfter second.old start g → HasTicksForNoise start h g → HasTicksForNoise start (append_inputs inputs.now h) (append_inputs quiet.now g)
+        → IfOk result (λ meters. (first.new ≡ second.new) × (meters.0 ≡ meters.1)
+        × (map numbered_packet quiet_sent.new.items ≡ map numbered_packet quiet_sent.old.items
+        ++ quiet_from 0 start h inputs.now quiet.now)) }
+{
+    let one = drive(first, inputs, sent).map_err(|DriveFault::Full { done }| BothFault::Full {
+        first: done,
+        second: 0,
+    })?;
+    let two = drive(second, quiet, quiet_sent).map_err(|DriveFault::Full { done }| BothFault::Full {
+        first: inputs.len(),
+        second: done,
+    })?;
+    Ok((one, two))
+}
