@@ -1,9 +1,9 @@
 #!/usr/bin/env python3
-"""Presses Tab in bash, zsh and fish, with the completions that packages/completions.py makes of a program's help.
+"""Presses Tab in bash, zsh and fish, with the completions that packages/completions.py generates from a program's help.
 
-    tests/completions.py [PROGRAM]      release/hidlog where none is named
+    tests/completions.py [PROGRAM]      PROGRAM [default: release/hidlog]
 
-A shell that isn't there is skipped by name. Exit status: 1 where something isn't as it should be, 3 where no shell is.
+Reports and skips missing shells. Exit status: 1 if a completion is wrong, 3 if there is no shell.
 """
 
 from __future__ import annotations
@@ -21,10 +21,10 @@ from pathlib import Path
 
 TOP = Path(__file__).resolve().parent.parent
 PROGRAM = str(Path(sys.argv[1]).resolve() if len(sys.argv) > 1 else TOP / "release/hidlog")
-# Only what hangs takes so long.
-SECONDS = 120
-# What is typed before Tab, and the line that is there after it, by the program's help.
-LINES = (
+# Only a hanging shell takes this long.
+TIMEOUT_SECONDS = 120
+# Texts typed before Tab, and the expected lines after it, by the program's help.
+COMPLETIONS = (
     ("hidlog rep", "hidlog replay"),
     ("hidlog qu", "hidlog quiet"),
     ("hidlog check --lo", "hidlog check --load"),
@@ -41,17 +41,19 @@ LINES = (
 class Terminal:
     """A shell at a terminal, in a folder with two files."""
 
-    def __init__(self, words: list[str], room: Path) -> None:
+    def __init__(self, words: list[str], work_dir: Path) -> None:
         self.seen = ""
         self.child, self.file = pty.fork()
         if self.child == 0:
-            os.chdir(room)
-            os.environ.update(TERM="dumb", PS1="$ ", HOME=str(room), PATH=f"{room}:/usr/bin:/bin", INPUTRC="/dev/null")
+            os.chdir(work_dir)
+            os.environ.update(
+                TERM="dumb", PS1="$ ", HOME=str(work_dir), PATH=f"{work_dir}:/usr/bin:/bin", INPUTRC="/dev/null"
+            )
             os.execvp(words[0], words)
 
-    def until(self, text: str) -> bool:
-        """Reads until a text is written."""
-        end = time.monotonic() + SECONDS
+    def read_until(self, text: str) -> bool:
+        """Reads until a text appears."""
+        end = time.monotonic() + TIMEOUT_SECONDS
         while text not in self.seen and time.monotonic() < end:
             if select.select([self.file], [], [], 0.2)[0]:
                 try:
@@ -60,46 +62,49 @@ class Terminal:
                     break
         return text in self.seen
 
-    def press(self, text: str) -> None:
-        """Types a text; what was written before is forgotten."""
+    def type_text(self, text: str) -> None:
+        """Types a text, and discards earlier output."""
         self.seen = ""
         os.write(self.file, text.encode())
 
-    def end(self) -> None:
+    def close(self) -> None:
         os.close(self.file)
         os.waitpid(self.child, 0)
 
 
-def presses_tab(words: list[str], room: Path, start: str) -> list[str]:
-    """Returns what is wrong in a shell that begins with these commands."""
-    terminal, wrong = Terminal(words, room), []
-    terminal.press(start + "; echo rea''dy\n")
-    assert terminal.until("ready"), f"{words[0]} doesn't begin: {terminal.seen}"
-    for typed, wanted in LINES:
-        terminal.press(typed + "\t")
-        # A line that is whole after Tab is run; the program's own part is over by then.
-        if not terminal.until(wanted[len(typed) :]) or not terminal.until(wanted.rpartition(" ")[2][-3:]):
+def find_errors(words: list[str], work_dir: Path, start: str) -> list[str]:
+    """Returns the errors of a shell started with these commands."""
+    terminal, wrong = Terminal(words, work_dir), []
+    terminal.type_text(start + "; echo rea''dy\n")
+    assert terminal.read_until("ready"), f"{words[0]} doesn't begin: {terminal.seen}"
+    for typed, wanted in COMPLETIONS:
+        terminal.type_text(typed + "\t")
+        # A complete line is run after Tab; the program has exited by then.
+        if not terminal.read_until(wanted[len(typed) :]) or not terminal.read_until(wanted.rpartition(" ")[2][-3:]):
             wrong.append(f"{typed!r} is not completed to {wanted!r}: {terminal.seen!r}")
-        terminal.press("\x15")
-    terminal.end()
+        terminal.type_text("\x15")
+    terminal.close()
     return wrong
 
 
-def in_bash(folder: Path, room: Path) -> list[str]:
-    return presses_tab(["bash", "--norc", "--noprofile", "-i"], room, f"source {folder}/hidlog.bash")
+def test_bash(folder: Path, work_dir: Path) -> list[str]:
+    return find_errors(["bash", "--norc", "--noprofile", "-i"], work_dir, f"source {folder}/hidlog.bash")
 
 
-def in_zsh(folder: Path, room: Path) -> list[str]:
-    return presses_tab(["zsh", "-f", "-i"], room, f"fpath=({folder} $fpath); autoload -Uz compinit; compinit -u -D")
+def test_zsh(folder: Path, work_dir: Path) -> list[str]:
+    return find_errors(["zsh", "-f", "-i"], work_dir, f"fpath=({folder} $fpath); autoload -Uz compinit; compinit -u -D")
 
 
-def in_fish(folder: Path, room: Path) -> list[str]:
-    """Asks fish what it would complete, without a terminal."""
+def complete_in_fish(folder: Path, work_dir: Path) -> list[str]:
+    """Returns fish's completions, without a terminal."""
     wrong = []
-    for typed, wanted in LINES:
+    for typed, wanted in COMPLETIONS:
         script = f"source {folder}/hidlog.fish; complete --do-complete '{typed}'"
         ran = subprocess.run(
-            ["fish", "--no-config", "-c", script], cwd=room, env={**os.environ, "HOME": str(room)}, capture_output=True
+            ["fish", "--no-config", "-c", script],
+            cwd=work_dir,
+            env={**os.environ, "HOME": str(work_dir)},
+            capture_output=True,
         )
         found = re.findall(r"^[^\t\n]+", ran.stdout.decode(), re.MULTILINE)
         if wanted.rpartition(" ")[2] not in found:
@@ -110,19 +115,19 @@ def in_fish(folder: Path, room: Path) -> list[str]:
 def main() -> int:
     status = 3
     with tempfile.TemporaryDirectory() as name:
-        folder, room = Path(name, "completions"), Path(name, "room")
+        folder, work_dir = Path(name, "completions"), Path(name, "room")
         subprocess.run([TOP / "packages/completions.py", PROGRAM, folder], check=True)
-        room.mkdir()
+        work_dir.mkdir()
         for file in ("key.snapshot", "session.log"):
-            (room / file).write_bytes(b"")
-        (room / "hidlog").symlink_to(PROGRAM)
-        for shell, test in (("bash", in_bash), ("zsh", in_zsh), ("fish", in_fish)):
+            (work_dir / file).write_bytes(b"")
+        (work_dir / "hidlog").symlink_to(PROGRAM)
+        for shell, test in (("bash", test_bash), ("zsh", test_zsh), ("fish", complete_in_fish)):
             if shutil.which(shell) is None:
                 print(f"skipped  {shell} is missing (apt-get install {shell})")
                 continue
-            wrong = test(folder, room)
+            wrong = test(folder, work_dir)
             print(*wrong, sep="\n", end="\n" if wrong else "")
-            print(f"{shell}: {len(LINES) - len(wrong)} of {len(LINES)} lines are completed")
+            print(f"{shell}: {len(COMPLETIONS) - len(wrong)} of {len(COMPLETIONS)} lines are completed")
             status = 1 if wrong or status == 1 else 0
     return status
 

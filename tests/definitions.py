@@ -14,9 +14,9 @@ from pathlib import Path
 TOP = Path(__file__).resolve().parent.parent
 STANDARDS = ("CTAP 2.1", "WebAuthn Level 2", "RFC 8949", "RFC 8152")
 NUMBER = r"\d+(?:\.\d+)*"
-CITES = re.compile(rf"({'|'.join(map(re.escape, STANDARDS))}), sections? ({NUMBER}(?:(?:, | and |, and ){NUMBER})*)")
+CITATION = re.compile(rf"({'|'.join(map(re.escape, STANDARDS))}), sections? ({NUMBER}(?:(?:, | and |, and ){NUMBER})*)")
 ENCODING = re.compile(r"CTAP 2\.1, \"Message Encoding\"")
-INTRO = """# Definitions by section of the standard
+PAGE_HEAD = """# Definitions by section of the standard
 
 What this repository makes of a section. A file alone is about the section as a whole; names are the definitions that
 state it. docs/believe/READING.md has those that the headline needs in an order to read.
@@ -25,7 +25,7 @@ state it. docs/believe/READING.md has those that the headline needs in an order 
 
 @dataclass
 class Entry:
-    """What a section has of one file: the file as a whole, or some of its definitions."""
+    """A section's part of one file: the whole file, or some of its definitions."""
 
     whole: bool = False
     names: list[str] = field(default_factory=list)
@@ -34,14 +34,14 @@ class Entry:
 Index = dict[tuple[str, str], dict[Path, Entry]]
 
 
-def sections_in(text: str) -> list[tuple[str, str]]:
-    """Returns the sections that a text names, each with its standard."""
+def find_sections(text: str) -> list[tuple[str, str]]:
+    """Returns the sections that a text cites, each with its standard."""
     joined = " ".join(text.split())
-    found = [(match[1], number) for match in CITES.finditer(joined) for number in re.findall(NUMBER, match[2])]
+    found = [(match[1], number) for match in CITATION.finditer(joined) for number in re.findall(NUMBER, match[2])]
     return found + ([("CTAP 2.1", "8")] if ENCODING.search(joined) else [])
 
 
-def top_comment(text: str) -> str:
+def read_top_comment(text: str) -> str:
     """Returns the comment at the top of a file."""
     lines = []
     for line in text.splitlines():
@@ -51,24 +51,24 @@ def top_comment(text: str) -> str:
     return " ".join(lines)
 
 
-def index(comments: dict[Path, dict[str, str]]) -> Index:
+def index_sections(comments: dict[Path, dict[str, str]]) -> Index:
     """Returns the files and definitions of each section. `comments` has those of a file's definitions by name."""
     found: Index = defaultdict(lambda: defaultdict(Entry))
     for path, names in sorted(comments.items()):
-        for section in sections_in(top_comment(path.read_text(encoding="utf-8"))):
+        for section in find_sections(read_top_comment(path.read_text(encoding="utf-8"))):
             found[section][path].whole = True
         for name, comment in names.items():
-            for section in sections_in(comment):
+            for section in find_sections(comment):
                 found[section][path].names.append(name)
     return found
 
 
-def order(section: str) -> list[int]:
-    """Returns a section's numbers, by which sections are sorted."""
+def section_key(section: str) -> list[int]:
+    """Returns a section's numbers, for sorting."""
     return [int(word) for word in section.split(".")]
 
 
-def line(section: str, entries: dict[Path, Entry]) -> str:
+def format_row(section: str, entries: dict[Path, Entry]) -> str:
     """Returns the row of a section."""
     cells = []
     for path, entry in entries.items():
@@ -79,11 +79,11 @@ def line(section: str, entries: dict[Path, Entry]) -> str:
     return f"| {section} | {'; '.join(cells)} |\n"
 
 
-def page(comments: dict[Path, dict[str, str]]) -> str:
+def build_page(comments: dict[Path, dict[str, str]]) -> str:
     """Returns the text of the page."""
-    text, found = INTRO, index(comments)
+    text, found = PAGE_HEAD, index_sections(comments)
     for standard in STANDARDS:
         text += f"\n## {standard}\n\n| Section | Where |\n|---|---|\n"
-        sections = sorted((section for of, section in found if of == standard), key=order)
-        text += "".join(line(section, found[standard, section]) for section in sections)
+        sections = sorted((section for of, section in found if of == standard), key=section_key)
+        text += "".join(format_row(section, found[standard, section]) for section in sections)
     return text

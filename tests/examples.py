@@ -1,12 +1,12 @@
 #!/usr/bin/env python3
-"""Compares tests/examples.txt with the proofs: each computed example that it names is there, and each one that is there
-is named. Prints how many rows of the standard's tables have an example. Ends with 1 at a difference.
+"""Compares tests/examples.txt with the proofs: each computed example that it names must exist, and each one that exists
+must be named. Prints how many rows of the standard's tables have an example. Exit status: 1 if they differ.
 
     tests/examples.py           compares
     tests/examples.py --list    prints the rows with their examples
 
-A law that ties code to a definition is blind to a slip that both share. So the definitions are computed at inputs that
-were worked out from the standard by hand: the prover evaluates both sides, and refuses the gate where they differ.
+A law that ties code to a definition does not find a mistake that both share. Therefore definitions are evaluated for
+inputs with results worked out from the standard by hand; the prover rejects an example whose sides differ.
 """
 
 from __future__ import annotations
@@ -16,15 +16,15 @@ import sys
 from pathlib import Path
 
 TOP = Path(__file__).resolve().parents[1]
-FILE = re.compile(r"^\| ([A-Z]) \| (crates/\S+) \|$", re.MULTILINE)
-ROW = re.compile(r"^\| (?!---)(?!Row )(.+) \| (.+) \|$", re.MULTILINE)
+FILE_ROW = re.compile(r"^\| ([A-Z]) \| (crates/\S+) \|$", re.MULTILINE)
+TABLE_ROW = re.compile(r"^\| (?!---)(?!Row )(.+) \| (.+) \|$", re.MULTILINE)
 NAMED = re.compile(r"\b([A-Z]) ([a-z][\w-]*)")
-# An example is a name whose proof is computed: one `refl`, several, or a record of them.
+# An example is a name with a computed proof: one `refl`, several, or a record of them.
 COMPUTED = re.compile(r"^([a-z][\w-]*) = (?:unfold [\w.-][\w. -]* in )?(?:refl$|\(+refl|record \{$)", re.MULTILINE)
 
 
-def computed(path: str) -> set[str]:
-    """Returns the names of a file's examples: those that have a statement and are no abbreviation."""
+def read_examples(path: str) -> set[str]:
+    """Returns the names of a file's examples: those with a statement, except abbreviations."""
     text = (TOP / path).read_text(encoding="utf-8")
     return {name for name in COMPUTED.findall(text) if re.search(rf"^{re.escape(name)} :", text, re.MULTILINE)}
 
@@ -34,13 +34,15 @@ def main() -> int:
     if sys.argv[1:] == ["--list"]:
         print(page, end="")
         return 0
-    files = dict(FILE.findall(page))
-    there = {(letter, name) for letter, path in files.items() for name in computed(path)}
-    rows = [(row, examples) for row, examples in ROW.findall(page) if row not in files and row != "Letter"]
+    files = dict(FILE_ROW.findall(page))
+    there = {(letter, name) for letter, path in files.items() for name in read_examples(path)}
+    rows = [(row, examples) for row, examples in TABLE_ROW.findall(page) if row not in files and row != "Letter"]
     named = {name for _, examples in rows for name in NAMED.findall(examples)}
     wrong = [f"{letter} {name} is in no proof" for letter, name in sorted(named - there)]
     wrong += [f"{letter} {name} is in no row" for letter, name in sorted(there - named)]
-    wrong += [f"this row has neither an example nor `none`: {row}" for row, examples in rows if not is_told(examples)]
+    wrong += [
+        f"this row has neither an example nor `none`: {row}" for row, examples in rows if not is_documented(examples)
+    ]
     for line in wrong:
         print(f"tests/examples.txt: {line}")
     without = sum(examples.startswith("none: ") for _, examples in rows)
@@ -48,8 +50,8 @@ def main() -> int:
     return 1 if wrong else 0
 
 
-def is_told(examples: str) -> bool:
-    """Returns whether a row names an example, or says that it has none."""
+def is_documented(examples: str) -> bool:
+    """Returns whether a row names an example, or states that there is none."""
     return bool(NAMED.search(examples)) or examples.startswith("none: ")
 
 

@@ -1,5 +1,5 @@
 #!/usr/bin/env python3
-"""Compares the example on each library's page with the test that the gate runs of it.
+"""Compares the example on each library's page with the test from which it is taken.
 
     tests/examples_shown.py            says which pages differ, and ends with 1 if any does
     tests/examples_shown.py --write    writes the examples anew, from the tests
@@ -17,41 +17,45 @@ import textwrap
 from pathlib import Path
 
 TOP = Path(__file__).resolve().parent.parent
-NAMED = re.compile(r"An example, which the gate runs \(`([^`]+)`\):")
+EXAMPLE_LINK = re.compile(r"An example, which the gate runs \(`([^`]+)`\):")
 BLOCK = re.compile(r"(?<=//! ```text\n)(?://!.*\n)*?(?=//! ```\n)")
-# A test function: its body is between the brace that ends its head and the one that stands alone.
+# A test function: its body is between the opening brace and a line with only the closing one.
 TEST = re.compile(r"#\[test\]\nfn [^\n]*\{\n(.*?)^\}\n", re.MULTILINE | re.DOTALL)
 
 
-def example(test: str) -> str:
-    """Returns what a page shows of a test file."""
+def read_example(test: str) -> str:
+    """Returns the example in a page from a test file."""
     kept = [line for line in test.splitlines(keepends=True) if not line.startswith(("//!", "use "))]
     text = TEST.sub(lambda found: textwrap.dedent(found[1]).removesuffix("Ok(())\n"), "".join(kept))
     return re.sub(r"\n{3,}", "\n\n", text).strip("\n") + "\n"
 
 
-def as_comment(text: str) -> str:
-    """Returns lines as those of a page's comment."""
+def to_comment(text: str) -> str:
+    """Returns lines formatted as a page's comment."""
     return "".join(f"//! {line}".rstrip() + "\n" for line in text.splitlines())
 
 
 def main(write: bool) -> int:
-    pages = [page for page in sorted(TOP.glob("crates/*/src/lib.rt")) if NAMED.search(page.read_text(encoding="utf-8"))]
+    pages = [
+        page
+        for page in sorted(TOP.glob("crates/*/src/lib.rt"))
+        if EXAMPLE_LINK.search(page.read_text(encoding="utf-8"))
+    ]
     differ = 0
     for page in pages:
         text = page.read_text(encoding="utf-8")
-        named = NAMED.search(text)
+        named = EXAMPLE_LINK.search(text)
         block = BLOCK.search(text, named.end()) if named else None
         if not named or not block:
             sys.exit(f"tests/examples_shown.py: {page.relative_to(TOP)} shows no example")
-        shown = as_comment(example((TOP / named[1]).read_text(encoding="utf-8")))
+        shown = to_comment(read_example((TOP / named[1]).read_text(encoding="utf-8")))
         if block[0] == shown:
             continue
         differ += 1
         if write:
             page.write_text(text[: block.start()] + shown + text[block.end() :], encoding="utf-8")
         else:
-            print(f"{page.relative_to(TOP)}: its example isn't {named[1]}")
+            print(f"{page.relative_to(TOP)}: the example differs from {named[1]}")
     print(f"{len(pages)} pages, {differ} {'written' if write else 'that differ'}")
     return 1 if differ and not write else 0
 

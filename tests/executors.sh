@@ -1,6 +1,6 @@
 #!/usr/bin/env bash
-# Plays the fuzzers and a part of the corpus on the workers of a Dask scheduler on this machine, one of which is killed
-# meanwhile, and in processes: both say the same. Ends with 3 where Debian's python3-distributed is missing.
+# Runs the fuzzers and some conformance tests with a Dask cluster on this machine, one of whose workers is killed, and
+# with processes, and compares the results. Exits with 3 if Debian's python3-distributed is missing.
 set -euo pipefail
 top=$(cd "$(dirname "${BASH_SOURCE[0]}")/.." && pwd)
 python=/usr/bin/python3
@@ -8,15 +8,15 @@ python=/usr/bin/python3
     { echo "distributed or cryptography is missing (apt-get install python3-distributed python3-cryptography)" >&2 && exit 3; }
 work=$(mktemp -d)
 started=()
-# Neither the scheduler nor a worker has anything to keep, and one that is asked to end may wait for the other for ever.
-end() {
+# SIGKILL, because the scheduler and the workers have no state, and may wait for each other forever on SIGTERM.
+stop_cluster() {
     kill -KILL "${started[@]}" 2>/dev/null || true
-    wait 2>/dev/null || true # the shell says of each that it was killed
+    wait 2>/dev/null || true # the shell reports the kills
     rm -rf "$work"
 }
-trap end EXIT
-cd "$work" # workers keep what they spill here
-# A newer scheduler reads what it hands on.
+trap stop_cluster EXIT
+cd "$work" # workers write temporary files here
+# A newer scheduler deserializes tasks, so it needs the modules, too.
 PYTHONPATH=$top/conformance:$top/tests/fuzz "$python" -m distributed.cli.dask_scheduler --host 127.0.0.1 --port 0 --no-dashboard \
     --scheduler-file "$work/scheduler.json" >"$work/scheduler" 2>&1 &
 started+=($!)
@@ -33,25 +33,25 @@ address=$(sed -n 's|.*"address": "tcp://\(127[^"]*\)".*|\1|p' "$work/scheduler.j
 executor=dask://$address
 failed=0
 
-# Compares what a command says on the workers with what it says in processes: same NAME PATTERN COMMAND ..
-same() {
+# Compares the results of a command on the Dask workers with those of local processes: compare_results NAME PATTERN COMMAND ..
+compare_results() {
     "${@:3}" 2>/dev/null | grep -E "$2" | sed 's/; [0-9]* s$//' >"$work/here" || true
     "${@:3}" --executor "$executor" 2>"$work/faults" | grep -E "$2" | sed 's/; [0-9]* s$//' >"$work/there" || true
     if [ -s "$work/here" ] && cmp -s "$work/here" "$work/there"; then
         echo "ok  $1: $(tail -1 "$work/here")"
     else
-        echo "FAILED  $1: $(cat "$work/here") in processes; on the workers $(cat "$work/there" "$work/faults")"
+        echo "FAILED  $1: $(cat "$work/here") in local processes; on the workers $(cat "$work/there" "$work/faults")"
         failed=1
     fi
 }
 
 (sleep 2 && kill -KILL "${started[1]}") &
-same "hostile logs" "logs,|findings" "$python" "$top/tests/fuzz/fuzz.py" --program "$top/release/hidlog" --count 200
-same "transactions" "logs," "$python" "$top/tests/fuzz/transactions.py" --count 60
-same "a part of the corpus" "passed," "$python" "$top/conformance/run.py" --only init/ --touch-line touch \
+compare_results "hostile logs" "logs,|findings" "$python" "$top/tests/fuzz/fuzz.py" --program "$top/release/hidlog" --count 200
+compare_results "transactions" "logs," "$python" "$top/tests/fuzz/transactions.py" --count 60
+compare_results "a part of the corpus" "passed," "$python" "$top/conformance/run.py" --only init/ --touch-line touch \
     --device "$python $top/conformance/as_command.py"
 if "$python" "$top/conformance/run.py" --executor tcp://localhost:1 --touch-line touch --device x 2>"$work/faults" ||
-    ! grep -q "it has to be dask://HOST:PORT" "$work/faults"; then
+    ! grep -q "it must be dask://HOST:PORT" "$work/faults"; then
     echo "FAILED  a wrong address: $(cat "$work/faults")"
     failed=1
 fi

@@ -1,16 +1,16 @@
 #!/usr/bin/env bash
-# Tries ./hidlog as its users do, in a copy of the repository and with the base system's programs on the path.
+# Tests ./hidlog in a copy of the repository, with only the base system's programs on PATH.
 set -euo pipefail
 top=$(cd "$(dirname "${BASH_SOURCE[0]}")/.." && pwd)
 work=$(mktemp -d)
 trap 'PATH=${every_path:-$PATH} rm -rf "$work"' EXIT
 log=$top/examples/registration.log
-# The copy's folder has a space in its name.
+# The path has a space.
 copy="$work/a copy"
 mkdir -p "$copy/crates" "$work/bin"
 cp -a "$top"/{hidlog,crates.txt,HANDLES,release,packages,python} "$copy/"
 (cd "$top" && release/sources.sh | grep ^crates/ | xargs cp -a --parents -t "$copy")
-# As in a clone, release/ is written after the sources.
+# As in a clone, release/BUILD is not older than the sources.
 find "$copy" -exec touch -h -d 2010-01-01 {} +
 touch -d 2010-01-01 "$copy/release/BUILD"
 every_path=$PATH
@@ -18,7 +18,7 @@ for name in sh awk cat cut dirname find grep readlink sed sha256sum sort uname x
     ln -s "$(command -v "$name")" "$work/bin/$name"
 done
 export PATH=$work/bin
-# Where a toolchain is, the launcher doesn't start it.
+# The launcher must not run the toolchain, even if it is installed.
 printf '#!/bin/sh\n: >"%s"\n' "$work/proved" >"$work/bin/rt"
 "$(PATH=$every_path command -v chmod)" +x "$work/bin/rt"
 
@@ -27,36 +27,36 @@ fail() {
     exit 1
 }
 
-# Runs the launcher: call STATUS COMMAND WORD .. . Its output is in $work/out, its messages in $work/said.
-call() {
+# Runs a command that must exit with STATUS; its output is in $work/out and $work/said: expect_status STATUS COMMAND ARGUMENT ..
+expect_status() {
     local wanted=$1 status=0
     shift
     "$@" <"$log" >"$work/out" 2>"$work/said" || status=$?
-    [ "$status" = "$wanted" ] || fail "$* ended with $status and not $wanted: $(<"$work/said")"
+    [ "$status" = "$wanted" ] || fail "$*: exit status $status, expected $wanted: $(<"$work/said")"
 }
 
-# The log is replayed with nothing said: replays COMMAND
-replays() {
-    call 0 "$@" replay
+# Checks that a command replays the log without messages: check_replay COMMAND
+check_replay() {
+    expect_status 0 "$@" replay
     [ "$(<"$work/out")" = "$(<"$log")" ] || fail "$* does not replay"
-    [ ! -s "$work/said" ] || fail "$* said: $(<"$work/said")"
+    [ ! -s "$work/said" ] || fail "$* printed: $(<"$work/said")"
 }
 
-# The log is replayed, and one line names the command that proves the program again: is_stale WHAT
-is_stale() {
-    call 0 "$copy/hidlog" replay
+# Checks that the log is replayed, with a message that the program must be built again: check_stale_message CAUSE
+check_stale_message() {
+    expect_status 0 "$copy/hidlog" replay
     [ "$(<"$work/out")" = "$(<"$log")" ] || fail "$1: it does not replay"
     [[ $(<"$work/said") =~ ^hidlog:\ [^$'\n']*older[^$'\n']*"rt ci && release/build.sh"$ ]] || fail "$1: $(<"$work/said")"
 }
 
-replays "$copy/hidlog"
+check_replay "$copy/hidlog"
 "$(PATH=$every_path command -v ln)" -s "$copy/hidlog" "$work/link"
-replays "$work/link"
-(cd "$work" && replays "./a copy/hidlog")
-(cd "$copy" && replays ./hidlog && replays sh hidlog)
-call 2 "$copy/hidlog" frobnicate
+check_replay "$work/link"
+(cd "$work" && check_replay "./a copy/hidlog")
+(cd "$copy" && check_replay ./hidlog && check_replay sh hidlog)
+expect_status 2 "$copy/hidlog" frobnicate
 
-# A source that changed is seen, also if its time is an old one; so is a definition, a proof, and a file that is new.
+# A changed source, definition or proof is detected even if its modification time is old; so is a new file.
 PATH=$every_path
 changed=("$copy/crates/session_log/src/lib.rt")
 for kind in specs proofs; do
@@ -66,16 +66,17 @@ for file in "${changed[@]}"; do
     cp -p "$file" "$work/kept"
     echo '-- changed' >>"$file"
     touch -d 2001-01-01 "$file"
-    PATH=$work/bin is_stale "$file"
+    PATH=$work/bin check_stale_message "$file"
     cp -p "$work/kept" "$file"
-    PATH=$work/bin replays "$copy/hidlog"
+    PATH=$work/bin check_replay "$copy/hidlog"
 done
 : >"$copy/crates/session_log/src/new.rt"
-PATH=$work/bin is_stale "a new file"
+PATH=$work/bin check_stale_message "a new file"
 rm "$copy/crates/session_log/src/new.rt"
 [ ! -e "$work/proved" ] || fail "the launcher started a proof"
 
-# The Python package's commands are run from the clone, and nothing of the current folder; without Python a line says so.
+# Commands of the Python package run from the clone, not from modules in the current folder. Without Python, a message
+# says so.
 if command -v python3 >/dev/null; then
     ln -s "$(python3 -c 'import sys; print(sys.executable)')" "$work/bin/python3"
     mkdir -p "$work/here/hidlog"
@@ -84,6 +85,6 @@ if command -v python3 >/dev/null; then
     [ "$(sed -n 1p "$work/out")" = sequenceDiagram ] || fail "hidlog mermaid: $(cat "$work/out")"
     rm "$work/bin/python3"
 fi
-PATH=$work/bin call 2 "$copy/hidlog" mermaid
+PATH=$work/bin expect_status 2 "$copy/hidlog" mermaid
 grep -q "^hidlog: mermaid .* python3 is missing" "$work/said" || fail "without Python: $(cat "$work/said")"
-echo "the launcher does as it says"
+echo "tests/launcher.sh: all passed"

@@ -1,9 +1,9 @@
 #!/usr/bin/env python3
-"""What packages hold: their licences, the files that the man page names, and what the statements beside them say.
+"""Checks the contents of the packages: licences, the files that the man page names, and the statements beside them.
 
     tests/packages_hold.py FOLDER       the folder that packages/build.sh wrote
 
-Exit status: 1 where something isn't as it should be.
+Exit status: 1 if a check fails.
 """
 
 from __future__ import annotations
@@ -22,7 +22,7 @@ from pathlib import Path
 
 TOP = Path(__file__).resolve().parent.parent
 FOLDER = Path(sys.argv[1])
-# The programs, by the names that the statements have for their C libraries.
+# The programs, by the names of their C libraries in the statements.
 PROGRAMS = {
     library: path.read_bytes()
     for library, path in (("glibc", TOP / "release/hidlog"), ("glibc-arm64", TOP / "release/aarch64/hidlog"))
@@ -31,8 +31,8 @@ PROGRAMS = {
 Files = dict[str, bytes]
 
 
-def in_tar(data: bytes) -> Files:
-    """Returns the files of a tar by their names; those that are links, without bytes."""
+def read_tar(data: bytes) -> Files:
+    """Returns the files of a tar by name; links have no bytes."""
     with tarfile.open(fileobj=io.BytesIO(data)) as archive:
         found = {
             member.name.removeprefix("./"): archive.extractfile(member) if member.isfile() else None
@@ -41,8 +41,8 @@ def in_tar(data: bytes) -> Files:
         return {name: file.read() if file else b"" for name, file in found.items()}
 
 
-def holds(path: Path) -> Files:
-    """Returns the files of a package by their names."""
+def read_package(path: Path) -> Files:
+    """Returns the files of a package by name."""
     data = path.read_bytes()
     if path.suffix in (".whl", ".zip"):
         with zipfile.ZipFile(io.BytesIO(data)) as archive:
@@ -52,40 +52,41 @@ def holds(path: Path) -> Files:
             subprocess.run(["dpkg-deb", "-x", str(path), folder], check=True)
             files = (path for path in Path(folder).rglob("*") if path.is_file() and not path.is_symlink())
             return {str(file.relative_to(folder)): file.read_bytes() for file in files}
-    return in_tar(data)
+    return read_tar(data)
 
 
 PACKAGES = {
-    path.name: holds(path)
+    path.name: read_package(path)
     for path in sorted(FOLDER.iterdir())
     if path.suffix != ".json" and not path.name.endswith("SUMS")
 }
 
 
-def have_program(program: bytes) -> set[str]:
-    """Returns the packages that have a program, by its bytes."""
+def find_packages_with(program: bytes) -> set[str]:
+    """Returns the packages that contain a program, detected by its bytes."""
     return {name for name, files in PACKAGES.items() if program in files.values()}
 
 
-def have_any_program() -> set[str]:
-    return set().union(*(have_program(program) for program in PROGRAMS.values()))
+def find_packages_with_any_program() -> set[str]:
+    return set().union(*(find_packages_with(program) for program in PROGRAMS.values()))
 
 
-def licences_are_there() -> None:
-    """Each package has both licences or Debian's copyright file, and one with the program names the C library's."""
+def check_licences() -> None:
+    """Each package has both licences or Debian's copyright file; those with the program also have the C library's
+    licence."""
     for name, files in PACKAGES.items():
         texts = b"".join(data for file, data in files.items() if re.search(r"LICENSE|NOTICE|copyright$", file))
         assert b"Permission is hereby granted" in texts, f"{name} has no MIT licence"
         assert b"Apache License" in texts or b"common-licenses/Apache-2.0" in texts, f"{name} has no Apache licence"
-        if name in have_any_program():
+        if name in find_packages_with_any_program():
             assert b"Free Software" in texts and b"LGPL" in texts or b"Lesser General" in texts, f"{name}: no notice"
     for library, program in PROGRAMS.items():
-        found = have_program(program)
+        found = find_packages_with(program)
         assert {"hidlog_", "hidlog-"} == {name[:7] for name in found}, found
         assert len(found) == {"glibc": 5, "glibc-arm64": 4}[library], found
 
 
-def page_names_what_is_there() -> None:
+def check_man_page_paths() -> None:
     """The files that the man page names are in the Debian package, and in the tarball."""
     page = (TOP / "docs" / "use" / "hidlog.1").read_text(encoding="utf-8")
     named = re.findall(
@@ -99,8 +100,8 @@ def page_names_what_is_there() -> None:
             assert any(pattern.match(file) for file in files), f"the man page names {path}, which {package} hasn't got"
 
 
-def links_lead_somewhere() -> None:
-    """Each link of a page to a file leads to one of its package."""
+def check_links() -> None:
+    """Each link of a page to a file leads to a file of the same package."""
     count = 0
     for name, files in PACKAGES.items():
         folders = {str(parent) for file in files for parent in Path(file).parents}
@@ -108,13 +109,13 @@ def links_lead_somewhere() -> None:
             for target in re.findall(r"\]\(([^)#\s]+)", files[page].decode("utf-8")):
                 if "://" not in target:
                     path = os.path.normpath(f"{Path(page).parent}/{target}")
-                    assert path in files or path in folders, f"{name}: {page} leads to {target}, which isn't there"
+                    assert path in files or path in folders, f"{name}: {page} links to {target}, which does not exist"
                     count += 1
     assert count >= 20, count
 
 
-def readmes_are_there() -> None:
-    """Each package that is for people has a README."""
+def check_readmes() -> None:
+    """Each package for direct use has a README."""
     readmes = {name: [file for file in files if file.endswith("README.md")] for name, files in PACKAGES.items()}
     for name in (
         "hidlog_",
@@ -129,8 +130,8 @@ def readmes_are_there() -> None:
         assert any(found for package, found in readmes.items() if name in package), f"{name} has no README"
 
 
-def statements_name_all() -> None:
-    """Each package is named by both statements, with its sum, and made from its own parts."""
+def check_statements() -> None:
+    """Both statements list each package with its checksum and its parts."""
     sums = {package: hashlib.sha256((FOLDER / package).read_bytes()).hexdigest() for package in PACKAGES}
     (spdx,), (provenance,) = FOLDER.glob("*.spdx.json"), FOLDER.glob("*.provenance.json")
     document = json.loads(spdx.read_text())
@@ -148,14 +149,14 @@ def statements_name_all() -> None:
         if relation["relationshipType"] == "GENERATED_FROM":
             made[names[relation["spdxElementId"]]].add(names[relation["relatedSpdxElement"]])
     for library, program in PROGRAMS.items():
-        assert {name for name, parts in made.items() if library in parts} == have_program(program), library
-    for name in have_program(PROGRAMS.get("glibc-arm64", b"none")):
+        assert {name for name, parts in made.items() if library in parts} == find_packages_with(program), library
+    for name in find_packages_with(PROGRAMS.get("glibc-arm64", b"none")):
         assert "hidlog-sources-arm64" in made[name] and "hidlog-sources-uhid" not in made[name], (name, made[name])
     for word, part in (("go-", "go"), (".crate", "rust"), (".tgz", "npm"), (".whl", "python"), ("uhid", "uhid")):
         for name in (package for package in sums if word in package):
             assert f"hidlog-sources-{part}" in made[name], (name, made[name])
     assert "hidlog-sources-npm" not in made[next(name for name in sums if name.endswith(".whl"))]
-    # Versions are those of crates.txt's names, and nothing leads to a name that doesn't exist.
+    # Versions are those in crates.txt, and every reference is defined.
     uses = {
         word
         for line in (TOP / "crates.txt").read_text().splitlines()
@@ -172,8 +173,8 @@ def statements_name_all() -> None:
     assert ".example" not in spdx.read_text() + provenance.read_text()
 
 
-def statements_name_the_commit() -> None:
-    """The commit is the one that git has."""
+def check_commit() -> None:
+    """The commit is that of the git repository."""
     (provenance,) = FOLDER.glob("*.provenance.json")
     made = json.loads(provenance.read_text())["predicate"]["buildDefinition"]["resolvedDependencies"]
     head = subprocess.run(["git", "-C", str(TOP), "rev-parse", "HEAD"], capture_output=True, text=True).stdout.strip()
@@ -188,12 +189,12 @@ def statements_name_the_commit() -> None:
 def main() -> int:
     failed = 0
     for test in (
-        licences_are_there,
-        page_names_what_is_there,
-        links_lead_somewhere,
-        readmes_are_there,
-        statements_name_all,
-        statements_name_the_commit,
+        check_licences,
+        check_man_page_paths,
+        check_links,
+        check_readmes,
+        check_statements,
+        check_commit,
     ):
         try:
             test()

@@ -1,105 +1,105 @@
 #!/usr/bin/env bash
-# Signs packages with keys made here, verifies them by the commands of README, and sees each change refused:
-# tests/packages_signed.sh FOLDER. FOLDER is what packages/build.sh wrote; it isn't changed. Ends with 3 where ssh-keygen
+# Signs packages with new keys, verifies them with README's commands, and checks that each change is rejected:
+# tests/packages_signed.sh FOLDER. FOLDER is the output of packages/build.sh, and is not changed. Exits with 3 if ssh-keygen
 # is missing.
 set -euo pipefail
 top=$(cd "$(dirname "${BASH_SOURCE[0]}")/.." && pwd)
-command -v ssh-keygen >/dev/null || { echo "ssh-keygen is missing (apt-get install openssh-client)" >&2; exit 3; }
-room=$(mktemp -d)
-trap 'rm -rf "$room"' EXIT
-made=$room/made
+command -v ssh-keygen >/dev/null || { echo "ssh-keygen is missing (apt-get install openssh-client); nothing was run" >&2; exit 3; }
+work=$(mktemp -d)
+trap 'rm -rf "$work"' EXIT
+made=$work/made
 
-stop() {
+fail() {
     echo "tests/packages_signed.sh: $*"
     exit 1
 }
 
-# Copies the packages, as of a commit: a tree that a file differs in isn't signed.
-fresh() {
+# Copies the packages, marked as built from a commit without changes, since others are not signed: copy_packages FOLDER
+copy_packages() {
     rm -rf "$made"
     cp -r "$1" "$made"
     provenance=$(cd "$made" && echo hidlog-*.provenance.json)
     sed -i 's/"changed": true/"changed": false/' "$made/$provenance"
-    grep -q '"gitCommit"' "$made/$provenance" || { echo "no repository of git is here" >&2; exit 3; }
+    grep -q '"gitCommit"' "$made/$provenance" || { echo "this is not a git repository; nothing was run" >&2; exit 3; }
     (cd "$made" && sha256sum ./hidlog* ./*.deb 2>/dev/null | sort -u -k2 >SHA256SUMS)
 }
 
 sign() {
-    "$top/packages/sign.sh" "$room/$1" "$made" "$room/signers" >"$room/said" 2>&1
+    "$top/packages/sign.sh" "$work/$1" "$made" "$work/signers" >"$work/said" 2>&1
 }
 
-refuses() {
-    ! sign "$1" || stop "it signs $2"
-    grep -q "$3" "$room/said" || stop "of $2 it says: $(cat "$room/said")"
-    [ ! -e "$made/SHA256SUMS.sig" ] && [ ! -e "$made/$provenance.sig" ] || stop "a signature is left of $2"
+expect_signing_refused() {
+    ! sign "$1" || fail "sign.sh signs $2"
+    grep -q "$3" "$work/said" || fail "unexpected message for $2: $(cat "$work/said")"
+    [ ! -e "$made/SHA256SUMS.sig" ] && [ ! -e "$made/$provenance.sig" ] || fail "signature files remain after signing $2"
 }
 
-# What README tells a user to do.
-verified() {
-    (cd "$made" && ssh-keygen -Y verify -f "$room/signers" -I cogtzil -n hidlog-release -s SHA256SUMS.sig <SHA256SUMS &&
-        ssh-keygen -Y verify -f "$room/signers" -I cogtzil -n hidlog-release -s "$provenance.sig" <"$provenance" &&
-        sha256sum --check --strict --ignore-missing SHA256SUMS) >"$room/said" 2>&1
+# Verifies the packages with README's commands.
+verify_packages() {
+    (cd "$made" && ssh-keygen -Y verify -f "$work/signers" -I cogtzil -n hidlog-release -s SHA256SUMS.sig <SHA256SUMS &&
+        ssh-keygen -Y verify -f "$work/signers" -I cogtzil -n hidlog-release -s "$provenance.sig" <"$provenance" &&
+        sha256sum --check --strict --ignore-missing SHA256SUMS) >"$work/said" 2>&1
 }
 
-is_refused() {
-    ! verified || stop "$1 is verified"
-    fresh "$packages"
-    sign maintainer || stop "$(cat "$room/said")"
+expect_invalid() {
+    ! verify_packages || fail "$1 is accepted"
+    copy_packages "$packages"
+    sign maintainer || fail "$(cat "$work/said")"
 }
 
 packages=$(cd "$1" && pwd)
 for name in maintainer other; do
-    ssh-keygen -q -t ed25519 -N "" -C "" -f "$room/$name"
+    ssh-keygen -q -t ed25519 -N "" -C "" -f "$work/$name"
 done
-echo "cogtzil namespaces=\"hidlog-release\" $(cat "$room/maintainer.pub")" >"$room/signers"
+echo "cogtzil namespaces=\"hidlog-release\" $(cat "$work/maintainer.pub")" >"$work/signers"
 
-# What isn't signed.
-fresh "$packages"
-refuses other "with a key that isn't listed" "isn't a key of signers"
-refuses missing "without a key" "can't be signed"
+# Packages that must not be signed.
+copy_packages "$packages"
+expect_signing_refused other "with a key that isn't listed" "is not a key in signers"
+expect_signing_refused missing "without a key" "cannot sign"
 deb=$(cd "$made" && set -- hidlog_*_amd64.deb && echo "$1")
 printf x >>"$made/$deb"
-refuses maintainer "a package that was changed" "$deb: FAILED"
-fresh "$packages"
+expect_signing_refused maintainer "a package that was changed" "$deb: FAILED"
+copy_packages "$packages"
 touch "$made/hidlog-uhid_9.9_amd64.deb"
-refuses maintainer "a file that isn't listed" "hidlog-uhid_9.9_amd64.deb isn't in SHA256SUMS"
-fresh "$packages"
+expect_signing_refused maintainer "a file that isn't listed" "hidlog-uhid_9.9_amd64.deb is not in SHA256SUMS"
+copy_packages "$packages"
 printf x >>"$made/$deb"
 (cd "$made" && sha256sum ./hidlog* ./*.deb | sort -u -k2 >SHA256SUMS)
-refuses maintainer "a package of another provenance" "$deb isn't in both"
-fresh "$packages"
+expect_signing_refused maintainer "a package with a different provenance" "$deb is missing or differs"
+copy_packages "$packages"
 sed -i 's/"changed": false/"changed": true/' "$made/$provenance"
 (cd "$made" && sha256sum ./hidlog* ./*.deb | sort -u -k2 >SHA256SUMS)
-refuses maintainer "packages of changed sources" "weren't made from a commit"
+expect_signing_refused maintainer "packages of changed sources" "were not built from a commit"
 rm "$made/$provenance"
-! sign maintainer || stop "it signs without a provenance"
+! sign maintainer || fail "sign.sh signs without a provenance"
 
-# What is signed, and each way to change it afterwards.
-fresh "$packages"
-sign maintainer || stop "$(cat "$room/said")"
-verified || stop "what was signed isn't verified: $(cat "$room/said")"
+# Signed packages, and changes after signing.
+copy_packages "$packages"
+sign maintainer || fail "$(cat "$work/said")"
+verify_packages || fail "the signatures are not valid: $(cat "$work/said")"
 rm "$made"/*.crate
-verified || stop "a part of the packages isn't verified: $(cat "$room/said")"
+verify_packages || fail "the signatures of a part of the packages are not valid: $(cat "$work/said")"
 printf x >>"$made/$deb"
-is_refused "a changed package"
+expect_invalid "a changed package"
 sed -i "s/^[0-9a-f]\{8\}/00000000/" "$made/SHA256SUMS"
-is_refused "a changed sum"
+expect_invalid "a changed sum"
 printf x >>"$made/$deb"
 (cd "$made" && sha256sum ./hidlog* ./*.deb | sort -u -k2 >SHA256SUMS)
-is_refused "a package with a new sum"
+expect_invalid "a package with a new sum"
 sed -i 's/"gitCommit": "./"gitCommit": "0/' "$made/$provenance"
 printf ' ' >>"$made/$provenance"
-is_refused "a changed provenance"
+expect_invalid "a changed provenance"
 rm "$made/SHA256SUMS.sig"
-is_refused "a release without a signature"
+expect_invalid "a release without a signature"
 cp "$made/$provenance.sig" "$made/SHA256SUMS.sig"
-is_refused "the signature of another file"
+expect_invalid "the signature of another file"
 rm "$made/SHA256SUMS.sig"
-ssh-keygen -Y sign -q -f "$room/other" -n hidlog-release "$made/SHA256SUMS"
-is_refused "another's signature"
+ssh-keygen -Y sign -q -f "$work/other" -n hidlog-release "$made/SHA256SUMS"
+expect_invalid "the signature of another key"
 rm "$made/SHA256SUMS.sig"
-ssh-keygen -Y sign -q -f "$room/maintainer" -n file "$made/SHA256SUMS"
-is_refused "a signature that was made for something else"
+ssh-keygen -Y sign -q -f "$work/maintainer" -n file "$made/SHA256SUMS"
+expect_invalid "a signature for another purpose"
 ssh-keygen -Y verify -f "$top/packages/signers" -I cogtzil -n hidlog-release -s "$made/SHA256SUMS.sig" \
-    <"$made/SHA256SUMS" >/dev/null 2>&1 && stop "packages/signers has a key of a test"
+    <"$made/SHA256SUMS" >/dev/null 2>&1 && fail "packages/signers has a key of a test"
 echo "tests/packages_signed.sh: releases are signed and verified, and each change is refused"

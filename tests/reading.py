@@ -1,45 +1,44 @@
 #!/usr/bin/env python3
-"""Compares the two pages docs/believe/READING.md and READING_ANSWERS.md, and the page for what no packet depends on,
-with the definitions that the theorem needs.
+"""Compares docs/believe/READING.md, READING_ANSWERS.md and a third page with the definitions that the theorem needs.
 
-    tests/reading.py            ends with 1 where the pages miss a definition, show one that isn't needed, or twice,
-                                where a text, a count or the index is out of date, where one of the two pages has more
-                                words than it says or than 6,000, where a definition names a type or a constant of the
-                                code that isn't public, where a law doesn't speak of what it replaces, where a packet
-                                depends on what is set aside, or where the prose doesn't name a library's word or a
-                                small constructor
-    tests/reading.py --write    writes the definitions, the declarations, the counts and the index anew
-    tests/reading.py --list     prints what is needed, by files
+    tests/reading.py            prints the errors of the pages; exit status 1 if there are any
+    tests/reading.py --write    updates the definitions, the declarations, the counts and the index
+    tests/reading.py --list     prints what is needed, by file
     tests/reading.py --more     prints the third page: what no packet depends on
     tests/reading.py --index    prints the definitions by section of the standards
 
-The theorem is the clause `answered` of `drive_new`. From it each name that a definition uses is followed, through the
-`use` lines, to the definition itself. The first page has what is sent for which input, the second the authenticator's
-response. Two things shorten the way:
+Errors are: a definition that is missing, not needed or shown twice; a text, a count or an index that is out of date; a
+page with more words than it states or than 6,000; a definition that names a type or a constant of the code that isn't
+public; a law whose statement doesn't contain the definition that it replaces; a packet that depends on a definition
+excluded by ASIDE; prose that doesn't explain a library name or a lower-case constructor.
 
-- LAWS: in the place of a definition that computes, the reader reads the statement of a law that says what it is.
-- ASIDE: a definition whose value only goes into a field that is only copied is on the third page: no packet depends on
-  it.
+The theorem is the clause `answered` of `drive_new`. Starting there, each name that a definition uses is resolved,
+through the `use` lines, to its definition. The first page has the packets sent for each input, the second the
+authenticator's responses. Two tables shorten the pages:
 
-The third page has the clause `bounded` of `drive_new` too, field by field (APART). No packet depends on it.
+- LAWS: instead of a definition that computes, the reader reads the statement of a law that specifies it.
+- ASIDE: a definition whose value is only stored in a field that is only copied is on the third page: no packet depends
+  on it.
 
-The prose is written by hand, that of the third page in tests/reading_more.md, whose texts come when it is printed. A
-comment `<!-- KIND: FILE: NAMES -->`, with the names in backquotes, is followed by
+The third page also has the clause `bounded` of `drive_new`, field by field (APART). No packet depends on it.
+
+The prose is written by hand, that of the third page in tests/reading_more.md, whose definitions are inserted when it is
+printed. A comment `<!-- KIND: FILE: NAMES -->`, with the names in backquotes, is followed by
 
 - definitions: these definitions, each below its comment;
-- code: the types and constants of the code that definitions name; quoted: others; documented: their own text;
-- clauses: clauses of the contract of the function that is named first, and its signature where that is named.
+- code: the types and constants of the code that definitions name; quoted: others; documented: with their own comments;
+- clauses: clauses of the contract of the function named first, and its signature if `signature` is named.
 
-`<!-- definitions -->` alone is of the file that its first line has, and shows those of its definitions of which a line
-begins there. To take one in, write a line with its name, and call --write.
+`<!-- definitions -->` without names is followed by the file name and the definitions to show. To add one, write a line
+with its name, and run --write.
 
-A type is shown in a line: a record's fields, a data type's constructors with their arguments. The type of a field or an
-argument is left out where it is in PLAIN or has the same name. A record with parameters, or of statements, is shown as
-it is.
+A type is shown in one line: a record's fields, a data type's constructors with their arguments. The type of a field or
+an argument is omitted if it is in PLAIN or has the same name. A record with parameters or of propositions is shown
+unchanged.
 
-How many words each page has at most is written on it by hand, so that it doesn't grow unseen.
+Each page states its maximum number of words, written by hand, so that its growth is noticed.
 
-It needs no toolchain.
+No toolchain is needed.
 """
 
 from __future__ import annotations
@@ -58,51 +57,51 @@ import definitions
 TOP = Path(__file__).resolve().parent.parent
 PAGES = (TOP / "docs" / "believe" / "READING.md", TOP / "docs" / "believe" / "READING_ANSWERS.md")
 MORE_PAGE = TOP / "tests" / "reading_more.md"
-HEADLINE = TOP / "crates" / "token_session" / "src" / "driving.rt"
-# The clauses of `drive_new` that are read: the theorem, and what no packet depends on.
+HEADLINE = TOP / "crates" / "token_session" / "src" / "driver.rt"
+# The clauses of `drive_new` on the pages: the theorem, and the bounds, on which no packet depends.
 STATEMENT, BOUNDS = "answered", "bounded"
 BOUNDS_RECORD = "IsBounded"
 # Fields of the record of bounds, in the order of their sections.
 APART = ("pending", "carried", "steps")
-# A definition whose value only goes into this field, and the definitions that it needs alone: the section after those.
+# A definition whose value is only stored in this field. It and what only it needs have a section after those of APART.
 ASIDE = {"cut": "name"}
-# A definition, and the law that is read in its place: a function of src/laws.rt in the definition's crate.
+# A definition, and the law that is read instead: a function of src/laws.rt in the definition's crate.
 LAWS = {"canonical_tree": "trees_are_told", "outcome_of": "bytes_tell"}
-LAWS |= {name: "answers_follow_history" for name in ("sent", "judged", "core")}
-# Those that the two pages need. The third page needs the others.
+LAWS |= {name: "answers_follow_history" for name in ("sent", "received", "core")}
+# The laws on the first two pages. The third page has the others.
 PAGE_LAWS = {"canonical_tree"}
-# A law's premise that the types of the theorem's arguments meet: the page says it in words.
-PREMISES = {"Lawful"}
+# A premise of laws that the types of the theorem's arguments imply: the page explains it in prose.
+PREMISES = {"ValidRows"}
 CLAUSE = r"pub fn drive_new<.*?ensures {} \{{(.*?)\n    (?://|ensures)"
 USE = re.compile(r"pub fn drive_new<.*?ensures answered \{(.*?)\n    (?://|ensures)", re.DOTALL)
 USE = re.compile(r"use ([\w.]+)\.\{(.*)\}")
 MODIFIERS = re.compile(r"(?:(?:unfoldable|abbrev|pub) )+")
 DECLARES = re.compile(r"(?:(?:unfoldable|abbrev|pub|record|data) )*(\S+)")
 TOKEN = re.compile(r"[^\s(){}\[\],.;:]+")
-# The names of fields: `.field`, where a record is declared, and where one is made.
+# The names of fields: `.field`, in a record's declaration, and in a record's construction.
 FIELDS = re.compile(r"(?<=[\w)])\.[a-z]\w*|^ +pub \w+ :|(?<=[{;])\s*[a-z]\w* =(?= )", re.MULTILINE)
 # (a b : T), λ x., let x =
 BINDERS = re.compile(r"\(([a-z][\w ]*) :|λ \(?([a-z][\w ]*?)[.:]|let (\w+) ")
 BLOCK = re.compile(r"<!-- (definitions|code|documented|quoted|clauses)(?:: (\S+): `([^`]*)`)? -->\n((?:\n|    .*\n)*)")
-# A line with which a definition begins on a page: an equation, or a data type or a record in a line.
+# The first line of a definition on a page: an equation, or a data type or a record in one line.
 BEGINS = re.compile(r"    (?:record |data )?(\S+?):?(?= |$)")
 SECTION = re.compile(r"^(?=## Only for )", re.MULTILINE)
 COUNTS = re.compile(r"\*\*\d+\s+definitions?,\s+[\d,]+\s+lines,\s+\d+\s+files?\*\*")
 MORE = re.compile(r"\*\*\d+\s+more\s+definitions\*\*\s+\(`(\w+)`\)")
-# How many words a page has at most, as it says itself.
+# The maximum number of words that a page states.
 WORDS = re.compile(r"\*\*at most ([\d,]+)\s+words\*\*")
-MOST_WORDS = 6_000
-# A line of the page that isn't seen.
-UNSEEN = re.compile(r"<!-- .* -->")
-# The types of a field or an argument that are left out; in the code those of numbers, and bool.
+MAX_WORDS = 6_000
+# A line that isn't displayed.
+HIDDEN = re.compile(r"<!-- .* -->")
+# The types of a field or an argument that are omitted; in the code those of numbers, and bool.
 PLAIN = {"ℕ", "List ℕ", "Bool"}
 PLAIN_CODE = re.compile(r"[ui]\d+|usize|bool")
 STATES = re.compile(r"[≡≤<→]")
 DECLARED = re.compile(r"Rattle\.(\w+)\.specs\.declared\.([\w.]+?)(\.The\w+)?")
 LINKED = re.compile(r"\[(`[^`]*`)\]\([^)]*\)")
-# How a comment cites a standard, and how the pages do: sections without a name are those of CTAP 2.1.
+# How comments cite a standard, and how the pages do: there, section numbers alone refer to CTAP 2.1.
 CITED = ((re.compile(r"CTAP 2\.1, sections? "), ""), (re.compile(r"WebAuthn Level 2, sections? "), "WebAuthn, "))
-# Between the texts of the two pages, where they are looked at as one.
+# Separates the pages when they are processed as one text.
 END = "\f"
 EXPORTED = r"^pub use {}::(?:\{{[^}}]*\b{}\b[^}}]*\}}|{});|^pub mod {};"
 
@@ -131,7 +130,7 @@ class Definition:
         return [line for line in self.lines if line.strip() and not line.strip().startswith("--")]
 
     def words(self, without: tuple[str, ...] = ()) -> set[str]:
-        """Returns the words by which it may name something else, without those of these fields."""
+        """Returns the words that may name other definitions, without those of the fields `without`."""
         dropped = tuple(f"pub {name} :" for name in without)
         kept = (line for line in self.code() if not line.strip().startswith(dropped))
         text = FIELDS.sub(" ", "\n".join(line.split(" -- ")[0] for line in kept))
@@ -146,7 +145,7 @@ class Definition:
         return {match.group(1) for match in found if match}
 
     def shown(self) -> list[str]:
-        """Returns the definition as the page has it: its comment, and its lines without the words for the prover."""
+        """Returns the definition as shown on the page: its comment, and its lines without modifiers."""
         end = "" if self.comment.endswith((".", "?")) else "."
         comment = self.comment[:1].upper() + self.comment[1:] + end if self.comment else ""
         for cited, short in CITED:
@@ -155,7 +154,7 @@ class Definition:
         return [f"-- {line}" for line in lines] + self.body()
 
     def body(self) -> list[str]:
-        """Returns what the page has below its comment: of a function the lines after its type."""
+        """Returns the lines below the comment: for a function the lines after its type."""
         compact = self.compact()
         if compact:
             return compact
@@ -164,7 +163,7 @@ class Definition:
         return [line.rstrip() for line in code]
 
     def compact(self) -> list[str]:
-        """Returns a data type, or a record of what is no statement, in one line or a few."""
+        """Returns a data type, or a record without propositions, in one line or a few; nothing for others."""
         head = re.fullmatch(r"\s*(?:\w+ )*?(record|data) (\S+) : Type 0 where", self.lines[0])
         if head is None:
             return []
@@ -180,17 +179,17 @@ class Definition:
         return wrapped(" ".join([f"record {head[2]}:", *named([(name, of) for name, _, of in split])]))
 
     def equations(self) -> list[str]:
-        """Returns its lines that the page has, without comments."""
+        """Returns the lines shown on the page, without comments."""
         return [line for line in self.body() if not line.strip().startswith("--")]
 
     def begins(self) -> int:
-        """Returns the place of its first line that the page has: of a function its first equation, not its type."""
+        """Returns the index of the first line shown on the page: for a function its first equation, not its type."""
         equation = re.compile(rf" *{re.escape(self.name)}(?: |$)(?! *:)")
         return next((place for place, line in enumerate(self.lines) if equation.match(line)), 0)
 
 
 def named(fields: list[tuple[str, str]]) -> list[str]:
-    """Returns fields or named arguments, those of the same type together, with the type where that isn't plain."""
+    """Returns fields or named arguments, grouped by type, with the type if it isn't plain."""
     found = list[str]()
     for of, group in groupby(
         fields, key=lambda field: "" if field[1] in PLAIN or field[1].lower() == field[0] else field[1]
@@ -201,7 +200,7 @@ def named(fields: list[tuple[str, str]]) -> list[str]:
 
 
 def arguments(of: str) -> list[str]:
-    """Returns the arguments of a constructor, of its type."""
+    """Returns the arguments of a constructor, from its type."""
     found = list[str]()
     for part in of.split(" → ")[:-1]:
         for group in re.findall(r"\([^()]* : (?:[^()]|\([^()]*\))*\)", part) or [part]:
@@ -214,12 +213,12 @@ def arguments(of: str) -> list[str]:
 
 
 def wrapped(text: str) -> list[str]:
-    """Returns the text in lines, those after the first further to the right."""
+    """Returns the text in lines, all but the first indented."""
     return textwrap.wrap(text, 113, subsequent_indent="    ", break_on_hyphens=False)
 
 
 def one_of(head: str, lines: list[str]) -> list[str]:
-    """Returns a data type of its constructors. A comment is above the one that it is about."""
+    """Returns a data type, from its constructors. A comment is above its constructor."""
     found, text, between = list[str](), head, ""
     for line in lines:
         if line.startswith("--"):
@@ -230,8 +229,8 @@ def one_of(head: str, lines: list[str]) -> list[str]:
 
 
 def free_words(equation: str) -> set[str]:
-    """Returns the words of an equation or a type, without those that are bound here: the parameters in small letters,
-    and what `λ` and `let` name."""
+    """Returns the words of an equation or a type, without the names bound in it: lower-case parameters, and the names
+    that `λ` and `let` bind."""
     left = equation.partition(" =")[0] if not re.match(r" *(?:\w+ )*\S+ :", equation) else ""
     bound = {token for token in TOKEN.findall(left) if not token[0].isupper()}
     for group in BINDERS.findall(equation):
@@ -241,20 +240,20 @@ def free_words(equation: str) -> set[str]:
 
 @dataclass
 class File:
-    """The definitions of a file in their order, and where the names come from that it uses."""
+    """The definitions of a file in order, and the modules of the names that it uses."""
 
     definitions: dict[str, Definition] = field(default_factory=dict)
     uses: dict[str, tuple[str, str]] = field(default_factory=dict)
 
     def holding(self, name: str) -> Definition | None:
-        """Returns the definition with this name, or the data type with this constructor."""
+        """Returns the definition with this name, or the data type with this constructor, or None."""
         if name in self.definitions:
             return self.definitions[name]
         return next((definition for definition in self.definitions.values() if name in definition.makes()), None)
 
 
 def take_uses(found: File, line: str) -> bool:
-    """Takes a `use` line. Returns whether it is one."""
+    """Processes a `use` line. Returns False if the line isn't one."""
     use = USE.match(line)
     if use is None:
         return False
@@ -268,7 +267,7 @@ def take_uses(found: File, line: str) -> bool:
 
 @cache
 def read(path: Path) -> File:
-    """Returns what a file defines. In a `mutual` block definitions are indented."""
+    """Returns the definitions of a file. In a `mutual` block definitions are indented."""
     found, comment, current, indent = File(), list[str](), None, ""
     for line in path.read_text(encoding="utf-8").splitlines():
         text = line.strip()
@@ -294,8 +293,8 @@ def held(name: Name) -> Definition:
     return read(name.path).definitions[name.name]
 
 
-def path_of(module: str) -> Path | None:
-    """Returns the file of a module of this repository's definitions."""
+def check_path(module: str) -> Path | None:
+    """Returns the file of a module of this repository's definitions, or None."""
     parts = module.split(".")
     if parts[0] != "Rattle" or parts[2:3] != ["specs"]:
         return None
@@ -304,7 +303,7 @@ def path_of(module: str) -> Path | None:
 
 
 def declared(module: str, name: str) -> Name | None:
-    """Returns what a `use` of this name in this module takes from the code: that of a constructor is its type."""
+    """Returns the type or constant of the code that a `use` of this name refers to; for a constructor its type."""
     found = DECLARED.fullmatch(module)
     if found is None:
         return None
@@ -321,15 +320,16 @@ def statement(path: Path, clause: re.Pattern[str], what: str) -> list[Name]:
     found = clause.search(code)
     if found is None:
         raise SystemExit(f"tests/reading.py: {path.relative_to(TOP)} has no {what}")
-    named = ((path_of(uses.uses[word][0]), uses.uses[word][1]) for word in TOKEN.findall(found[1]) if word in uses.uses)
+    named = (
+        (check_path(uses.uses[word][0]), uses.uses[word][1]) for word in TOKEN.findall(found[1]) if word in uses.uses
+    )
     return [Name(there, name) for there, name in named if there]
 
 
 class Walk:
-    """What some clauses of `drive_new` need: definitions, types and constants of the code, and words of libraries.
+    """What some clauses of `drive_new` need: definitions, types and constants of the code, and library names.
 
-    Without what only the fields `without` need, and what is set `aside`; with `laws` in the place of what they
-    replace."""
+    Excludes what only the fields `without` or the definitions `aside` need. `laws` replace definitions."""
 
     def __init__(
         self, clauses: tuple[str, ...], without: tuple[str, ...], laws: dict[str, str], aside: dict[str, str]
@@ -345,7 +345,7 @@ class Walk:
                 self.visit(name)
 
     def visit(self, name: Name) -> None:
-        """Takes a definition and all that it uses."""
+        """Processes a definition and everything that it uses."""
         if name.name in self.laws:
             self.visit_law(name)
             return
@@ -361,7 +361,7 @@ class Walk:
             self.visit_word(name.path, word)
 
     def visit_word(self, path: Path, word: str) -> None:
-        """Takes what a word of a definition in this file names, if anything."""
+        """Processes what a word of a definition in this file refers to, if anything."""
         if word in self.aside:
             return
         here = read(path)
@@ -369,7 +369,7 @@ class Walk:
             self.visit(Name(path, word))
         elif word in here.uses:
             module, other = here.uses[word]
-            there, code = path_of(module), declared(module, other)
+            there, code = check_path(module), declared(module, other)
             if there:
                 self.visit(Name(there, other))
             elif code:
@@ -378,14 +378,14 @@ class Walk:
                 self.library.add(word)
 
     def visit_law(self, name: Name) -> None:
-        """Takes the statement of the law that is read in the place of a definition."""
+        """Processes the statement of the law that replaces a definition."""
         law = self.laws[name.name]
         path = name.path.parent.parent / "src" / "laws.rt"
         clause = re.compile(rf"pub fn {law}\(\)\s+ensures (?:\w+ )?\{{(.*?)\}}", re.DOTALL)
         named = statement(path, clause, f"law {law}")
         said = {word for of in named if of.name not in PREMISES for word in held(of).words()}
         if name.name not in said:
-            self.faults.append(f"{path.relative_to(TOP)}: {law} doesn't speak of {name.name}")
+            self.faults.append(f"{path.relative_to(TOP)}: the statement of {law} doesn't contain {name.name}")
         for of in named:
             if of.name not in PREMISES:
                 self.visit(of)
@@ -393,7 +393,8 @@ class Walk:
 
 @dataclass
 class Part:
-    """What a part of the pages shows: the two pages, or a section of the third, with what it needs of the code."""
+    """What a part of the pages shows: definitions, and types and constants of the code. A part is the first two pages,
+    or a section of the third."""
 
     title: str
     definitions: set[Name]
@@ -401,7 +402,7 @@ class Part:
 
 
 class Needs:
-    """The parts of the pages, the first two pages first, and how many more definitions a law replaces."""
+    """The parts of the pages, beginning with the first two pages, and the number of definitions that each law saves."""
 
     def __init__(self) -> None:
         both = (STATEMENT, BOUNDS)
@@ -410,8 +411,8 @@ class Needs:
         whole = walks[-1]
         walks.append(Walk(both, (), LAWS, {}))
         self.parts = [Part("on the pages", statement_alone.needed, statement_alone.declared)]
-        # The record of bounds itself, and the law by which its fields are read, are in the head of the third page.
-        head = Part("in the head of the third page", *without(walks[0], statement_alone))
+        # The record of bounds itself, and the law for its fields, are in the introduction of the third page.
+        head = Part("in the introduction of the third page", *without(walks[0], statement_alone))
         self.parts.append(head)
         for name, before, walk in zip((*APART, *ASIDE), walks, walks[1:]):
             self.parts.append(Part(f"in the section of `{name}`", *without(walk, before)))
@@ -424,30 +425,30 @@ class Needs:
 
 
 def without(walk: Walk, before: Walk) -> tuple[set[Name], set[Name]]:
-    """Returns the definitions, and the types and constants of the code, that only the first walk needs."""
+    """Returns the definitions, and the types and constants of the code, that `walk` needs and `before` doesn't."""
     return walk.needed - before.needed, walk.declared - before.declared
 
 
 def more_than(walk: Walk, clauses: tuple[str, ...], law: str, laws: dict[str, str]) -> int:
-    """Returns how many more definitions a walk needs without a law."""
+    """Returns the number of additional definitions that a walk needs without a law."""
     others = {name: other for name, other in laws.items() if other != law}
     return len(Walk(clauses, (), others, ASIDE).needed - walk.needed)
 
 
 def read_aside(needed: set[Name]) -> list[str]:
-    """Returns where a definition does more with what is set aside than to put it in the field of that name."""
+    """Returns errors: definitions that use a name of ASIDE other than to store it in its field."""
     found = list[str]()
     for word, name in ASIDE.items():
         other = re.compile(rf"(?<![\w.])(?<!\b{name} = ){word}(?![\w.])|(?<!\b{name} = )(?<![\w.])\w+\.{name}\b")
         for reader in sorted(needed):
             if other.search("\n".join(line.split(" -- ")[0] for line in held(reader).code())):
-                found.append(f"{reader} reads {word} or the field {name}, on which no packet is to depend")
+                found.append(f"{reader} reads {word} or the field {name}, but no packet may depend on it")
     return found
 
 
 @dataclass
 class Block:
-    """A block of a page: its kind, and what it shows of a file."""
+    """A block of a page: its kind, its file, and the names shown."""
 
     kind: str
     path: Path
@@ -455,8 +456,8 @@ class Block:
 
 
 def block_of(found: re.Match[str]) -> Block:
-    """Returns a block. Where its comment names nothing it is of the file that its first line has, and shows the file's
-    definitions of which a line begins here."""
+    """Returns a block. If its comment has no names, the first line names the file, and each definition whose name
+    begins a line is shown."""
     if found[2]:
         return Block(found[1], TOP / found[2], found[3].split())
     lines = found[4].strip("\n").splitlines()
@@ -467,13 +468,13 @@ def block_of(found: re.Match[str]) -> Block:
 
 
 def filled(found: re.Match[str]) -> str:
-    """Returns a block with the texts of today."""
+    """Returns a block with its current text."""
     block = block_of(found)
     return found[0].partition("\n")[0] + "\n" + shown(block.kind, block.path, block.names)
 
 
 def shown(kind: str, path: Path, names: list[str]) -> str:
-    """Returns the text of a block: what it has, and the file above it."""
+    """Returns the text of a block: a line with the file, and the content."""
     if kind == "definitions":
         found = read(path).definitions
         parts = [found[name].shown() if name in found else [f"({name} isn't defined)"] for name in names]
@@ -490,7 +491,7 @@ def shown(kind: str, path: Path, names: list[str]) -> str:
 
 
 def joined(parts: list[list[str]]) -> list[str]:
-    """Returns the lines of the parts, with a blank line between two, unless both are short and without a comment."""
+    """Returns the lines of the parts, separated by blank lines except between short ones without comments."""
     found, is_short = list[str](), True
     for part in parts:
         was_short, is_short = is_short, len(part) <= 2 and not part[0].startswith("--")
@@ -510,13 +511,13 @@ def declaration(path: Path, name: str) -> list[str]:
 
 
 def code_type(of: str) -> str:
-    """Returns a type of the code as definitions write it; what is plain as a number."""
+    """Returns a type of the code in the notation of definitions; plain types as ℕ."""
     kind = of.strip()
     return "ℕ" if PLAIN_CODE.fullmatch(kind) else re.sub(r"^Option<(.*)>$", r"Option \1", kind)
 
 
 def short_declaration(path: Path, name: str) -> list[str]:
-    """Returns a type or a constant of the code as definitions are shown: its fields or variants, its value."""
+    """Returns a type or a constant of the code in the form of definitions: its fields or variants, or its value."""
     lines = [line for line in declaration(path, name) if not line.strip().startswith("//")]
     constant = re.fullmatch(r"pub const (\w+): \w+ = (.*);", lines[0])
     if constant:
@@ -532,7 +533,7 @@ def short_declaration(path: Path, name: str) -> list[str]:
 
 
 def variant(found: re.Match[str]) -> str:
-    """Returns a variant of the code's enum as definitions write a constructor."""
+    """Returns a variant of an enum of the code in the notation of a constructor."""
     name, of, fields = found.groups()
     if of:
         kind = code_type(of)
@@ -546,7 +547,7 @@ def clauses(path: Path, function: str, names: list[str]) -> list[str]:
     code = path.read_text(encoding="utf-8")
     found = re.search(rf"^( *)pub fn {function}\b(?:.|\n)*?\n\1\{{", code, re.MULTILINE)
     if found is None:
-        return [f"({function} isn't there)"]
+        return [f"({function} doesn't exist)"]
     lines = list[str]()
     signature, *parts = re.split(r"\n +(?=ensures|requires|// )", found[0].removesuffix(f"\n{found[1]}{{"))
     for name in names:
@@ -561,7 +562,7 @@ def clauses(path: Path, function: str, names: list[str]) -> list[str]:
 
 
 def is_public(name: Name) -> bool:
-    """Returns whether users of the crate can name it: its module is public, or the crate exports it."""
+    """Returns whether users of the crate can name the item: its module is public, or the crate exports it."""
     module = name.path.stem
     root = name.path.with_name("lib.rt").read_text(encoding="utf-8")
     return bool(re.search(EXPORTED.format(module, name.name, name.name, module), root, re.M))
@@ -573,7 +574,7 @@ def count(names: set[Name]) -> str:
 
 
 def written(needs: Needs, page: str) -> str:
-    """Returns the text of both pages with the texts and the counts of today."""
+    """Returns the pages with current definitions and counts."""
     page = BLOCK.sub(filled, page)
     counts = iter([count(part.definitions) for part in needs.parts])
     page = COUNTS.sub(lambda match: with_numbers(match[0], next(counts, match[0])), page)
@@ -581,7 +582,7 @@ def written(needs: Needs, page: str) -> str:
 
 
 def with_numbers(text: str, counted: str) -> str:
-    """Returns the text with the numbers of the other one, and its own line breaks."""
+    """Returns the text with the numbers of `counted`, keeping its line breaks."""
     numbers: Iterator[str] = iter(re.findall(r"[\d,]*\d", counted))
     return re.sub(r"[\d,]*\d", lambda match: next(numbers), text)
 
@@ -592,14 +593,15 @@ def names_on(page: str, *kinds: str) -> list[Name]:
 
 
 def differences(where: str, has: list[Name], needs: set[Name]) -> list[str]:
-    """Returns what is missing, not needed, or there twice."""
-    found = [f"{name} is needed and isn't {where}" for name in sorted(needs - set(has))]
-    found += [f"{name} is {where} and isn't needed" for name in sorted(set(has) - needs)]
+    """Returns errors: names that are missing, not needed or shown twice."""
+    found = [f"{name} is needed but isn't {where}" for name in sorted(needs - set(has))]
+    found += [f"{name} is {where} but isn't needed" for name in sorted(set(has) - needs)]
     return found + [f"{name} is {where} twice" for name in sorted({name for name in has if has.count(name) > 1})]
 
 
 def unsaid(needs: Needs, page: str) -> list[str]:
-    """Returns which constructors in small letters the notation doesn't name, and which library words no prose does."""
+    """Returns errors: lower-case constructors missing in the section Notation, and library names missing in the
+    prose."""
     made = {
         symbol
         for part in needs.parts
@@ -609,27 +611,27 @@ def unsaid(needs: Needs, page: str) -> list[str]:
     }
     notation = set(TOKEN.findall(page.partition("## Notation")[2].partition("\n## ")[0]))
     prose = set(TOKEN.findall(BLOCK.sub("", page).replace("`", " ")))
-    found = [f"the notation doesn't name the constructor {name}" for name in sorted(made - notation)]
+    found = [f"the section Notation doesn't mention the constructor {name}" for name in sorted(made - notation)]
     return found + [f"the library's {name} isn't explained" for name in sorted(needs.library - prose)]
 
 
 def extent(page: str) -> int:
-    """Returns how many words a page has: each word, name, number and sign between two spaces."""
-    return sum(len(line.split()) for line in page.splitlines() if not UNSEEN.fullmatch(line))
+    """Returns the number of words of a page, separated by spaces, including numbers and symbols."""
+    return sum(len(line.split()) for line in page.splitlines() if not HIDDEN.fullmatch(line))
 
 
 def overlong(path: Path, page: str) -> list[str]:
-    """Returns where a page has more words than it says, or says more than a page may have."""
+    """Returns errors: a page has more words than it states, or states more than MAX_WORDS."""
     name, stated = path.name, WORDS.search(page)
     if stated is None:
-        return [f"{name} doesn't say how many words it has"]
-    words, most = extent(page), int(stated[1].replace(",", ""))
-    found = [f"{name} has {words} words, more than {most}"] if words > most else []
-    return found + ([f"{name} says {most} words, more than {MOST_WORDS}"] if most > MOST_WORDS else [])
+        return [f"{name} doesn't state its maximum number of words"]
+    words, limit = extent(page), int(stated[1].replace(",", ""))
+    found = [f"{name} has {words} words, but at most {limit} are allowed"] if words > limit else []
+    return found + ([f"{name} allows {limit} words, more than {MAX_WORDS}"] if limit > MAX_WORDS else [])
 
 
 def faults(needs: Needs, pages: list[str], more: str) -> list[str]:
-    """Returns what is wrong in the texts of the pages."""
+    """Returns the errors of the pages."""
     both = END.join(pages)
     texts, found = [both, *SECTION.split(more)], [*needs.faults]
     if len(texts) != len(needs.parts):
@@ -638,19 +640,19 @@ def faults(needs: Needs, pages: list[str], more: str) -> list[str]:
         found += differences(part.title, names_on(text, "definitions"), part.definitions)
         found += differences(part.title, names_on(text, "code", "documented"), part.code)
     code = sorted(name for part in needs.parts for name in part.code)
-    found += [f"{name} is named by a definition and isn't public" for name in code if not is_public(name)]
+    found += [f"{name} is used by a definition but isn't public" for name in code if not is_public(name)]
     found += unsaid(needs, END.join(texts))
     found += [fault for path, page in zip(PAGES, pages) for fault in overlong(path, page)]
     whole = END.join([both, more])
     if len(COUNTS.findall(whole)) != len(needs.parts) or {m[1] for m in MORE.finditer(whole)} != set(LAWS.values()):
-        found.append("the pages don't say each count once")
+        found.append("the pages don't have each count exactly once")
     if written(needs, whole).split(END)[: len(PAGES)] != pages:
-        found.append("a text or a count on a page is out of date: tests/reading.py --write")
+        found.append("a definition or a count on a page is out of date: run tests/reading.py --write")
     return found
 
 
 def comments() -> dict[Path, dict[str, str]]:
-    """Returns the comment above each definition of the repository, by files."""
+    """Returns the comment above each definition of the repository, by file."""
     files = {path: read(path) for path in sorted((TOP / "crates").glob("*/specs/**/*.antt"))}
     return {
         path: {definition.name: definition.comment for definition in file.definitions.values()}
@@ -659,7 +661,7 @@ def comments() -> dict[Path, dict[str, str]]:
 
 
 def listing(needs: Needs) -> str:
-    """Returns what is needed, by parts and files: the definitions in their order, and what the code declares."""
+    """Returns what is needed, by part and file: the definitions in order, and the types and constants of the code."""
     lines = list[str]()
     for part in needs.parts:
         for path in sorted({definition.path for definition in part.definitions}):
@@ -680,7 +682,7 @@ def main() -> int:
         print(written(needs, whole).split(END)[-1], end="")
         return 0
     if sys.argv[1:] == ["--index"]:
-        print(definitions.page(comments()), end="")
+        print(definitions.build_page(comments()), end="")
         return 0
     if sys.argv[1:] == ["--write"]:
         for path, text in zip(PAGES, written(needs, whole).split(END)):
@@ -691,7 +693,7 @@ def main() -> int:
         print(line)
     counted = count(needs.parts[0].definitions).strip("*")
     words = " and ".join(f"{path.name} {extent(page)}" for path, page in zip(PAGES, pages))
-    print(f"one statement, {counted}; words: {words}; {len(found)} faults")
+    print(f"one statement, {counted}; words: {words}; {len(found)} errors")
     return 1 if found else 0
 
 

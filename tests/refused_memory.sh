@@ -1,16 +1,15 @@
 #!/usr/bin/env bash
-# Has each of the first allocations of every test of the libraries fail in turn, so many as the first argument says (12):
-# decode_value, encode_value and save allocate. Then it prints one verdict. Needs rt and Python 3. Status 0: a refusal
-# changes nothing but the answer. 1: it does.
+# Runs the libraries' tests once for each of the first COUNT allocations, which fails in that run (decode_value,
+# encode_value and save allocate): tests/refused_memory.sh [COUNT], by default 12. Needs rt and Python 3.
 #
-# A test that is refused memory may end with that as its error, and with nothing else. Tests of `.._after_refused_memory`
-# make the same call again and have to pass.
+# Exit status: 0 if a failed allocation changes nothing but the result, otherwise 1. A test whose allocation fails may only
+# fail with the allocation error. Tests named `.._after_refused_memory` repeat the call and must pass.
 set -u
 cd "$(dirname "$0")/.." || exit 2
 work=$(mktemp -d)
 trap 'rm -r "$work"' EXIT
 for n in $(seq 1 "${1:-12}"); do
-    tests/rows.sh --fail-alloc "$n" >"$work/$n" 2>&1
+    tests/unit.sh --fail-alloc "$n" >"$work/$n" 2>&1
 done
 python3 - "$work" <<'JUDGE'
 import os

@@ -1,7 +1,7 @@
 #!/usr/bin/env bash
-# Cuts a log down that differs in one digit of an answer: what is left has to differ at the same packet of the sign-in.
-# Then a log of 10,000 lines, which takes less than a minute, one whose failure is named by a text, the sign-in that the
-# Tour cuts down, findings on standard output, what is kept at SIGINT, and mistakes.
+# Minimizes a log that differs in one digit of a response: the result must differ at the same packet of the sign-in. Then
+# a log of 10,000 lines, in less than a minute; --match; the sign-in of docs/use/TOUR.md; findings on standard output;
+# SIGINT; and invalid arguments.
 set -euo pipefail
 cd "$(dirname "${BASH_SOURCE[0]}")/.."
 export PYTHONPATH=python/src
@@ -13,34 +13,34 @@ fail() {
     exit 1
 }
 
-# Cuts a log down: shrink WORD ..
-shrink() {
+# Minimizes a log: run_shrink ARGUMENT ..
+run_shrink() {
     python3 -m hidlog shrink "$@" >"$work/smaller" 2>"$work/said"
 }
 
-# How many inputs are left.
-inputs() {
+# Prints the number of inputs that are left.
+count_inputs() {
     grep -c '^[>tpks]' "$work/smaller" || true
 }
 
-# Writes an example with the 20th digit of a line changed: changed LINE EXAMPLE
-changed() {
+# Writes an example with the 20th digit of a line changed: write_changed_log LINE EXAMPLE
+write_changed_log() {
     awk -v at="$1" 'NR == at { $2 = substr($2, 1, 19) "f" substr($2, 21) } { print }' "examples/$2" >"$work/changed"
     cmp -s "examples/$2" "$work/changed" && fail "nothing was changed"
     return 0
 }
 
-# What is left differs at this packet: differs K
-differs() {
+# Checks that the result differs at this packet: check_differs K
+check_differs() {
     if release/hidlog check <"$work/smaller" 2>"$work/fault" || ! grep -q "differs at packet $1\$" "$work/fault"; then
         fail "the shorter log: $(cat "$work/fault")"
     fi
 }
 
 # The fourth packet after the signature of the first sign-in.
-changed "$(awk '/^s 320 /{ print NR + 4 }' examples/sign_in.log)" sign_in.log
-shrink "$work/changed" release/hidlog check
-differs 4
+write_changed_log "$(awk '/^s 320 /{ print NR + 4 }' examples/sign_in.log)" sign_in.log
+run_shrink "$work/changed" release/hidlog check
+check_differs 4
 release/hidlog show <"$work/smaller" 2>"$work/said" | grep 'request 02 {1: "example.com"' >/dev/null
 [ "$(wc -l <"$work/smaller")" -lt "$(wc -l <"$work/changed")" ]
 
@@ -58,49 +58,49 @@ for log in long longer; do
     python3 -m hidlog shrink "$work/$log" sh -c "echo >>'$work/runs'; release/hidlog check" >"$work/smaller" \
         2>"$work/said" || fail "10,000 lines: $(cat "$work/said")"
     [ "$(wc -l <"$work/runs")" -lt 200 ] || fail "10,000 lines took $(wc -l <"$work/runs") runs"
-    differs 4
+    check_differs 4
     [ "$(wc -l <"$work/smaller")" -lt 40 ] || fail "$(wc -l <"$work/smaller") lines are left"
 done
 
-# An answer to getInfo behind a whole registration: INIT and the getInfo stay, and nothing of the registration.
+# A response to getInfo after a registration: only INIT and getInfo stay.
 begins=$(release/hidlog show --json examples/service_sign_in.log |
     awk -F '[:,]' '/"from":"key"/ && /"name":"CBOR"/ { begins = $2 } /"kind":"answer"/ && /GetInfo/ { last = begins }
         END { print last }')
-changed "$begins" service_sign_in.log
-shrink "$work/changed" release/hidlog check
-differs 1
-[ "$(inputs)" = 2 ] || fail "$(inputs) inputs are left of a getInfo: $(cat "$work/smaller")"
+write_changed_log "$begins" service_sign_in.log
+run_shrink "$work/changed" release/hidlog check
+check_differs 1
+[ "$(count_inputs)" = 2 ] || fail "$(count_inputs) inputs remain of a getInfo: $(cat "$work/smaller")"
 
-# A command that says what fails: a KEEPALIVE that asks for presence has to stay, and nothing else.
+# --match: only a KEEPALIVE that requests a touch must stay.
 # shellcheck disable=SC2016  # the shell that is called expands it
 asks='release/hidlog replay | if grep -q "^< [0-9a-f]*bb000102"; then echo "asks for presence"; exit 1; fi'
-shrink --same "asks for presence" examples/sign_in.log sh -c "$asks"
+run_shrink --match "asks for presence" examples/sign_in.log sh -c "$asks"
 if sh -c "$asks" <"$work/smaller" >"$work/fault"; then
     fail "what is left does not ask for presence"
 fi
-[ "$(inputs)" -lt 6 ] || fail "$(cat "$work/smaller")"
+[ "$(count_inputs)" -lt 6 ] || fail "$(cat "$work/smaller")"
 
-# The Tour's: a sign-in that the user denies stays a sign-in, with the registration that it needs. A registration of two
-# packets, presence, a key and a signature are five inputs; INIT, the sign-in and the denial three.
+# The sign-in of TOUR.md: a denied sign-in stays, with the registration that it needs: five inputs (two packets, presence,
+# key pair, signature); INIT, the sign-in and the denial are three.
 sed '22s/granted/denied/' examples/sign_in.log | release/hidlog replay >"$work/right"
 denied="! release/hidlog replay | release/hidlog show --summary | grep 'GetAssertion .*OPERATION_DENIED' >/dev/null"
-shrink "$work/right" sh -c "$denied"
+run_shrink "$work/right" sh -c "$denied"
 sh -c "$denied" <"$work/smaller" && fail "what is left has no denied sign-in"
-[ "$(inputs)" = 8 ] || fail "$(inputs) inputs are left of the Tour's: $(cat "$work/smaller")"
+[ "$(count_inputs)" = 8 ] || fail "$(count_inputs) inputs remain of TOUR.md's log: $(cat "$work/smaller")"
 [ "$(grep -c '^p .* denied$' "$work/smaller")" = 1 ] || fail "a denial is missing"
 
-# What the package's judge finds on standard output: a counter that stays needs two sign-ins.
-shrink examples/failing/counter_stays.log python3 -m hidlog judge
-python3 -m hidlog judge "$work/smaller" >"$work/found" && fail "nothing is found in the shorter log"
-grep -q 'due:  a counter above 1' "$work/found" || fail "$(cat "$work/found")"
+# A finding of `hidlog judge` on standard output: a counter that does not rise needs two sign-ins.
+run_shrink examples/failing/stale_sign_count.log python3 -m hidlog judge
+python3 -m hidlog judge "$work/smaller" >"$work/found" && fail "no finding in the shorter log"
+grep -q 'expected: a counter above 1' "$work/found" || fail "$(cat "$work/found")"
 [ "$(grep -c '^s ' "$work/smaller")" = 2 ] || fail "$(grep -c '^s ' "$work/smaller") signatures are left"
-# So does one on a later line of what is written, as `check --signatures` has them.
+# A finding on a later line of the output, such as that of `check --signatures`.
 finds="awk '{ print \"seen\" } / (granted|denied)\$/ { print \"line \" NR \": \" \$3; found = 1 } END { exit found }'"
-shrink "$work/right" sh -c "$finds"
-[ "$(inputs) $(head -n 1 "$work/smaller")" = "1 p 200 granted" ] || fail "more than the first: $(cat "$work/smaller")"
+run_shrink "$work/right" sh -c "$finds"
+[ "$(count_inputs) $(head -n 1 "$work/smaller")" = "1 p 200 granted" ] || fail "expected only the first line: $(cat "$work/smaller")"
 
-# At SIGINT what was found so far is written, and it fails in the same way. The command sends it at the run after one
-# that failed on a shorter log.
+# SIGINT writes the shortest log so far, which fails in the same way. The command sends it at the run after one that failed
+# on a shorter log.
 cat >"$work/stops" <<'STOPS'
 cat >"$0.log"
 [ ! -e "$0.shorter" ] || kill -INT "$PPID"
@@ -109,31 +109,31 @@ release/hidlog check <"$0.log" || status=$?
 [ "$status" != 1 ] || [ "$(wc -l <"$0.log")" -ge "$1" ] || : >"$0.shorter"
 exit "$status"
 STOPS
-changed "$(awk '/^s 320 /{ print NR + 4 }' examples/sign_in.log)" sign_in.log
+write_changed_log "$(awk '/^s 320 /{ print NR + 4 }' examples/sign_in.log)" sign_in.log
 status=0
 python3 -m hidlog shrink "$work/changed" sh "$work/stops" "$(wc -l <"$work/changed")" >"$work/smaller" 2>"$work/said" ||
     status=$?
 [ "$status" = 130 ] || fail "SIGINT: status $status"
 grep -q '^hidlog shrink: interrupted$' "$work/said" || fail "SIGINT: $(cat "$work/said")"
-differs 4
+check_differs 4
 [ "$(wc -l <"$work/smaller")" -lt "$(wc -l <"$work/changed")" ] || fail "SIGINT: nothing was kept"
 
-# A mistake has status 2, writes nothing, and says what it is: wrong TEXT WORD ..
-wrong() {
+# Invalid arguments give exit status 2, no output, and this message: expect_usage_error TEXT ARGUMENT ..
+expect_usage_error() {
     local text=$1 status=0
     shift
-    shrink "$@" </dev/null || status=$?
+    run_shrink "$@" </dev/null || status=$?
     [ "$status" = 2 ] || fail "status $status: $*"
     [ ! -s "$work/smaller" ] || fail "a log was written: $*"
     grep -qF -- "$text" "$work/said" || fail "$*: $(cat "$work/said")"
 }
-wrong "the command does not end with a failure on the whole log" examples/sign_in.log release/hidlog check
-wrong "the command does not end with a failure and says 'never said'" --same "never said" examples/sign_in.log \
+expect_usage_error "the command does not fail on the whole log" examples/sign_in.log release/hidlog check
+expect_usage_error "the command does not fail and print 'never said' on the whole log" --match "never said" examples/sign_in.log \
     sh -c "$asks"
-wrong "a command is missing" examples/sign_in.log
-wrong "nothing.log: No such file or directory" nothing.log release/hidlog check
-wrong "no_such_program can't be started: No such file" examples/sign_in.log no_such_program
-wrong "the log is named before the command" release/hidlog check examples/sign_in.log
-wrong "in the same way on an empty log, where it says 'hidlog: cannot read log'" examples/sign_in.log \
+expect_usage_error "the command is missing after the log" examples/sign_in.log
+expect_usage_error "nothing.log: No such file or directory" nothing.log release/hidlog check
+expect_usage_error "no_such_program cannot be started: No such file" examples/sign_in.log no_such_program
+expect_usage_error "the log comes before the command" release/hidlog check examples/sign_in.log
+expect_usage_error "the command also fails on an empty log, with 'hidlog: cannot read log'" examples/sign_in.log \
     release/hidlog check nothing.log
-wrong "the following arguments are required: LOG"
+expect_usage_error "the following arguments are required: LOG"

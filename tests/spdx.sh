@@ -1,9 +1,9 @@
 #!/usr/bin/env bash
-# Has a tool of others judge the list of materials that the packages come with: tools-golang of SPDX, which Debian has
-# from trixie on, reads and validates it, and refuses five lists that are wrong: tests/spdx.sh CACHE
+# Validates the packages' SPDX document with SPDX's tools-golang, which is in Debian since trixie. It must also reject five
+# invalid documents: tests/spdx.sh CACHE
 #
-# What is needed of trixie is downloaded into CACHE and unpacked there; nothing of it is installed. With HIDLOG_OFFLINE=1
-# nothing is downloaded. Ends with 3 where something is missing.
+# The packages of trixie are downloaded and unpacked in CACHE, but not installed. HIDLOG_OFFLINE=1 prevents downloads.
+# Exits with 3 if something is missing.
 set -euo pipefail
 top=$(cd "$(dirname "${BASH_SOURCE[0]}")/.." && pwd)
 mkdir -p "${1:?usage: tests/spdx.sh CACHE}"
@@ -14,7 +14,7 @@ command -v go >/dev/null || { echo "go is missing (apt-get install golang-go); n
 packages=(golang-github-spdx-tools-golang-dev golang-github-spdx-gordf-dev golang-github-anchore-go-struct-converter-dev
     golang-k8s-sigs-yaml-dev golang-github-google-go-cmp-dev)
 
-# Downloads the packages of trixie by apt-get, with folders of CACHE in the place of the system's.
+# Downloads the packages of trixie by apt-get, with its directories in CACHE.
 download() {
     local options=(-o "Dir::Etc::sourcelist=$cache/sources.list" -o Dir::Etc::sourceparts=/dev/null
         -o "Dir::State::lists=$cache/lists" -o "Dir::Cache=$cache" -o APT::Sandbox::User=root)
@@ -26,7 +26,7 @@ download() {
 
 if [ ! -e "$cache/root/.whole" ]; then
     [ -z "${HIDLOG_OFFLINE-}" ] && download >"$work/said" 2>&1 ||
-        { echo "Debian isn't reached, or HIDLOG_OFFLINE is set: nothing was run" >&2 && exit 3; }
+        { echo "Debian's mirror is unreachable, or HIDLOG_OFFLINE is set; nothing was run" >&2 && exit 3; }
     for package in "$cache"/debs/*.deb; do
         dpkg-deb -x "$package" "$cache/root"
     done
@@ -65,15 +65,15 @@ GO111MODULE=off GOPATH=$cache/root/usr/share/gocode GOCACHE=$work/go go build -o
 list=$(echo "$work"/made/*.spdx.json)
 "$work/judge" <"$list"
 
-# Whether the tool refuses a list that an expression of sed makes wrong: refuses SED
-refuses() {
+# Checks that the tool rejects a document changed by a sed expression: expect_rejected SED
+expect_rejected() {
     sed "$1" "$list" >"$work/wrong"
     ! cmp -s "$list" "$work/wrong" || { echo "$1 changes nothing" && exit 1; }
-    ! "$work/judge" <"$work/wrong" >"$work/said" || { echo "the tool takes a list with $1" && exit 1; }
+    ! "$work/judge" <"$work/wrong" >"$work/said" || { echo "the tool accepts a document changed by $1" && exit 1; }
 }
-refuses 's/"SPDX-2.3"/"SPDX-9.9"/'
-refuses '0,/"SPDXID": "SPDXRef-h/s//"SPDXID": "h/'
-refuses 's/"Organization: Debian"/"Debian"/'
-refuses '0,/"relatedSpdxElement": "[^"]*/s//&-none/'
-refuses '$d'
+expect_rejected 's/"SPDX-2.3"/"SPDX-9.9"/'
+expect_rejected '0,/"SPDXID": "SPDXRef-h/s//"SPDXID": "h/'
+expect_rejected 's/"Organization: Debian"/"Debian"/'
+expect_rejected '0,/"relatedSpdxElement": "[^"]*/s//&-none/'
+expect_rejected '$d'
 echo "a list that is wrong is refused"

@@ -12,12 +12,12 @@ import sys
 import zipfile
 from pathlib import Path
 
-FACTS = ("Name", "Version", "Summary", "Requires-Python", "Requires-Dist", "Provides-Extra")
-TAGS = ("Wheel-Version", "Root-Is-Purelib", "Tag")
+METADATA_FIELDS = ("Name", "Version", "Summary", "Requires-Python", "Requires-Dist", "Provides-Extra")
+WHEEL_FIELDS = ("Wheel-Version", "Root-Is-Purelib", "Tag")
 
 
-def values(text: str, names: tuple[str, ...]) -> dict[str, list[str]]:
-    """Returns fields of METADATA or WHEEL, in the order that doesn't matter."""
+def read_fields(text: str, names: tuple[str, ...]) -> dict[str, list[str]]:
+    """Returns the fields of METADATA or WHEEL, sorted."""
     message = email.message_from_string(text)
     return {
         name: sorted(value.replace('"', "'").replace(" ; ", "; ") for value in message.get_all(name, []))
@@ -25,25 +25,25 @@ def values(text: str, names: tuple[str, ...]) -> dict[str, list[str]]:
     }
 
 
-def entry_points(text: str) -> dict[str, dict[str, str]]:
+def read_entry_points(text: str) -> dict[str, dict[str, str]]:
     parser = configparser.ConfigParser()
     parser.read_string(text)
     return {name: dict(parser[name]) for name in parser.sections()}
 
 
-def read(path: Path) -> dict[str, object]:
-    """Returns what is compared of a wheel, by name."""
+def read_wheel(path: Path) -> dict[str, object]:
+    """Returns the parts of a wheel to compare, by name."""
     found: dict[str, object] = {"the name": path.name}
     with zipfile.ZipFile(path) as archive:
         assert archive.testzip() is None
         for entry in archive.infolist():
             data, name = archive.read(entry), entry.filename.rpartition("/")[2]
             if name == "METADATA":
-                found[entry.filename] = values(data.decode(), FACTS)
+                found[entry.filename] = read_fields(data.decode(), METADATA_FIELDS)
             elif name == "WHEEL":
-                found[entry.filename] = values(data.decode(), TAGS)
+                found[entry.filename] = read_fields(data.decode(), WHEEL_FIELDS)
             elif name == "entry_points.txt":
-                found[entry.filename] = entry_points(data.decode())
+                found[entry.filename] = read_entry_points(data.decode())
             elif name == "RECORD":
                 found[entry.filename] = sorted(line.split(",")[0] for line in data.decode().splitlines())
             else:
@@ -55,7 +55,7 @@ def main() -> int:
     if len(sys.argv) != 3:
         print((__doc__ or "").strip(), file=sys.stderr)
         return 2
-    own, other = read(Path(sys.argv[1])), read(Path(sys.argv[2]))
+    own, other = read_wheel(Path(sys.argv[1])), read_wheel(Path(sys.argv[2]))
     different = sorted(name for name in own.keys() | other.keys() if own.get(name) != other.get(name))
     for name in different:
         print(f"{name} differs: {str(own.get(name, 'missing'))[:300]} / {str(other.get(name, 'missing'))[:300]}")

@@ -1,6 +1,6 @@
 #!/usr/bin/env bash
-# Runs a Python script by an interpreter that has python-fido2 and cryptography: tests/with_fido2.sh SCRIPT WORD ..
-# Ends with 3 where none has them. The interpreter of Debian's packages is /usr/bin/python3.
+# Runs a Python script with an interpreter that has python-fido2 and cryptography: tests/with_fido2.sh SCRIPT ARG ..
+# Exits with 3 if there is none. Debian's packages are for /usr/bin/python3.
 set -euo pipefail
 for python in python3 /usr/bin/python3; do
     if command -v "$python" >/dev/null && "$python" -c 'import cryptography, fido2.server' 2>/dev/null; then

@@ -1,7 +1,7 @@
 #!/usr/bin/env bash
-# Plays the worked logs on a program: tests/worked_logs.sh PROGRAM. Each is its own replay, its packets are those that
-# are sent, and with what is needed it is its own replay. The gate compares them too. worked_logs.py, called at the end,
-# changes them: each changed packet has to be found.
+# Plays the worked logs with a program: tests/worked_logs.sh PROGRAM. Each must equal its own replay, `check` must find no
+# difference, and the output of `live` must equal its own replay. The gate compares them too. mutate_worked_logs.py, called
+# at the end, changes the logs: `check` must find each changed packet.
 set -euo pipefail
 program=$(realpath "$1")
 cd "$(dirname "${BASH_SOURCE[0]}")/.."
@@ -9,8 +9,8 @@ work=$(mktemp -d)
 trap 'rm -rf "$work"' EXIT
 count=0
 
-# Plays one log: play LOG OPTION ..
-play() {
+# Plays one log: check_log LOG OPTION ..
+check_log() {
     local log=$1
     shift
     count=$((count + 1))
@@ -26,10 +26,10 @@ play() {
 
 data=crates/hidlog/data
 for log in "$data"/capacity_64/*.log "$data"/recorded/*.log; do
-    play "$log"
+    check_log "$log"
 done
-play "$data/restarted/after_restart.log" --load "$data/restarted/snapshot"
-play examples/sign_in_again.log --load examples/example_com.snapshot
-[ "$count" -ge 50 ] || { echo "only $count logs were found"; exit 1; }
+check_log "$data/restarted/after_restart.log" --load "$data/restarted/snapshot"
+check_log examples/sign_in_again.log --load examples/example_com.snapshot
+[ "$count" -ge 50 ] || { echo "expected at least 50 logs, found $count"; exit 1; }
 echo "$count logs"
-python3 tests/worked_logs.py "$program"
+python3 tests/mutate_worked_logs.py "$program"

@@ -1,8 +1,8 @@
 #!/usr/bin/env python3
-"""A browser and its key as a process, of the npm package and of the Python package: the same lines get the same answers,
-and the examples in other languages pass with each.
+"""`hidlog browser` of the npm package and of the Python package: both must return the same results for the same
+commands, and the examples in other languages must pass with each.
 
-    tests/browser_process/run.py      ends with 3 where node is missing
+    tests/browser_process/run.py      exits with 3 if node is missing
 """
 
 from __future__ import annotations
@@ -25,11 +25,11 @@ from cryptography.hazmat.primitives import hashes
 from cryptography.hazmat.primitives.asymmetric import ec
 from cryptography.hazmat.primitives.serialization import load_der_public_key
 
-from hidlog.webauthn_json import data_of
+from hidlog.webauthn_json import b64url_decode
 
 Json = dict[str, Any]
 ORIGIN = "https://example.com"
-PROGRAM = os.environ.get("HIDLOG", str(TOP / "hidlog"))
+PROGRAM = os.environ.get("HIDLOG_PROGRAM", str(TOP / "hidlog"))
 CREATION: Json = {
     "rp": {"id": "example.com", "name": "Example"},
     "user": {"id": "YW5u", "name": "ann", "displayName": "Ann"},
@@ -37,7 +37,7 @@ CREATION: Json = {
     "pubKeyCredParams": [{"type": "public-key", "alg": -7}],
 }
 REQUEST: Json = {"challenge": "AAECAwQFBgcICQoLDA0ODw", "rpId": "example.com"}
-RESIDENT = {**CREATION, "authenticatorSelection": {"residentKey": "required"}}
+DISCOVERABLE_CREATION = {**CREATION, "authenticatorSelection": {"residentKey": "required"}}
 UV = {**CREATION, "authenticatorSelection": {"userVerification": "required"}}
 EXAMPLES = {
     "Ruby": ["ruby", "sign_in.rb"],
@@ -48,8 +48,8 @@ EXAMPLES = {
 }
 
 
-def npm_package(room: Path) -> list[str]:
-    """Lays the files of the npm package into a folder, and returns the command."""
+def install_npm_package(work_dir: Path) -> list[str]:
+    """Copies the files of the npm package to a directory, and returns the command."""
     names = [
         "web/core.js",
         "web/dist/bytes.js",
@@ -61,29 +61,29 @@ def npm_package(room: Path) -> list[str]:
     ]
     names += [f"web/dist/security_key.{ending}" for ending in ("js", "mjs")] + ["packages/npm/package.json"]
     for name in names:
-        shutil.copy(TOP / name, room)
-    return ["node", str(room / "cli.mjs"), "browser"]
+        shutil.copy(TOP / name, work_dir)
+    return ["node", str(work_dir / "cli.mjs"), "browser"]
 
 
 class Browser:
-    """A process that is asked line by line."""
+    """A process that responds to lines."""
 
     def __init__(self, command: list[str]):
         self._process = subprocess.Popen(
             [*command, "--origin", ORIGIN], stdin=subprocess.PIPE, stdout=subprocess.PIPE, text=True
         )
 
-    def line(self, line: str) -> Json:
-        """Sends a line as it is, and returns the answer."""
+    def exchange_line(self, line: str) -> Json:
+        """Sends a line, and returns the response."""
         assert self._process.stdin and self._process.stdout
         self._process.stdin.write(line + "\n")
         self._process.stdin.flush()
         answer: Json = json.loads(self._process.stdout.readline())
         return answer
 
-    def ask(self, name: str, given: Any = None, **more: Any) -> Any:
-        """Sends a command, and returns the value, or the error's name."""
-        answer = self.line(json.dumps({name: given, **more}))
+    def call(self, name: str, given: Any = None, **more: Any) -> Any:
+        """Sends a command, and returns the value or the error's name."""
+        answer = self.exchange_line(json.dumps({name: given, **more}))
         return answer["value"] if "value" in answer else answer["error"]
 
     def close(self) -> int:
@@ -92,30 +92,30 @@ class Browser:
         return self._process.wait(600)
 
 
-def flags(answer: Json) -> int:
-    data: bytes = data_of(answer["response"]["authenticatorData"])
+def read_flags(answer: Json) -> int:
+    data: bytes = b64url_decode(answer["response"]["authenticatorData"])
     return data[32]
 
 
-def registers_and_signs_in(browser: Browser) -> Any:
-    """A registration and two sign-ins, whose signatures are judged here."""
-    made = browser.ask("create", CREATION)
-    key = load_der_public_key(data_of(made["response"]["publicKey"]))
+def test_register_and_sign_in(browser: Browser) -> Any:
+    """A registration and two sign-ins, with verified signatures."""
+    made = browser.call("create", CREATION)
+    key = load_der_public_key(b64url_decode(made["response"]["publicKey"]))
     assert isinstance(key, ec.EllipticCurvePublicKey)
     allowed = [{"type": "public-key", "id": made["id"]}]
     counts = []
     for _ in range(2):
-        used = browser.ask("get", {"publicKey": {**REQUEST, "allowCredentials": allowed}})
-        parts = {name: data_of(text) for name, text in used["response"].items()}
+        used = browser.call("get", {"publicKey": {**REQUEST, "allowCredentials": allowed}})
+        parts = {name: b64url_decode(text) for name, text in used["response"].items()}
         signed = parts["authenticatorData"] + sha256(parts["clientDataJSON"]).digest()
         key.verify(parts["signature"], signed, ec.ECDSA(hashes.SHA256()))
         assert json.loads(parts["clientDataJSON"])["origin"] == ORIGIN and used["id"] == made["id"]
         counts.append(int.from_bytes(parts["authenticatorData"][33:37], "big"))
-    return sorted(made), sorted(made["response"]), sorted(used["response"]), flags(made), counts
+    return sorted(made), sorted(made["response"]), sorted(used["response"]), read_flags(made), counts
 
 
-def fails_as_a_page(browser: Browser) -> Any:
-    """Errors by the DOM's names."""
+def test_dom_errors(browser: Browser) -> Any:
+    """Errors with the DOM's names."""
     cases: list[tuple[str, Any]] = [
         ("create", {}),
         ("create", {**CREATION, "challenge": "!"}),
@@ -126,67 +126,80 @@ def fails_as_a_page(browser: Browser) -> Any:
         ("create", None),
         ("get", []),
     ]
-    return [browser.ask(*case) for case in cases]
+    return [browser.call(*case) for case in cases]
 
 
-def is_driven(browser: Browser) -> Any:
-    """Presence, verification, accounts, faults and credentials by lines."""
+def test_commands(browser: Browser) -> Any:
+    """Presence, verification, accounts, faults and credentials by commands."""
     seen: list[Any] = []
     for name in ("ann", "bob"):
         user = {"id": name, "name": name, "displayName": name}
         seen.append(
-            flags(browser.ask("create", {**RESIDENT, "user": {**user, "id": "YW5u" if name == "ann" else "Ym9i"}}))
+            read_flags(
+                browser.call(
+                    "create", {**DISCOVERABLE_CREATION, "user": {**user, "id": "YW5u" if name == "ann" else "Ym9i"}}
+                )
+            )
         )
-    browser.ask("account", "ann")
-    seen.append(browser.ask("get", REQUEST)["response"]["userHandle"])
-    browser.ask("account", 0)
+    browser.call("selectAccount", "ann")
+    seen.append(browser.call("get", REQUEST)["response"]["userHandle"])
+    browser.call("selectAccount", 0)
     for word in ("denied", "timeout", "granted"):
-        browser.ask("presence", word)
-        answer = browser.ask("get", REQUEST)
+        browser.call("setPresence", word)
+        answer = browser.call("get", REQUEST)
         seen.append(answer if isinstance(answer, str) else answer["response"]["userHandle"])
-    browser.ask("authenticator", {"hasUserVerification": True, "isUserVerified": True, "transport": "internal"})
-    made = browser.ask("create", UV)
-    seen += [flags(made), made["authenticatorAttachment"], made["response"]["transports"]]
-    browser.ask("userVerified", False)
-    seen.append(browser.ask("create", UV))
-    browser.ask("authenticator", {"hasUserVerification": False, "isUserVerified": False, "transport": "usb"})
-    browser.ask("faults", {"status": "KEY_STORE_FULL"})
-    seen.append(browser.ask("create", CREATION))
-    browser.ask("clearFaults")
-    added = browser.ask("addCredential", {"rpId": "example.com", "credentialId": "AQID", "signCount": 9})
-    used = browser.ask("get", {**REQUEST, "allowCredentials": [{"type": "public-key", "id": "AQID"}]})
-    seen += [added["credentialId"], used["id"], data_of(used["response"]["authenticatorData"])[36]]
-    listed = browser.ask("credentials")
+    browser.call(
+        "setAuthenticatorOptions", {"hasUserVerification": True, "isUserVerified": True, "transport": "internal"}
+    )
+    made = browser.call("create", UV)
+    seen += [read_flags(made), made["authenticatorAttachment"], made["response"]["transports"]]
+    browser.call("setUserVerified", False)
+    seen.append(browser.call("create", UV))
+    browser.call("setAuthenticatorOptions", {"hasUserVerification": False, "isUserVerified": False, "transport": "usb"})
+    browser.call("setFaults", {"status": "KEY_STORE_FULL"})
+    seen.append(browser.call("create", CREATION))
+    browser.call("clearFaults")
+    added = browser.call("addCredential", {"rpId": "example.com", "credentialId": "AQID", "signCount": 9})
+    used = browser.call("get", {**REQUEST, "allowCredentials": [{"type": "public-key", "id": "AQID"}]})
+    seen += [added["credentialId"], used["id"], b64url_decode(used["response"]["authenticatorData"])[36]]
+    listed = browser.call("getCredentials")
     names = ("isResidentCredential", "rpId", "userHandle", "userName", "signCount", "backupEligibility", "backupState")
     seen.append([[credential[name] for name in names] for credential in listed])
-    browser.ask("removeCredential", "AQID")
-    seen.append(len(browser.ask("credentials")))
-    browser.ask("clearCredentials")
-    seen.append(browser.ask("credentials"))
+    browser.call("removeCredential", "AQID")
+    seen.append(len(browser.call("getCredentials")))
+    browser.call("clearCredentials")
+    seen.append(browser.call("getCredentials"))
     return seen
 
 
-def refuses_wrong_lines(browser: Browser) -> Any:
-    """A wrong line gets an error that says what there is, and the next line is served."""
-    lines = ["{", "[]", "7", "{}", '{"creat": {}}', '{"create": {}, "get": {}}', '{"presence": "yes", "id": 5}']
-    lines += ['{"authenticator": {"isUserVerified": true}}', '{"authenticator": {"transports": "usb"}}']
-    lines += ['{"get": {}, "mediation": "conditional"}', '{"faults": {"wrong": 1}}', '{"removeCredential": "AQ"}']
-    lines += ['{"addCredential": {}}', '{"userVerified": true}']
-    answers = [browser.line(line) for line in lines]
+def test_invalid_lines(browser: Browser) -> Any:
+    """An invalid line gets an error with the expected values, and the next line works."""
+    lines = ["{", "[]", "7", "{}", '{"creat": {}}', '{"create": {}, "get": {}}', '{"setPresence": "yes", "id": 5}']
+    lines += [
+        '{"setAuthenticatorOptions": {"isUserVerified": true}}',
+        '{"setAuthenticatorOptions": {"transports": "usb"}}',
+    ]
+    lines += ['{"get": {}, "mediation": "conditional"}', '{"setFaults": {"wrong": 1}}', '{"removeCredential": "AQ"}']
+    lines += ['{"addCredential": {}}', '{"setUserVerified": true}']
+    answers = [browser.exchange_line(line) for line in lines]
     assert all(answer["message"] and "\n" not in answer["message"] for answer in answers), answers
-    assert "there are create, get" in answers[4]["message"] and "granted" in answers[6]["message"]
-    browser.ask("presence", "granted")
-    return [answer["error"] for answer in answers], answers[6]["id"], browser.line('{"log": null, "id": "a"}')["id"]
+    assert "create, get" in answers[4]["message"] and "granted" in answers[6]["message"]
+    browser.call("setPresence", "granted")
+    return (
+        [answer["error"] for answer in answers],
+        answers[6]["id"],
+        browser.exchange_line('{"getLog": null, "id": "a"}')["id"],
+    )
 
 
-TESTS = (registers_and_signs_in, fails_as_a_page, is_driven, refuses_wrong_lines)
+TESTS = (test_register_and_sign_in, test_dom_errors, test_commands, test_invalid_lines)
 
 
 def check_recordings(browser: Browser) -> str:
     """Returns what is wrong with the recordings."""
-    for recording in browser.ask("recordings"):
+    for recording in browser.call("getRecordings"):
         with tempfile.NamedTemporaryFile() as snapshot:
-            snapshot.write(data_of(recording["snapshot"]) if recording["snapshot"] else b"")
+            snapshot.write(b64url_decode(recording["snapshot"]) if recording["snapshot"] else b"")
             snapshot.flush()
             words = ["--load", snapshot.name] if recording["snapshot"] else []
             done = subprocess.run(
@@ -194,11 +207,11 @@ def check_recordings(browser: Browser) -> str:
             )
             if done.returncode:
                 return str(done.stderr)
-    return "" if any(recording["log"].startswith(">") for recording in browser.ask("recordings")) else "no log"
+    return "" if any(recording["log"].startswith(">") for recording in browser.call("getRecordings")) else "no log"
 
 
 def run_tests(commands: dict[str, list[str]]) -> bool:
-    """Has both processes answer the same lines."""
+    """Compares the responses of both processes to the same lines."""
     browsers = {name: Browser(command) for name, command in commands.items()}
     failed = False
     for test in TESTS:
@@ -223,12 +236,12 @@ def run_example(words: list[str], command: list[str]) -> tuple[bool, str]:
     return done.stdout.strip() == "ok", f"{done.stdout}{done.stderr}"[-600:].strip()
 
 
-# Of Debian 12; Debian 13 has the module that goes on from it, under another path.
+# Debian 12's module. Debian 13 has its successor, with another path.
 GO_SOURCES = Path("/usr/share/gocode/src/github.com/duo-labs/webauthn")
 
 
-def at_another_origin(command: list[str]) -> list[str]:
-    """Returns a command of a browser at another origin of the relying party, whichever origin is asked for."""
+def with_other_origin(command: list[str]) -> list[str]:
+    """Returns a command for a browser at another origin of the relying party, whatever the argument."""
     return ["sh", "-c", f"exec {shlex.join(command)} --origin https://login.example.com"]
 
 
@@ -246,7 +259,7 @@ def run_examples(commands: dict[str, list[str]]) -> bool:
             passed, printed = run_example(words, command)
             failed |= not passed
             print(f"{'ok' if passed else 'FAILED'}  {language} with {name} {'' if passed else printed}")
-        passed, printed = run_example(words, at_another_origin(commands["the npm package"]))
+        passed, printed = run_example(words, with_other_origin(commands["the npm package"]))
         refused = not passed and ("rigin" in printed or "client data" in printed)
         failed |= not refused
         print(f"{'ok' if refused else 'FAILED'}  {language} refuses another origin: {printed.splitlines()[:1]}")
@@ -258,9 +271,9 @@ def main() -> int:
         print("tests/browser_process: node is missing", file=sys.stderr)
         return 3
     os.environ["PYTHONPATH"] = str(TOP / "python" / "src")
-    with tempfile.TemporaryDirectory() as room:
+    with tempfile.TemporaryDirectory() as work_dir:
         commands = {
-            "the npm package": npm_package(Path(room)),
+            "the npm package": install_npm_package(Path(work_dir)),
             "the Python package": [sys.executable, "-m", "hidlog.browser_process"],
         }
         results = [run_tests(commands), run_examples(commands)]

@@ -1,8 +1,7 @@
-// As many credentials as the library has capacity for: put in, saved, made anew from the snapshot, and signed in with.
-// The expected bytes are those of the standard: CTAP 2.1, sections 6.1.2 (0x28, CTAP2_ERR_KEY_STORE_FULL) and 6.2.2
-// (numberOfCredentials), and USB HID framing.
+// Fills a key up to its capacity, saves it, loads the snapshot, and signs in. The expected bytes are from the standard:
+// CTAP 2.1, sections 6.1.2 (0x28, CTAP2_ERR_KEY_STORE_FULL) and 6.2.2 (numberOfCredentials), and USB HID framing.
 //
-//     capacity CAPACITY
+//     Usage: capacity CAPACITY
 #include "hidlog.h"
 
 #include <inttypes.h>
@@ -17,29 +16,29 @@ static const uint8_t rp_hash[32] = {0xa3, 0x79, 0xa6, 0xf6, 0xee, 0xaf, 0xb9, 0x
                                     0x11, 0x80, 0x34, 0xe2, 0x75, 0x1e, 0x68, 0x2f, 0xab, 0x9f, 0x2d,
                                     0x30, 0xab, 0x13, 0xd2, 0x12, 0x55, 0x86, 0xce, 0x19, 0x47};
 
-static void want(int64_t found, int64_t expected, const char *what) {
+static void expect(int64_t found, int64_t expected, const char *what) {
     if (found != expected) {
-        fprintf(stderr, "capacity: %s is %" PRId64 " and not %" PRId64 "\n", what, found, expected);
+        fprintf(stderr, "capacity: %s is %" PRId64 ", expected %" PRId64 "\n", what, found, expected);
         exit(1);
     }
 }
 
-static struct hidlog_key make(const uint8_t *snapshot, size_t len) {
+static struct hidlog_key make_key(const uint8_t *snapshot, size_t len) {
     struct hidlog_key key = {aligned_alloc(16, (hidlog_key_size() + 15) / 16 * 16), 0};
-    want(hidlog_key_make(&key, (const uint8_t[16]){0}, 0, snapshot, len), 0, "hidlog_key_make");
+    expect(hidlog_key_init(&key, (const uint8_t[16]){0}, 0, snapshot, len), 0, "hidlog_key_init");
     return key;
 }
 
 static struct hidlog_credential credential(size_t number) {
-    struct hidlog_credential made = {.user_len = 2, .discoverable = 1};
-    memcpy(made.rp, rp_hash, sizeof rp_hash);
+    struct hidlog_credential made = {.user_id_len = 2, .discoverable = 1};
+    memcpy(made.rp_id_hash, rp_hash, sizeof rp_hash);
     memset(made.id, 0xaa, sizeof made.id);
-    made.id[0] = made.user[0] = (uint8_t)(number >> 8);
-    made.id[1] = made.user[1] = (uint8_t)number;
+    made.id[0] = made.user_id[0] = (uint8_t)(number >> 8);
+    made.id[1] = made.user_id[1] = (uint8_t)number;
     return made;
 }
 
-// Sends a message on a channel, and returns the answer without the KEEPALIVEs before it.
+// Sends a message on a channel. Returns the length of the response, skipping KEEPALIVEs.
 static size_t exchange(struct hidlog_key *key, uint32_t channel, uint8_t command, const uint8_t *message, size_t len,
                        uint8_t *answer) {
     uint8_t packet[64] = {(uint8_t)(channel >> 24),
@@ -51,20 +50,20 @@ static size_t exchange(struct hidlog_key *key, uint32_t channel, uint8_t command
                           (uint8_t)len};
     size_t sent = len < FIRST ? len : FIRST;
     memcpy(packet + 7, message, sent);
-    hidlog_key_packet(key, AT, packet);
+    hidlog_key_write_packet(key, AT, packet);
     for (uint8_t number = 0; sent < len; number++) {
         size_t part = len - sent < CONTINUED ? len - sent : CONTINUED;
         memset(packet + 4, 0, 60);
         packet[4] = number;
         memcpy(packet + 5, message + sent, part);
-        hidlog_key_packet(key, AT, packet);
+        hidlog_key_write_packet(key, AT, packet);
         sent += part;
     }
     size_t held = 0, whole = 0;
     struct hidlog_need need;
     do {
-        while (hidlog_key_waiting(key) > 0) {
-            hidlog_key_next(key, packet);
+        while (hidlog_key_queued_packets(key) > 0) {
+            hidlog_key_read_packet(key, packet);
             if (packet[4] == command) {
                 whole = (size_t)packet[5] << 8 | packet[6];
                 memcpy(answer, packet + 7, FIRST);
@@ -74,26 +73,26 @@ static size_t exchange(struct hidlog_key *key, uint32_t channel, uint8_t command
                 held += CONTINUED;
             }
         }
-        int32_t kind = hidlog_key_need(key, &need);
+        int32_t kind = hidlog_key_get_need(key, &need);
         if (kind == HIDLOG_NEED_PRESENCE) {
-            hidlog_key_presence(key, AT, HIDLOG_GRANTED);
+            hidlog_key_provide_presence(key, AT, HIDLOG_PRESENCE_GRANTED);
         } else if (kind == HIDLOG_NEED_SIGNATURE) {
-            hidlog_key_signature(key, AT, (const uint8_t[8]){0x30, 6, 2, 1, 1, 2, 1, 1}, 8);
+            hidlog_key_provide_signature(key, AT, (const uint8_t[8]){0x30, 6, 2, 1, 1, 2, 1, 1}, 8);
         } else {
-            want(kind, HIDLOG_NEED_NOTHING, "what is needed");
+            expect(kind, HIDLOG_NEED_NONE, "what is needed");
         }
-    } while (hidlog_key_waiting(key) > 0);
+    } while (hidlog_key_queued_packets(key) > 0);
     return whole;
 }
 
 static uint32_t open_channel(struct hidlog_key *key) {
     uint8_t answer[7700];
-    want((int64_t)exchange(key, 0xffffffff, INIT, (const uint8_t[8]){1, 2, 3, 4, 5, 6, 7, 8}, 8, answer), 17, "INIT");
+    expect((int64_t)exchange(key, 0xffffffff, INIT, (const uint8_t[8]){1, 2, 3, 4, 5, 6, 7, 8}, 8, answer), 17, "INIT");
     return (uint32_t)answer[8] << 24 | (uint32_t)answer[9] << 16 | (uint32_t)answer[10] << 8 | answer[11];
 }
 
-// A registration of a discoverable credential for another user is answered 0x28.
-static void want_full(struct hidlog_key *key) {
+// A registration of a discoverable credential for another user returns 0x28.
+static void expect_full(struct hidlog_key *key) {
     uint8_t message[91] = {1, 0xa5, 1, 0x58, 0x20}, answer[7700];
     static const uint8_t rest[] = "\x02\xa1\x62id\x6b"
                                   "example.com\x03\xa1\x62id\x41\x01\x04\x81\xa2\x63"
@@ -101,48 +100,48 @@ static void want_full(struct hidlog_key *key) {
                                   "public-key\x07\xa1\x62rk\xf5";
     memset(message + 5, 0x11, 32);
     memcpy(message + 37, rest, sizeof message - 37);
-    want((int64_t)exchange(key, open_channel(key), CBOR, message, sizeof message, answer), 1, "the refusal's length");
-    want(answer[0], 0x28, "the status of a registration at a full key");
+    expect((int64_t)exchange(key, open_channel(key), CBOR, message, sizeof message, answer), 1, "the response length");
+    expect(answer[0], 0x28, "the status of a registration on a full key");
 }
 
-// A sign-in without an allow list finds all: the member 5 of the answer, its last, is how many.
-static void want_all_found(struct hidlog_key *key, size_t capacity) {
+// A sign-in without an allow list finds all: member 5 of the response, its last, is the number.
+static void expect_all_found(struct hidlog_key *key, size_t capacity) {
     uint8_t message[50] = {2, 0xa2, 1, 0x6b, 'e', 'x', 'a', 'm', 'p', 'l', 'e', '.', 'c', 'o', 'm', 2, 0x58, 0x20};
     uint8_t answer[7700];
     memset(message + 18, 0x22, 32);
     size_t len = exchange(key, open_channel(key), CBOR, message, sizeof message, answer);
-    want(answer[0], 0, "the status of a sign-in");
+    expect(answer[0], 0, "the status of a sign-in");
     if (capacity < 256) {
-        want(answer[len - 3], 5, "the last member");
-        want(answer[len - 2], 0x18, "its head");
-        want(answer[len - 1], (int64_t)capacity, "numberOfCredentials");
+        expect(answer[len - 3], 5, "the last member");
+        expect(answer[len - 2], 0x18, "its head");
+        expect(answer[len - 1], (int64_t)capacity, "numberOfCredentials");
     } else {
-        want(answer[len - 4], 5, "the last member");
-        want(answer[len - 3], 0x19, "its head");
-        want(answer[len - 2] << 8 | answer[len - 1], (int64_t)capacity, "numberOfCredentials");
+        expect(answer[len - 4], 5, "the last member");
+        expect(answer[len - 3], 0x19, "its head");
+        expect(answer[len - 2] << 8 | answer[len - 1], (int64_t)capacity, "numberOfCredentials");
     }
-    want(hidlog_key_pending(key), (int64_t)capacity - 1, "the assertions that wait");
+    expect(hidlog_key_pending_assertions(key), (int64_t)capacity - 1, "pending assertions");
 }
 
 int main(int count, char **words) {
     size_t capacity = count == 2 ? strtoul(words[1], NULL, 10) : 0;
-    static uint8_t saved[HIDLOG_SNAPSHOT_LONGEST], again[HIDLOG_SNAPSHOT_LONGEST];
-    want((int64_t)hidlog_key_capacity(), (int64_t)capacity, "hidlog_key_capacity");
-    want(HIDLOG_CAPACITY, (int64_t)capacity, "HIDLOG_CAPACITY");
-    struct hidlog_key key = make(saved, 0);
+    static uint8_t saved[HIDLOG_SNAPSHOT_MAX_LEN], again[HIDLOG_SNAPSHOT_MAX_LEN];
+    expect((int64_t)hidlog_key_capacity(), (int64_t)capacity, "hidlog_key_capacity");
+    expect(HIDLOG_CAPACITY, (int64_t)capacity, "HIDLOG_CAPACITY");
+    struct hidlog_key key = make_key(saved, 0);
     for (size_t number = 0; number < capacity; number++) {
         struct hidlog_credential made = credential(number);
-        want(hidlog_key_add(&key, 0, &made), 0, "hidlog_key_add");
+        expect(hidlog_key_add_credential(&key, 0, &made), 0, "hidlog_key_add_credential");
     }
     struct hidlog_credential more = credential(capacity);
-    want(hidlog_key_add(&key, 0, &more), HIDLOG_KEY_TOO_MANY_ROWS, "hidlog_key_add at a full key");
-    want(hidlog_key_credentials(&key), (int64_t)capacity, "hidlog_key_credentials");
-    want_full(&key);
-    int32_t len = hidlog_key_save(&key, saved, sizeof saved);
-    struct hidlog_key other = make(saved, (size_t)len);
-    want(hidlog_key_save(&other, again, sizeof again), len, "a snapshot's length");
-    want(memcmp(saved, again, (size_t)len), 0, "the difference of snapshots");
-    want_all_found(&other, capacity);
+    expect(hidlog_key_add_credential(&key, 0, &more), HIDLOG_KEY_ERR_FULL, "hidlog_key_add_credential on a full key");
+    expect(hidlog_key_credential_count(&key), (int64_t)capacity, "hidlog_key_credential_count");
+    expect_full(&key);
+    int32_t len = hidlog_key_save_snapshot(&key, saved, sizeof saved);
+    struct hidlog_key other = make_key(saved, (size_t)len);
+    expect(hidlog_key_save_snapshot(&other, again, sizeof again), len, "a snapshot's length");
+    expect(memcmp(saved, again, (size_t)len), 0, "the comparison of snapshots");
+    expect_all_found(&other, capacity);
     free(key.memory);
     free(other.memory);
     printf("capacity: %zu credentials, a key of %zu bytes, a snapshot of %" PRId32 "\n", capacity, hidlog_key_size(),

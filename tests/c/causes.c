@@ -1,5 +1,5 @@
-// Why a key refuses its last input, by hidlog_key_cause: codes, statuses and operands written by hand from CTAP 2.1.
-// Says nothing and returns 0 where each is as it should be.
+// hidlog_key_cause: codes, statuses and operands for rejected inputs, written by hand from CTAP 2.1. Prints nothing and
+// returns 0 on success.
 #include "hidlog.h"
 
 #include <inttypes.h>
@@ -7,7 +7,7 @@
 #include <stdlib.h>
 #include <string.h>
 
-// A packet's first bytes, of which the rest is zeros, its time, and the cause: no code where nothing is refused.
+// The first bytes of a packet (the rest is zeros), its timestamp, and the cause; code 0 if it is not rejected.
 struct step {
     const char *digits;
     uint64_t at;
@@ -19,28 +19,40 @@ static const struct step steps[] = {
     {"ffffffff86000800010203040506", 1, {0}, ""},
     {"0000000981000101", 2, {HIDLOG_CAUSE_NO_SUCH_CHANNEL, 0x0b, 1, 0}, "only channels 1 to 1 have been allocated"},
     {"0000000184000101", 3, {HIDLOG_CAUSE_NO_SUCH_COMMAND, 0x01, 0x04, 0}, "CTAPHID command 0x04 is not supported"},
-    {"00000001811dba", 4, {HIDLOG_CAUSE_MESSAGE_LENGTH, 0x03, 0x01, 7610},
+    {"00000001811dba",
+     4,
+     {HIDLOG_CAUSE_MESSAGE_LENGTH, 0x03, 0x01, 7610},
      "a message of command 0x01 cannot have 7610 bytes: CBOR has 1 to 7609, PING 0 to 7609"},
     {"ffffffff860007", 5, {HIDLOG_CAUSE_INIT_LENGTH, 0x03, 7, 0}, "INIT must have 8 data bytes, not 7"},
     {"00000001810064", 6, {0}, ""},
-    {"0000000101", 7, {HIDLOG_CAUSE_WRONG_NUMBER, 0x04, 1, 0}, "expected continuation packet +0, got +1"},
+    {"0000000101", 7, {HIDLOG_CAUSE_WRONG_NUMBER, 0x04, 1, 0}, "expected sequence number 0, got 1"},
     {"0000000190000105", 8, {HIDLOG_CAUSE_COMMAND, 0x01, 0x05, 0}, "the authenticator command 0x05 is not supported"},
-    {"000000019000020400", 9, {HIDLOG_CAUSE_TRAILING, 0x03, 1, 0},
+    {"000000019000020400",
+     9,
+     {HIDLOG_CAUSE_TRAILING, 0x03, 1, 0},
      "this command takes no parameters; bytes after the command byte: 1"},
-    {"0000000190000201a0", 10, {HIDLOG_CAUSE_MISSING, 0x14, 0x01, 0x01},
+    {"0000000190000201a0",
+     10,
+     {HIDLOG_CAUSE_MISSING, 0x14, 0x01, 0x01},
      "the required parameter clientDataHash is missing"},
     {"0000000190000202a0", 11, {HIDLOG_CAUSE_MISSING, 0x14, 0x02, 0x01}, "the required parameter rpId is missing"},
-    {"000000019000030100ff", 12, {HIDLOG_CAUSE_NOT_CANONICAL, 0x12, 1, 9},
+    {"000000019000030100ff",
+     12,
+     {HIDLOG_CAUSE_NOT_CANONICAL, 0x12, 1, 9},
      "the parameters are not canonical CBOR at byte 1: Trailing: bytes after the item"},
-    {"00000001900002020f", 13, {HIDLOG_CAUSE_WRONG_TYPE, 0x11, 0, 0},
+    {"00000001900002020f",
+     13,
+     {HIDLOG_CAUSE_WRONG_TYPE, 0x11, 0, 0},
      "a parameter, or a member in one, has the wrong CBOR type"},
-    {"0000000190000108", 14, {HIDLOG_CAUSE_NOTHING_PENDING, 0x30, 0, 0}, "no assertion is pending"},
-    {"0000000190000107", 10001, {HIDLOG_CAUSE_RESET_TOO_LATE, 0x30, 0, 10001},
-     "more than 10 s have passed since power-up: it was at 0, this is at 10001"},
+    {"0000000190000108", 14, {HIDLOG_CAUSE_NOTHING_PENDING, 0x30, 0, 0}, "no assertion is pending: none was left by an authenticatorGetAssertion before"},
+    {"0000000190000107",
+     10001,
+     {HIDLOG_CAUSE_RESET_TOO_LATE, 0x30, 0, 10001},
+     "more than 10 s have passed since power-up: it was at 0 ms, this is at 10001 ms"},
     {"0000000190000104", 10002, {0}, ""},
 };
 
-static void want(int is_so, const char *what) {
+static void expect(int is_so, const char *what) {
     if (!is_so) {
         fprintf(stderr, "causes: %s\n", what);
         exit(1);
@@ -51,59 +63,59 @@ static void packet_of(const char *digits, uint8_t packet[64]) {
     memset(packet, 0, 64);
     for (size_t i = 0; digits[2 * i] != 0; i++) {
         unsigned byte;
-        want(sscanf(digits + 2 * i, "%2x", &byte) == 1, digits);
+        expect(sscanf(digits + 2 * i, "%2x", &byte) == 1, digits);
         packet[i] = (uint8_t)byte;
     }
 }
 
 static void send_all(struct hidlog_key *key) {
     uint8_t packet[64];
-    while (hidlog_key_waiting(key) > 0) {
-        want(hidlog_key_next(key, packet) >= 0, "a packet that waits");
+    while (hidlog_key_queued_packets(key) > 0) {
+        expect(hidlog_key_read_packet(key, packet) >= 0, "a queued packet");
     }
 }
 
-// The cause of what time dropped (0) or of the input (1) is this one, with this sentence.
-static void check(struct hidlog_key *key, uint32_t which, const struct hidlog_cause *wanted, const char *sentence) {
+// Checks the cause of a timeout (0) or of the input (1).
+static void check(struct hidlog_key *key, uint32_t which, const struct hidlog_cause *expected, const char *sentence) {
     struct hidlog_cause cause = {0};
     char text[160];
     int32_t len = hidlog_key_cause(key, which, &cause, (uint8_t *)text, sizeof text);
     if (len != (int32_t)strlen(sentence) || memcmp(text, sentence, strlen(sentence)) != 0 ||
-        cause.code != wanted->code || cause.status != wanted->status || cause.first != wanted->first ||
-        cause.second != wanted->second) {
+        cause.code != expected->code || cause.status != expected->status || cause.first != expected->first ||
+        cause.second != expected->second) {
         fprintf(stderr, "causes: %d bytes, code %" PRIu32 ", status %" PRIu32 ", %" PRIu64 ", %" PRIu64 ": %.*s\n", len,
                 cause.code, cause.status, cause.first, cause.second, len > 0 ? (int)len : 0, text);
-        want(0, sentence);
+        expect(0, sentence);
     }
 }
 
-// What time drops is told apart from what the input is refused for.
+// The cause of a timeout is separate from that of the input.
 static void time_out(struct hidlog_key *key) {
     static const struct hidlog_cause none, late = {HIDLOG_CAUSE_TIMED_OUT, 0x05, 20000, 20500};
     uint8_t packet[64];
     packet_of("00000001810064", packet);
-    want(hidlog_key_packet(key, 20000, packet) == 0, "the first packet of a PING");
-    want(hidlog_key_tick(key, 20500) == 1, "the ERROR of a time-out");
-    check(key, 0, &late, "the message timed out: its last packet came at 20000, 500 ms or more before 20500");
+    expect(hidlog_key_write_packet(key, 20000, packet) == 0, "the first packet of a PING");
+    expect(hidlog_key_tick(key, 20500) == 1, "the ERROR of a timeout");
+    check(key, 0, &late, "the message timed out: its last packet came at 20000 ms, 500 ms or more before 20500 ms");
     check(key, 1, &none, "");
     send_all(key);
 }
 
-static void wrong_calls(struct hidlog_key *key) {
+static void invalid_calls(struct hidlog_key *key) {
     static const struct hidlog_cause none;
     struct hidlog_cause cause = {1, 2, 3, 4};
     uint8_t packet[64], text[5];
     packet_of("0000000190000108", packet);
-    want(hidlog_key_packet(key, 20600, packet) == 1, "getNextAssertion");
+    expect(hidlog_key_write_packet(key, 20600, packet) == 1, "getNextAssertion");
     send_all(key);
-    want(hidlog_key_cause(key, 2, &cause, text, sizeof text) == HIDLOG_KEY_BAD_ARGUMENT && cause.code == 1,
-         "a cause of neither");
-    want(hidlog_key_cause(key, 1, &cause, text, sizeof text) == 5 && memcmp(text, "no as", 5) == 0, "a short buffer");
-    want(hidlog_key_cause(key, 1, &cause, text, 0) == 0 && cause.code == HIDLOG_CAUSE_NOTHING_PENDING, "no buffer");
-    want(hidlog_key_clear(key, 20700) == 0, "a start");
+    expect(hidlog_key_cause(key, 2, &cause, text, sizeof text) == HIDLOG_KEY_ERR_INVALID_ARGUMENT && cause.code == 1,
+         "another `which`");
+    expect(hidlog_key_cause(key, 1, &cause, text, sizeof text) == 5 && memcmp(text, "no as", 5) == 0, "a short buffer");
+    expect(hidlog_key_cause(key, 1, &cause, text, 0) == 0 && cause.code == HIDLOG_CAUSE_NOTHING_PENDING, "no buffer");
+    expect(hidlog_key_clear_credentials(key, 20700) == 0, "power-up");
     check(key, 1, &none, "");
-    want(hidlog_key_free(key) == 0, "free");
-    want(hidlog_key_cause(key, 1, &cause, text, sizeof text) == HIDLOG_KEY_NOT_MADE, "a key that was freed");
+    expect(hidlog_key_destroy(key) == 0, "destroy");
+    expect(hidlog_key_cause(key, 1, &cause, text, sizeof text) == HIDLOG_KEY_ERR_NOT_INITIALIZED, "a destroyed key");
 }
 
 int main(void) {
@@ -111,18 +123,18 @@ int main(void) {
     static const struct hidlog_cause none;
     struct hidlog_key key = {0};
     key.memory = aligned_alloc(16, (hidlog_key_size() + 15) / 16 * 16);
-    want(key.memory != NULL && hidlog_key_make(&key, aaguid, 0, aaguid, 0) == 0, "a key");
+    expect(key.memory != NULL && hidlog_key_init(&key, aaguid, 0, aaguid, 0) == 0, "a key");
     check(&key, 1, &none, "");
     for (size_t i = 0; i < sizeof steps / sizeof steps[0]; i++) {
         uint8_t packet[64];
         packet_of(steps[i].digits, packet);
-        want(hidlog_key_packet(&key, steps[i].at, packet) >= 0, steps[i].digits);
+        expect(hidlog_key_write_packet(&key, steps[i].at, packet) >= 0, steps[i].digits);
         check(&key, 1, &steps[i].cause, steps[i].sentence);
         check(&key, 0, &none, "");
         send_all(&key);
     }
     time_out(&key);
-    wrong_calls(&key);
+    invalid_calls(&key);
     free(key.memory);
     return 0;
 }

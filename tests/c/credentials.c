@@ -1,6 +1,6 @@
-// The credentials of a key that is held: saved, taken out and put in. Plays a log from standard input, compares what
-// hidlog_key_save writes with the snapshot that the program wrote of the same log, takes the credentials out, puts them
-// in again one by one, and looks for the same snapshot. Makes the mistakes that a caller makes, too.
+// The credentials of an in-memory key: saved, removed and added. Plays a log from standard input, compares the output
+// of hidlog_key_save_snapshot with the program's snapshot of the same log, removes the credentials, adds them again one
+// by one, and expects the same snapshot. Also tests invalid calls.
 //
 //     credentials SNAPSHOT < LOG
 #include "hidlog.h"
@@ -10,130 +10,133 @@
 #include <stdlib.h>
 #include <string.h>
 
-enum { LOG = 4 << 20, TEXT = 20000, SNAPSHOT = HIDLOG_SNAPSHOT_LONGEST, AT = 1 << 30 };
+enum { LOG = 4 << 20, TEXT = 20000, SNAPSHOT = HIDLOG_SNAPSHOT_MAX_LEN, AT = 1 << 30 };
 
-static void stop(const char *why) {
+static void fail(const char *why) {
     fprintf(stderr, "credentials: %s\n", why);
     exit(1);
 }
 
-static void want(int32_t found, int32_t expected, const char *what) {
+static void expect(int32_t found, int32_t expected, const char *what) {
     if (found != expected) {
-        fprintf(stderr, "credentials: %s returned %" PRId32 " and not %" PRId32 "\n", what, found, expected);
+        fprintf(stderr, "credentials: %s returned %" PRId32 ", expected %" PRId32 "\n", what, found, expected);
         exit(1);
     }
 }
 
-static void play(struct hidlog_key *key) {
+static void play_log(struct hidlog_key *key) {
     static uint8_t text[TEXT];
     char line[257];
-    struct hidlog_outcome outcome;
+    struct hidlog_result result;
     while (fgets(line, sizeof line, stdin) != NULL) {
-        if (hidlog_key_lines(key, (const uint8_t *)line, strlen(line), text, sizeof text, &outcome) != 0) {
-            stop("a line is refused");
+        if (hidlog_key_replay_lines(key, (const uint8_t *)line, strlen(line), text, sizeof text, &result) != 0) {
+            fail("the key rejects a valid line");
         }
     }
 }
 
-// Reads the snapshot that the program wrote. Returns its length.
+// Reads the program's snapshot. Returns its length.
 static int32_t read_snapshot(const char *path, uint8_t *snapshot) {
     FILE *file = fopen(path, "rb");
     if (file == NULL) {
-        stop("the snapshot can't be opened");
+        fail("cannot open the snapshot");
     }
     size_t len = fread(snapshot, 1, SNAPSHOT, file);
     fclose(file);
     return (int32_t)len;
 }
 
-static void want_snapshot(struct hidlog_key *key, const uint8_t *snapshot, int32_t len, const char *what) {
+static void expect_snapshot(struct hidlog_key *key, const uint8_t *snapshot, int32_t len, const char *what) {
     static uint8_t saved[SNAPSHOT + 1];
     memset(saved, 0xee, sizeof saved);
-    want(hidlog_key_save(key, saved, SNAPSHOT), len, what);
+    expect(hidlog_key_save_snapshot(key, saved, SNAPSHOT), len, what);
     if (memcmp(saved, snapshot, (size_t)len) != 0) {
-        stop("the snapshot differs");
+        fail("the snapshot differs");
     }
     for (size_t i = (size_t)len; i < sizeof saved; i++) {
         if (saved[i] != 0xee) {
-            stop("a byte after the snapshot was written");
+            fail("a byte after the snapshot was written");
         }
     }
-    want(hidlog_key_save(key, saved, SNAPSHOT - 1), HIDLOG_KEY_TOO_SMALL, "save into a buffer that is too small");
+    expect(hidlog_key_save_snapshot(key, saved, SNAPSHOT - 1), HIDLOG_KEY_ERR_BUFFER_TOO_SMALL,
+         "save into a buffer that is too small");
 }
 
-// Reads all credentials into an array that holds all. Returns how many there are.
-static int32_t read_all(struct hidlog_key *key, struct hidlog_credential *credentials) {
-    int32_t count = hidlog_key_credentials(key);
+// Reads all credentials. Returns their number.
+static int32_t read_credentials(struct hidlog_key *key, struct hidlog_credential *credentials) {
+    int32_t count = hidlog_key_credential_count(key);
     for (int32_t i = 0; i < count; i++) {
-        want(hidlog_key_credential(key, (size_t)i, &credentials[i]), 0, "credential");
+        expect(hidlog_key_get_credential(key, (size_t)i, &credentials[i]), 0, "credential");
     }
     return count;
 }
 
-static void add_mistakes(struct hidlog_key *key, const struct hidlog_credential *credential) {
+static void test_invalid_adds(struct hidlog_key *key, const struct hidlog_credential *credential) {
     struct hidlog_credential wrong = *credential;
-    wrong.user_len = 65;
-    want(hidlog_key_add(key, AT, &wrong), HIDLOG_KEY_BAD_ARGUMENT, "a user handle of 65 bytes");
+    wrong.user_id_len = 65;
+    expect(hidlog_key_add_credential(key, AT, &wrong), HIDLOG_KEY_ERR_INVALID_ARGUMENT, "a user handle of 65 bytes");
     wrong = *credential;
-    wrong.name_len = 65;
-    want(hidlog_key_add(key, AT, &wrong), HIDLOG_KEY_BAD_ARGUMENT, "a name of 65 bytes");
+    wrong.user_name_len = 65;
+    expect(hidlog_key_add_credential(key, AT, &wrong), HIDLOG_KEY_ERR_INVALID_ARGUMENT, "a name of 65 bytes");
     wrong = *credential;
-    wrong.name[0] = 0xff;
-    wrong.name_len = 1;
-    want(hidlog_key_add(key, AT, &wrong), HIDLOG_KEY_BAD_ARGUMENT, "a name that isn't UTF-8");
+    wrong.user_name[0] = 0xff;
+    wrong.user_name_len = 1;
+    expect(hidlog_key_add_credential(key, AT, &wrong), HIDLOG_KEY_ERR_INVALID_ARGUMENT, "a name that is not UTF-8");
     wrong = *credential;
     wrong.discoverable = 2;
-    want(hidlog_key_add(key, AT, &wrong), HIDLOG_KEY_BAD_ARGUMENT, "discoverable 2");
+    expect(hidlog_key_add_credential(key, AT, &wrong), HIDLOG_KEY_ERR_INVALID_ARGUMENT, "discoverable 2");
     wrong = *credential;
     wrong.id[0] ^= 1;
     wrong.discoverable = 1;
     if (credential->discoverable) {
-        want(hidlog_key_add(key, AT, &wrong), HIDLOG_KEY_CLASHES, "another id for the same RP and user");
+        expect(hidlog_key_add_credential(key, AT, &wrong), HIDLOG_KEY_ERR_DUPLICATE_USER,
+             "another ID for the same RP and user");
     }
-    want(hidlog_key_remove(key, AT, wrong.id), HIDLOG_KEY_BAD_ARGUMENT, "remove of a credential that there isn't");
+    expect(hidlog_key_remove_credential(key, AT, wrong.id), HIDLOG_KEY_ERR_INVALID_ARGUMENT,
+         "remove of a missing credential");
 }
 
-// Takes all out and puts them in again, in their order.
-static void put_again(struct hidlog_key *key, const uint8_t *snapshot, int32_t len) {
+// Removes all credentials, and adds them again in order.
+static void test_add_again(struct hidlog_key *key, const uint8_t *snapshot, int32_t len) {
     static struct hidlog_credential credentials[HIDLOG_CAPACITY];
-    int32_t count = read_all(key, credentials);
-    want(hidlog_key_clear(key, AT), 0, "clear");
-    want(hidlog_key_credentials(key), 0, "credentials after clear");
+    int32_t count = read_credentials(key, credentials);
+    expect(hidlog_key_clear_credentials(key, AT), 0, "clear");
+    expect(hidlog_key_credential_count(key), 0, "credentials after clear");
     for (int32_t i = 0; i < count; i++) {
-        want(hidlog_key_add(key, AT, &credentials[i]), 0, "add");
-        want(hidlog_key_credentials(key), i + 1, "credentials after add");
-        add_mistakes(key, &credentials[i]);
+        expect(hidlog_key_add_credential(key, AT, &credentials[i]), 0, "add");
+        expect(hidlog_key_credential_count(key), i + 1, "credentials after add");
+        test_invalid_adds(key, &credentials[i]);
     }
-    want_snapshot(key, snapshot, len, "save after add");
+    expect_snapshot(key, snapshot, len, "save after add");
     for (int32_t i = 0; i < count; i++) {
-        want(hidlog_key_add(key, AT, &credentials[i]), 0, "add of one that is there");
+        expect(hidlog_key_add_credential(key, AT, &credentials[i]), 0, "add of an existing credential");
     }
-    want_snapshot(key, snapshot, len, "save after each was put again");
+    expect_snapshot(key, snapshot, len, "save after each was added again");
     for (int32_t i = 0; i < count; i++) {
-        want(hidlog_key_remove(key, AT, credentials[i].id), 0, "remove");
-        want(hidlog_key_credentials(key), count - i - 1, "credentials after remove");
+        expect(hidlog_key_remove_credential(key, AT, credentials[i].id), 0, "remove");
+        expect(hidlog_key_credential_count(key), count - i - 1, "credentials after remove");
     }
 }
 
-// Fills the key with credentials that differ in their ids.
-static void fill(struct hidlog_key *key) {
-    struct hidlog_credential credential = {.counter = 7};
+// Fills the key with credentials that differ in their IDs.
+static void fill_key(struct hidlog_key *key) {
+    struct hidlog_credential credential = {.sign_count = 7};
     for (unsigned i = 0; i < HIDLOG_CAPACITY; i++) {
         credential.id[31] = (uint8_t)i;
-        want(hidlog_key_add(key, AT, &credential), 0, "add until the key is full");
+        expect(hidlog_key_add_credential(key, AT, &credential), 0, "add until the key is full");
     }
     credential.id[30] = 1;
-    want(hidlog_key_add(key, AT, &credential), HIDLOG_KEY_TOO_MANY_ROWS, "one more credential");
+    expect(hidlog_key_add_credential(key, AT, &credential), HIDLOG_KEY_ERR_FULL, "one more credential");
     credential.id[30] = 0;
-    want(hidlog_key_add(key, AT, &credential), 0, "the last one again");
-    want(hidlog_key_credentials(key), HIDLOG_CAPACITY, "credentials of a full key");
+    expect(hidlog_key_add_credential(key, AT, &credential), 0, "the last one again");
+    expect(hidlog_key_credential_count(key), HIDLOG_CAPACITY, "credentials of a full key");
 }
 
-static void wait_mistakes(struct hidlog_key *key, int32_t fault) {
+static void test_busy_key(struct hidlog_key *key, int32_t error) {
     struct hidlog_credential credential = {0};
-    want(hidlog_key_add(key, AT, &credential), fault, "add of a busy key");
-    want(hidlog_key_remove(key, AT, credential.id), fault, "remove of a busy key");
-    want(hidlog_key_clear(key, AT), fault, "clear of a busy key");
+    expect(hidlog_key_add_credential(key, AT, &credential), error, "add of a busy key");
+    expect(hidlog_key_remove_credential(key, AT, credential.id), error, "remove of a busy key");
+    expect(hidlog_key_clear_credentials(key, AT), error, "clear of a busy key");
 }
 
 int main(int count, char **words) {
@@ -142,23 +145,24 @@ int main(int count, char **words) {
     struct hidlog_key key = {0};
     struct hidlog_need need;
     if (count != 2 || (key.memory = aligned_alloc(16, (hidlog_key_size() + 15) / 16 * 16)) == NULL) {
-        stop("no snapshot is named, or there is no memory");
+        fail("missing argument SNAPSHOT, or out of memory");
     }
-    wait_mistakes(&key, HIDLOG_KEY_NOT_MADE);
-    want(hidlog_key_save(&key, snapshot, sizeof snapshot), HIDLOG_KEY_NOT_MADE, "save of a key that was never made");
-    want(hidlog_key_make(&key, aaguid, 0, snapshot, 0), 0, "make");
-    play(&key);
+    test_busy_key(&key, HIDLOG_KEY_ERR_NOT_INITIALIZED);
+    expect(hidlog_key_save_snapshot(&key, snapshot, sizeof snapshot), HIDLOG_KEY_ERR_NOT_INITIALIZED,
+         "save of an uninitialized key");
+    expect(hidlog_key_init(&key, aaguid, 0, snapshot, 0), 0, "init");
+    play_log(&key);
     int32_t len = read_snapshot(words[1], snapshot);
-    want_snapshot(&key, snapshot, len, "save");
-    if (hidlog_key_need(&key, &need) != HIDLOG_NEED_NOTHING) {
-        wait_mistakes(&key, HIDLOG_KEY_WORK_WAITS);
+    expect_snapshot(&key, snapshot, len, "save");
+    if (hidlog_key_get_need(&key, &need) != HIDLOG_NEED_NONE) {
+        test_busy_key(&key, HIDLOG_KEY_ERR_BUSY);
     } else {
-        put_again(&key, snapshot, len);
-        fill(&key);
-        want(hidlog_key_packet(&key, AT, init), 1, "INIT");
-        wait_mistakes(&key, HIDLOG_KEY_PACKETS_WAIT);
+        test_add_again(&key, snapshot, len);
+        fill_key(&key);
+        expect(hidlog_key_write_packet(&key, AT, init), 1, "INIT");
+        test_busy_key(&key, HIDLOG_KEY_ERR_PACKETS_QUEUED);
     }
-    want(hidlog_key_free(&key), 0, "free");
+    expect(hidlog_key_destroy(&key), 0, "destroy");
     free(key.memory);
     return 0;
 }

@@ -1,11 +1,11 @@
-// A key that is held, against the program: reads a log on standard input, hands its input lines to the calls on a key
-// one by one, and writes what `hidlog replay` writes. The caller compares the two.
+// Compares an in-memory key with the program: reads a log from standard input, passes its inputs to a key one by one,
+// and writes what `hidlog replay` writes. The caller compares the two.
 //
-//     key                  by the calls of one input each
-//     key lines            by hidlog_key_lines, a line a call
-//     key recorded         by the calls of hidlog_recording.h, which write the recording: no comments and counts
-//     key snapshot FILE    the first, on the credentials of a snapshot
-//     key mistakes         wrong calls; says nothing and returns 0 where each is refused as the header says
+//     key                  with one call per input
+//     key lines            with hidlog_key_replay_lines, one line per call
+//     key recorded         with hidlog_recording.h, which writes the recording: no comments and totals
+//     key snapshot FILE    like the first, with the credentials of a snapshot
+//     key mistakes         invalid calls; prints nothing and returns 0 if each fails as documented
 #include "hidlog.h"
 #include "hidlog_recording.h"
 
@@ -17,81 +17,83 @@
 
 enum { LINE = 257, TEXT = 20000, SNAPSHOT = 20000 };
 
-static void stop(const char *why) {
+static void fail(const char *why) {
     fprintf(stderr, "key: %s\n", why);
     exit(2);
 }
 
-static void make(struct hidlog_key *key, const uint8_t *snapshot, size_t snapshot_len) {
+static void init_key(struct hidlog_key *key, const uint8_t *snapshot, size_t snapshot_len) {
     static const uint8_t aaguid[16];
     memset(key, 0, sizeof *key);
     key->memory = aligned_alloc(16, (hidlog_key_size() + 15) / 16 * 16);
-    if (key->memory == NULL || hidlog_key_make(key, aaguid, 0, snapshot, snapshot_len) != 0) {
-        stop("the key can't be made");
+    if (key->memory == NULL || hidlog_key_init(key, aaguid, 0, snapshot, snapshot_len) != 0) {
+        fail("cannot initialize the key");
     }
 }
 
-static void end(struct hidlog_key *key) {
-    if (hidlog_key_free(key) != 0) {
-        stop("the key can't be freed");
+static void destroy_key(struct hidlog_key *key) {
+    if (hidlog_key_destroy(key) != 0) {
+        fail("cannot destroy the key");
     }
     free(key->memory);
 }
 
-// Reads the digits of a field and returns how many bytes they are.
-static size_t bytes_of(const char *field, uint8_t *bytes, size_t most) {
+// Parses a hex field. Returns its length in bytes.
+static size_t parse_hex(const char *field, uint8_t *bytes, size_t most) {
     size_t len = strlen(field) / 2;
     if (strlen(field) % 2 != 0 || len > most) {
-        stop("a field of another length");
+        fail("invalid field length");
     }
     for (size_t i = 0; i < len; i++) {
         unsigned byte;
         if (sscanf(field + 2 * i, "%2x", &byte) != 1) {
-            stop("no digits");
+            fail("invalid hex digits");
         }
         bytes[i] = (uint8_t)byte;
     }
     return len;
 }
 
-static uint32_t presence_of(const char *word) {
+static uint32_t parse_presence(const char *word) {
     if (strcmp(word, "granted") == 0) {
-        return HIDLOG_GRANTED;
+        return HIDLOG_PRESENCE_GRANTED;
     }
-    return strcmp(word, "denied") == 0 ? HIDLOG_DENIED : HIDLOG_TIMED_OUT;
+    return strcmp(word, "denied") == 0 ? HIDLOG_PRESENCE_DENIED : HIDLOG_PRESENCE_TIMED_OUT;
 }
 
-// Whether each call is that of hidlog_recording.h, with standard output as the log.
+// Whether to use the calls of hidlog_recording.h, with standard output as the log.
 static bool is_recorded;
 
-// Hands in a new key or a signature, which may be "no".
-static int32_t reply(struct hidlog_key *key, char letter, uint64_t at, char *fields[3]) {
+// Provides a key pair or a signature, or refuses them ("no").
+static int32_t provide_reply(struct hidlog_key *key, char letter, uint64_t now_ms, char *fields[3]) {
     uint8_t bytes[3][72];
     bool is_no = strcmp(fields[0], "no") == 0;
     if (is_no && letter == 's') {
-        return is_recorded ? hidlog_recorded_no_signature(key, stdout, at) : hidlog_key_no_signature(key, at);
+        return is_recorded ? hidlog_record_refuse_signature(key, stdout, now_ms)
+                           : hidlog_key_refuse_signature(key, now_ms);
     }
     if (is_no) {
-        return is_recorded ? hidlog_recorded_no_key(key, stdout, at) : hidlog_key_no_key(key, at);
+        return is_recorded ? hidlog_record_refuse_key_pair(key, stdout, now_ms)
+                           : hidlog_key_refuse_key_pair(key, now_ms);
     }
     if (letter == 's') {
-        size_t len = bytes_of(fields[0], bytes[0], 72);
-        return is_recorded ? hidlog_recorded_signature(key, stdout, at, bytes[0], len)
-                           : hidlog_key_signature(key, at, bytes[0], len);
+        size_t len = parse_hex(fields[0], bytes[0], 72);
+        return is_recorded ? hidlog_record_provide_signature(key, stdout, now_ms, bytes[0], len)
+                           : hidlog_key_provide_signature(key, now_ms, bytes[0], len);
     }
     for (int i = 0; i < 3; i++) {
-        bytes_of(fields[i], bytes[i], 32);
+        parse_hex(fields[i], bytes[i], 32);
     }
-    return is_recorded ? hidlog_recorded_new_key(key, stdout, at, bytes[0], bytes[1], bytes[2])
-                       : hidlog_key_new_key(key, at, bytes[0], bytes[1], bytes[2]);
+    return is_recorded ? hidlog_record_provide_key_pair(key, stdout, now_ms, bytes[0], bytes[1], bytes[2])
+                       : hidlog_key_provide_key_pair(key, now_ms, bytes[0], bytes[1], bytes[2]);
 }
 
-// Hands in the input of a line. Returns how many packets wait then, or -1 where the line is no input.
-static int32_t input(struct hidlog_key *key, const char *line) {
+// Passes the input of a line to the key. Returns the number of queued packets, or -1 if the line is not an input.
+static int32_t handle_input(struct hidlog_key *key, const char *line) {
     char text[LINE], *fields[3] = {"", "", ""};
     uint8_t packet[64];
     strcpy(text, line);
-    char *letter = strtok(text, " "), *moment = strtok(NULL, " ");
+    char *letter = strtok(text, " "), *time = strtok(NULL, " ");
     for (int i = 0; i < 3; i++) {
         char *field = strtok(NULL, " ");
         fields[i] = field == NULL ? "" : field;
@@ -99,26 +101,27 @@ static int32_t input(struct hidlog_key *key, const char *line) {
     if (letter == NULL || strlen(letter) != 1 || strchr(">tpks", *letter) == NULL) {
         return -1;
     }
-    uint64_t at = strtoull(moment, NULL, 10);
+    uint64_t now_ms = strtoull(time, NULL, 10);
     switch (*letter) {
     case '>':
-        bytes_of(fields[0], packet, 64);
-        return is_recorded ? hidlog_recorded_packet(key, stdout, at, packet) : hidlog_key_packet(key, at, packet);
+        parse_hex(fields[0], packet, 64);
+        return is_recorded ? hidlog_record_write_packet(key, stdout, now_ms, packet)
+                           : hidlog_key_write_packet(key, now_ms, packet);
     case 't':
-        return is_recorded ? hidlog_recorded_tick(key, stdout, at) : hidlog_key_tick(key, at);
+        return is_recorded ? hidlog_record_tick(key, stdout, now_ms) : hidlog_key_tick(key, now_ms);
     case 'p':
-        return is_recorded ? hidlog_recorded_presence(key, stdout, at, presence_of(fields[0]))
-                           : hidlog_key_presence(key, at, presence_of(fields[0]));
+        return is_recorded ? hidlog_record_provide_presence(key, stdout, now_ms, parse_presence(fields[0]))
+                           : hidlog_key_provide_presence(key, now_ms, parse_presence(fields[0]));
     default:
-        return reply(key, *letter, at, fields);
+        return provide_reply(key, *letter, now_ms, fields);
     }
 }
 
-static void write_packets(struct hidlog_key *key, int32_t waiting) {
+static void write_packets(struct hidlog_key *key, int32_t queued) {
     uint8_t packet[64];
-    for (; waiting > 0; waiting--) {
-        if (hidlog_key_waiting(key) != waiting || hidlog_key_next(key, packet) != waiting - 1) {
-            stop("the packets are miscounted");
+    for (; queued > 0; queued--) {
+        if (hidlog_key_queued_packets(key) != queued || hidlog_key_read_packet(key, packet) != queued - 1) {
+            fail("wrong packet count");
         }
         fputs("< ", stdout);
         for (int i = 0; i < 64; i++) {
@@ -126,22 +129,23 @@ static void write_packets(struct hidlog_key *key, int32_t waiting) {
         }
         putchar('\n');
     }
-    if (hidlog_key_next(key, packet) != HIDLOG_KEY_NO_PACKET) {
-        stop("a packet too many");
+    if (hidlog_key_read_packet(key, packet) != HIDLOG_KEY_ERR_NO_PACKET) {
+        fail("too many packets");
     }
 }
 
-static void write_meters(struct hidlog_key *key) {
-    struct hidlog_meters m;
-    if (hidlog_key_meters(key, &m) != 0) {
-        stop("no meters");
+static void write_stats(struct hidlog_key *key) {
+    struct hidlog_stats stats;
+    if (hidlog_key_get_stats(key, &stats) != 0) {
+        fail("no statistics");
     }
-    printf("= held %" PRIu32 " rows %" PRIu32 " pending %" PRIu32 " requests %" PRIu64 " bytes %" PRIu64 " steps %" PRIu64
-           "\n",
-           m.held, m.rows, m.pending, m.requests, m.bytes, m.steps);
+    printf("= held %" PRIu32 " rows %" PRIu32 " pending %" PRIu32 " requests %" PRIu64 " bytes %" PRIu64
+           " steps %" PRIu64 "\n",
+           stats.peak_message_bytes, stats.peak_credentials, stats.peak_pending, stats.requests, stats.bytes,
+           stats.steps);
 }
 
-static void play(struct hidlog_key *key) {
+static void play_log(struct hidlog_key *key) {
     char line[LINE];
     while (fgets(line, sizeof line, stdin) != NULL) {
         line[strcspn(line, "\n")] = '\0';
@@ -149,27 +153,27 @@ static void play(struct hidlog_key *key) {
             continue;
         }
         puts(line);
-        int32_t waiting = input(key, line);
-        if (waiting >= 0) {
-            write_packets(key, waiting);
+        int32_t queued = handle_input(key, line);
+        if (queued >= 0) {
+            write_packets(key, queued);
         }
     }
-    write_meters(key);
+    write_stats(key);
 }
 
-// Writes the recording alone.
+// Writes only the recording.
 static void play_recorded(struct hidlog_key *key) {
     char line[LINE];
     uint8_t packet[64];
     is_recorded = true;
     while (fgets(line, sizeof line, stdin) != NULL) {
         line[strcspn(line, "\n")] = '\0';
-        int32_t waiting = line[0] == '<' || line[0] == '=' ? -1 : input(key, line);
-        while (waiting > 0) {
-            waiting = hidlog_recorded_next(key, stdout, packet);
+        int32_t queued = line[0] == '<' || line[0] == '=' ? -1 : handle_input(key, line);
+        while (queued > 0) {
+            queued = hidlog_record_read_packet(key, stdout, packet);
         }
-        if (waiting == HIDLOG_NOT_RECORDED) {
-            stop("the recording can't be written");
+        if (queued == HIDLOG_ERR_NOT_RECORDED) {
+            fail("cannot write the recording");
         }
     }
 }
@@ -177,20 +181,20 @@ static void play_recorded(struct hidlog_key *key) {
 static void play_lines(struct hidlog_key *key) {
     static uint8_t text[TEXT];
     char line[LINE];
-    struct hidlog_outcome outcome;
+    struct hidlog_result result;
     while (fgets(line, sizeof line, stdin) != NULL) {
-        int32_t status = hidlog_key_lines(key, (const uint8_t *)line, strlen(line), text, sizeof text, &outcome);
-        if (status != 0 || outcome.status != 0) {
-            stop("a line is refused");
+        int32_t status = hidlog_key_replay_lines(key, (const uint8_t *)line, strlen(line), text, sizeof text, &result);
+        if (status != 0 || result.status != 0) {
+            fail("the key rejects a valid line");
         }
-        fwrite(text, 1, outcome.written, stdout);
+        fwrite(text, 1, result.written, stdout);
     }
-    write_meters(key);
+    write_stats(key);
 }
 
-static void want(int32_t found, int32_t expected, const char *what) {
+static void expect(int32_t found, int32_t expected, const char *what) {
     if (found != expected) {
-        fprintf(stderr, "key: %s returned %" PRId32 " and not %" PRId32 "\n", what, found, expected);
+        fprintf(stderr, "key: %s returned %" PRId32 ", expected %" PRId32 "\n", what, found, expected);
         exit(1);
     }
 }
@@ -198,53 +202,61 @@ static void want(int32_t found, int32_t expected, const char *what) {
 // INIT on the broadcast channel (CTAP 2.1, section 11.2.9.1.3).
 static const uint8_t init_packet[64] = {0xff, 0xff, 0xff, 0xff, 0x86, 0x00, 0x08, 1, 2, 3, 4, 5, 6, 7, 8};
 
-static void mistakes_before(struct hidlog_key *key) {
+static void test_uninitialized_key(struct hidlog_key *key) {
     static const uint8_t no_snapshot[] = "no snapshot", aaguid[16];
     uint8_t packet[64];
     struct hidlog_need need;
-    want(hidlog_key_tick(key, 1), HIDLOG_KEY_NOT_MADE, "a tick of a key that was never made");
-    want(hidlog_key_next(key, packet), HIDLOG_KEY_NOT_MADE, "next of a key that was never made");
-    want(hidlog_key_need(key, &need), HIDLOG_KEY_NOT_MADE, "need of a key that was never made");
-    want(hidlog_key_credentials(key), HIDLOG_KEY_NOT_MADE, "credentials of a key that was never made");
-    want(hidlog_key_free(key), HIDLOG_KEY_NOT_MADE, "free of a key that was never made");
-    want(hidlog_key_presence(key, 1, 7), HIDLOG_KEY_NOT_MADE, "a wrong presence of a key that was never made");
-    want(hidlog_key_make(key, aaguid, 0, no_snapshot, sizeof no_snapshot), HIDLOG_KEY_NOT_SNAPSHOT, "no snapshot");
-    want(hidlog_key_make(key, aaguid, 0, no_snapshot, 0), 0, "make");
-    want(hidlog_key_make(key, aaguid, 0, no_snapshot, 0), HIDLOG_KEY_MADE, "make of a key that is made");
+    expect(hidlog_key_tick(key, 1), HIDLOG_KEY_ERR_NOT_INITIALIZED, "a tick of a key that was never initialized");
+    expect(hidlog_key_read_packet(key, packet), HIDLOG_KEY_ERR_NOT_INITIALIZED,
+         "next of a key that was never initialized");
+    expect(hidlog_key_get_need(key, &need), HIDLOG_KEY_ERR_NOT_INITIALIZED, "need of a key that was never initialized");
+    expect(hidlog_key_credential_count(key), HIDLOG_KEY_ERR_NOT_INITIALIZED,
+         "credentials of a key that was never initialized");
+    expect(hidlog_key_destroy(key), HIDLOG_KEY_ERR_NOT_INITIALIZED, "free of a key that was never initialized");
+    expect(hidlog_key_provide_presence(key, 1, 7), HIDLOG_KEY_ERR_NOT_INITIALIZED,
+         "a wrong presence of a key that was never initialized");
+    expect(hidlog_key_init(key, aaguid, 0, no_snapshot, sizeof no_snapshot), HIDLOG_KEY_ERR_NOT_A_SNAPSHOT,
+         "no snapshot");
+    expect(hidlog_key_init(key, aaguid, 0, no_snapshot, 0), 0, "init");
+    expect(hidlog_key_init(key, aaguid, 0, no_snapshot, 0), HIDLOG_KEY_ERR_ALREADY_INITIALIZED,
+         "init of an initialized key");
 }
 
-static void mistakes_made(struct hidlog_key *key) {
+static void test_invalid_calls(struct hidlog_key *key) {
     uint8_t packet[64], signature[73] = {0};
     struct hidlog_credential credential;
-    struct hidlog_outcome outcome = {9, 9, 9, 9, 9};
-    want(hidlog_key_packet(key, 1, init_packet), 1, "INIT");
-    want(hidlog_key_tick(key, 2), HIDLOG_KEY_PACKETS_WAIT, "a tick while a packet waits");
-    want(hidlog_key_lines(key, (const uint8_t *)"t 5\n", 4, packet, sizeof packet, &outcome), HIDLOG_KEY_PACKETS_WAIT,
-         "lines while a packet waits");
-    want((int32_t)outcome.status, 9, "the outcome of lines that weren't played");
-    want(hidlog_key_next(key, packet), 0, "next");
-    want(hidlog_key_presence(key, 3, 3), HIDLOG_KEY_BAD_ARGUMENT, "a presence that there isn't");
-    want(hidlog_key_signature(key, 3, signature, 0), HIDLOG_KEY_BAD_ARGUMENT, "a signature of no bytes");
-    want(hidlog_key_signature(key, 3, signature, 73), HIDLOG_KEY_BAD_ARGUMENT, "a signature of 73 bytes");
-    want(hidlog_key_signature(key, 3, signature, 72), 0, "a signature that isn't needed");
-    want(hidlog_key_credential(key, 0, &credential), HIDLOG_KEY_BAD_ARGUMENT, "a credential that there isn't");
-    want(hidlog_key_credentials(key), 0, "credentials");
-    want(hidlog_key_pending(key), 0, "pending");
-    want(hidlog_key_lines(key, (const uint8_t *)"t 5\nx\n", 6, packet, sizeof packet, &outcome), 1, "a faulty line");
-    want((int32_t)outcome.fault, HIDLOG_BAD_LINE, "the fault of a faulty line");
-    want((int32_t)outcome.line, 2, "the line that the fault names");
-    want(hidlog_key_free(key), 0, "free");
-    want(hidlog_key_tick(key, 9), HIDLOG_KEY_NOT_MADE, "a tick of a key that was freed");
+    struct hidlog_result result = {9, 9, 9, 9, 9};
+    expect(hidlog_key_write_packet(key, 1, init_packet), 1, "INIT");
+    expect(hidlog_key_tick(key, 2), HIDLOG_KEY_ERR_PACKETS_QUEUED, "a tick while a packet is queued");
+    expect(hidlog_key_replay_lines(key, (const uint8_t *)"t 5\n", 4, packet, sizeof packet, &result),
+         HIDLOG_KEY_ERR_PACKETS_QUEUED, "lines while a packet is queued");
+    expect((int32_t)result.status, 9, "the result of lines that were not played");
+    expect(hidlog_key_read_packet(key, packet), 0, "read_packet");
+    expect(hidlog_key_provide_presence(key, 3, 3), HIDLOG_KEY_ERR_INVALID_ARGUMENT, "an invalid presence");
+    expect(hidlog_key_provide_signature(key, 3, signature, 0), HIDLOG_KEY_ERR_INVALID_ARGUMENT,
+         "a signature of no bytes");
+    expect(hidlog_key_provide_signature(key, 3, signature, 73), HIDLOG_KEY_ERR_INVALID_ARGUMENT,
+         "a signature of 73 bytes");
+    expect(hidlog_key_provide_signature(key, 3, signature, 72), 0, "a signature that is not needed");
+    expect(hidlog_key_get_credential(key, 0, &credential), HIDLOG_KEY_ERR_INVALID_ARGUMENT, "a missing credential");
+    expect(hidlog_key_credential_count(key), 0, "credentials");
+    expect(hidlog_key_pending_assertions(key), 0, "pending");
+    expect(hidlog_key_replay_lines(key, (const uint8_t *)"t 5\nx\n", 6, packet, sizeof packet, &result), 1,
+         "an invalid line");
+    expect((int32_t)result.error, HIDLOG_ERR_BAD_LINE, "the error of an invalid line");
+    expect((int32_t)result.line, 2, "the line of the error");
+    expect(hidlog_key_destroy(key), 0, "destroy");
+    expect(hidlog_key_tick(key, 9), HIDLOG_KEY_ERR_NOT_INITIALIZED, "a tick of a destroyed key");
 }
 
-static int mistakes(void) {
+static int run_mistakes(void) {
     struct hidlog_key key = {0};
     key.memory = aligned_alloc(16, (hidlog_key_size() + 15) / 16 * 16);
     if (key.memory == NULL) {
-        stop("no memory");
+        fail("out of memory");
     }
-    mistakes_before(&key);
-    mistakes_made(&key);
+    test_uninitialized_key(&key);
+    test_invalid_calls(&key);
     free(key.memory);
     return 0;
 }
@@ -254,24 +266,24 @@ int main(int count, char **words) {
     size_t snapshot_len = 0;
     struct hidlog_key key;
     if (count == 2 && strcmp(words[1], "mistakes") == 0) {
-        return mistakes();
+        return run_mistakes();
     }
     if (count == 3 && strcmp(words[1], "snapshot") == 0) {
         FILE *file = fopen(words[2], "rb");
         if (file == NULL) {
-            stop("the snapshot can't be opened");
+            fail("cannot open the snapshot");
         }
         snapshot_len = fread(snapshot, 1, sizeof snapshot, file);
         fclose(file);
     }
-    make(&key, snapshot, snapshot_len);
+    init_key(&key, snapshot, snapshot_len);
     if (count == 2 && strcmp(words[1], "lines") == 0) {
         play_lines(&key);
     } else if (count == 2 && strcmp(words[1], "recorded") == 0) {
         play_recorded(&key);
     } else {
-        play(&key);
+        play_log(&key);
     }
-    end(&key);
+    destroy_key(&key);
     return 0;
 }

@@ -1,181 +1,184 @@
 #!/usr/bin/env bash
-# Runs the C library from C programs: the commands on logs (commands.c), a log that is shown (show.c), a key that is held
-# (key.c), which have to write of each worked log what the program writes, why it refuses (causes.c), its credentials (credentials.c), saved as
-# the program saves them, and as many as there is capacity for (capacity.c). Linked with the static and with the shared library of release/; with the sanitizers of gcc; with
-# musl, and for aarch64, where their compilers and qemu are there. Looks too at what the libraries call: no allocator, and
-# nothing else but three functions that move bytes; and whether C++ takes the header. Ends with 3 where gcc is missing.
+# Tests the C library with C programs: commands on logs (commands.c), showing logs (show.c), an in-memory key (key.c),
+# why it rejects inputs (causes.c, cause_codes.c), its credentials (credentials.c) and its capacity (capacity.c). For each
+# worked log their output must equal the program's. Uses the static and the shared library of release/, gcc's
+# sanitizers, and if installed musl and aarch64 with qemu. Also checks that the libraries call nothing but memcpy, memmove
+# and memset, and that C++ accepts the header. Ends with 3 if gcc is missing.
 set -euo pipefail
 top=$(cd "$(dirname "${BASH_SOURCE[0]}")/../.." && pwd)
-command -v gcc >/dev/null || { echo "tests/c: gcc is missing (apt-get install gcc libc6-dev); nothing was run" >&2; exit 3; }
-room=$(mktemp -d)
-trap 'rm -rf "$room"' EXIT
+command -v gcc >/dev/null ||
+    { echo "tests/c: gcc is missing (apt-get install gcc libc6-dev); nothing was run" >&2 && exit 3; }
+work=$(mktemp -d)
+trap 'rm -rf "$work"' EXIT
 options=(-std=c11 -O2 -Wall -Wextra -Werror -I "$top/release")
 
-stop() {
+fail() {
     echo "tests/c: $*"
     exit 1
 }
 
-# The logs that a new session without credentials plays, and that are whole.
+# Complete logs of sessions without initial credentials.
 logs=("$top"/examples/*.log "$top"/crates/hidlog/data/capacity_64/*.log)
 
-# Plays a log on a key that is held, in both ways, and compares with the program: play_on LOG [WORD ..]
-play_on() {
-    "$top/release/hidlog" replay <"$1" >"$room/replayed" 2>/dev/null || return 0
-    "${@:2}" "$room/key" <"$1" >"$room/held" || stop "a key that is held fails at $1"
-    cmp -s "$room/replayed" "$room/held" || stop "a key that is held differs at $1"
-    "${@:2}" "$room/key" recorded <"$1" >"$room/recorded" || stop "a recording fails at $1"
-    sed -n '/^[>tpks<]/p' "$room/replayed" | tr A-F a-f | cmp -s - "$room/recorded" || stop "a recording differs at $1"
-    "$top/release/hidlog" check "$room/recorded" >/dev/null || stop "a recording of $1 doesn't pass"
-    "$top/release/hidlog" live <"$1" >"$room/lived"
-    "${@:2}" "$room/key" lines <"$1" >"$room/held" || stop "the lines of a key fail at $1"
-    cmp -s "$room/lived" "$room/held" || stop "the lines of a key differ at $1"
-    "$top/release/hidlog" replay --save "$room/saved" <"$1" >"$room/replayed"
-    "${@:2}" "$room/credentials" "$room/saved" <"$1" || stop "the credentials of a key differ at $1"
+# Plays a log on an in-memory key, in each way, and compares with the program: compare_replay LOG [WORD ..]
+compare_replay() {
+    "$top/release/hidlog" replay <"$1" >"$work/replayed" 2>/dev/null || return 0
+    "${@:2}" "$work/key" <"$1" >"$work/held" || fail "the in-memory key fails for $1"
+    cmp -s "$work/replayed" "$work/held" || fail "the in-memory key's output differs for $1"
+    "${@:2}" "$work/key" recorded <"$1" >"$work/recorded" || fail "recording fails for $1"
+    sed -n '/^[>tpks<]/p' "$work/replayed" | tr A-F a-f | cmp -s - "$work/recorded" ||
+        fail "the recording differs for $1"
+    "$top/release/hidlog" check "$work/recorded" >/dev/null || fail "hidlog check fails for the recording of $1"
+    "$top/release/hidlog" live <"$1" >"$work/lived"
+    "${@:2}" "$work/key" lines <"$1" >"$work/held" || fail "hidlog_key_replay_lines fails for $1"
+    cmp -s "$work/lived" "$work/held" || fail "the output of hidlog_key_replay_lines differs for $1"
+    "$top/release/hidlog" replay --save "$work/saved" <"$1" >"$work/replayed"
+    "${@:2}" "$work/credentials" "$work/saved" <"$1" || fail "the credentials differ for $1"
     played=$((played + 1))
 }
 
-# Shows a log in one form, and compares with the program, the text and the line of a fault:
-# show_form LOG PROGRAM'S-WORD LIBRARY'S-WORD [WORD ..]
-show_form() {
-    local status=0 wanted=0
-    "$top/release/hidlog" show "$2" <"$1" >"$room/shown" 2>"$room/fault" || wanted=$?
+# Shows a log in one form, and compares the output and the error message with the program's:
+# show_form LOG PROGRAM'S-OPTION LIBRARY'S-ARGUMENT [WORD ..]
+compare_show_form() {
+    local status=0 expected=0
+    "$top/release/hidlog" show "$2" <"$1" >"$work/shown" 2>"$work/error" || expected=$?
     # shellcheck disable=SC2086 # no word is no word
-    "${@:4}" "$room/show" $3 <"$1" >"$room/held" 2>"$room/said" || status=$?
-    [ "$status" = "$wanted" ] || stop "showing $1 ends with $status"
-    cmp -s "$room/shown" "$room/held" || stop "what is shown differs at $1"
-    [ "$(head -1 "$room/fault")" = "$(cat "$room/said")" ] || stop "the fault of $1 is another"
+    "${@:4}" "$work/show" $3 <"$1" >"$work/held" 2>"$work/message" || status=$?
+    [ "$status" = "$expected" ] || fail "showing $1 ends with $status, expected $expected"
+    cmp -s "$work/shown" "$work/held" || fail "the shown text differs for $1"
+    [ "$(head -1 "$work/error")" = "$(cat "$work/message")" ] || fail "the error message for $1 differs"
     shown=$((shown + 1))
 }
 
-# Compares which transaction each line belongs to with what the program's JSON says: show_owners LOG [WORD ..]
-show_owners() {
+# Compares the transaction of each line with the program's JSON: compare_transactions LOG [WORD ..]
+compare_transactions() {
     { "$top/release/hidlog" show --json <"$1" 2>/dev/null || true; } | sed -nE \
         's/^\{"line":([0-9]+),"kind":"(packet|tick|presence|key|signature)"(.*"transaction":([0-9]+))?.*/\1 \4/p' |
-        awk '{ print $1, $2 + 0 }' | sort -n >"$room/shown"
-    { "${@:2}" "$room/show" transactions <"$1" 2>/dev/null || true; } | awk '
+        awk '{ print $1, $2 + 0 }' | sort -n >"$work/shown"
+    { "${@:2}" "$work/show" transactions <"$1" 2>/dev/null || true; } | awk '
         { of[$1] = $2; for (word = 4; word <= NF; word++) if ($word ~ /^l/) of[substr($word, 2)] = 0 }
-        END { for (line in of) print line, of[line] }' | sort -n >"$room/held"
-    cmp -s "$room/shown" "$room/held" || stop "the transactions of lines differ at $1"
+        END { for (line in of) print line, of[line] }' | sort -n >"$work/held"
+    cmp -s "$work/shown" "$work/held" || fail "the transactions of lines differ for $1"
 }
 
-# Compares which message each packet is of with the log's own packets, where none is stray: an initialization packet
-# begins one on its channel, in its direction, and those of continuation are of the last one there:
+# Compares the message of each packet with the log's packets, if none is out of place: an initialization packet starts a
+# message on its channel and in its direction, and continuation packets belong to the last one there:
 # show_messages LOG [WORD ..]
-show_messages() {
+compare_messages() {
     awk '
         { packet = $1 == ">" ? $3 : $2; at = $1 substr(packet, 1, 8) }
         $1 ~ /^[<>]$/ && substr(packet, 9, 1) ~ /[89a-f]/ { begun[at] = NR }
         $1 ~ /^[<>]$/ { print NR, begun[at] }
-        $1 ~ /^[tpks]$/ { print NR, 0 }' "$1" >"$room/shown"
-    "${@:2}" "$room/show" transactions <"$1" | cut -d" " -f1,3 >"$room/held"
-    cmp -s "$room/shown" "$room/held" || stop "the messages of packets differ at $1"
+        $1 ~ /^[tpks]$/ { print NR, 0 }' "$1" >"$work/shown"
+    "${@:2}" "$work/show" transactions <"$1" | cut -d" " -f1,3 >"$work/held"
+    cmp -s "$work/shown" "$work/held" || fail "the messages of packets differ for $1"
 }
 
-# Shows a log in its fixed text and explained, and its transactions: show_log LOG [WORD ..]
-show_log() {
-    show_form "$1" --plain "" "${@:2}"
-    show_form "$1" --explain explain "${@:2}"
-    show_owners "$@"
+# Shows a log in both forms, and its transactions: compare_show LOG [WORD ..]
+compare_show() {
+    compare_show_form "$1" --plain "" "${@:2}"
+    compare_show_form "$1" --explain explain "${@:2}"
+    compare_transactions "$@"
 }
 
-# Makes hostile logs, those of the fuzzer's seed 1.
-make_hostile() {
-    mkdir "$room/hostile"
-    python3 - "$top/tests/fuzz" "$room/hostile" <<'PYTHON'
+# Writes malformed logs, those of the fuzzer's seed 1.
+write_malformed_logs() {
+    mkdir "$work/hostile"
+    python3 - "$top/tests/fuzz" "$work/hostile" <<'PYTHON'
 import sys
 from pathlib import Path
 
 sys.path.insert(0, sys.argv[1])
-from hostile import hostile_log
+from malformed_requests import hostile_log
 
 for number in range(40):
     Path(sys.argv[2], f"{number}.log").write_bytes(hostile_log(1, number))
 PYTHON
 }
 
-# Shows the worked logs and the hostile ones, and of each the front.
-show_logs() {
+# Shows the worked and the malformed logs, and the start of each.
+compare_shows() {
     shown=0
-    for log in "${logs[@]}" "$room"/hostile/*.log; do
-        show_log "$log" "$@"
-        head -c 700 "$log" >"$room/front"
-        show_log "$room/front" "$@"
+    for log in "${logs[@]}" "$work"/hostile/*.log; do
+        compare_show "$log" "$@"
+        head -c 700 "$log" >"$work/front"
+        compare_show "$work/front" "$@"
     done
     for log in "$top"/examples/{registration,sign_in}.log; do
-        show_messages "$log" "$@"
+        compare_messages "$log" "$@"
     done
-    [ "$shown" -ge 300 ] || stop "only $shown logs were shown"
-    echo "tests/c: $((shown / 2)) logs shown as the program shows them, in both forms, and their transactions"
+    [ "$shown" -ge 300 ] || fail "only $shown logs were shown"
+    echo "tests/c: $((shown / 2)) logs shown like the program, in both forms, and their transactions"
 }
 
-# Runs the programs with the words before them.
-run() {
+# Runs the programs, with a prefix command: run_programs TITLE [WORD ..]
+run_programs() {
     echo "tests/c: $1"
-    "${@:2}" "$room/commands" "$top/examples"
-    "${@:2}" "$room/key" mistakes
-    "${@:2}" "$room/causes"
-    "${@:2}" "$room/capacity" 64
+    "${@:2}" "$work/commands" "$top/examples"
+    "${@:2}" "$work/key" mistakes
+    "${@:2}" "$work/causes"
+    "${@:2}" "$work/cause_codes"
+    "${@:2}" "$work/capacity" 64
     played=0
     for log in "${logs[@]}"; do
-        play_on "$log" "${@:2}"
+        compare_replay "$log" "${@:2}"
     done
-    [ "$played" -ge 50 ] || stop "only $played logs were played"
-    echo "tests/c: $played logs played on a key that is held, as the program plays them"
-    show_logs "${@:2}"
+    [ "$played" -ge 50 ] || fail "only $played logs were played"
+    echo "tests/c: $played logs played on an in-memory key like the program"
+    compare_shows "${@:2}"
 }
 
-# Builds the programs: build COMPILER WORD ..
-build() {
+# Builds the programs: build_programs COMPILER ARGUMENT ..
+build_programs() {
     local name
-    for name in commands show key causes credentials capacity; do
-        "$1" "${options[@]}" -o "$room/$name" "$top/tests/c/$name.c" "${@:2}"
+    for name in commands show key causes cause_codes credentials capacity; do
+        "$1" "${options[@]}" -o "$work/$name" "$top/tests/c/$name.c" "${@:2}"
     done
 }
 
 for library in libhidlog.a libhidlog-256.a aarch64/libhidlog.a; do
     calls=$(nm --undefined-only --format=just-symbols "$top/release/$library" | grep -v ':$' | sort -u | xargs)
-    [ "$calls" = "memcpy memmove memset" ] || stop "$library calls $calls, and not memcpy, memmove and memset alone"
+    [ "$calls" = "memcpy memmove memset" ] || fail "$library calls $calls; expected only memcpy, memmove and memset"
 done
-make_hostile
-build gcc "$top/release/libhidlog.a"
-run "the static library"
-build gcc -L "$top/release" -l:libhidlog.so.0 "-Wl,-rpath,$top/release"
-run "the shared library"
-build gcc -DHIDLOG_CAPACITY=256 "$top/release/libhidlog-256.a"
-"$room/key" mistakes
-"$room/capacity" 256
+write_malformed_logs
+build_programs gcc "$top/release/libhidlog.a"
+run_programs "the static library"
+build_programs gcc -L "$top/release" -l:libhidlog.so.1 "-Wl,-rpath,$top/release"
+run_programs "the shared library"
+build_programs gcc -DHIDLOG_CAPACITY=256 "$top/release/libhidlog-256.a"
+"$work/key" mistakes
+"$work/capacity" 256
 for log in "${logs[@]}"; do
-    play_on "$log"
+    compare_replay "$log"
 done
 echo "tests/c: $played logs played on a key with capacity for 256 credentials"
-build gcc -g -fsanitize=address,undefined -fno-sanitize-recover "$top/release/libhidlog.a"
-run "with the sanitizers of addresses and of undefined behaviour"
+build_programs gcc -g -fsanitize=address,undefined -fno-sanitize-recover "$top/release/libhidlog.a"
+run_programs "with AddressSanitizer and UndefinedBehaviorSanitizer"
 if command -v pkg-config >/dev/null; then
     for name in hidlog hidlog-256; do
         read -ra words < <(PKG_CONFIG_PATH=$top/release pkg-config --cflags --libs "$name")
-        gcc -std=c11 -o "$room/capacity" "$top/tests/c/capacity.c" "${words[@]}" "-Wl,-rpath,$top/release"
-        "$room/capacity" "$([ "$name" = hidlog ] && echo 64 || echo 256)"
+        gcc -std=c11 -o "$work/capacity" "$top/tests/c/capacity.c" "${words[@]}" "-Wl,-rpath,$top/release"
+        "$work/capacity" "$([ "$name" = hidlog ] && echo 64 || echo 256)"
     done
     echo "tests/c: pkg-config finds the libraries"
 else
-    echo "tests/c: pkg-config was not tried (apt-get install pkgconf)"
+    echo "tests/c: pkg-config was not tested (apt-get install pkgconf)"
 fi
 if command -v g++ >/dev/null; then
     g++ -std=c++17 -Wall -Wextra -Werror -fsyntax-only -x c++ "$top/release/hidlog_recording.h"
-    echo "tests/c: C++ takes the header"
+    echo "tests/c: C++ accepts the header"
 else
-    echo "tests/c: the header was not tried with C++ (apt-get install g++)"
+    echo "tests/c: the header was not tested with C++ (apt-get install g++)"
 fi
 if command -v musl-gcc >/dev/null; then
-    build musl-gcc -static "$top/release/libhidlog.a"
-    run "the static library with musl"
+    build_programs musl-gcc -static "$top/release/libhidlog.a"
+    run_programs "the static library with musl"
 else
     echo "tests/c: not run with musl (apt-get install musl-tools)"
 fi
 if command -v aarch64-linux-gnu-gcc >/dev/null && command -v qemu-aarch64-static >/dev/null; then
-    build aarch64-linux-gnu-gcc -static "$top/release/aarch64/libhidlog.a"
-    run "the static library for aarch64" qemu-aarch64-static
+    build_programs aarch64-linux-gnu-gcc -static "$top/release/aarch64/libhidlog.a"
+    run_programs "the static library for aarch64" qemu-aarch64-static
 else
     echo "tests/c: not run for aarch64 (apt-get install gcc-aarch64-linux-gnu libc6-dev-arm64-cross qemu-user-static)"
 fi

@@ -1,42 +1,43 @@
-/* Writes what hidlog_show writes for the log on standard input, explained with that word, or what hidlog_transactions
- * writes, and ends with its fault: show [explain | transactions]. The buffer begins with a few bytes and grows while it
- * is too small, so that each call with less room is tried on the way. */
+/* Writes the output of hidlog_show for the log on standard input, explained with `explain`, or of hidlog_transactions,
+ * and its error message: show [explain | transactions]. The buffer starts with a few bytes and grows while it is too
+ * small, which tests calls with small buffers. */
 #include "hidlog.h"
 
 #include <stdio.h>
 #include <stdlib.h>
 #include <string.h>
 
-enum { MOST = 1 << 26, CANARY = 0xa5 };
+enum { MAX_LOG = 1 << 26, CANARY = 0xa5 };
 enum form { FIXED, EXPLAINED, TRANSACTIONS };
 
-/* Reads all of standard input into memory of its own. */
+/* Reads standard input into allocated memory. */
 static uint8_t *read_log(size_t *size)
 {
-    uint8_t *bytes = malloc(MOST);
+    uint8_t *bytes = malloc(MAX_LOG);
     if (!bytes) {
         perror("show");
         exit(2);
     }
-    *size = fread(bytes, 1, MOST, stdin);
+    *size = fread(bytes, 1, MAX_LOG, stdin);
     return bytes;
 }
 
-/* Shows the log into memory of just so many bytes, which a sanitizer watches, and one for a byte that stays. */
-static uint8_t *show(const uint8_t *log, size_t size, enum form form, size_t room, struct hidlog_outcome *outcome)
+/* Shows the log in a buffer of exactly this capacity, which a sanitizer watches, and a canary byte. */
+static uint8_t *show(const uint8_t *log, size_t size, enum form form, size_t out_cap, struct hidlog_result *result)
 {
-    uint8_t *out = malloc(room + 1);
+    uint8_t *out = malloc(out_cap + 1);
     if (!out) {
         perror("show");
         exit(2);
     }
-    out[room] = CANARY;
+    out[out_cap] = CANARY;
     if (form == TRANSACTIONS)
-        hidlog_transactions(log, size, out, room, outcome);
+        hidlog_transactions(log, size, out, out_cap, result);
     else
-        hidlog_show(log, size, form == EXPLAINED, out, room, outcome);
-    if (out[room] != CANARY || outcome->written > room || outcome->packet != 0 || outcome->status > HIDLOG_FAULT) {
-        fprintf(stderr, "show: a call with %zu bytes of room did what it may not\n", room);
+        hidlog_show(log, size, form == EXPLAINED, out, out_cap, result);
+    if (out[out_cap] != CANARY || result->written > out_cap || result->packet != 0 ||
+        result->status > HIDLOG_LOG_ERROR) {
+        fprintf(stderr, "show: a call with capacity %zu violated its contract\n", out_cap);
         exit(2);
     }
     return out;
@@ -45,30 +46,30 @@ static uint8_t *show(const uint8_t *log, size_t size, enum form form, size_t roo
 int main(int count, char **words)
 {
     enum form form = count < 2 ? FIXED : strcmp(words[1], "transactions") ? EXPLAINED : TRANSACTIONS;
-    size_t size, room = 3, known = 0;
+    size_t size, out_cap = 3, known = 0;
     uint8_t *log = read_log(&size), *before = malloc(1);
-    struct hidlog_outcome outcome;
+    struct hidlog_result result;
     for (;;) {
-        uint8_t *out = show(log, size, form, room, &outcome);
-        if (known > outcome.written || memcmp(before, out, known)) {
-            fprintf(stderr, "show: the text begins otherwise with %zu bytes of room\n", room);
+        uint8_t *out = show(log, size, form, out_cap, &result);
+        if (known > result.written || memcmp(before, out, known)) {
+            fprintf(stderr, "show: the text starts differently with capacity %zu\n", out_cap);
             return 2;
         }
         free(before);
         before = out;
-        known = outcome.written;
-        if (outcome.fault != HIDLOG_WRITE)
+        known = result.written;
+        if (result.error != HIDLOG_ERR_BUFFER_TOO_SMALL)
             break;
-        if (known != room || outcome.line != 0 || outcome.status != HIDLOG_FAULT) {
-            fprintf(stderr, "show: a buffer of %zu bytes isn't full\n", room);
+        if (known != out_cap || result.line != 0 || result.status != HIDLOG_LOG_ERROR) {
+            fprintf(stderr, "show: a buffer of %zu bytes is not full\n", out_cap);
             return 2;
         }
-        room = room * 3 / 2;
+        out_cap = out_cap * 3 / 2;
     }
     fwrite(before, 1, known, stdout);
     free(before);
     free(log);
     uint8_t text[64];
-    fwrite(text, 1, hidlog_fault_text(&outcome, text, sizeof text), stderr);
-    return outcome.status == HIDLOG_FAULT;
+    fwrite(text, 1, hidlog_result_message(&result, text, sizeof text), stderr);
+    return result.status == HIDLOG_LOG_ERROR;
 }

@@ -1,8 +1,8 @@
 #!/usr/bin/env python3
-"""Imports all captures of a folder, and compares each with the key's log of the same session: compare.py FOLDER
+"""Compares the captures in a folder with the key's logs of the same sessions: compare.py FOLDER
 
-A file SESSION.ENDING is compared with SESSION.log and SESSION.*.log. The last line counts what came of it; the
-status is 1 where a capture has a packet that is in no log.
+A file SESSION.SUFFIX is compared with SESSION.log and SESSION.*.log. The exit status is 1 if a capture has a packet
+that is in no log.
 """
 
 from __future__ import annotations
@@ -18,26 +18,29 @@ from hidlog.captures import CaptureError, read  # noqa: E402
 Packets = list[tuple[bytes, bytes]]
 
 
-def packets_of(log: bytes) -> Packets:
+def read_packets(log: bytes) -> Packets:
     """Returns the packets of a log, each with its direction."""
     lines = [line for line in log.split(b"\n") if line[:2] in (b"> ", b"< ")]
     return [(line[:1], bytes.fromhex(line.split(b" ")[-1].decode())) for line in lines]
 
 
 def is_within(some: Packets, known: Packets) -> bool:
-    """Returns whether packets are in a log in this order, where others may be between."""
+    """Returns whether packets are in a log in this order, possibly with others between them."""
     rest = iter(known)
-    return all(it in rest for it in some)
+    return all(item in rest for item in some)
 
 
-def in_each_way(some: Packets, known: Packets) -> bool:
-    """Returns whether the packets of each way are in a log in this order."""
+def is_within_per_direction(some: Packets, known: Packets) -> bool:
+    """Returns whether the packets of each direction are in a log in this order."""
     ways = (b">", b"<")
-    return all(is_within([it for it in some if it[0] == way], [it for it in known if it[0] == way]) for way in ways)
+    return all(
+        is_within([item for item in some if item[0] == way], [element for element in known if element[0] == way])
+        for way in ways
+    )
 
 
-def compared(seen: Packets, known: Packets) -> str:
-    """Says how the packets of a capture agree with a log; an empty text where they don't."""
+def find_difference(seen: Packets, known: Packets) -> str:
+    """Returns how the packets of a capture agree with a log; empty if they do not."""
     if seen == known:
         return "the same packets"
     for start in range(len(known) - len(seen) + 1):
@@ -45,31 +48,31 @@ def compared(seen: Packets, known: Packets) -> str:
             return f"the same packets from number {start + 1} on, {len(seen)} of {len(known)}"
     if is_within(seen, known):
         return f"{len(seen)} of {len(known)} packets, in the same order"
-    if in_each_way(seen, known):
-        return f"{len(seen)} of {len(known)} packets, in the same order each way"
+    if is_within_per_direction(seen, known):
+        return f"{len(seen)} of {len(known)} packets, in the same order in each direction"
     return ""
 
 
 def compare(path: Path) -> tuple[int, int]:
-    """Compares a capture; returns how many keys of it agree, and how many don't."""
+    """Compares a capture; returns the number of its keys that agree and that do not."""
     logs = sorted(
         {*path.parent.glob(path.name.split(".")[0] + ".log"), *path.parent.glob(path.name.split(".")[0] + ".*.log")}
     )
     try:
         found = read(path)
     except CaptureError as error:
-        print(f"{path.name}: not read: {error}")
+        print(f"{path.name}: cannot be read: {error}")
         return 0, 0
     agree = 0
-    for it in found:
-        seen = packets_of(it.log)
-        said = {log.name: compared(seen, packets_of(log.read_bytes())) for log in logs}
-        best = next((f"{text} ({name})" for name, text in said.items() if text.startswith("the same")), "")
-        best = best or next((f"{text} ({name})" for name, text in said.items() if text), "")
-        checked = hidlog.check(it.log)
+    for result in found:
+        seen = read_packets(result.log)
+        agreements = {log.name: find_difference(seen, read_packets(log.read_bytes())) for log in logs}
+        best = next((f"{text} ({name})" for name, text in agreements.items() if text.startswith("the same")), "")
+        best = best or next((f"{text} ({name})" for name, text in agreements.items() if text), "")
+        checked = hidlog.check(result.log)
         same = "check says same" if checked.status == 0 else f"check finds a difference at line {checked.line}"
-        print(f"{path.name}: {it.name}: {best or 'NO LOG HAS THESE PACKETS'}; {same}")
-        for note in it.notes:
+        print(f"{path.name}: {result.name}: {best or 'NO LOG HAS THESE PACKETS'}; {same}")
+        for note in result.notes:
             print(f"    {note}")
         agree += bool(best)
     return agree, len(found) - agree
@@ -86,7 +89,7 @@ def main() -> int:
             continue
         agree, differ = compare(path)
         good, bad = good + agree, bad + differ
-    print(f"{good} agree, {bad} don't")
+    print(f"{good} agree, {bad} do not")
     return 1 if bad else 0
 
 

@@ -1,8 +1,8 @@
 #!/usr/bin/env bash
-# Tests captures: import, export, Wireshark's dissector, the judge, recorded keys as fixtures. Ends with 3 where a package of
-# Debian is missing.
+# Tests captures: import, export, the Wireshark dissector, judge, recorded keys as fixtures. Exits with 3 if a Debian
+# package is missing.
 #
-#     tests/captures/run.sh [WORD ..]      words for pytest
+#     tests/captures/run.sh [ARGUMENT ..]      arguments of pytest
 set -euo pipefail
 cd "$(dirname "${BASH_SOURCE[0]}")"
 python=/usr/bin/python3

@@ -10,9 +10,10 @@ from pathlib import Path
 from typing import Any
 
 import pytest
-from variants import events_of, usbpcap_of
+from variants import encode_usbpcap, read_transfers
 
-from hidlog.captures import pcapng_of
+from hidlog.captures import to_pcapng
+from hidlog_conformance.session_cache import sessions_folder
 
 TOP = Path(__file__).resolve().parents[2]
 PROGRAM = TOP / "release" / "hidlog"
@@ -34,83 +35,83 @@ FIELDS = (
     "ctap2.member",
     "_ws.expert.message",
 )
-BETWEEN = "\x1f"
+SEPARATOR = "\x1f"
 Row = dict[str, str]
 
 
-def sessions() -> list[Path]:
-    """Returns sessions of all kinds: the examples, what clients did, each fifth case of the corpus, the test's data."""
+def list_sessions() -> list[Path]:
+    """Returns examples, recordings of clients, every fifth conformance session, and the data of these tests."""
     found = sorted((TOP / "conformance" / "recorded").glob("*.log")) + sorted(
         (TOP / "tests/captures/data").glob("*.log")
     )
-    found += [it for it in sorted((TOP / "examples").glob("*.log"))]
-    return found + sorted((TOP / "conformance" / "sessions").glob("**/*.log"))[::5]
+    found += [path for path in sorted((TOP / "examples").glob("*.log"))]
+    return found + sorted(Path(sessions_folder()).glob("**/*.log"))[::5]
 
 
-def dissected(files: list[Path], folder: Path) -> dict[int, list[Row]]:
-    """Returns what tshark prints of each frame with a packet, by the number of the session."""
+def dissect(files: list[Path], folder: Path) -> dict[int, list[Row]]:
+    """Returns tshark's fields for each frame with a packet, by session index."""
     capture = folder / "sessions.pcapng"
-    capture.write_bytes(b"".join(pcapng_of(replayed(path)) for path in files))
+    capture.write_bytes(b"".join(to_pcapng(replay(path)) for path in files))
     words = ["tshark", "-X", f"lua_script:{DISSECTOR}", "-r", str(capture), "-Y", "ctaphid", "-T", "fields"]
     words += [word for name in FIELDS for word in ("-e", name)]
-    words += ["-E", "separator=/t", "-E", "occurrence=a", "-E", f"aggregator={BETWEEN}"]
-    said = subprocess.run(words, check=True, capture_output=True, text=True).stdout
+    words += ["-E", "separator=/t", "-E", "occurrence=a", "-E", f"aggregator={SEPARATOR}"]
+    output = subprocess.run(words, check=True, capture_output=True, text=True).stdout
     found: dict[int, list[Row]] = {number: [] for number in range(len(files))}
-    for line in said.splitlines():
+    for line in output.splitlines():
         row = dict(zip(FIELDS, line.split("\t")))
         found[int(row["frame.section_number"]) - 1].append(row)
     return found
 
 
-def replayed(path: Path) -> bytes:
-    """Returns a session with the key's packets: those of the corpus have none."""
+def replay(path: Path) -> bytes:
+    """Returns a session with the key's packets, which conformance sessions do not have."""
     log = path.read_bytes()
     if b"\n< " in log:
         return log
     return subprocess.run([PROGRAM, "replay"], input=log, check=True, capture_output=True).stdout
 
 
-def shown(path: Path) -> Iterator[dict[str, Any]]:
-    """Returns the objects of `show --json`, and in each item's object the lines that name members."""
-    log = replayed(path)
-    said = subprocess.run([PROGRAM, "show", "--json"], input=log, check=True, capture_output=True).stdout
+def show_objects(path: Path) -> Iterator[dict[str, Any]]:
+    """Yields the objects of `show --json`, with the lines about members added to each item's object."""
+    log = replay(path)
+    output = subprocess.run([PROGRAM, "show", "--json"], input=log, check=True, capture_output=True).stdout
     lines = subprocess.run([PROGRAM, "show", "--explain"], input=log, check=True, capture_output=True).stdout
     members: dict[int, list[str]] = {}
     for line in lines.decode().splitlines():
         if found := re.fullmatch(r"(\d+)     (-?\w.*|\".*|h'.*)", line):
             members.setdefault(int(found[1]), []).append(found[2])
-    for line in said.decode().splitlines():
-        it = json.loads(line)
-        if it["kind"] in ("request", "answer"):
-            it["members"] = members.get(it["line"], [])
-        yield it
+    for line in output.decode().splitlines():
+        entry = json.loads(line)
+        if entry["kind"] in ("request", "answer"):
+            entry["members"] = members.get(entry["line"], [])
+        yield entry
 
 
-def packet(it: dict[str, Any]) -> tuple[object, ...]:
-    """Returns what both say of a packet."""
-    code = it.get("code")
-    of_key = it["from"] == "key"
+def packet_properties(mapping: dict[str, Any]) -> tuple[object, ...]:
+    """Returns the properties of a packet that are compared."""
+    code = mapping.get("code")
+    of_key = mapping["from"] == "key"
     return (
         of_key,
-        int(it["channel"], 16),
-        it.get("command"),
-        it.get("length"),
-        it.get("sequence"),
-        # What fills a packet up isn't the message's.
-        it["data"].rstrip("0"),
-        code if of_key and it.get("command") == 0x3F else None,
-        code if of_key and it.get("command") == 0x3B else None,
+        int(mapping["channel"], 16),
+        mapping.get("command"),
+        mapping.get("length"),
+        mapping.get("sequence"),
+        # Padding is not compared.
+        mapping["data"].rstrip("0"),
+        code if of_key and mapping.get("command") == 0x3F else None,
+        code if of_key and mapping.get("command") == 0x3B else None,
     )
 
 
-def number(text: str) -> int | None:
+def parse_number(text: str) -> int | None:
     return int(text, 0) if text else None
 
 
-def packet_of_row(row: Row) -> tuple[object, ...]:
+def parse_packet_row(row: Row) -> tuple[object, ...]:
     names = ("channel", "command", "length", "sequence")
-    head = [number(row[f"ctaphid.{name}"]) for name in names]
-    codes = [number(row[f"ctaphid.{name}"]) for name in ("error", "keepalive")]
+    head = [parse_number(row[f"ctaphid.{name}"]) for name in names]
+    codes = [parse_number(row[f"ctaphid.{name}"]) for name in ("error", "keepalive")]
     return (
         int(row["usb.endpoint_address"], 0) >= 0x80,
         *head,
@@ -119,26 +120,26 @@ def packet_of_row(row: Row) -> tuple[object, ...]:
     )
 
 
-def message_of_row(row: Row) -> tuple[object, ...]:
-    members = [it for it in row["ctap2.member"].split(BETWEEN) if it]
-    return (number(row["ctap2.request"]), number(row["ctap2.status"]), row["ctap2.item"], members)
+def parse_message_row(row: Row) -> tuple[object, ...]:
+    members = [part for part in row["ctap2.member"].split(SEPARATOR) if part]
+    return (parse_number(row["ctap2.request"]), parse_number(row["ctap2.status"]), row["ctap2.item"], members)
 
 
-def unescaped(text: str) -> str:
-    """Returns a text of tshark's without the backslashes that it writes before backslashes."""
+def unescape(text: str) -> str:
+    """Unescapes backslashes in tshark's output."""
     return text.replace("\\\\", "\\")
 
 
-def message(it: dict[str, Any]) -> tuple[object, ...]:
-    request = it["command"] if it["kind"] == "request" else None
-    return (request, it.get("status"), it.get("item", ""), it["members"])
+def message_properties(mapping: dict[str, Any]) -> tuple[object, ...]:
+    request = mapping["command"] if mapping["kind"] == "request" else None
+    return (request, mapping.get("status"), mapping.get("item", ""), mapping["members"])
 
 
 @pytest.fixture(scope="module")
 def both(tmp_path_factory: pytest.TempPathFactory) -> list[tuple[Path, list[Row], list[dict[str, Any]]]]:
-    files = sessions()
-    rows = dissected(files, tmp_path_factory.mktemp("dissected"))
-    return [(path, rows[number], list(shown(path))) for number, path in enumerate(files)]
+    files = list_sessions()
+    rows = dissect(files, tmp_path_factory.mktemp("dissected"))
+    return [(path, rows[number], list(show_objects(path))) for number, path in enumerate(files)]
 
 
 Both = list[tuple[Path, list[Row], list[dict[str, Any]]]]
@@ -147,38 +148,48 @@ Both = list[tuple[Path, list[Row], list[dict[str, Any]]]]
 def test_each_packet_is_the_same(both: Both) -> None:
     assert len(both) >= 200
     for path, rows, objects in both:
-        of_zero = [it for it in objects if it["kind"] == "packet" and it["channel"] != "00000000"]
-        assert [packet_of_row(it) for it in rows] == [packet(it) for it in of_zero], path
+        of_zero = [
+            other_object
+            for other_object in objects
+            if other_object["kind"] == "packet" and other_object["channel"] != "00000000"
+        ]
+        assert [parse_packet_row(row) for row in rows] == [packet_properties(item) for item in of_zero], path
 
 
 def test_each_message_is_the_same(both: Both) -> None:
-    """Of messages whose packets come between those of another channel, `show` joins but the last that began."""
+    """Of messages with interleaved packets, `show` assembles only the last one that began."""
     compared, more = 0, 0
     for path, rows, objects in both:
-        seen = [message_of_row(it) for it in rows if it["ctap2.request"] or it["ctap2.status"]]
-        of_messages = [it for it in objects if it["kind"] in ("request", "answer")]
-        said = [message(it) for it in of_messages if it["channel"] != "00000000"]
+        seen = [
+            parse_message_row(other_row)
+            for other_row in rows
+            if other_row["ctap2.request"] or other_row["ctap2.status"]
+        ]
+        of_messages = [item for item in objects if item["kind"] in ("request", "answer")]
+        messages = [
+            message_properties(other_message) for other_message in of_messages if other_message["channel"] != "00000000"
+        ]
         rest = iter(seen)
-        for it in said:
-            found = next((row for row in rest if same(row, it)), None)
-            assert found, (path, it, seen)
+        for element in messages:
+            found = next((row for row in rest if is_same_item(row, element)), None)
+            assert found, (path, element, seen)
             compared += 1
-        more += len(seen) - len(said)
+        more += len(seen) - len(messages)
     print(f"{len(both)} sessions, {compared} messages, {more} more of the dissector")
     assert compared > 300 and more < 10, (compared, more)
 
 
-def same(row: tuple[object, ...], it: tuple[object, ...]) -> bool:
-    members = [unescaped(str(name)) for name in row[3]] if isinstance(row[3], list) else []
-    named = it[3] if isinstance(it[3], list) else []
-    return row[:2] == it[:2] and unescaped(str(row[2])) == it[2] and (not named or members == named)
+def is_same_item(row: tuple[object, ...], item: tuple[object, ...]) -> bool:
+    members = [unescape(str(name)) for name in row[3]] if isinstance(row[3], list) else []
+    named = item[3] if isinstance(item[3], list) else []
+    return row[:2] == item[:2] and unescape(str(row[2])) == item[2] and (not named or members == named)
 
 
 def test_faults_and_errors_are_expert_infos(both: Both) -> None:
     faults = errors = 0
     for path, rows, objects in both:
-        marked = [row for row in rows if "no canonical CBOR" in row["_ws.expert.message"]]
-        wanted = [it for it in objects if it["kind"] in ("request", "answer") and "fault" in it]
+        marked = [row for row in rows if "not canonical CBOR" in row["_ws.expert.message"]]
+        wanted = [item for item in objects if item["kind"] in ("request", "answer") and "fault" in item]
         assert len(marked) >= len(wanted), path
         refused = [row for row in rows if row["ctaphid.error"]]
         assert all("ERR_" in row["_ws.expert.message"] for row in refused), path
@@ -187,11 +198,15 @@ def test_faults_and_errors_are_expert_infos(both: Both) -> None:
 
 
 def test_captures_of_other_recorders(tmp_path: Path) -> None:
-    """Also of qemu, without descriptors, and of USBPcap."""
+    """qemu, without descriptors, and USBPcap."""
     data = TOP / "tests" / "captures" / "data"
     usbpcap = tmp_path / "usbpcap.pcap"
-    usbpcap.write_bytes(usbpcap_of(events_of((data / "libfido2_register.pcap").read_bytes())))
+    usbpcap.write_bytes(encode_usbpcap(read_transfers((data / "libfido2_register.pcap").read_bytes())))
     for path, count in ((data / "qemu_mixed.qemu.pcap", 146), (usbpcap, 46), (data / "keyboard_beside.48.pcap", 46)):
         words = ["tshark", "-X", f"lua_script:{DISSECTOR}", "-r", str(path), "-Y", "ctaphid"]
-        said = subprocess.run(words, check=True, capture_output=True, text=True).stdout.splitlines()
-        assert len(said) == count and "INIT 8" in said[0] and any("authenticatorMakeCredential" in it for it in said)
+        output = subprocess.run(words, check=True, capture_output=True, text=True).stdout.splitlines()
+        assert (
+            len(output) == count
+            and "INIT 8" in output[0]
+            and any("authenticatorMakeCredential" in item for item in output)
+        )

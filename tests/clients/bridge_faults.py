@@ -1,12 +1,12 @@
 #!/usr/bin/env python3
-"""Faults of the system at every call of a bridge: of the bridge of examples/uhid, while it registers, and of OpenSSH's
-provider of examples/ssh, while it signs. After each the state file is the old one or a new one, whole; a new one where
-an answer went out; and the status and the text say which.
+"""Lets each system call of a bridge fail: the bridge of examples/uhid, while it registers, and the OpenSSH provider of
+examples/ssh, while it signs. Afterwards the state file must be the complete old or new one; the new one if a response
+was sent; and the exit status and message must say which.
 
     tests/clients/bridge_faults.py UHID SK_CALL [--all] [--jobs N]
 
-UHID is the bridge, compiled; SK_CALL is sk_call.c with the provider. Without --all the calls are those that touch
-files, with --all each system call. Needs strace. Exit status: 1 where a place is wrong.
+UHID is the compiled bridge; SK_CALL is sk_call.c with the provider. Without --all only calls that access files fail.
+Needs strace. Exit status: 1 if a test fails.
 """
 
 from __future__ import annotations
@@ -19,81 +19,95 @@ import tempfile
 from pathlib import Path
 from typing import Optional, Sequence
 
-from bridge import Bridge, Ended, credentials_in
+from bridge import Bridge, EndedError, read_credential_ids
 
 sys.path.insert(0, str(Path(__file__).resolve().parents[1] / "program"))
 import injection  # noqa: E402
 
-FILES = ("openat", "read", "write", "fsync", "rename", "unlink", "flock", "fstat", "newfstatat", "close", "signalfd4")
+FILE_CALLS = (
+    "openat",
+    "read",
+    "write",
+    "fsync",
+    "rename",
+    "unlink",
+    "flock",
+    "fstat",
+    "newfstatat",
+    "close",
+    "signalfd4",
+)
 KEPT, IN_PLACE = "the old file is kept", "the new file is in place"
-# Failures that are known, of all calls: a place, as a pattern, and why. One that passes is reported.
-KNOWN = {"ENOMEM at mmap 1": "the dynamic loader's own memory, before any code of ours: /bin/true is killed by it too"}
+# Expected failures with --all: the call, as a pattern, and the reason. An unexpected success is reported.
+KNOWN_FAILURES = {
+    "ENOMEM at mmap 1": "the dynamic loader's own memory, before any code of ours: /bin/true is killed by it too"
+}
 
 
-def told(status: int, said: str, is_old: bool, place: injection.Place, log: Path) -> Optional[str]:
-    """Returns what is wrong with a status and a text, by whether the file is the old one."""
+def find_message_error(status: int, said: str, is_old: bool, place: injection.Place, log: Path) -> Optional[str]:
+    """Returns what is wrong with an exit status and message, or None. `is_old`: the file is the old one."""
     is_kill = place.fault == "KILL"
-    # What wasn't written to the disk, or not put in place, is a fault also where the file looks well.
+    # An injected fsync or rename fault has to be reported even if the file looks correct.
     if status == 0 and place.call in ("fsync", "rename") and injection.was_injected(log, place):
         return f"status 0 after {place}"
     if status == 0 and said:
-        return f"status 0, and it said {said!r}"
+        return f"status 0, with the message {said!r}"
     if status == -signal.SIGKILL and is_kill:
         return None
     if status != 0 and not said:
         return f"status {status} without a word"
     if KEPT in said and not is_old or IN_PLACE in said and is_old:
-        return f"it said {said!r} of the other file"
+        return f"wrong message {said!r}"
     return None
 
 
 class Uhid:
-    """Registrations at the bridge of examples/uhid."""
+    """Registrations with the bridge of examples/uhid."""
 
     def __init__(self, program: str, old: bytes) -> None:
         self.program, self.old = program, old
 
-    def session(self, folder: Path, trace: Sequence[str]) -> tuple[Optional[bytes], bool, int, str]:
-        """Returns the credential that was answered, whether the key refused, the status and what was said."""
+    def register_once(self, folder: Path, trace: Sequence[str]) -> tuple[Optional[bytes], bool, int, str]:
+        """Returns the credential in the response, whether the key refused, the exit status and the message."""
         words = [self.program, "-t", "0", "-r", str(folder / "recording"), str(folder / "key.state")]
         bridge = Bridge(words, trace=trace)
         made, refused = None, False
         try:
-            if bridge.plugged_in():
+            if bridge.wait_until_plugged_in():
                 made = bridge.register()
-        except (Ended, TimeoutError):
+        except (EndedError, TimeoutError):
             pass
         except ValueError:
             refused = True
-        end_traced(bridge)
-        return made, refused, *bridge.ended()
+        stop_traced(bridge)
+        return made, refused, *bridge.wait_until_exited()
 
-    def judge(self, place: injection.Place, folder: Path) -> Optional[str]:
-        """Returns what is wrong with what a fault left."""
+    def find_error(self, place: injection.Place, folder: Path) -> Optional[str]:
+        """Returns what is wrong after a failure, or None."""
         state = folder / "key.state"
         state.write_bytes(self.old)
         state.chmod(0o600)
-        made, refused, status, said = self.session(folder, place.words(folder / "strace"))
+        made, refused, status, said = self.register_once(folder, place.strace_prefix(folder / "strace"))
         new = state.read_bytes() if state.exists() else b""
         is_old = new == self.old
-        if not is_old and len(credentials_in(new)) != 1:
-            return f"the file holds {len(credentials_in(new))} credentials"
-        if made is not None and credentials_in(new) != [made]:
-            return "an answer went out, and its credential isn't in the file"
+        if not is_old and len(read_credential_ids(new)) != 1:
+            return f"the file holds {len(read_credential_ids(new))} credentials"
+        if made is not None and read_credential_ids(new) != [made]:
+            return "a response was sent, but its credential is not in the file"
         if status == 0 and made is None and not refused:
-            return "status 0, and no answer"
-        wrong = told(status, said, is_old, place, folder / "strace")
-        return wrong or (None if is_old and len(list(folder.iterdir())) < 4 else self.goes_on(folder))
+            return "status 0 without a response"
+        wrong = find_message_error(status, said, is_old, place, folder / "strace")
+        return wrong or (None if is_old and len(list(folder.iterdir())) < 4 else self.check_next_bridge(folder))
 
-    def goes_on(self, folder: Path) -> Optional[str]:
-        """The next bridge takes what is there, and registers."""
-        made, _, status, said = self.session(folder, [])
-        held = credentials_in((folder / "key.state").read_bytes())
+    def check_next_bridge(self, folder: Path) -> Optional[str]:
+        """Checks that the next bridge accepts the file, and registers."""
+        made, _, status, said = self.register_once(folder, [])
+        held = read_credential_ids((folder / "key.state").read_bytes())
         return None if status == 0 and not said and held == [made] else f"the next bridge ended with {status}: {said}"
 
 
-def end_traced(bridge: Bridge) -> None:
-    """Ends the bridge as its user does: not strace, which would leave it."""
+def stop_traced(bridge: Bridge) -> None:
+    """Terminates the bridge itself: terminating strace would leave the bridge running."""
     pid = bridge.process.pid
     try:
         children = Path(f"/proc/{pid}/task/{pid}/children").read_text(encoding="utf-8").split()
@@ -108,30 +122,30 @@ def kill(pid: int) -> None:
 
 
 class Provider:
-    """Sign-ins at the provider of examples/ssh, each of which raises the counter."""
+    """Sign-ins with the provider of examples/ssh, each of which increments the counter."""
 
     def __init__(self, program: str, old: bytes, handle: str) -> None:
         self.program, self.old, self.handle = program, old, handle
 
     def sign(self, folder: Path, trace: Sequence[str]) -> tuple[int, int, str]:
-        """Returns the status, the counter that was answered or 0, and what was said."""
+        """Returns the exit status, the counter in the response or 0, and the message."""
         words = [*trace, self.program, "sign", self.handle]
         state = {"HIDLOG_SK_STATE": str(folder / "key.state"), "PATH": "/usr/bin:/bin"}
         said = subprocess.run(words, capture_output=True, text=True, env=state, timeout=600)
         return said.returncode, int(said.stdout or 0), said.stderr
 
-    def judge(self, place: injection.Place, folder: Path) -> Optional[str]:
+    def find_error(self, place: injection.Place, folder: Path) -> Optional[str]:
         state = folder / "key.state"
         state.write_bytes(self.old)
         state.chmod(0o600)
-        status, counter, said = self.sign(folder, place.words(folder / "strace"))
+        status, counter, said = self.sign(folder, place.strace_prefix(folder / "strace"))
         is_old = state.read_bytes() == self.old
-        # A signal may also end it once it has answered; then the counter has to be in the file as well.
+        # A signal may also end it after the response; then the counter must be in the file, too.
         if status == 0 and counter == 0 or status > 0 and counter > 0:
             return f"status {status}, counter {counter}"
         if is_old and counter:
-            return "a signature went out, and its counter isn't in the file"
-        wrong = None if counter and status < 0 else told(status, said, is_old, place, folder / "strace")
+            return "a signature was sent, but its counter is not in the file"
+        wrong = None if counter and status < 0 else find_message_error(status, said, is_old, place, folder / "strace")
         if wrong is not None:
             return wrong
         status, after, said = self.sign(folder, [])
@@ -139,19 +153,19 @@ class Provider:
         return None if status == 0 and not said and is_next else f"the next sign-in: {status}, {after}, {said!r}"
 
 
-def uhid(program: str, room: Path) -> Uhid:
+def make_uhid(program: str, work_dir: Path) -> Uhid:
     """Returns the bridge with the state of a key that has one credential."""
-    Uhid(program, b"").session(room, [])
-    return Uhid(program, (room / "key.state").read_bytes())
+    Uhid(program, b"").register_once(work_dir, [])
+    return Uhid(program, (work_dir / "key.state").read_bytes())
 
 
-def provider(program: str, room: Path) -> Provider:
+def make_provider(program: str, work_dir: Path) -> Provider:
     """Returns the provider with the state of a key that has signed once."""
-    state = {"HIDLOG_SK_STATE": str(room / "key.state"), "PATH": "/usr/bin:/bin"}
+    state = {"HIDLOG_SK_STATE": str(work_dir / "key.state"), "PATH": "/usr/bin:/bin"}
     made = subprocess.run([program, "enroll"], capture_output=True, text=True, env=state, check=True)
     found = Provider(program, b"", made.stdout.strip())
-    assert found.sign(room, []) == (0, 1, "")
-    return Provider(program, (room / "key.state").read_bytes(), found.handle)
+    assert found.sign(work_dir, []) == (0, 1, "")
+    return Provider(program, (work_dir / "key.state").read_bytes(), found.handle)
 
 
 def main() -> int:
@@ -161,16 +175,18 @@ def main() -> int:
     parser.add_argument("--all", action="store_true")
     parser.add_argument("--jobs", type=int, default=2)
     words = parser.parse_args()
-    bad, only, known = 0, None if words.all else FILES, KNOWN if words.all else {}
+    bad, only, known = 0, None if words.all else FILE_CALLS, KNOWN_FAILURES if words.all else {}
     with tempfile.TemporaryDirectory() as first, tempfile.TemporaryDirectory() as second:
-        bridge, signer = uhid(words.uhid, Path(first)), provider(words.sk_call, Path(second))
+        bridge, signer = make_uhid(words.uhid, Path(first)), make_provider(words.sk_call, Path(second))
         loops = (
-            ("a registration at the bridge", bridge.judge, lambda trace: bridge.session(Path(first), trace)),
-            ("a sign-in at OpenSSH's provider", signer.judge, lambda trace: signer.sign(Path(second), trace)),
+            ("a registration at the bridge", bridge.find_error, lambda trace: bridge.register_once(Path(first), trace)),
+            ("a sign-in at OpenSSH's provider", signer.find_error, lambda trace: signer.sign(Path(second), trace)),
         )
         for name, judge, run in loops:
-            places = injection.places_of(injection.calls_of(run, Path(second)), only)
-            bad += injection.report(name, len(places), injection.each(places, judge, words.jobs), known)
+            places = injection.list_places(injection.count_calls(run, Path(second)), only)
+            bad += injection.report_failures(
+                name, len(places), injection.check_places(places, judge, words.jobs), known
+            )
     return 1 if bad else 0
 
 

@@ -1,5 +1,5 @@
 #!/usr/bin/env python3
-"""What the bridge of examples/uhid writes its recording to, and what it doesn't: tests/clients/bridges.sh calls this.
+"""Tests the recordings of the bridge of examples/uhid; called by tests/clients/bridges.sh.
 
     tests/clients/bridge_recordings.py UHID [CHECKED]       as bridge_cases.py
 """
@@ -12,62 +12,62 @@ from pathlib import Path
 from typing import Iterator
 
 from bridge import Bridge
-from bridge_cases import NOBODY, UHID, made, run, wants
+from bridge_cases import NOBODY, UHID, check_exit, make_state, run_tests
 
 
-def the_state_is_not_recorded_over(room: Path) -> None:
+def test_recording_does_not_replace_state(work_dir: Path) -> None:
     """A recording that would replace the state file is refused."""
-    state, old = made(room)
-    refused = "it is the key's file, which a recording would replace"
-    for path in (str(state), f"{room}/./key.state"):
-        records_nothing(path, state, refused)
+    state, old = make_state(work_dir)
+    refused = "this is the state file; a recording would overwrite it"
+    for path in (str(state), f"{work_dir}/./key.state"):
+        check_not_recording(path, state, refused)
     assert state.read_bytes() == old
-    # The snapshot that the recording begins with has a name of its own, which may be the key's.
-    beside = room / "session.log.snapshot"
+    # The recording's snapshot has a separate name, which may be the key's file.
+    beside = work_dir / "session.log.snapshot"
     state.rename(beside)
-    records_nothing(str(room / "session.log"), beside, refused)
-    assert beside.read_bytes() == old and not (room / "session.log").exists()
+    check_not_recording(str(work_dir / "session.log"), beside, refused)
+    assert beside.read_bytes() == old and not (work_dir / "session.log").exists()
 
 
-def records_nothing(path: str, state: Path, said: str) -> None:
-    """A bridge that is to record to this path ends with 1 and these words, before it plugs anything in."""
+def check_not_recording(path: str, state: Path, said: str) -> None:
+    """A bridge that records to this path exits with 1 and this message, without creating a device."""
     bridge = Bridge([UHID, "-r", path, str(state)])
-    assert not bridge.plugged_in(), "it was plugged in"
-    wants(bridge.ended(), 1, said)
+    assert not bridge.wait_until_plugged_in(), "it was plugged in"
+    check_exit(bridge.wait_until_exited(), 1, said)
 
 
-def a_recording_is_private(room: Path) -> None:
-    """A recording and its snapshot have mode 0600, whatever the umask, and are written anew by the next bridge."""
-    state, _ = made(room)
+def test_recording_is_private(work_dir: Path) -> None:
+    """A recording and its snapshot have mode 0600, whatever the umask, and are overwritten by the next bridge."""
+    state, _ = make_state(work_dir)
     umask = os.umask(0)
     try:
         for words in (["-t", "0"], ["-t", "1"]):
-            bridge = Bridge([UHID, *words, "-r", str(room / "session.log"), str(state)])
-            assert bridge.plugged_in(), bridge.ended()
-            wants(bridge.end(), 0, "")
+            bridge = Bridge([UHID, *words, "-r", str(work_dir / "session.log"), str(state)])
+            assert bridge.wait_until_plugged_in(), bridge.wait_until_exited()
+            check_exit(bridge.stop(), 0, "")
             for name in ("session.log", "session.log.snapshot"):
-                assert (room / name).stat().st_mode & 0o7777 == 0o600, name
-            (room / "session.log").write_bytes(b"an older recording\n")
+                assert (work_dir / name).stat().st_mode & 0o7777 == 0o600, name
+            (work_dir / "session.log").write_bytes(b"an older recording\n")
     finally:
         os.umask(umask)
-    assert b"older" not in (room / "session.log.snapshot").read_bytes()
+    assert b"older" not in (work_dir / "session.log.snapshot").read_bytes()
 
 
-def planted(path: Path, other: Path) -> Iterator[str]:
-    """Puts what a bridge must not write to at a path, one after the other, and yields what it says of each."""
+def plant_files(path: Path, other: Path) -> Iterator[str]:
+    """Creates files at a path to which a bridge must not write, and yields the expected messages."""
     for target in (other, other.parent / "nowhere"):
         path.symlink_to(target)
         yield "name the file that the link leads to"
     os.link(other, path)
     yield "it has a second name (a hard link): remove it or name another file"
     os.mkfifo(path, 0o600)
-    yield f"{path}: No such device or address: it can't be opened"
+    yield f"{path}: No such device or address: cannot open it"
     path.mkdir()
-    yield f"{path}: Is a directory: it can't be opened"
+    yield f"{path}: Is a directory: cannot open it"
     for mode in (0o644, 0o660, 0o602):
         path.write_bytes(b"kept")
         path.chmod(mode)
-        yield f"its permissions {mode:04o} are too open, since it has names of services and users: chmod 600 it"
+        yield f"permissions {mode:04o} are too open for a file with names of services and users: run chmod 600"
     if os.geteuid() == 0:
         path.write_bytes(b"kept")
         path.chmod(0o600)
@@ -75,29 +75,29 @@ def planted(path: Path, other: Path) -> Iterator[str]:
         yield "it belongs to another user: remove it or name another file"
 
 
-def what_was_planted_is_not_recorded_over(room: Path) -> None:
-    """A recording, or its snapshot, isn't written through a link, into a pipe, or into a file that others have."""
-    state, _ = made(room)
-    other, log, snapshot = room / "other", room / "session.log", room / "session.log.snapshot"
+def test_planted_files_are_not_overwritten(work_dir: Path) -> None:
+    """A recording, or its snapshot, is not written through a link, into a pipe, or into another user's file."""
+    state, _ = make_state(work_dir)
+    other, log, snapshot = work_dir / "other", work_dir / "session.log", work_dir / "session.log.snapshot"
     other.write_bytes(b"another's")
     other.chmod(0o600)
     for path, beside in ((log, snapshot), (snapshot, log)):
         beside.write_bytes(b"an older one")
         beside.chmod(0o600)
-        for said in planted(path, other):
-            records_nothing(str(log), state, said)
+        for said in plant_files(path, other):
+            check_not_recording(str(log), state, said)
             assert not path.is_file() or path.read_bytes() in (b"kept", b"another's"), said
             path.rmdir() if path.is_dir() else path.unlink()
         assert beside.read_bytes() == b"an older one"
         beside.unlink()
-    assert other.read_bytes() == b"another's" and not (room / "nowhere").exists()
+    assert other.read_bytes() == b"another's" and not (work_dir / "nowhere").exists()
 
 
 TESTS = [
-    the_state_is_not_recorded_over,
-    a_recording_is_private,
-    what_was_planted_is_not_recorded_over,
+    test_recording_does_not_replace_state,
+    test_recording_is_private,
+    test_planted_files_are_not_overwritten,
 ]
 
 if __name__ == "__main__":
-    sys.exit(run(TESTS))
+    sys.exit(run_tests(TESTS))

@@ -1,10 +1,11 @@
 #!/usr/bin/env python3
-"""What the user of hidlog-uhid does, by `--presence`: tests/clients/bridges.sh calls this.
+"""Tests `hidlog-uhid --presence`; called by tests/clients/bridges.sh.
 
     tests/clients/bridge_users.py UHID
 
-UHID is the bridge of examples/uhid, compiled. bridge.py stands in for the kernel's device. The statuses are those
-of docs/use/PROFILE.md: a registration that is denied and one that times out end alike, and the recording says which. Exit status: 1 where something isn't as it should be.
+UHID is the compiled bridge of examples/uhid. bridge.py replaces the kernel's device. The statuses are those of
+docs/use/PROFILE.md: a denied registration and one that times out have the same status, and the recording shows
+which it was. Exit status: 1 if a test fails.
 """
 
 from __future__ import annotations
@@ -16,96 +17,110 @@ import sys
 import tempfile
 from pathlib import Path
 
-from bridge import BROADCAST, CBOR, HANGS, INIT, KEEPALIVE, Bridge, Ended, packet, packets_of
+from bridge import (
+    BROADCAST,
+    CBOR,
+    INIT,
+    KEEPALIVE,
+    TIMEOUT_SECONDS,
+    Bridge,
+    EndedError,
+    encode_packet,
+    read_host_packets,
+)
 
 UHID = str(Path(sys.argv[1]).resolve()) if len(sys.argv) > 1 else ""
 OK, DENIED = 0x00, 0x27
 
 
-def plugged(room: Path, *words: str, stdin: int = subprocess.DEVNULL) -> Bridge:
+def plug_in(work_dir: Path, *words: str, stdin: int = subprocess.DEVNULL) -> Bridge:
     """Returns a bridge of a new key with its recording."""
-    bridge = Bridge([UHID, "--record", str(room / "session.log"), "--state", str(room / "key"), *words], stdin=stdin)
-    assert bridge.plugged_in(), bridge.ended()
+    bridge = Bridge(
+        [UHID, "--record", str(work_dir / "session.log"), "--state", str(work_dir / "key"), *words], stdin=stdin
+    )
+    assert bridge.wait_until_plugged_in(), bridge.wait_until_exited()
     return bridge
 
 
-def registers(bridge: Bridge) -> int:
-    """Asks for a registration, and returns its status."""
-    said = bridge.ask(packets_of("registration.log")[1:])
+def register_and_get_status(bridge: Bridge) -> int:
+    """Registers, and returns the status."""
+    said = bridge.exchange(read_host_packets("registration.log")[1:])
     assert said[0] == CBOR, said.hex()
     return said[1]
 
 
-def answers_in(room: Path) -> list[str]:
-    """Returns what the user said, by the recording."""
-    return re.findall(r"^p \d+ (\w+)$", (room / "session.log").read_text(), re.MULTILINE)
+def read_replies(work_dir: Path) -> list[str]:
+    """Returns the user's replies in the recording."""
+    return re.findall(r"^p \d+ (\w+)$", (work_dir / "session.log").read_text(), re.MULTILINE)
 
 
-def a_script_has_an_answer_for_each_touch(room: Path) -> None:
-    """The lines answer in turn, and the last one stays. Remarks and empty lines are no answers."""
-    script = room / "script"
+def test_script_replies_to_each_touch(work_dir: Path) -> None:
+    """The lines of a script are used in turn, and the last one is repeated. Comments and empty lines are ignored."""
+    script = work_dir / "script"
     script.write_text("# the user\ndenied 0\n\n  timeout 10\ngranted\n")
-    bridge = plugged(room, "--touch", "0", "--presence", f"script:{script}")
-    said = [registers(bridge) for _ in range(4)]
+    bridge = plug_in(work_dir, "--touch", "0", "--presence", f"script:{script}")
+    said = [register_and_get_status(bridge) for _ in range(4)]
     assert said == [DENIED, DENIED, OK, OK], said
-    ended = bridge.end()
+    ended = bridge.stop()
     assert ended == (0, ""), ended
-    assert answers_in(room) == ["denied", "timeout", "granted", "granted"]
+    assert read_replies(work_dir) == ["denied", "timeout", "granted", "granted"]
 
 
-def a_wrong_script_is_refused(room: Path) -> None:
-    """The line is named, and nothing is plugged in."""
-    script = room / "script"
+def test_invalid_script_is_refused(work_dir: Path) -> None:
+    """An invalid line is reported, and no device is created."""
+    script = work_dir / "script"
     for text, said in (
-        ("granted\nyes\n", "line 2: it isn't granted, denied or timeout"),
+        ("granted\nyes\n", "line 2: expected granted, denied or timeout"),
         ("granted 10 20\n", "line 1"),
         ("granted -1\n", "line 1"),
         ("granted 99999999999\n", "line 1"),
-        ("# nothing\n\n", "it has no touch"),
+        ("# nothing\n\n", "no touch in the script"),
         ("granted\n" * 1001, "line 1001"),
     ):
         script.write_text(text)
-        ran = subprocess.run([UHID, "-p", f"script:{script}", str(room / "key")], capture_output=True, text=True)
+        ran = subprocess.run([UHID, "-p", f"script:{script}", str(work_dir / "key")], capture_output=True, text=True)
         assert ran.returncode == 2 and said in ran.stderr, ran
-    ran = subprocess.run([UHID, "-p", f"script:{room}/no", str(room / "key")], capture_output=True, text=True)
+    ran = subprocess.run([UHID, "-p", f"script:{work_dir}/no", str(work_dir / "key")], capture_output=True, text=True)
     assert ran.returncode == 2 and "No such file" in ran.stderr, ran
     for word in ("deny", "script:", "", "askk"):
-        ran = subprocess.run([UHID, "-p", word, str(room / "key")], capture_output=True, text=True)
-        assert ran.returncode == 2 and "it has to be granted, ask or script:FILE" in ran.stderr, ran
-    assert os.listdir(room) == ["script"]
+        ran = subprocess.run([UHID, "-p", word, str(work_dir / "key")], capture_output=True, text=True)
+        assert ran.returncode == 2 and "must be granted, ask or script:FILE" in ran.stderr, ran
+    assert os.listdir(work_dir) == ["script"]
 
 
-def a_person_is_asked(room: Path) -> None:
-    """y grants the touch and n denies it; what means nothing is passed over, also where it is long."""
+def test_terminal_input_decides(work_dir: Path) -> None:
+    """y grants the touch and n denies it; other input is ignored, even if it is long."""
     reader, writer = os.pipe()
-    bridge = plugged(room, "--presence", "ask", stdin=reader)
+    bridge = plug_in(work_dir, "--presence", "ask", stdin=reader)
     os.close(reader)
     os.write(writer, b"n\n")
-    assert registers(bridge) == DENIED
+    assert register_and_get_status(bridge) == DENIED
     os.write(writer, b"\nperhaps\n" + b"x" * 1000 + b"\nyes\nn\n")
-    assert [registers(bridge), registers(bridge)] == [OK, DENIED]
-    status, said = bridge.end()
+    assert [register_and_get_status(bridge), register_and_get_status(bridge)] == [OK, DENIED]
+    status, said = bridge.stop()
     os.close(writer)
     assert status == 0 and said.count("asks for a touch: y and Enter grants it") == 3, said
-    assert answers_in(room) == ["denied", "granted", "denied"]
+    assert read_replies(work_dir) == ["denied", "granted", "denied"]
 
 
-def nobody_is_there_to_be_asked(room: Path) -> None:
-    """Where standard input has ended the key waits, answers others, and ends by a signal."""
-    bridge = plugged(room, "--presence", "ask")
-    channel = bridge.channel(bytes(8))
-    for request in packets_of("registration.log")[1:]:
+def test_end_of_input_keeps_waiting(work_dir: Path) -> None:
+    """After the end of standard input the key waits, responds to others, and ends at a signal."""
+    bridge = plug_in(work_dir, "--presence", "ask")
+    channel = bridge.allocate_channel(bytes(8))
+    for request in read_host_packets("registration.log")[1:]:
         bridge.write(channel + request[4:])
-    assert any(packet[:5] == channel + bytes([KEEPALIVE]) for packet in bridge.packets(HANGS)), "the key didn't ask"
-    bridge.write(packet(BROADCAST, INIT, b"another!"))
-    assert any(packet[:5] == BROADCAST + bytes([INIT]) for packet in bridge.packets(HANGS))
-    status, said = bridge.end()
+    assert any(
+        packet[:5] == channel + bytes([KEEPALIVE]) for packet in bridge.iter_packets(TIMEOUT_SECONDS)
+    ), "the key didn't ask"
+    bridge.write(encode_packet(BROADCAST, INIT, b"another!"))
+    assert any(packet[:5] == BROADCAST + bytes([INIT]) for packet in bridge.iter_packets(TIMEOUT_SECONDS))
+    status, said = bridge.stop()
     assert status == 0 and "asks for a touch" in said, said
-    assert answers_in(room) == []
+    assert read_replies(work_dir) == []
 
 
-def help_and_version_are_written(room: Path) -> None:
-    """Each names the program, on standard output."""
+def test_help_and_version(work_dir: Path) -> None:
+    """--help and --version print to standard output."""
     for word, said in (("--help", "usage: hidlog-uhid [OPTIONS] STATE"), ("-V", "hidlog-uhid ")):
         ran = subprocess.run([UHID, word], capture_output=True, text=True)
         assert ran.returncode == 0 and ran.stdout.startswith(said) and not ran.stderr, ran
@@ -114,11 +129,11 @@ def help_and_version_are_written(room: Path) -> None:
 
 
 TESTS = [
-    a_script_has_an_answer_for_each_touch,
-    a_wrong_script_is_refused,
-    a_person_is_asked,
-    nobody_is_there_to_be_asked,
-    help_and_version_are_written,
+    test_script_replies_to_each_touch,
+    test_invalid_script_is_refused,
+    test_terminal_input_decides,
+    test_end_of_input_keeps_waiting,
+    test_help_and_version,
 ]
 
 
@@ -131,11 +146,11 @@ def main() -> int:
         with tempfile.TemporaryDirectory() as folder:
             try:
                 test(Path(folder))
-            except (AssertionError, Ended, TimeoutError, ValueError) as wrong:
+            except (AssertionError, EndedError, TimeoutError, ValueError) as wrong:
                 print(f"FAILED   {test.__name__}: {type(wrong).__name__} {wrong}")
                 failed += 1
             finally:
-                Bridge.end_all()
+                Bridge.kill_all()
     print(f"{len(TESTS) - failed} of {len(TESTS)} tests of the bridge's user passed")
     return 1 if failed else 0
 

@@ -1,44 +1,44 @@
 # shellcheck shell=bash
-# What the scripts of this folder share. Each is run by itself; HIDLOG_LIBRARY names the folder of hidlog.h,
-# libhidlog.a and libhidlog.so.0, by default release/.
+# Common functions of the scripts in this folder. HIDLOG_LIBRARY is the folder of hidlog.h, libhidlog.a and libhidlog.so.1
+# (default: release/).
 top=$(cd "$(dirname "${BASH_SOURCE[0]}")/../.." && pwd)
 library=$(cd "${HIDLOG_LIBRARY:-$top/release}" && pwd)
 name=tests/clients/$(basename "$0" .sh)
 export LC_ALL=C
 
-# Ends with 3 and a text: nothing was run.
-nothing() {
+# Exits with 3 and a message: nothing was run.
+exit_skipped() {
     echo "$name: $1; nothing was run" >&2
     exit 3
 }
 
-# Needs commands, each with its Debian package: need COMMAND PACKAGE ..
-need() {
+# Requires commands, each with its Debian package: require_commands COMMAND PACKAGE ..
+require_commands() {
     while [ $# -gt 0 ]; do
-        command -v "$1" >/dev/null || nothing "$1 is missing (apt-get install $2)"
+        command -v "$1" >/dev/null || exit_skipped "$1 is missing (apt-get install $2)"
         shift 2
     done
 }
 
-# Needs a C header: need_header HEADER PACKAGE
-need_header() {
-    echo "#include <$1>" | gcc -E - >/dev/null 2>&1 || nothing "the header $1 is missing (apt-get install $2)"
+# Requires a C header: require_header HEADER PACKAGE
+require_header() {
+    echo "#include <$1>" | gcc -E - >/dev/null 2>&1 || exit_skipped "the header $1 is missing (apt-get install $2)"
 }
 
-# Needs a library that holds a key (hidlog_key_make).
-need_held_key() {
+# Requires a library with an in-memory key (hidlog_key_init).
+require_in_memory_key() {
     # Not `grep -q`: it ends early, and nm's SIGPIPE would fail the pipe.
-    nm "$library/libhidlog.a" 2>/dev/null | grep ' T hidlog_key_make$' >/dev/null ||
-        nothing "the library in ${HIDLOG_LIBRARY:-release/} is missing or holds no key (hidlog_key_make)"
+    nm "$library/libhidlog.a" 2>/dev/null | grep ' T hidlog_key_init$' >/dev/null ||
+        exit_skipped "the library in ${HIDLOG_LIBRARY:-release/} is missing or too old: it has no hidlog_key_init"
 }
 
-# Compiles C of examples/ as each example says: compile OPTIONS .. FILES ..
+# Compiles C of examples/ as the examples say: compile OPTIONS .. FILES ..
 compile() {
     gcc -std=c11 -O2 -Wall -Wextra -Werror -I "$library" -I "$top/examples/c" "$@"
 }
 
-# The version of a Debian package, or "?".
-version() {
+# Prints the version of a Debian package, or "?".
+print_version() {
     dpkg-query -W -f '${Version}' "$1" 2>/dev/null || echo "?"
 }
 

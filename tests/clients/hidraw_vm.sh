@@ -1,6 +1,6 @@
 #!/bin/sh
-# The first program of the virtual machine that hidraw.sh starts: plugs the key in, runs the corpus's runner, does with the
-# plug what the runner asks for, switches off. What it says to hidraw.sh begins with "@@ ".
+# The init program of the virtual machine of hidraw.sh: plugs the key in, runs the conformance tests, unplugs and plugs in
+# when asked, powers off. Lines for hidraw.sh begin with "@@ ".
 /bin/busybox --install -s /bin
 export PATH=/bin:/usr/bin HOME=/root PYTHONDONTWRITEBYTECODE=1
 mount -t proc proc /proc
@@ -9,8 +9,8 @@ mount -t devtmpfs dev /dev
 cd /root || exit
 bridge=
 
-# Waits at most a minute until a command works.
-soon() {
+# Waits at most one minute until a command succeeds.
+wait_until() {
     for _ in $(seq 600); do
         "$@" >/dev/null 2>&1 && return
         usleep 100000
@@ -22,18 +22,18 @@ is_gone() {
     [ ! -e /dev/hidraw0 ]
 }
 
-# The user takes more than a second, since sessions look at what happens before the touch. The kernel keeps 64 packets of
-# a device of hidraw and loses more, so the runner comes before the bridge.
+# The user takes more than a second, since sessions check what happens before the touch. The kernel queues 64 packets of a
+# hidraw device and drops others, so the runner has priority over the bridge.
 plug_in() {
     /usr/bin/nice -n 19 uhid -t 1500 key.state 2>>bridge.err &
     bridge=$!
-    soon test -c /dev/hidraw0
+    wait_until test -c /dev/hidraw0
 }
 
 unplug() {
     kill "$bridge"
     wait "$bridge" || echo "@@ FAILED the bridge ended with $?"
-    soon is_gone
+    wait_until is_gone
 }
 
 for module in hid hid-generic uhid; do

@@ -1,23 +1,23 @@
 # shellcheck shell=bash
 # A virtual machine (software emulation, a Debian kernel, an initramfs made here) in which the bridge of examples/uhid
-# makes the key a device of the kernel. Sourced after common.sh by the scripts that run something in it.
+# provides the key as a kernel device. Source it after common.sh.
 #
-#     HIDLOG_KERNEL=FOLDER    an unpacked linux-image; by default the one that is installed, or that tests/run --install
-#                             has unpacked in /var/cache/hidlog/kernel or ~/.cache/hidlog/kernel, else one that apt-get
-#                             download fetches (70 MB)
-#     HIDLOG_OFFLINE=1        fetches nothing
+#     HIDLOG_KERNEL=FOLDER    an unpacked linux-image (default: the installed one, or the one that tests/run --install
+#                             unpacked in /var/cache/hidlog/kernel or ~/.cache/hidlog/kernel, or else downloaded by
+#                             apt-get, 70 MB)
+#     HIDLOG_OFFLINE=1        do not download
 # shellcheck disable=SC2154 # top, name and library are set by common.sh
 PATH=$PATH:/usr/sbin:/sbin
-need gcc "gcc libc6-dev" nm binutils qemu-system-x86_64 qemu-system-x86 busybox busybox-static cpio cpio xz xz-utils \
+require_commands gcc "gcc libc6-dev" nm binutils qemu-system-x86_64 qemu-system-x86 busybox busybox-static cpio cpio xz xz-utils \
     dpkg-deb dpkg
-busybox 2>&1 | grep -q insmod || nothing "busybox has no insmod (apt-get install busybox-static)"
+busybox 2>&1 | grep -q insmod || exit_skipped "busybox has no insmod (apt-get install busybox-static)"
 ldd "$(command -v busybox)" >/dev/null 2>&1 && nothing "busybox isn't static (apt-get install busybox-static)"
-need_header openssl/evp.h libssl-dev
-need_header linux/uhid.h linux-libc-dev
-need_held_key
-room=$(mktemp -d)
-trap 'rm -rf "$room"' EXIT
-root=$room/root
+require_header openssl/evp.h libssl-dev
+require_header linux/uhid.h linux-libc-dev
+require_in_memory_key
+work=$(mktemp -d)
+trap 'rm -rf "$work"' EXIT
+root=$work/root
 
 # Finds vmlinuz and uhid.ko in a folder: has_kernel FOLDER
 has_kernel() {
@@ -30,19 +30,19 @@ has_kernel() {
 find_kernel() {
     local package
     if [ -n "${HIDLOG_KERNEL-}" ]; then
-        has_kernel "$HIDLOG_KERNEL" || nothing "HIDLOG_KERNEL has no kernel with uhid"
+        has_kernel "$HIDLOG_KERNEL" || exit_skipped "HIDLOG_KERNEL has no kernel with uhid"
     elif ! has_kernel "" && ! has_kernel /var/cache/hidlog/kernel &&
         ! has_kernel "${XDG_CACHE_HOME:-${HOME-}/.cache}/hidlog/kernel"; then
-        [ -z "${HIDLOG_OFFLINE-}" ] || nothing "no kernel with uhid is installed (tests/run --install)"
+        [ -z "${HIDLOG_OFFLINE-}" ] || exit_skipped "no kernel with uhid is installed (tests/run --install)"
         package=$(apt-cache depends linux-image-amd64 2>/dev/null | sed -n 's/^ *Depends: //p' | head -1)
-        (cd "$room" && apt-get download "${package:-linux-image-amd64}" && dpkg-deb -x "$package"_*.deb kernel) \
-            >"$room/said" 2>&1 || true
-        has_kernel "$room/kernel" || nothing "a kernel is missing (apt-get install linux-image-amd64)"
+        (cd "$work" && apt-get download "${package:-linux-image-amd64}" && dpkg-deb -x "$package"_*.deb kernel) \
+            >"$work/said" 2>&1 || true
+        has_kernel "$work/kernel" || exit_skipped "a kernel is missing (apt-get install linux-image-amd64)"
     fi
 }
 
-# Puts programs and libraries into the machine, with the libraries that they need, under the names that they have here.
-bring() {
+# Copies programs and libraries into the machine, with the libraries that they need, to the same paths.
+copy_programs() {
     local file needed
     for file in "$@"; do
         while read -r needed; do
@@ -51,9 +51,9 @@ bring() {
     done
 }
 
-# Brings Debian's Python with what a script, on standard input, has imported at its end, from outside of conformance/;
-# and OpenSSL's module that python3-cryptography loads: bring_python FOLDER .. (where the script finds modules)
-bring_python() {
+# Copies Debian's Python with the modules that a script on standard input imports, except from conformance/, and the OpenSSL
+# module that python3-cryptography loads: copy_python FOLDER .. (the module search path)
+copy_python() {
     local files
     mapfile -t files < <(
         { cat && printf '%s\n' 'import encodings.idna, sys' 'print(sys.executable)' \
@@ -61,19 +61,19 @@ bring_python() {
             '    if path and path.startswith("/") and "/conformance/" not in path:' '        print(path)'; } |
             PYTHONDONTWRITEBYTECODE=1 PYTHONPATH=$(IFS=: && echo "$*") /usr/bin/python3 -
     )
-    [ ${#files[@]} -gt 1 ] || { echo "$name: what is brought of Python couldn't be loaded here" >&2 && exit 1; }
-    bring "${files[@]}" "$(find /usr/lib -name legacy.so -path '*ossl-modules*' | head -1)"
+    [ ${#files[@]} -gt 1 ] || { echo "$name: cannot load the copied Python modules on this machine" >&2 && exit 1; }
+    copy_programs "${files[@]}" "$(find /usr/lib -name legacy.so -path '*ossl-modules*' | head -1)"
 }
 
-# Builds the machine's files: a kernel with its modules, busybox, and the bridge; the first program is a script of this
-# folder. build INIT
-build() {
+# Builds the machine: a kernel with its modules, busybox, and the bridge; the init program is a script of this folder: build
+# INIT
+build_initramfs() {
     local parts module file
     find_kernel
     parts=("$top"/examples/uhid/{uhid,turns,user,options}.c "$top/examples/ssh/state.c"
         "$top"/examples/c/{held_key,private_file,software_keys,snapshot}.c)
     mkdir -p "$root"/{bin,dev,etc/pam.d,modules,proc,root,sys,tmp}
-    # With address and undefined-behaviour checks, which end it by a status of their own.
+    # With address and undefined-behaviour sanitizers, which exit with a status of their own.
     compile -g -fsanitize=address,undefined -fno-sanitize-recover=all -I "$top/examples/ssh" -o "$root/bin/uhid" \
         "${parts[@]}" "$library/libhidlog.a" -lcrypto
     cp "$(command -v busybox)" "$root/bin/busybox"
@@ -84,23 +84,23 @@ build() {
         file=$(compgen -G "$modules/$module.ko*")
         case $file in *.xz) xz -dc "$file" ;; *) cat "$file" ;; esac >"$root/modules/$module.ko"
     done
-    bring "$root/bin/uhid" "$root/bin/hidlog"
-    rm -rf "${root:?}/$room"
+    copy_programs "$root/bin/uhid" "$root/bin/hidlog"
+    rm -rf "${root:?}/$work"
     echo root:x:0:0:root:/root:/bin/sh >"$root/etc/passwd"
     chmod 1777 "$root/tmp"
 }
 
-# Starts the machine and shows what it says, in lines that begin with "@@ ": boot SECONDS
-boot() {
+# Starts the machine and prints its lines that begin with "@@ ": boot_machine SECONDS
+boot_machine() {
     # TCG, since KVM isn't everywhere. The machine switches itself off; a kernel that stops ends it too.
     local machine=(-accel tcg -cpu max -m 512 -nic none -display none -monitor none -serial stdio -no-reboot)
-    (cd "$root" && find . | cpio -o -H newc --quiet -R 0:0 | gzip -1) >"$room/initramfs"
-    timeout "$1" qemu-system-x86_64 "${machine[@]}" -kernel "$image" -initrd "$room/initramfs" \
-        -append "console=ttyS0 quiet panic=-1 no_timer_check" </dev/null >"$room/console" 2>&1 ||
-        { tail -40 "$room/console" && fail "the machine didn't end by itself"; }
-    tr -d '\r' <"$room/console" | sed -n "s,^@@ ,$name: ,p"
-    if grep -q '^@@ FAILED' "$room/console" || ! grep -q '^@@ end' "$room/console"; then
-        tr -d '\r' <"$room/console" | tail -80
+    (cd "$root" && find . | cpio -o -H newc --quiet -R 0:0 | gzip -1) >"$work/initramfs"
+    timeout "$1" qemu-system-x86_64 "${machine[@]}" -kernel "$image" -initrd "$work/initramfs" \
+        -append "console=ttyS0 quiet panic=-1 no_timer_check" </dev/null >"$work/console" 2>&1 ||
+        { tail -40 "$work/console" && fail "the machine didn't end by itself"; }
+    tr -d '\r' <"$work/console" | sed -n "s,^@@ ,$name: ,p"
+    if grep -q '^@@ FAILED' "$work/console" || ! grep -q '^@@ end' "$work/console"; then
+        tr -d '\r' <"$work/console" | tail -80
         fail "a case failed, or the machine ended early"
     fi
 }

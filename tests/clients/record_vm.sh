@@ -1,6 +1,6 @@
 #!/bin/sh
-# The first program of the virtual machine that record.sh starts: plugs in a key without credentials for each client, lets
-# the client do its work, and writes the recording to the console. What it says to record.sh begins with "@@ " or "@log ".
+# The init program of the virtual machine of record.sh: plugs in a key without credentials for each client, runs the client,
+# and writes the recording to the console. Lines for record.sh begin with "@@ " or "@log ".
 /bin/busybox --install -s /bin
 export PATH=/bin:/usr/bin HOME=/root PYTHONDONTWRITEBYTECODE=1
 mount -t proc proc /proc
@@ -9,8 +9,8 @@ mount -t devtmpfs dev /dev
 cd /root || exit
 device=/dev/hidraw0
 
-# Waits at most ten seconds until a command works.
-soon() {
+# Waits at most ten seconds until a command succeeds.
+wait_until() {
     for _ in $(seq 100); do
         "$@" >/dev/null 2>&1 && return
         usleep 100000
@@ -29,7 +29,7 @@ record() {
     rm -f key.state
     uhid -r "$log.log" key.state &
     bridge=$!
-    soon test -c "$device"
+    wait_until test -c "$device"
     if "$@" >out 2>&1 </dev/null; then
         echo "@@ ok $log"
     else
@@ -38,25 +38,25 @@ record() {
     fi
     kill "$bridge"
     wait "$bridge" || echo "@@ FAILED the bridge ended with $?"
-    soon is_gone
+    wait_until is_gone
     sed "s/^/@log $log /" "$log.log"
 }
 
-random() {
+print_random() {
     head -c 32 /dev/urandom | base64
 }
 
-# Registers by libfido2's tools: register NAME OPTIONS ..
+# Registers with libfido2's tools: register NAME OPTIONS ..
 register() {
     user=$1
     shift
-    { random && echo relying.example && echo "$user" && random; } >"$user.in"
+    { print_random && echo relying.example && echo "$user" && print_random; } >"$user.in"
     fido2-cred -M "$@" -i "$user.in" "$device" >"$user.cred" && fido2-cred -V -i "$user.cred" >"$user.public" &&
         sed 1d "$user.public" >"$user.pem"
 }
 
 sign_in() {
-    { random && echo relying.example && head -1 "$1.public"; } >"$1.asked"
+    { print_random && echo relying.example && head -1 "$1.public"; } >"$1.asked"
     fido2-assert -G "$2" "$3" -i "$1.asked" "$device" >"$1.answer" && fido2-assert -V -i "$1.answer" "$1.pem" es256
 }
 
@@ -69,13 +69,13 @@ libfido2_register() {
 }
 
 libfido2_discoverable() {
-    register alice -r && register bob -r && { random && echo relying.example; } >asked &&
+    register alice -r && register bob -r && { print_random && echo relying.example; } >asked &&
         fido2-assert -G -r -i asked "$device"
 }
 
 libfido2_refused() {
     register alice && ! fido2-cred -M -i alice.in "$device" eddsa &&
-        { random && echo other.example && head -1 alice.public; } >asked && ! fido2-assert -G -i asked "$device"
+        { print_random && echo other.example && head -1 alice.public; } >asked && ! fido2-assert -G -i asked "$device"
 }
 
 openssh_key() {

@@ -1,15 +1,15 @@
 #!/usr/bin/env bash
-# The Rust crates as rust/hidlog/README.md has them: unpacked from their files beside a new crate, with README's own test;
-# then the crate's tests, with and without OpenSSL, and clippy and rustfmt where they are there. Nothing is downloaded.
+# Tests the Rust crates as in rust/hidlog/README.md: unpacks their files beside a new crate, with the README's test; then runs
+# the crate's tests, with and without OpenSSL, and clippy and rustfmt if installed. Downloads nothing.
 #
 #     tests/clients/rust_crates.sh PACKAGES FOLDER
 set -euo pipefail
 top=$(cd "$(dirname "${BASH_SOURCE[0]}")/../.." && pwd)
 packages=$(cd "$1" && pwd)
 mkdir -p "$2"
-room=$(cd "$2" && pwd)
-export CARGO_TARGET_DIR=$room/target CARGO_NET_OFFLINE=true CARGO_BUILD_JOBS=2 HIDLOG=$top/release/hidlog
-cd "$room"
+work=$(cd "$2" && pwd)
+export CARGO_TARGET_DIR=$work/target CARGO_NET_OFFLINE=true CARGO_BUILD_JOBS=2 HIDLOG_PROGRAM=$top/release/hidlog
+cd "$work"
 cp "$packages"/*.crate .
 version=$(basename hidlog-sys-*.crate .crate)
 sed -n '/^## Install/,/^## A test/s/^    //p' "$top/rust/hidlog/README.md" |
@@ -17,16 +17,16 @@ sed -n '/^## Install/,/^## A test/s/^    //p' "$top/rust/hidlog/README.md" |
 # shellcheck disable=SC1091 # it is made here
 source install.sh
 awk '/^```/ { n++; next } n == 1' "$top/rust/hidlog/README.md" >src/lib.rs
-cargo test --quiet --offline -- --nocapture >"$room/said" 2>&1 || { cat "$room/said" && exit 1; }
-grep -q 'send it to your service: {' "$room/said"
-cd "$room/hidlog-${version#hidlog-sys-}"
+cargo test --quiet --offline -- --nocapture >"$work/said" 2>&1 || { cat "$work/said" && exit 1; }
+grep -q 'send it to your service: {' "$work/said"
+cd "$work/hidlog-${version#hidlog-sys-}"
 for words in "" --no-default-features; do
     # shellcheck disable=SC2086 # no word is no word
-    cargo test --offline $words >"$room/said" 2>&1 || { cat "$room/said" && exit 1; }
-    echo "Rust crate${words:+, $words}: $(grep -c '^test .* ok$' "$room/said") tests passed"
+    cargo test --offline $words >"$work/said" 2>&1 || { cat "$work/said" && exit 1; }
+    echo "Rust crate${words:+, $words}: $(grep -c '^test .* ok$' "$work/said") tests passed"
 done
 if cargo clippy --version >/dev/null 2>&1; then
-    # Debian 13's warns of format! in an iterator, which a newer one doesn't.
+    # Debian 13's clippy warns of format! in an iterator; newer versions do not.
     cargo clippy --quiet --offline --all-targets -- -D warnings -A unknown-lints -A clippy::format-collect
 fi
 if cargo fmt --version >/dev/null 2>&1; then

@@ -3,7 +3,7 @@
 //     sk_call enroll         prints the key's handle, in hexadecimal digits
 //     sk_call sign HANDLE    prints the signature's counter
 //
-// Exit status: 1 where the provider returns a fault, which is said.
+// Exit status: 1 if the provider returns an error, which is printed.
 #include "sk_api.h"
 
 #include <stdio.h>
@@ -12,12 +12,12 @@
 
 static const uint8_t data[32] = "what is signed, or its challenge";
 
-static int fault(int result) {
+static int report_error(int result) {
     fprintf(stderr, "the provider returned %d\n", result);
     return 1;
 }
 
-static int printed(void) {
+static int flush_output(void) {
     if (puts("") < 0 || fflush(stdout) != 0) {
         perror("sk_call: standard output");
         return 1;
@@ -29,12 +29,12 @@ static int enroll(void) {
     struct sk_enroll_response *made = NULL;
     int result = sk_enroll(SK_ECDSA, data, sizeof data, "ssh:", SK_PRESENCE, NULL, NULL, &made);
     if (result != SK_DONE) {
-        return fault(result);
+        return report_error(result);
     }
     for (size_t i = 0; i < made->key_handle_len; i++) {
         printf("%02x", made->key_handle[i]);
     }
-    return printed();
+    return flush_output();
 }
 
 static int sign(const char *digits) {
@@ -46,10 +46,10 @@ static int sign(const char *digits) {
     }
     int result = sk_sign(SK_ECDSA, data, sizeof data, "ssh:", handle, sizeof handle, SK_PRESENCE, NULL, NULL, &made);
     if (result != SK_DONE) {
-        return fault(result);
+        return report_error(result);
     }
     printf("%u", (unsigned)made->counter);
-    return printed();
+    return flush_output();
 }
 
 int main(int count, char **words) {

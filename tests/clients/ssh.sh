@@ -1,27 +1,27 @@
 #!/usr/bin/env bash
-# OpenSSH with a software key: builds libhidlog_sk.so of examples/ssh, makes keys with ssh-keygen, signs in at an sshd that
-# it starts on the loopback address and ends, lists resident keys. Ends with 3 where something is missing.
+# Tests OpenSSH with a software key: builds libhidlog_sk.so of examples/ssh, makes keys with ssh-keygen, signs in to an sshd
+# on the loopback address, lists resident keys. Exits with 3 if something is missing.
 # shellcheck disable=SC1091,SC2154 # top, name and library are set by common.sh
 set -euo pipefail
 source "$(dirname "${BASH_SOURCE[0]}")/common.sh"
 PATH=$PATH:/usr/sbin:/sbin
-need gcc "gcc libc6-dev" nm binutils ssh openssh-client ssh-keygen openssh-client sshd openssh-server
-[ -x /usr/lib/openssh/ssh-sk-helper ] || nothing "ssh-sk-helper is missing (apt-get install openssh-client)"
-need_header fido.h libfido2-dev
-need_header openssl/evp.h libssl-dev
-need_held_key
-room=$(mktemp -d)
-# OpenSSH asks for its user by name. A user without an entry, as in a container, has one for these programs alone.
+require_commands gcc "gcc libc6-dev" nm binutils ssh openssh-client ssh-keygen openssh-client sshd openssh-server
+[ -x /usr/lib/openssh/ssh-sk-helper ] || exit_skipped "ssh-sk-helper is missing (apt-get install openssh-client)"
+require_header fido.h libfido2-dev
+require_header openssl/evp.h libssl-dev
+require_in_memory_key
+work=$(mktemp -d)
+# OpenSSH looks up its user by name. A user without a passwd entry, as in a container, gets one for these programs only.
 if ! id -un >/dev/null 2>&1; then
     wrapper=$(ls /usr/lib/*/libnss_wrapper.so 2>/dev/null) ||
-        nothing "libnss-wrapper is missing, for a user without a name (apt-get install libnss-wrapper)"
-    export LD_PRELOAD=$wrapper NSS_WRAPPER_PASSWD=$room/passwd NSS_WRAPPER_GROUP=/etc/group
-    (cat /etc/passwd && echo "tester:x:$(id -u):$(id -g)::$room:/bin/bash") >"$NSS_WRAPPER_PASSWD"
+        exit_skipped "libnss-wrapper is missing, for a user without a name (apt-get install libnss-wrapper)"
+    export LD_PRELOAD=$wrapper NSS_WRAPPER_PASSWD=$work/passwd NSS_WRAPPER_GROUP=/etc/group
+    (cat /etc/passwd && echo "tester:x:$(id -u):$(id -g)::$work:/bin/bash") >"$NSS_WRAPPER_PASSWD"
 fi
 server=
 made_run=
 
-end() {
+stop_server() {
     if [ -n "$server" ]; then
         kill "$server" 2>/dev/null || true
         wait "$server" 2>/dev/null || true
@@ -29,26 +29,26 @@ end() {
     if [ -n "$made_run" ]; then
         rmdir /run/sshd 2>/dev/null || true
     fi
-    rm -rf "$room"
+    rm -rf "$work"
 }
-trap end EXIT
-cd "$room"
-echo "$name: OpenSSH client $(version openssh-client), server $(version openssh-server), libfido2 $(version libfido2-dev)"
+trap stop_server EXIT
+cd "$work"
+echo "$name: OpenSSH client $(print_version openssh-client), server $(print_version openssh-server), libfido2 $(print_version libfido2-dev)"
 parts=("$top"/examples/ssh/{hidlog_sk,state}.c
     "$top"/examples/c/{fido_device,held_key,private_file,software_keys,snapshot}.c)
 compile -shared -fPIC -fvisibility=hidden -o libhidlog_sk.so "${parts[@]}" "$library/libhidlog.a" \
     -Wl,--exclude-libs,ALL -lfido2 -lcrypto
-export SSH_SK_PROVIDER=$room/libhidlog_sk.so HIDLOG_SK_STATE=$room/key.state
+export SSH_SK_PROVIDER=$work/libhidlog_sk.so HIDLOG_SK_STATE=$work/key.state
 unset SSH_AUTH_SOCK SSH_ASKPASS DISPLAY
 
-# Does what has to work: works TEXT COMMAND ..
-works() {
+# Runs a command that must succeed: expect_success TEXT COMMAND ..
+expect_success() {
     "${@:2}" >said 2>&1 </dev/null || { cat said && fail "$1: failed with $?"; }
     echo "$name: $1: $(tail -1 said)"
 }
 
-# Does what has to be refused with these words: refused TEXT WORDS COMMAND ..
-refused() {
+# Runs a command that must fail with a message: expect_failure TEXT MESSAGE COMMAND ..
+expect_failure() {
     if "${@:3}" >said 2>&1 </dev/null; then
         cat said
         fail "$1: not refused"
@@ -57,19 +57,19 @@ refused() {
     echo "$name: $1: $(grep "$2" said | tail -1)"
 }
 
-# Makes a key: keygen FILE OPTIONS ..
-keygen() {
+# Makes a key: generate_key FILE OPTIONS ..
+generate_key() {
     ssh-keygen -q -N '' -C hidlog -f "$1" "${@:2}" && ssh-keygen -lf "$1.pub"
 }
 
 # Signs in with a key: sign_in FILE
 sign_in() {
     ssh -F none -i "$1" -p "$port" -o IdentitiesOnly=yes -o BatchMode=yes -o PreferredAuthentications=publickey \
-        -o UserKnownHostsFile="$room/known" -o StrictHostKeyChecking=yes -o ConnectTimeout=20 \
+        -o UserKnownHostsFile="$work/known" -o StrictHostKeyChecking=yes -o ConnectTimeout=20 \
         -o "SecurityKeyProvider=$SSH_SK_PROVIDER" "$(id -un)@127.0.0.1" whatever
 }
 
-# Starts the server, on the first port that is free.
+# Starts the server on a free port.
 start_server() {
     local tries=0
     if [ "$(id -u)" = 0 ] && [ ! -d /run/sshd ]; then
@@ -79,7 +79,7 @@ start_server() {
     ssh-keygen -q -t ed25519 -N '' -f host
     while [ $((tries += 1)) -le 5 ]; do
         port=$((20000 + RANDOM))
-        printf '%s\n' "ListenAddress 127.0.0.1:$port" "HostKey $room/host" "AuthorizedKeysFile $room/authorized" \
+        printf '%s\n' "ListenAddress 127.0.0.1:$port" "HostKey $work/host" "AuthorizedKeysFile $work/authorized" \
             "PidFile none" "UsePAM no" "StrictModes no" "PasswordAuthentication no" "PermitRootLogin yes" \
             "KbdInteractiveAuthentication no" "ForceCommand echo signed in" >sshd_config
         "$(command -v sshd)" -D -e -f sshd_config 2>server.log &
@@ -97,40 +97,40 @@ start_server() {
     fail "sshd does not start"
 }
 
-works "ssh-keygen -t ecdsa-sk" keygen first -t ecdsa-sk
-works "ssh-keygen -t ecdsa-sk -O resident" keygen resident -t ecdsa-sk -O resident
-works "ssh-keygen -t ecdsa-sk -O no-touch-required" keygen untouched -t ecdsa-sk -O no-touch-required
-refused "a second resident key of the user, not overwritten" "already exists" \
-    keygen second -t ecdsa-sk -O resident
-refused "ssh-keygen -t ed25519-sk" "not supported" keygen other -t ed25519-sk
-refused "ssh-keygen -O verify-required" "not supported" keygen other -t ecdsa-sk -O verify-required
+expect_success "ssh-keygen -t ecdsa-sk" generate_key first -t ecdsa-sk
+expect_success "ssh-keygen -t ecdsa-sk -O resident" generate_key resident -t ecdsa-sk -O resident
+expect_success "ssh-keygen -t ecdsa-sk -O no-touch-required" generate_key untouched -t ecdsa-sk -O no-touch-required
+expect_failure "a second resident key of the user, not overwritten" "already exists" \
+    generate_key second -t ecdsa-sk -O resident
+expect_failure "ssh-keygen -t ed25519-sk" "not supported" generate_key other -t ed25519-sk
+expect_failure "ssh-keygen -O verify-required" "not supported" generate_key other -t ecdsa-sk -O verify-required
 
 start_server
 cat first.pub >authorized
 echo "no-touch-required $(cat untouched.pub)" >>authorized
-works "ssh signs in" sign_in first
-works "ssh signs in again" sign_in first
-works "ssh signs in without a touch" sign_in untouched
-refused "ssh while the user says no" "Permission denied" env HIDLOG_SK_PRESENCE=denied bash -c "$(declare -f sign_in)
-    port=$port room=$room; sign_in first"
-refused "ssh with a key that the server doesn't know" "Permission denied" sign_in resident
+expect_success "ssh signs in" sign_in first
+expect_success "ssh signs in again" sign_in first
+expect_success "ssh signs in without a touch" sign_in untouched
+expect_failure "ssh while the user says no" "Permission denied" env HIDLOG_SK_PRESENCE=denied bash -c "$(declare -f sign_in)
+    port=$port work=$work; sign_in first"
+expect_failure "ssh with a key that the server doesn't know" "Permission denied" sign_in resident
 mv key.state elsewhere
-refused "ssh with a state that lacks the key" "Permission denied" sign_in first
+expect_failure "ssh with a state that lacks the key" "Permission denied" sign_in first
 mv elsewhere key.state
 mkdir downloaded && cd downloaded
-works "ssh-keygen -K" bash -c "echo | ssh-keygen -q -K -N '' && ls id_*rk.pub"
+expect_success "ssh-keygen -K" bash -c "echo | ssh-keygen -q -K -N '' && ls id_*rk.pub"
 cd ..
 [ "$(cut -d' ' -f2 downloaded/id_ecdsa_sk_rk.pub)" = "$(cut -d' ' -f2 resident.pub)" ] || fail "-K gave another key"
 cut -d' ' -f1,2 resident.pub >>authorized
-works "ssh signs in with the key that -K gave" sign_in downloaded/id_ecdsa_sk_rk
+expect_success "ssh signs in with the key that -K gave" sign_in downloaded/id_ecdsa_sk_rk
 echo "$name: the server: $(grep -c 'Accepted publickey .* ECDSA-SK' server.log) sign-ins by ECDSA-SK"
 [ "$(grep -c 'Accepted publickey .* ECDSA-SK' server.log)" = 4 ] || fail "the server saw another number of sign-ins"
 
 echo "a text" >text
 echo "hidlog $(cat first.pub)" >signers
-works "ssh-keygen -Y sign" ssh-keygen -Y sign -f first -n file text
-verify() {
+expect_success "ssh-keygen -Y sign" ssh-keygen -Y sign -f first -n file text
+verify_signature() {
     echo "$1" | ssh-keygen -Y verify -f signers -I hidlog -n file -s text.sig
 }
-works "ssh-keygen -Y verify" verify "a text"
-refused "ssh-keygen -Y verify of another text" "incorrect signature" verify "another text"
+expect_success "ssh-keygen -Y verify" verify_signature "a text"
+expect_failure "ssh-keygen -Y verify of another text" "incorrect signature" verify_signature "another text"

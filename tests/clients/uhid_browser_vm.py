@@ -1,11 +1,11 @@
 #!/usr/bin/env python3
-"""A page that registers and signs in, in an unmodified browser with the key as a device of the kernel: uhid_package_vm.sh
-runs this in its virtual machine.
+"""A page that registers and signs in, in an unmodified browser with the key as a device of the kernel:
+uhid_package_vm.sh runs this in its virtual machine.
 
     uhid_browser_vm.py firefox|chromium
 
-It serves the page at http://localhost:8000, starts the browser as the user tester, and verifies what the page sends: the
-client data's hash, the RP, the flags, the signature by python3-cryptography, and that the counter rises.
+It serves the page at http://localhost:8000, starts the browser as the user tester, and verifies what the page sends:
+the client data's hash, the RP, the flags, the signature by python3-cryptography, and that the counter rises.
 """
 
 from __future__ import annotations
@@ -50,23 +50,23 @@ const run = async () => {
 };
 run().catch((error) => send({ error: `${error}` }));
 </script>"""
-SAID: queue.Queue[dict[str, str]] = queue.Queue()
-ASKED = threading.Event()
+MESSAGES: queue.Queue[dict[str, str]] = queue.Queue()
+PAGE_REQUESTED = threading.Event()
 
 
 class Service(http.server.BaseHTTPRequestHandler):
-    """Serves the page, and takes what it sends."""
+    """Serves the page, and receives its messages."""
 
     def do_GET(self) -> None:
         print("asked for", self.path, flush=True)
-        ASKED.set()
-        self.answer(PAGE.encode() if self.path == "/" else b"")
+        PAGE_REQUESTED.set()
+        self.send_text(PAGE.encode() if self.path == "/" else b"")
 
     def do_POST(self) -> None:
-        SAID.put(json.loads(self.rfile.read(int(self.headers["Content-Length"]))))
-        self.answer(b"")
+        MESSAGES.put(json.loads(self.rfile.read(int(self.headers["Content-Length"]))))
+        self.send_text(b"")
 
-    def answer(self, text: bytes) -> None:
+    def send_text(self, text: bytes) -> None:
         self.send_response(200)
         self.send_header("Content-Type", "text/html")
         self.send_header("Content-Length", str(len(text)))
@@ -77,7 +77,7 @@ class Service(http.server.BaseHTTPRequestHandler):
         pass
 
 
-def command_of(browser: str) -> list[str]:
+def browser_command(browser: str) -> list[str]:
     """Returns how the browser is started."""
     home = Path("/home/tester") / browser
     home.mkdir(exist_ok=True)
@@ -95,8 +95,8 @@ def command_of(browser: str) -> list[str]:
     return ["firefox-esr", "--headless", "--no-remote", "--profile", str(home)]
 
 
-def open_again() -> None:
-    """Opens the page in another tab, where Chromium is there and has lost the first."""
+def reopen_page() -> None:
+    """Opens the page in another tab, if Chromium has lost the first."""
     address = "http://127.0.0.1:9222/json/new?http://localhost:8000/"
     try:
         urllib.request.urlopen(urllib.request.Request(address, method="PUT"), timeout=60).close()
@@ -104,14 +104,14 @@ def open_again() -> None:
         print("no tab was opened:", error, flush=True)
 
 
-def said(process: subprocess.Popen[bytes]) -> dict[str, str]:
-    """Returns what the page sends next."""
+def next_message(process: subprocess.Popen[bytes]) -> dict[str, str]:
+    """Returns the page's next message."""
     for second in range(1, SECONDS):
         try:
-            found = SAID.get(timeout=1)
+            found = MESSAGES.get(timeout=1)
         except queue.Empty:
-            if second % 90 == 0 and not ASKED.is_set():
-                open_again()
+            if second % 90 == 0 and not PAGE_REQUESTED.is_set():
+                reopen_page()
             assert process.poll() is None, f"the browser ended with {process.returncode}"
             continue
         assert "error" not in found, found["error"]
@@ -119,7 +119,7 @@ def said(process: subprocess.Popen[bytes]) -> dict[str, str]:
     raise AssertionError("the page sent nothing")
 
 
-def verify(public: ec.EllipticCurvePublicKey, used: dict[str, str]) -> int:
+def verify_sign_in(public: ec.EllipticCurvePublicKey, used: dict[str, str]) -> int:
     """Returns the counter of a sign-in that is right."""
     data, client = base64.b64decode(used["data"]), base64.b64decode(used["client"])
     public.verify(
@@ -139,13 +139,13 @@ def main() -> int:
     user = ["setpriv", "--reuid=tester", "--regid=tester", "--init-groups"]
     home = ["env", "HOME=/home/tester", "XDG_RUNTIME_DIR=/home/tester", "MOZ_LOG=webauthn:5,authenticator:5"]
     with open("browser.err", "wb") as errors:
-        words = [*user, *home, *command_of(browser), "http://localhost:8000/"]
+        words = [*user, *home, *browser_command(browser), "http://localhost:8000/"]
         process = subprocess.Popen(words, stdout=errors, stderr=errors, stdin=subprocess.DEVNULL)
         try:
-            made = said(process)
+            made = next_message(process)
             public = serialization.load_der_public_key(base64.b64decode(made["made"]))
             assert isinstance(public, ec.EllipticCurvePublicKey)
-            counters = [verify(public, said(process)) for _ in range(2)]
+            counters = [verify_sign_in(public, next_message(process)) for _ in range(2)]
         except AssertionError as wrong:
             print(wrong)
             lines = Path("browser.err").read_text(errors="replace").splitlines()

@@ -1,18 +1,18 @@
 #!/usr/bin/env bash
-# Installs the Debian package hidlog-uhid in a Debian of its own, and boots that in a virtual machine with systemd and
-# udev, where it serves libfido2's tools, OpenSSH and unmodified browsers; the cases are in uhid_package_vm.sh. Takes a
-# quarter of an hour by software emulation. Needs root, debootstrap and its mirror, e2fsprogs, qemu-system-x86 and
-# busybox-static. Ends with 3 where something is missing.
+# Installs the Debian package hidlog-uhid in a new Debian system, and boots it in a virtual machine with systemd and udev, for
+# libfido2's tools, OpenSSH and unmodified browsers; the cases are in uhid_package_vm.sh. Takes 15 minutes with software
+# emulation. Needs root, debootstrap and its mirror, e2fsprogs, qemu-system-x86 and busybox-static. Exits with 3 if something
+# is missing.
 #
-#     tests/clients/uhid_package.sh FOLDER [PACKAGES]    FOLDER is kept for the next time; PACKAGES, else made anew
-#     HIDLOG_CASES="package firefox chromium"            which of them; by default all but chromium, which is too slow
-# shellcheck disable=SC1091,SC2154 # top, name, room and image are set by common.sh and machine.sh
+#     tests/clients/uhid_package.sh FOLDER [PACKAGES]    FOLDER is reused; PACKAGES: default: built here
+#     HIDLOG_CASES="package firefox chromium"            the cases (default: all but chromium, which is too slow)
+# shellcheck disable=SC1091,SC2154 # top, name, work and image are set by common.sh and machine.sh
 set -euo pipefail
 source "$(dirname "${BASH_SOURCE[0]}")/common.sh"
 folder=${1:?"usage: tests/clients/uhid_package.sh FOLDER [PACKAGES]"}
 source "$(dirname "${BASH_SOURCE[0]}")/machine.sh"
-need debootstrap debootstrap mke2fs e2fsprogs
-[ "$(id -u)" = 0 ] || nothing "root is needed for a folder of debootstrap"
+require_commands debootstrap debootstrap mke2fs e2fsprogs
+[ "$(id -u)" = 0 ] || exit_skipped "root is needed for a folder of debootstrap"
 mkdir -p "$folder"
 folder=$(cd "$folder" && pwd)
 packages=${2-}
@@ -23,28 +23,28 @@ if [ -z "$packages" ]; then
 fi
 system=$folder/root
 
-# Runs a command in the system: inside COMMANDS
-inside() {
+# Runs a command in the system: run_in_system COMMANDS
+run_in_system() {
     chroot "$system" /usr/bin/env -i PATH=/usr/sbin:/usr/bin:/sbin:/bin LANG=C.UTF-8 DEBIAN_FRONTEND=noninteractive \
         bash -euc "$1" >"$folder/inside.log" 2>&1 || { tail -20 "$folder/inside.log" && fail "in the system: $1"; }
 }
 
 if [ ! -e "$system/.whole" ]; then
     rm -rf "$system"
-    debootstrap --variant=minbase bookworm "$system" >"$folder/debootstrap.log" || nothing "Debian isn't reached"
+    debootstrap --variant=minbase bookworm "$system" >"$folder/debootstrap.log" || exit_skipped "Debian isn't reached"
     echo "deb http://deb.debian.org/debian-security bookworm-security main" >>"$system/etc/apt/sources.list"
-    inside 'apt-get -qq update && apt-get -qq install -y --no-install-recommends systemd systemd-sysv udev dbus kmod \
+    run_in_system 'apt-get -qq update && apt-get -qq install -y --no-install-recommends systemd systemd-sysv udev dbus kmod \
         openssh-client fido2-tools chromium firefox-esr python3-cryptography'
     touch "$system/.whole"
 fi
 find_kernel
-# By its own tool, and once more after it was removed.
+# With apt-get, and again after it was removed.
 rm -rf "$system/packages"
 mkdir "$system/packages"
 cp "$packages"/hidlog_*_amd64.deb "$packages"/hidlog-uhid_*_amd64.deb "$system/packages"
-inside 'apt-get -qq purge -y hidlog-uhid hidlog || true
+run_in_system 'apt-get -qq purge -y hidlog-uhid hidlog || true
     apt-get -qq install -y ./packages/*.deb && hidlog-uhid --version && man -w hidlog-uhid 2>/dev/null || ls /usr/share/man/man8/hidlog-uhid.8.gz'
-inside 'id tester || useradd -m -u 1234 -U -G plugdev tester; systemctl enable hidlog-cases.service 2>/dev/null || true'
+run_in_system 'id tester || useradd -m -u 1234 -U -G plugdev tester; systemctl enable hidlog-cases.service 2>/dev/null || true'
 install -m 755 "$top/tests/clients/uhid_package_vm.sh" "$system/usr/local/sbin/hidlog-cases"
 install -m 755 "$top/tests/clients/uhid_browser_vm.py" "$system/usr/local/lib/hidlog-browser.py"
 echo "${HIDLOG_CASES:-package firefox}" >"$system/etc/hidlog-cases"
@@ -64,9 +64,9 @@ release=${image##*/vmlinuz-}
 kernel=${modules%/drivers/hid}
 mkdir -p "$system/lib/modules/$release/kernel/drivers"
 cp -r "$modules" "$system/lib/modules/$release/kernel/drivers/"
-inside "depmod $release"
+run_in_system "depmod $release"
 
-# The first program: loads what finds the disk, and starts systemd from it.
+# The init program: loads the disk's driver, and starts systemd from the disk.
 mkdir -p "$root"/{bin,modules,proc,dev,new}
 cp "$(command -v busybox)" "$root/bin/busybox"
 order=(virtio/virtio_ring virtio/virtio virtio/virtio_pci_legacy_dev virtio/virtio_pci_modern_dev virtio/virtio_pci
@@ -84,13 +84,13 @@ order=(virtio/virtio_ring virtio/virtio virtio/virtio_pci_legacy_dev virtio/virt
         'exec /bin/busybox switch_root /new /sbin/init'
 } >"$root/init"
 chmod +x "$root/init"
-(cd "$root" && find . | cpio -o -H newc --quiet -R 0:0 | gzip -1) >"$room/initramfs"
+(cd "$root" && find . | cpio -o -H newc --quiet -R 0:0 | gzip -1) >"$work/initramfs"
 rm -f "$folder/disk"
 mke2fs -q -t ext4 -d "$system" "$folder/disk" 4G
 echo "$name: ${image##*/}, $("$system/usr/bin/dpkg-query" --admindir="$system/var/lib/dpkg" -W -f '${Package} ${Version}, ' \
     systemd udev openssh-client fido2-tools chromium firefox-esr)by software emulation"
 machine=(-accel "tcg,thread=multi" -cpu max -smp 2 -m 3072 -nic none -display none -monitor none -serial stdio -no-reboot)
-timeout "${HIDLOG_SECONDS:-2700}" qemu-system-x86_64 "${machine[@]}" -kernel "$image" -initrd "$room/initramfs" \
+timeout "${HIDLOG_SECONDS:-2700}" qemu-system-x86_64 "${machine[@]}" -kernel "$image" -initrd "$work/initramfs" \
     -drive "file=$folder/disk,if=virtio,format=raw" \
     -append "console=ttyS0 quiet systemd.show_status=0 no_timer_check systemd.mask=serial-getty@ttyS0.service rw panic=-1" </dev/null >"$folder/console" 2>&1 || true
 tr -d '\r' <"$folder/console" | sed -n "s,^@@ ,$name: ,p"

@@ -1,11 +1,11 @@
 #!/bin/bash
-# What the virtual machine of uhid_package.sh does once Debian's systemd has started it: the installed package serves
-# libfido2's tools, OpenSSH and browsers to a user who isn't root. Lines for uhid_package.sh begin with "@@ ".
+# The cases of uhid_package.sh, run in the virtual machine by systemd: libfido2's tools, OpenSSH and browsers use the
+# installed package as a user other than root. Lines for uhid_package.sh begin with "@@ ".
 cd /home/tester || exit
 PATH=/usr/sbin:/usr/bin:/sbin:/bin
 
-# Says what came of a case: said STATUS TEXT
-said() {
+# Prints the result of a case: print_result STATUS TEXT
+print_result() {
     if [ "$1" = 0 ]; then
         echo "@@ ok $2, $(cut -d. -f1 /proc/uptime) s after the start"
     else
@@ -14,10 +14,10 @@ said() {
     fi
 }
 
-# Does what has to work: works TEXT COMMAND ..
-works() {
+# Runs a command that must succeed: expect_success TEXT COMMAND ..
+expect_success() {
     "${@:2}" >out 2>&1 </dev/null
-    said "$?" "$1"
+    print_result "$?" "$1"
 }
 
 # Runs a command as the user, who is in the group plugdev: as_tester COMMAND ..
@@ -25,8 +25,8 @@ as_tester() {
     setpriv --reuid=tester --regid=tester --init-groups env HOME=/home/tester "$@"
 }
 
-# Waits at most two minutes until a command works.
-soon() {
+# Waits at most two minutes until a command succeeds.
+wait_until() {
     for _ in $(seq 240); do
         "$@" >/dev/null 2>&1 && return
         sleep 0.5
@@ -34,15 +34,15 @@ soon() {
     return 1
 }
 
-start() {
-    systemctl start "hidlog-uhid@$1" && soon test -c /dev/hidraw0
+start_service() {
+    systemctl start "hidlog-uhid@$1" && wait_until test -c /dev/hidraw0
 }
 
-stop() {
-    systemctl stop "hidlog-uhid@$1" && ! systemctl is-failed "hidlog-uhid@$1" && soon test ! -e /dev/hidraw0
+stop_service() {
+    systemctl stop "hidlog-uhid@$1" && ! systemctl is-failed "hidlog-uhid@$1" && wait_until test ! -e /dev/hidraw0
 }
 
-# What the rule of udev makes of the device.
+# The device's permissions by the udev rule.
 is_for_plugdev() {
     udevadm settle && stat -c '%a %G' /dev/hidraw0 && [ "$(stat -c '%a %G' /dev/hidraw0)" = "660 plugdev" ]
 }
@@ -51,64 +51,64 @@ is_listed() {
     as_tester fido2-token -L | tee out | grep 'vendor=0x1209, product=0x0001'
 }
 
-random() {
+print_random() {
     head -c 32 /dev/urandom | base64
 }
 
-registers() {
-    { random && echo relying.example && echo alice && random; } >made.in
+register() {
+    { print_random && echo relying.example && echo alice && print_random; } >made.in
     as_tester fido2-cred -M -r -i made.in /dev/hidraw0 >made.cred && fido2-cred -V -i made.cred >made.public &&
         sed 1d made.public >made.pem
 }
 
-signs_in() {
-    { random && echo relying.example && head -1 made.public; } >asked
+sign_in() {
+    { print_random && echo relying.example && head -1 made.public; } >asked
     as_tester fido2-assert -G -i asked /dev/hidraw0 >answer && fido2-assert -V -i answer made.pem es256
 }
 
-ssh_signs() {
+sign_with_ssh() {
     rm -f id id.pub text text.sig
     echo a text >text && chown tester text && as_tester ssh-keygen -q -t ecdsa-sk -N '' -C hidlog -f id &&
         as_tester ssh-keygen -Y sign -f id -n file text && echo "hidlog $(cat id.pub)" >signers &&
         ssh-keygen -Y verify -f signers -I hidlog -n file -s text.sig <text
 }
 
-# The user, capabilities and filter of the service's process, and that only it may make devices.
+# The user, capabilities and system call filter of the service; only it may create devices.
 is_confined() {
-    start alice && pid=$(systemctl show -P MainPID hidlog-uhid@alice) && cat "/proc/$pid/status" || return
+    start_service alice && pid=$(systemctl show -P MainPID hidlog-uhid@alice) && cat "/proc/$pid/status" || return
     [ "$(stat -c %U "/proc/$pid")" = hidlog-uhid ] && [ "$(stat -c '%a %G' /dev/uhid)" = "660 hidlog-uhid" ] &&
         grep -qE '^CapEff:[[:space:]]+0+$' "/proc/$pid/status" && grep -qE '^Seccomp:[[:space:]]+2' "/proc/$pid/status" &&
-        [ "$(stat -c '%a %U' /var/lib/hidlog-uhid/alice.state)" = "600 hidlog-uhid" ] && stop alice
+        [ "$(stat -c '%a %U' /var/lib/hidlog-uhid/alice.state)" = "600 hidlog-uhid" ] && stop_service alice
 }
 
-# Older versions ran as root, and their files are root's.
-has_been_root() {
-    chown -R root:root /var/lib/hidlog-uhid /var/log/hidlog-uhid && start alice && signs_in && stop alice
+# Older versions ran as root, so their files belong to root.
+start_with_root_files() {
+    chown -R root:root /var/lib/hidlog-uhid /var/log/hidlog-uhid && start_service alice && sign_in && stop_service alice
 }
 
 # A script denies the first touch, and grants the second.
-denied_once() {
+deny_then_grant() {
     printf 'denied\ngranted\n' >/etc/hidlog-script
     echo 'HIDLOG_UHID_OPTIONS="--presence script:/etc/hidlog-script --touch 50"' >/etc/default/hidlog-uhid
-    start bob && is_for_plugdev && ! registers && registers && signs_in && stop bob
+    start_service bob && is_for_plugdev && ! register && register && sign_in && stop_service bob
     status=$?
     rm -f /etc/default/hidlog-uhid
     return "$status"
 }
 
-# The user, by a terminal of theirs who is root.
-asks_a_person() {
+# The touch, from a terminal of root.
+ask_on_terminal() {
     mkfifo typed
     hidlog-uhid --presence ask --state asked.state <typed 2>asking &
     bridge=$!
     exec 5>typed
-    soon is_for_plugdev || return
-    { soon grep -q 'asks for a touch' asking && echo y >&5; } &
-    registers && kill "$bridge" && wait "$bridge"
+    wait_until is_for_plugdev || return
+    { wait_until grep -q 'asks for a touch' asking && echo y >&5; } &
+    register && kill "$bridge" && wait "$bridge"
 }
 
-# A browser, unmodified, at a page that registers and signs in; the service verifies what it sends.
-browses() {
+# An unmodified browser, with a page that registers and signs in; the service verifies the responses.
+run_browser() {
     timeout 900 python3 /usr/local/lib/hidlog-browser.py "$@"
 }
 
@@ -120,36 +120,36 @@ check_recording() {
 
 rm -f /home/tester/out
 touch out && chown tester /home/tester /home/tester/*
-# What the package does without a browser.
-package() {
-    works "systemctl start hidlog-uhid@alice, of the package" start alice
-    works "udev hands the device to the group plugdev" is_for_plugdev
-    works "fido2-token -L, as a user" is_listed
-    works "fido2-cred registers" registers
-    works "fido2-assert signs in" signs_in
-    works "ssh-keygen -t ecdsa-sk, -Y sign and -Y verify" ssh_signs
-    works "systemctl stop" stop alice
-    works "the recording is as the program plays it" check_recording alice
-    works "systemctl start again" start alice
-    works "fido2-assert signs in with the credential of before" signs_in
-    works "systemctl stop again" stop alice
-    works "the service runs as its own user, without a capability" is_confined
-    works "it goes on with the state of a version that ran as root" has_been_root
-    works "the second recording begins with a snapshot" check_recording alice
-    works "--presence script denies once, as a user sees" denied_once
-    works "its recording" check_recording bob
-    works "--presence ask" asks_a_person
+# The cases without a browser.
+run_package_cases() {
+    expect_success "systemctl start hidlog-uhid@alice, of the package" start_service alice
+    expect_success "udev hands the device to the group plugdev" is_for_plugdev
+    expect_success "fido2-token -L, as a user" is_listed
+    expect_success "fido2-cred register" register
+    expect_success "fido2-assert signs in" sign_in
+    expect_success "ssh-keygen -t ecdsa-sk, -Y sign and -Y verify" sign_with_ssh
+    expect_success "systemctl stop" stop_service alice
+    expect_success "the recording is as the program plays it" check_recording alice
+    expect_success "systemctl start again" start_service alice
+    expect_success "fido2-assert signs in with the credential of before" sign_in
+    expect_success "systemctl stop again" stop_service alice
+    expect_success "the service runs as its own user, without a capability" is_confined
+    expect_success "it goes on with the state of a version that ran as root" start_with_root_files
+    expect_success "the second recording begins with a snapshot" check_recording alice
+    expect_success "--presence script denies once, as a user sees" deny_then_grant
+    expect_success "its recording" check_recording bob
+    expect_success "--presence ask" ask_on_terminal
 }
 
 read -ra parts </etc/hidlog-cases
-[[ " ${parts[*]} " != *" package "* ]] || package
-start carol
+[[ " ${parts[*]} " != *" package "* ]] || run_package_cases
+start_service carol
 for browser in "${parts[@]}"; do
     [ "$browser" != package ] || continue
-    works "$browser registers and signs in" browses "$browser"
+    expect_success "$browser registers and signs in" run_browser "$browser"
     [ ! -e versions ] || sed 's/^/@@ /' versions
 done
-stop carol
-[ "${parts[*]}" = package ] || works "the recording of the browsers" check_recording carol
+stop_service carol
+[ "${parts[*]}" = package ] || expect_success "the recording of the browsers" check_recording carol
 echo "@@ end after $(cut -d' ' -f1 /proc/uptime) s"
 systemctl poweroff

@@ -1,4 +1,4 @@
-"""Where fuzzers play: in processes of this machine, or in the workers of a Dask scheduler."""
+"""Runs fuzzers in processes of this machine, or on a Dask cluster."""
 
 from __future__ import annotations
 
@@ -11,16 +11,16 @@ from typing import Any
 
 HERE = Path(__file__).resolve().parent
 CONFORMANCE = HERE.parents[1] / "conformance"
-BLOCK = 8
+BATCH_SIZE = 8
 Played = Callable[[Callable[[Any], Any], Iterable[Any]], Iterator[Any]]
 
 
 @contextmanager
-def playing(executor: str, jobs: int) -> Iterator[Played]:
-    """Returns a function that yields what a call makes of each task, in no order that counts."""
+def make_runner(executor: str, jobs: int) -> Iterator[Played]:
+    """Returns a function that yields the results of tasks, in any order."""
     if not executor:
         with multiprocessing.Pool(jobs) as pool:
-            yield lambda play, tasks: pool.imap_unordered(play, tasks, chunksize=BLOCK)
+            yield lambda play, tasks: pool.imap_unordered(play, tasks, chunksize=BATCH_SIZE)
         return
     sys.path.insert(0, str(CONFORMANCE))
     from hidlog_conformance.executor import results

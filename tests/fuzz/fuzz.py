@@ -1,12 +1,11 @@
 #!/usr/bin/env python3
-"""Plays hostile logs on the key, and judges each by properties that need no second key (judge.py has them).
+"""Runs malformed logs, and checks each by the properties in judge.py.
 
     tests/fuzz/fuzz.py [--seed N] [--count N] [--only NUMBER] [--program FILE] [--jobs N] [--keep FOLDER]
                        [--executor dask://HOST:PORT]
 
-It needs Python 3.9 or later and nothing else. Each log comes from the seed and its number alone. At a finding the log
-is kept in FOLDER, its seed and number are printed, and the end is 1. `--only` plays the log of one number, and keeps
-it.
+Needs only Python 3.9 or later. Each log depends only on the seed and its number. At a finding the log is saved in
+FOLDER, its seed and number are printed, and the exit status is 1. `--only` runs and saves a single log.
 """
 
 import argparse
@@ -20,66 +19,68 @@ from functools import partial
 sys.dont_write_bytecode = True
 
 import executors
-from hostile import hostile_log, hostile_snapshot
-from judge import COUNTS, Finding, judge, judge_saved, lines_of
+from malformed_requests import hostile_log, hostile_snapshot
+from judge import COUNTS, FindingError, check_saved, judge, split_lines
 
 TOP = os.path.realpath(os.path.join(os.path.dirname(os.path.abspath(__file__)), "..", ".."))
-SECONDS = 600
+TIMEOUT_SECONDS = 600
 
 
-def arguments():
-    """What was asked for."""
+def make_parser():
+    """The options of the command."""
     parser = argparse.ArgumentParser(description=__doc__.split("\n", maxsplit=1)[0])
-    parser.add_argument("--seed", default="1", help="where the logs come from; by default 1")
-    parser.add_argument("--count", type=int, default=1000, help="how many logs; by default 1000")
-    parser.add_argument("--only", type=int, help="the log of this number alone")
-    parser.add_argument("--program", default=os.path.join(TOP, "release/hidlog"), help="by default release/hidlog")
-    parser.add_argument("--jobs", type=int, default=2, help="how many processes; by default 2")
-    parser.add_argument("--executor", default="", metavar="dask://HOST:PORT", help="a Dask scheduler's workers play")
-    parser.add_argument("--keep", default=".", help="where failing logs are kept; by default here")
+    parser.add_argument("--seed", default="1", help="seed of the logs (default: 1)")
+    parser.add_argument("--count", type=int, default=1000, help="number of logs (default: 1000)")
+    parser.add_argument("--only", type=int, help="run only the log with this number")
+    parser.add_argument(
+        "--program", default=os.path.join(TOP, "release/hidlog"), help="path of hidlog (default: release/hidlog)"
+    )
+    parser.add_argument("--jobs", type=int, default=2, help="number of processes (default: 2)")
+    parser.add_argument("--executor", default="", metavar="dask://HOST:PORT", help="run on a Dask cluster")
+    parser.add_argument("--keep", default=".", help="directory for failing logs (default: .)")
     return parser.parse_args()
 
 
-def runner_of(program):
-    """What runs a command of the program on a log, with what it explains; `--plain` among the options is stronger."""
+def make_runner(program):
+    """Returns a function that runs a command on a log with --explain, unless the options have --plain."""
 
     def run(command, log, *options):
         words = [program, command, "--explain", *options]
-        ran = subprocess.run(words, input=log, capture_output=True, timeout=SECONDS, check=False)
+        ran = subprocess.run(words, input=log, capture_output=True, timeout=TIMEOUT_SECONDS, check=False)
         return ran.returncode, ran.stdout, ran.stderr
 
     return run
 
 
-def play(task):
-    """Plays a log. What was found, or what its session counted."""
+def run_log(task):
+    """Runs a log; returns a finding, or its counts."""
     program, seed, number = task
-    log, run = hostile_log(seed, number), runner_of(program)
+    log, run = hostile_log(seed, number), make_runner(program)
     try:
         output, faulty = judge(log, run)
         if number % 8 == 0:
             with tempfile.TemporaryDirectory() as folder:
-                judge_saved(log, output, faulty, run, folder, partial(hostile_snapshot, seed, number))
-    except Finding as finding:
+                check_saved(log, output, faulty, run, folder, partial(hostile_snapshot, seed, number))
+    except FindingError as finding:
         return number, str(finding), None
     except subprocess.TimeoutExpired:
-        return number, f"no end after {SECONDS} seconds", None
-    lines = lines_of(output)
+        return number, f"timed out after {TIMEOUT_SECONDS} seconds", None
+    lines = split_lines(output)
     counts = [int(group) for group in COUNTS.fullmatch(lines[-1]).groups()]
     inputs = sum(line[:1] in (b">", b"t", b"p", b"k", b"s") for line in lines)
     return number, None, [faulty, inputs, sum(line[:1] == b"<" for line in lines), *counts]
 
 
-def keep(options, number):
-    """Keeps a log. Its path."""
+def save_log(options, number):
+    """Saves a log; returns its path."""
     path = os.path.join(options.keep, f"fuzz_{options.seed}_{number}.log")
     with open(path, "wb") as file:
         file.write(hostile_log(options.seed, number))
     return path
 
 
-def summary(count, totals, seconds):
-    """What was played, in one line."""
+def format_totals(count, totals, seconds):
+    """Returns the totals, in one line."""
     faulty, inputs, packets, held, rows, pending, requests, _, _ = totals
     return (
         f"{count} logs, {faulty} of them with a fault: {inputs} inputs, {packets} packets, {requests} requests; "
@@ -88,23 +89,23 @@ def summary(count, totals, seconds):
 
 
 def main():
-    options = arguments()
+    options = make_parser()
     program = options.program
     numbers = range(options.count) if options.only is None else [options.only]
     if options.only is not None:
-        print(f"the log is {keep(options, options.only)}")
+        print(f"the log is {save_log(options, options.only)}")
     began, totals, findings = time.monotonic(), [0] * 9, 0
-    with executors.playing(options.executor, options.jobs) as played:
+    with executors.make_runner(options.executor, options.jobs) as played:
         tasks = ((program, options.seed, number) for number in numbers)
-        for number, finding, counts in played(play, tasks):
+        for number, finding, counts in played(run_log, tasks):
             if finding:
                 findings += 1
-                print(f"seed {options.seed} log {number}: {finding}\n  kept as {keep(options, number)}", flush=True)
+                print(f"seed {options.seed} log {number}: {finding}\n  kept as {save_log(options, number)}", flush=True)
             else:
                 most = [max(pair) for pair in zip(totals[3:6], counts[3:6])]
                 added = [sum(pair) for pair in zip(totals, counts)]
                 totals = [*added[:3], *most, *added[6:]]
-    print(summary(len(numbers), totals, time.monotonic() - began))
+    print(format_totals(len(numbers), totals, time.monotonic() - began))
     print(f"{findings} findings")
     return 1 if findings else 0
 

@@ -1,11 +1,11 @@
 #!/usr/bin/env python3
-"""Fuzzes the readers that are Python: of the package (CBOR, snapshots, recordings, JSON of WebAuthn) and of the
-conformance runner (CBOR, packets, answers, sessions). Each is traced line by line.
+"""Fuzzes the parsers written in Python: those of the package (CBOR, snapshots, recordings, WebAuthn JSON) and of the
+conformance runner (CBOR, packets, replies, sessions). Each is traced line by line for coverage.
 
-    tests/fuzz/readers.py [--seconds N] [--seed N] [--keep FOLDER] [NAME ..]    N seconds for all of them, by default 30
+    tests/fuzz/readers.py [--seconds N] [--seed N] [--keep FOLDER] [NAME ..]    N seconds in total, default 30
 
-Exit status: 1 where a reader raised what it doesn't promise, unless the table of known failures has it; or where a
-known failure didn't come in a run of a minute for its reader or more.
+Exit status: 1 if a parser raises an undocumented exception that isn't in the table of known failures, or if a known
+failure doesn't occur in a run of at least a minute for its parser.
 """
 
 from __future__ import annotations
@@ -27,17 +27,18 @@ import hidlog  # noqa: E402
 from guided import Edges, Fuzzer, Target  # noqa: E402
 from hidlog import cbor, credentials, logs, webauthn_json  # noqa: E402
 from hidlog.errors import HidlogError  # noqa: E402
-from hidlog.replayed import ReplayedKey  # noqa: E402
-from hidlog.webauthn_client import Abilities, Call  # noqa: E402
+from hidlog.recorded_key import RecordedKey  # noqa: E402
+from hidlog.webauthn_client import AuthenticatorOptions, ClientCall  # noqa: E402
 from hidlog_conformance import answers, ctap_cbor, hid_packets, session_file  # noqa: E402
+from hidlog_conformance.session_cache import sessions_folder  # noqa: E402
 
-# Findings that are known: the reader, and the exception with its place; and what becomes of them.
-KNOWN: dict[tuple[str, str], str] = {}
-LONG = 60.0
+# Known failures: the parser, the exception with its location, and the reason or the plan.
+KNOWN_FINDINGS: dict[tuple[str, str], str] = {}
+MAX_SECONDS = 60.0
 
 
 class Reader(NamedTuple):
-    """What is fuzzed, what it may raise, the folder whose lines are traced, and what it begins with."""
+    """A parser to fuzz, the exceptions it may raise, the folder whose lines are traced, and the seed inputs."""
 
     target: Target
     allowed: tuple[type[BaseException], ...]
@@ -46,7 +47,7 @@ class Reader(NamedTuple):
 
 
 def read_cbor(data: bytes) -> None:
-    """What is read and written again is read as the same."""
+    """Checks that decoding, encoding and decoding again gives the same value."""
     value = cbor.decode(data)
     assert cbor.decode(cbor.encode(value)) == value
 
@@ -57,8 +58,8 @@ def read_snapshot(data: bytes) -> None:
 
 
 def read_recording(data: bytes) -> None:
-    """Plays a recording to a client that sends what it has."""
-    key = ReplayedKey(data)
+    """Replays a recording to a client that sends the recording's requests."""
+    key = RecordedKey(data)
     for line in data.decode("ascii", errors="replace").splitlines():
         if line.startswith(">"):
             try:
@@ -75,12 +76,12 @@ def read_log(data: bytes) -> None:
 
 
 def write_request(ceremony: str, options: Any) -> None:
-    """Has the WebAuthn client check options and write their request."""
-    Call(ceremony, options, "optional", "https://a.example", Abilities()).request()
+    """Makes the WebAuthn client check options and encode the request for them."""
+    ClientCall(ceremony, options, "optional", "https://a.example", AuthenticatorOptions()).request()
 
 
 def read_json(data: bytes) -> None:
-    """Hands options and answers of WebAuthn, as JSON, to each function that reads them."""
+    """Passes WebAuthn options and responses as JSON to each function that parses them."""
     try:
         value: Any = json.loads(data)
     except (ValueError, RecursionError):
@@ -114,8 +115,8 @@ def read_packets(data: bytes) -> None:
 
 
 def read_answer(data: bytes) -> None:
-    """Judges an answer to the registration of examples/."""
-    answers.judge_made(data, registration("> ")[7:], [], {}, answers.Facts())
+    """Checks a reply to the registration of examples/."""
+    answers.check_make_credential_response(data, read_registration("> ")[7:], [], {}, answers.DeviceFacts())
 
 
 def read_session(data: bytes) -> None:
@@ -128,8 +129,8 @@ def read_session(data: bytes) -> None:
 MEMORY = "/dev/shm" if Path("/dev/shm").is_dir() else None
 
 
-def registration(side: str) -> bytes:
-    """Returns the registration of examples/: the message of one side, its head with it."""
+def read_registration(side: str) -> bytes:
+    """Returns the message of one side of the registration in examples/, with its header."""
     lines = (TOP / "examples/registration.log").read_text(encoding="utf-8").splitlines()
     packets = [bytes.fromhex(line.split(" ")[-1]) for line in lines if line.startswith(side)]
     begin = next(place for place, packet in enumerate(packets) if packet[4] == 0x90)
@@ -137,26 +138,26 @@ def registration(side: str) -> bytes:
     return whole[: 7 + int.from_bytes(whole[5:7], "big")]
 
 
-def snapshots() -> Iterable[bytes]:
+def read_snapshots() -> Iterable[bytes]:
     return [path.read_bytes() for path in sorted((TOP / "examples").rglob("*.snapshot"))]
 
 
-def recordings() -> Iterable[bytes]:
+def read_recordings() -> Iterable[bytes]:
     return [path.read_bytes() for path in sorted((TOP / "examples").rglob("*.log"))]
 
 
-def messages() -> Iterable[bytes]:
-    return [registration("> ")[8:], registration("< ")[8:], *snapshots()]
+def read_messages() -> Iterable[bytes]:
+    return [read_registration("> ")[8:], read_registration("< ")[8:], *read_snapshots()]
 
 
-def packets() -> Iterable[bytes]:
-    for log in recordings():
+def read_packet_seeds() -> Iterable[bytes]:
+    for log in read_recordings():
         lines = log.decode().splitlines()
         yield b"".join(bytes.fromhex(line.split(" ")[2]) for line in lines if line.startswith("> "))
 
 
-def options() -> Iterable[bytes]:
-    """Returns JSON as services and browsers write it: options, and an answer that the key made."""
+def read_options() -> Iterable[bytes]:
+    """Returns JSON from relying parties and browsers: options, and a response of the key."""
     user = {"id": "AQ", "name": "ann", "displayName": "Ann"}
     listed = [{"type": "public-key", "id": "AQID", "transports": ["usb"]}]
     algorithms = [{"type": "public-key", "alg": -7}]
@@ -173,35 +174,35 @@ def options() -> Iterable[bytes]:
         first = browser.create({**made, "authenticatorSelection": {"residentKey": "required"}})
         found = browser.get({**asked, "allowCredentials": []})
     yield from (
-        json.dumps(options, default=lambda data: webauthn_json.text_of(bytes(data))).encode()
+        json.dumps(options, default=lambda data: webauthn_json.b64url_encode(bytes(data))).encode()
         for options in (first, found)
     )
 
 
-def sessions() -> Iterable[bytes]:
-    return [path.read_bytes() for path in sorted((TOP / "conformance/sessions").rglob("*"))[:400:10] if path.is_file()]
+def read_sessions() -> Iterable[bytes]:
+    return [path.read_bytes() for path in sorted(Path(sessions_folder()).rglob("*"))[:400:10] if path.is_file()]
 
 
 READERS = {
-    "cbor": Reader(read_cbor, (HidlogError,), PACKAGE, messages),
-    "snapshots": Reader(read_snapshot, (HidlogError,), PACKAGE, snapshots),
-    "recordings": Reader(read_recording, (HidlogError,), PACKAGE, recordings),
-    "logs": Reader(read_log, (HidlogError,), PACKAGE, recordings),
-    "json": Reader(read_json, (HidlogError,), PACKAGE, options),
-    "canonical": Reader(read_canonical, (ctap_cbor.CborFault,), CONFORMANCE, messages),
-    "packets": Reader(read_packets, (), CONFORMANCE, packets),
-    "answers": Reader(read_answer, (answers.Differs,), CONFORMANCE, lambda: [registration("< ")[7:]]),
-    "sessions": Reader(read_session, (session_file.BadSession,), CONFORMANCE, sessions),
+    "cbor": Reader(read_cbor, (HidlogError,), PACKAGE, read_messages),
+    "snapshots": Reader(read_snapshot, (HidlogError,), PACKAGE, read_snapshots),
+    "recordings": Reader(read_recording, (HidlogError,), PACKAGE, read_recordings),
+    "logs": Reader(read_log, (HidlogError,), PACKAGE, read_recordings),
+    "json": Reader(read_json, (HidlogError,), PACKAGE, read_options),
+    "canonical": Reader(read_canonical, (ctap_cbor.CborError,), CONFORMANCE, read_messages),
+    "packets": Reader(read_packets, (), CONFORMANCE, read_packet_seeds),
+    "answers": Reader(read_answer, (answers.Mismatch,), CONFORMANCE, lambda: [read_registration("< ")[7:]]),
+    "sessions": Reader(read_session, (session_file.SessionSyntaxError,), CONFORMANCE, read_sessions),
 }
 
 
-def kept(folder: Path | None, name: str) -> list[bytes]:
-    """Returns what an earlier run kept of a reader."""
+def read_corpus(folder: Path | None, name: str) -> list[bytes]:
+    """Returns the corpus that an earlier run kept for a parser."""
     return [] if folder is None else [path.read_bytes() for path in sorted((folder / name).glob("kept_*"))]
 
 
-def keep(folder: Path | None, name: str, fuzzer: Fuzzer) -> None:
-    """Keeps what reached something, and the first input of each finding."""
+def save_corpus(folder: Path | None, name: str, fuzzer: Fuzzer) -> None:
+    """Writes the corpus, and the first input of each finding."""
     if folder is not None:
         place = folder / name
         place.mkdir(parents=True, exist_ok=True)
@@ -212,23 +213,25 @@ def keep(folder: Path | None, name: str, fuzzer: Fuzzer) -> None:
 
 
 def fuzz(name: str, seconds: float, seed: int, folder: Path | None) -> int:
-    """Fuzzes a reader, and returns how many findings are new, or known and gone."""
+    """Fuzzes a parser. Returns the number of findings that are new, plus known ones that no longer occur."""
     reader = READERS[name]
     fuzzer = Fuzzer(reader.target, reader.allowed, Edges([reader.folder]), random.Random(seed))
-    fuzzer.run([*reader.seeds(), *kept(folder, name)], seconds)
-    keep(folder, name, fuzzer)
+    fuzzer.run([*reader.seeds(), *read_corpus(folder, name)], seconds)
+    save_corpus(folder, name, fuzzer)
     edges, bad = len(fuzzer.edges.seen), 0
-    print(f"{name}: {fuzzer.runs:,} runs in {seconds:.0f} s, {edges} pairs of lines, {len(fuzzer.corpus)} inputs kept")
+    print(f"{name}: {fuzzer.runs:,} runs in {seconds:.0f} s, {edges} line pairs, {len(fuzzer.corpus)} inputs kept")
     for kind, data in fuzzer.findings.items():
-        known = KNOWN.get((name, kind))
+        known = KNOWN_FINDINGS.get((name, kind))
         bad += known is None
         print(
             f"{'FAILED' if known is None else 'known'}   {name}: {kind}: {data[:60].hex()}{f' ({known})' if known else ''}"
         )
-    for of, kind in KNOWN:
-        if of == name and kind not in fuzzer.findings and seconds >= LONG:
+    for of, kind in KNOWN_FINDINGS:
+        if of == name and kind not in fuzzer.findings and seconds >= MAX_SECONDS:
             bad += 1
-            print(f"PASSES   {name}: {kind} is in the table of known failures, and didn't come: take it out")
+            print(
+                f"PASSES   {name}: {kind} is in the table of known failures but didn't occur: remove it from the table"
+            )
     return bad
 
 

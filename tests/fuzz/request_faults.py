@@ -1,7 +1,7 @@
-"""Why a request is refused with the status of a check, read apart from the core: the second source of check's sentences.
+"""Finds out why a request fails, independently of the core, for comparison with the explanations of `check`.
 
 The checks and their order are those of docs/use/PROFILE.md (CTAP 2.1, sections 6.1, 6.2 and 8.2); the parameters are
-read by the corpus's own reader of CBOR.
+decoded by the CBOR decoder of the conformance tests.
 """
 
 from __future__ import annotations
@@ -10,58 +10,68 @@ from typing import Any, Callable, Optional
 
 from transactions import ctap_cbor
 
-NAMES = {
+PARAMETER_NAMES = {
     0x01: {1: "clientDataHash", 2: "rp", 3: "user", 4: "pubKeyCredParams", 5: "excludeList"},
     0x02: {1: "rpId", 2: "clientDataHash", 3: "allowList"},
 }
-ALONE = (0x04, 0x07, 0x08, 0x0B)
+COMMANDS_WITHOUT_PARAMETERS = (0x04, 0x07, 0x08, 0x0B)
 Test = Callable[[Any], bool]
 
 
-def is_a(*kinds: type) -> Test:
-    """Whether a value has one of these types."""
+def make_type_test(*kinds: type) -> Test:
+    """Returns whether a value has one of these types."""
     return lambda value: type(value) in kinds
 
 
 def is_count(value: Any) -> bool:
-    """Whether a value is an unsigned integer."""
+    """Returns whether a value is an unsigned integer."""
     return type(value) is int and value >= 0
 
 
-def is_map(**members: Test) -> Test:
-    """Whether a value is a map whose members, where they are there, pass these tests."""
+def make_map_test(**members: Test) -> Test:
+    """Returns whether a value is a map whose members, if present, pass these tests."""
     return lambda value: isinstance(value, dict) and all(
         name not in value or test(value[name]) for name, test in members.items()
     )
 
 
-def is_list(test: Test) -> Test:
-    """Whether a value is an array of values that pass a test."""
+def make_list_test(test: Test) -> Test:
+    """Returns whether a value is an array of values that pass a test."""
     return lambda value: isinstance(value, list) and all(test(entry) for entry in value)
 
 
-DESCRIPTORS = is_list(is_map(id=is_a(bytes), type=is_a(str), transports=is_list(is_a(str))))
-OPTIONS = is_map(rk=is_a(bool), up=is_a(bool), uv=is_a(bool))
+DESCRIPTORS = make_list_test(
+    make_map_test(id=make_type_test(bytes), type=make_type_test(str), transports=make_list_test(make_type_test(str)))
+)
+OPTIONS = make_map_test(rk=make_type_test(bool), up=make_type_test(bool), uv=make_type_test(bool))
 TYPES: dict[int, dict[int, Test]] = {
     0x01: {
-        1: is_a(bytes),
-        2: is_map(id=is_a(str), name=is_a(str)),
-        3: is_map(id=is_a(bytes), name=is_a(str), displayName=is_a(str)),
-        4: is_list(is_map(alg=is_a(int), type=is_a(str))),
+        1: make_type_test(bytes),
+        2: make_map_test(id=make_type_test(str), name=make_type_test(str)),
+        3: make_map_test(id=make_type_test(bytes), name=make_type_test(str), displayName=make_type_test(str)),
+        4: make_list_test(make_map_test(alg=make_type_test(int), type=make_type_test(str))),
         5: DESCRIPTORS,
-        6: is_a(dict),
+        6: make_type_test(dict),
         7: OPTIONS,
-        8: is_a(bytes),
+        8: make_type_test(bytes),
         9: is_count,
         10: is_count,
     },
-    0x02: {1: is_a(str), 2: is_a(bytes), 3: DESCRIPTORS, 4: is_a(dict), 5: OPTIONS, 6: is_a(bytes), 7: is_count},
+    0x02: {
+        1: make_type_test(str),
+        2: make_type_test(bytes),
+        3: DESCRIPTORS,
+        4: make_type_test(dict),
+        5: OPTIONS,
+        6: make_type_test(bytes),
+        7: is_count,
+    },
 }
 
 
-def missing(command: int, asked: dict[Any, Any]) -> Optional[str]:
-    """The first required parameter, or member in one, that isn't there."""
-    names = NAMES[command]
+def find_missing(command: int, asked: dict[Any, Any]) -> Optional[str]:
+    """Returns the first missing required parameter or member."""
+    names = PARAMETER_NAMES[command]
     for key in (1, 2, 3, 4) if command == 0x01 else (1, 2):
         if command == 0x01 and key in (2, 3) and (key not in asked or "id" not in asked[key]):
             return f"the required parameter {names[key]}, or the id in it, is missing"
@@ -74,8 +84,8 @@ def missing(command: int, asked: dict[Any, Any]) -> Optional[str]:
     return None
 
 
-def refused(command: int, asked: dict[Any, Any]) -> str:
-    """The first of the other checks that fails."""
+def find_refused(command: int, asked: dict[Any, Any]) -> str:
+    """Returns the first of the other checks that fails."""
     options = asked.get(7 if command == 0x01 else 5, {})
     hash_len = len(asked[1 if command == 0x01 else 2])
     if hash_len != 32:
@@ -95,20 +105,20 @@ def refused(command: int, asked: dict[Any, Any]) -> str:
     return "enterpriseAttestation is present, but the key has none"
 
 
-def fault_of(message: bytes) -> str:
-    """The end of the sentence for a message that fails a check of its command."""
+def find_fault(message: bytes) -> str:
+    """Returns the reason why a message fails a check of its command."""
     command, parameters = message[0], message[1:]
-    if command in ALONE:
+    if command in COMMANDS_WITHOUT_PARAMETERS:
         return f"this command takes no parameters; bytes after the command byte: {len(parameters)}"
-    if command not in NAMES:
+    if command not in PARAMETER_NAMES:
         return f"the authenticator command 0x{command:02x} is not supported"
     try:
         asked = ctap_cbor.decode(parameters)
-    except ctap_cbor.CborFault:
-        return ""  # the reader of the corpus says of other faults first: tests/rows has each kind with its place
+    except ctap_cbor.CborError:
+        return ""  # this decoder may find another error first; tests/unit has each kind with its offset
     typed = isinstance(asked, dict) and all(
         key not in asked or test(asked[key]) for key, test in TYPES[command].items()
     )
     if not typed:
         return "a parameter, or a member in one, has the wrong CBOR type"
-    return missing(command, asked) or refused(command, asked)
+    return find_missing(command, asked) or find_refused(command, asked)

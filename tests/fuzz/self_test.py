@@ -1,10 +1,9 @@
 #!/usr/bin/env python3
-"""Shows that each rule of judge.py can be broken: it doctors what the program wrote, and the judge has to find that.
+"""Checks that judge.py detects violations of each rule: changes the program's output, which judge.py must detect.
 
-    tests/fuzz/self_test.py [PROGRAM]         by default release/hidlog
+    tests/fuzz/self_test.py [PROGRAM]         default: release/hidlog
 
-It ends with 0 where the judge finds nothing in what the program wrote, and finds each doctored answer by the rule
-that it breaks.
+The exit status is 0 if nothing is found in the program's own output, and each change is found by its rule.
 """
 
 import os
@@ -13,19 +12,19 @@ import tempfile
 
 sys.dont_write_bytecode = True
 
-from fuzz import TOP, runner_of
-from hostile import BROADCAST, CBOR, GET, INIT, MAKE, PING, encode, packets_of
-from judge import RULES, Finding, judge, judge_saved
+from fuzz import TOP, make_runner
+from malformed_requests import BROADCAST, CBOR, GET, INIT, MAKE, PING, encode, fragment_message
+from judge import RULES, FindingError, check_saved, judge
 
 
-def good_log():
-    """A greeting, a stray packet, a registration and a sign-in."""
+def make_valid_log():
+    """Returns INIT, a stray packet, a registration and a sign-in."""
     asked = {1: bytes(32), 2: {"id": "a.example"}, 3: {"id": b"a"}, 7: {"rk": True}}
     asked[4] = [{"alg": -7, "type": "public-key"}]
-    events = packets_of(BROADCAST, INIT, bytes(8)) + packets_of(9, PING, b"stray")
-    events += packets_of(1, CBOR, bytes([MAKE]) + encode(asked)) + [("t",), ("p", "granted")]
+    events = fragment_message(BROADCAST, INIT, bytes(8)) + fragment_message(9, PING, b"stray")
+    events += fragment_message(1, CBOR, bytes([MAKE]) + encode(asked)) + [("t",), ("p", "granted")]
     events += [("k", f"{bytes(32).hex()} {bytes(32).hex()} {bytes(32).hex()}"), ("s", "00")]
-    events += packets_of(1, CBOR, bytes([GET]) + encode({1: "a.example", 2: bytes(32)}))
+    events += fragment_message(1, CBOR, bytes([GET]) + encode({1: "a.example", 2: bytes(32)}))
     events += [("p", "granted"), ("s", "01")]
     lines = [b"# A comment"]
     for number, (kind, *fields) in enumerate(events):
@@ -34,42 +33,42 @@ def good_log():
     return b"".join(line + b"\n" for line in lines)
 
 
-GOOD = good_log()
-BAD = GOOD + b"t 00\nt 1\n"
+VALID_LOG = make_valid_log()
+INVALID_LOG = VALID_LOG + b"t 00\nt 1\n"
 
 
-def output(change):
-    """Changes what was written to standard output."""
+def change_output(change):
+    """Returns a change of standard output."""
     return lambda ended: (ended[0], change(ended[1]), ended[2])
 
 
-def replaced(old, new):
-    """Puts a text in the place of another one, where it stands first."""
-    return output(lambda text: text.replace(old, new, 1))
+def replace_output(old, new):
+    """Returns a change that replaces the first occurrence of a text."""
+    return change_output(lambda text: text.replace(old, new, 1))
 
 
-def said(old, new):
-    """Puts a text in the place of another one on standard error."""
+def replace_error(old, new):
+    """Returns a change that replaces a text on standard error."""
     return lambda ended: (ended[0], ended[1], ended[2].replace(old, new))
 
 
-def status(number):
+def change_status(number):
     return lambda ended: (number, *ended[1:])
 
 
-def without_line(front):
-    """Leaves the first line out that begins so."""
+def remove_line(front):
+    """Returns a change that removes the first line with this beginning."""
 
     def change(text):
         lines = text.splitlines(keepends=True)
         lines.remove(next(line for line in lines if line.startswith(front)))
         return b"".join(lines)
 
-    return output(change)
+    return change_output(change)
 
 
-def counted(count):
-    """Puts a count into the last line."""
+def change_count(count):
+    """Returns a change of a count in the last line."""
     name, number = count.split(" ")
 
     def change(text):
@@ -78,100 +77,100 @@ def counted(count):
         words[place + 1] = number.encode() + (b"\n" if name == "steps" else b"")
         return b" ".join(words)
 
-    return output(change)
+    return change_output(change)
 
 
-def file(name):
-    """Adds a byte to a file of the folder in which snapshots are."""
+def change_file(name):
+    """Returns a change that appends a byte to a snapshot file."""
 
     def change(ended):
-        with open(os.path.join(FOLDER.name, name), "ab") as written:
+        with open(os.path.join(SNAPSHOT_FOLDER.name, name), "ab") as written:
             written.write(b"\0")
         return ended
 
     return change
 
 
-FOLDER = tempfile.TemporaryDirectory()
-# The rule, the log, which run of which command, and what is done to its answer.
+SNAPSHOT_FOLDER = tempfile.TemporaryDirectory()
+# The rule, the log, the command and the number of its run, and the change.
 CASES = [
-    ("status", GOOD, "replay", 1, status(2)),
-    ("status", GOOD, "replay", 1, status(-11)),
-    ("status", BAD, "replay", 1, status(0)),
-    ("status", GOOD, "check", 1, status(1)),
-    ("status", GOOD, "quiet", 1, status(1)),
-    ("status", BAD, "live", 1, status(2)),
-    ("status", BAD, "check", 1, status(0)),
-    ("fault", BAD, "replay", 1, said(b"line ", b"line 1")),
-    ("fault", BAD, "quiet", 1, said(b"not a log line", b"longer than 255 bytes")),
-    ("fault", BAD, "check", 1, said(b"differs at packet 1", b"differs at packet 0")),
-    ("fault", BAD, "show", 1, said(b"\n", b"")),
-    ("fault", GOOD, "replay", 1, lambda ended: (*ended[:2], b"a warning\n")),
-    ("lines before", BAD, "replay", 1, output(lambda text: text[:-1])),
-    ("lines before", BAD, "quiet", 1, output(lambda text: text + b"t 1\n")),
-    ("lines before", BAD, "live", 1, output(lambda text: b"")),
-    ("lines before", BAD, "show", 1, output(lambda text: text[1:])),
-    ("lines", GOOD, "replay", 1, without_line(b"t ")),
-    ("lines", GOOD, "replay", 1, without_line(b"#")),
-    ("lines", GOOD, "replay", 1, replaced(b"granted", b"denied")),
-    ("packets", GOOD, "replay", 1, replaced(b"\n< ", b"\n" + 131 * (b"< " + 128 * b"0" + b"\n") + b"< ")),
-    ("packets", GOOD, "replay", 1, output(lambda text: b"< " + 128 * b"0" + b"\n" + text)),
-    ("packets", GOOD, "replay", 1, replaced(b"\n< ", b"\n< 0")),
-    ("packets", GOOD, "replay", 1, replaced(b"\n= ", b"\n= \n= ")),
-    ("counts", GOOD, "replay", 1, without_line(b"=")),
-    ("counts", GOOD, "replay", 1, output(lambda text: text[:-1])),
-    ("counts", GOOD, "replay", 1, counted("held 7551")),
-    ("counts", GOOD, "replay", 1, counted("rows 65")),
-    ("counts", GOOD, "replay", 1, counted("pending 65")),
-    ("counts", GOOD, "replay", 1, counted("steps 10000")),
-    ("counts", GOOD, "replay", 1, counted("requests 1000")),
-    ("counts", GOOD, "replay", 1, counted("bytes 100000")),
-    ("check", GOOD, "check", 1, replaced(b"same 1", b"same 2")),
-    ("check", GOOD, "check", 1, replaced(b" packets", b"0 packets")),
-    ("difference", GOOD, "check", 2, lambda _: (0, b"same 13 inputs 13 packets\n", b"")),
-    ("difference", GOOD, "check", 2, said(b"packet ", b"packet 1")),
-    ("difference", GOOD, "check", 2, said(b"byte 63", b"byte 62")),
-    ("difference", GOOD, "check", 2, said(b"\n  byte", b"\nbyte")),
-    ("fault", GOOD, "check", 1, lambda ended: (*ended[:2], b"hidlog: note: a warning\n")),
-    ("replay", GOOD, "replay", 2, replaced(b"\n< ", b"\n< 1")),
-    ("replay", GOOD, "replay", 2, status(1)),
-    ("quiet lines", GOOD, "quiet", 1, without_line(b"#")),
-    ("quiet lines", GOOD, "quiet", 1, replaced(b"t 100", b"t 101")),
-    ("quiet lines", GOOD, "quiet", 1, replaced(b"granted", b"denied")),
-    ("quiet packets", GOOD, "replay", 3, without_line(b"< ")),
-    ("quiet packets", GOOD, "replay", 3, replaced(b"\nt 100\n", b"\nt 100\n< " + 128 * b"0" + b"\n")),
-    ("quiet packets", GOOD, "replay", 3, counted("held 0")),
-    ("quiet again", GOOD, "quiet", 2, without_line(b"t ")),
-    ("live lines", GOOD, "live", 1, without_line(b"< ")),
-    ("live lines", GOOD, "live", 1, without_line(b"=")),
-    ("live lines", GOOD, "live", 1, output(lambda text: text[:-1])),
-    ("needs", GOOD, "live", 1, without_line(b"# need nothing")),
-    ("needs", GOOD, "live", 1, without_line(b"# need signature")),
-    ("needs", GOOD, "live", 1, without_line(b"# signed")),
-    ("needs", GOOD, "live", 1, replaced(b"# need key\n", b"# need key\n# need key\n")),
-    ("needs", GOOD, "live", 1, replaced(b"# need presence", b"# need patience")),
-    ("needs", GOOD, "live", 1, replaced(b"# need signature 0", b"# need signature ")),
-    ("needs", GOOD, "live", 1, replaced(b"# A comment\n", b"# A comment\n# need nothing\n")),
-    ("live again", GOOD, "replay", 4, without_line(b"# need")),
-    ("live again", GOOD, "live", 2, without_line(b"# need")),
-    ("show", GOOD, "show", 1, without_line(b"2 > ")),
-    ("show", GOOD, "show", 1, replaced(b"\n3 > ", b"\n4 > ")),
-    ("show", GOOD, "show", 1, output(lambda text: text + b"99 t 0\n")),
-    ("saved", BAD, "replay", 7, file("first")),
-    ("saved", GOOD, "replay", 5, without_line(b"< ")),
-    ("saved", GOOD, "replay", 6, status(2)),
-    ("saved", GOOD, "replay", 6, counted("rows 2")),
-    ("saved", GOOD, "replay", 6, file("second")),
-    ("refused", GOOD, "replay", 7, said(b"refused: 1", b"refused: 4")),
-    ("refused", GOOD, "replay", 7, status(1)),
-    ("refused", GOOD, "replay", 7, output(lambda text: b"t 0\n")),
-    ("refused", GOOD, "replay", 8, said(b"cannot read", b"cannot write")),
-    ("refused", GOOD, "replay", 8, lambda ended: (0, b"t 0\n", b"")),
+    ("status", VALID_LOG, "replay", 1, change_status(2)),
+    ("status", VALID_LOG, "replay", 1, change_status(-11)),
+    ("status", INVALID_LOG, "replay", 1, change_status(0)),
+    ("status", VALID_LOG, "check", 1, change_status(1)),
+    ("status", VALID_LOG, "quiet", 1, change_status(1)),
+    ("status", INVALID_LOG, "live", 1, change_status(2)),
+    ("status", INVALID_LOG, "check", 1, change_status(0)),
+    ("fault", INVALID_LOG, "replay", 1, replace_error(b"line ", b"line 1")),
+    ("fault", INVALID_LOG, "quiet", 1, replace_error(b"not a log line", b"longer than 255 bytes")),
+    ("fault", INVALID_LOG, "check", 1, replace_error(b"differs at packet 1", b"differs at packet 0")),
+    ("fault", INVALID_LOG, "show", 1, replace_error(b"\n", b"")),
+    ("fault", VALID_LOG, "replay", 1, lambda ended: (*ended[:2], b"a warning\n")),
+    ("lines before", INVALID_LOG, "replay", 1, change_output(lambda text: text[:-1])),
+    ("lines before", INVALID_LOG, "quiet", 1, change_output(lambda text: text + b"t 1\n")),
+    ("lines before", INVALID_LOG, "live", 1, change_output(lambda text: b"")),
+    ("lines before", INVALID_LOG, "show", 1, change_output(lambda text: text[1:])),
+    ("lines", VALID_LOG, "replay", 1, remove_line(b"t ")),
+    ("lines", VALID_LOG, "replay", 1, remove_line(b"#")),
+    ("lines", VALID_LOG, "replay", 1, replace_output(b"granted", b"denied")),
+    ("packets", VALID_LOG, "replay", 1, replace_output(b"\n< ", b"\n" + 131 * (b"< " + 128 * b"0" + b"\n") + b"< ")),
+    ("packets", VALID_LOG, "replay", 1, change_output(lambda text: b"< " + 128 * b"0" + b"\n" + text)),
+    ("packets", VALID_LOG, "replay", 1, replace_output(b"\n< ", b"\n< 0")),
+    ("packets", VALID_LOG, "replay", 1, replace_output(b"\n= ", b"\n= \n= ")),
+    ("counts", VALID_LOG, "replay", 1, remove_line(b"=")),
+    ("counts", VALID_LOG, "replay", 1, change_output(lambda text: text[:-1])),
+    ("counts", VALID_LOG, "replay", 1, change_count("held 7551")),
+    ("counts", VALID_LOG, "replay", 1, change_count("rows 65")),
+    ("counts", VALID_LOG, "replay", 1, change_count("pending 65")),
+    ("counts", VALID_LOG, "replay", 1, change_count("steps 10000")),
+    ("counts", VALID_LOG, "replay", 1, change_count("requests 1000")),
+    ("counts", VALID_LOG, "replay", 1, change_count("bytes 100000")),
+    ("check", VALID_LOG, "check", 1, replace_output(b"same 1", b"same 2")),
+    ("check", VALID_LOG, "check", 1, replace_output(b" packets", b"0 packets")),
+    ("difference", VALID_LOG, "check", 2, lambda _: (0, b"same 13 inputs 13 packets\n", b"")),
+    ("difference", VALID_LOG, "check", 2, replace_error(b"packet ", b"packet 1")),
+    ("difference", VALID_LOG, "check", 2, replace_error(b"byte 63", b"byte 62")),
+    ("difference", VALID_LOG, "check", 2, replace_error(b"\n  byte", b"\nbyte")),
+    ("fault", VALID_LOG, "check", 1, lambda ended: (*ended[:2], b"hidlog: note: a warning\n")),
+    ("replay", VALID_LOG, "replay", 2, replace_output(b"\n< ", b"\n< 1")),
+    ("replay", VALID_LOG, "replay", 2, change_status(1)),
+    ("quiet lines", VALID_LOG, "quiet", 1, remove_line(b"#")),
+    ("quiet lines", VALID_LOG, "quiet", 1, replace_output(b"t 100", b"t 101")),
+    ("quiet lines", VALID_LOG, "quiet", 1, replace_output(b"granted", b"denied")),
+    ("quiet packets", VALID_LOG, "replay", 3, remove_line(b"< ")),
+    ("quiet packets", VALID_LOG, "replay", 3, replace_output(b"\nt 100\n", b"\nt 100\n< " + 128 * b"0" + b"\n")),
+    ("quiet packets", VALID_LOG, "replay", 3, change_count("held 0")),
+    ("quiet again", VALID_LOG, "quiet", 2, remove_line(b"t ")),
+    ("live lines", VALID_LOG, "live", 1, remove_line(b"< ")),
+    ("live lines", VALID_LOG, "live", 1, remove_line(b"=")),
+    ("live lines", VALID_LOG, "live", 1, change_output(lambda text: text[:-1])),
+    ("needs", VALID_LOG, "live", 1, remove_line(b"# need nothing")),
+    ("needs", VALID_LOG, "live", 1, remove_line(b"# need signature")),
+    ("needs", VALID_LOG, "live", 1, remove_line(b"# signed")),
+    ("needs", VALID_LOG, "live", 1, replace_output(b"# need key\n", b"# need key\n# need key\n")),
+    ("needs", VALID_LOG, "live", 1, replace_output(b"# need presence", b"# need patience")),
+    ("needs", VALID_LOG, "live", 1, replace_output(b"# need signature 0", b"# need signature ")),
+    ("needs", VALID_LOG, "live", 1, replace_output(b"# A comment\n", b"# A comment\n# need nothing\n")),
+    ("live again", VALID_LOG, "replay", 4, remove_line(b"# need")),
+    ("live again", VALID_LOG, "live", 2, remove_line(b"# need")),
+    ("show", VALID_LOG, "show", 1, remove_line(b"2 > ")),
+    ("show", VALID_LOG, "show", 1, replace_output(b"\n3 > ", b"\n4 > ")),
+    ("show", VALID_LOG, "show", 1, change_output(lambda text: text + b"99 t 0\n")),
+    ("saved", INVALID_LOG, "replay", 7, change_file("first")),
+    ("saved", VALID_LOG, "replay", 5, remove_line(b"< ")),
+    ("saved", VALID_LOG, "replay", 6, change_status(2)),
+    ("saved", VALID_LOG, "replay", 6, change_count("rows 2")),
+    ("saved", VALID_LOG, "replay", 6, change_file("second")),
+    ("refused", VALID_LOG, "replay", 7, replace_error(b"refused: 1", b"refused: 4")),
+    ("refused", VALID_LOG, "replay", 7, change_status(1)),
+    ("refused", VALID_LOG, "replay", 7, change_output(lambda text: b"t 0\n")),
+    ("refused", VALID_LOG, "replay", 8, replace_error(b"cannot read", b"cannot write")),
+    ("refused", VALID_LOG, "replay", 8, lambda ended: (0, b"t 0\n", b"")),
 ]
 
 
-def doctored(run, command, which, change):
-    """Runs as `run` does, but changes the answer of this run of this command."""
+def make_altering_runner(run, command, which, change):
+    """Runs like `run`, but changes the output of this run of this command."""
     seen = 0
 
     def run_doctored(asked, log, *options):
@@ -183,27 +182,31 @@ def doctored(run, command, which, change):
     return run_doctored
 
 
-def found(log, run):
-    """The rule that the judge finds broken, or None. The damaged snapshot lacks its last byte."""
-    for name in os.listdir(FOLDER.name):
-        os.remove(os.path.join(FOLDER.name, name))
+def find_violation(log, run):
+    """Returns the violated rule, or None. The damaged snapshot lacks its last byte."""
+    for name in os.listdir(SNAPSHOT_FOLDER.name):
+        os.remove(os.path.join(SNAPSHOT_FOLDER.name, name))
     try:
         written, faulty = judge(log, run)
-        judge_saved(log, written, faulty, run, FOLDER.name, lambda snapshot: snapshot[:-1])
-    except Finding as finding:
+        check_saved(log, written, faulty, run, SNAPSHOT_FOLDER.name, lambda snapshot: snapshot[:-1])
+    except FindingError as finding:
         return finding.rule
     return None
 
 
 def main():
-    run = runner_of(sys.argv[1] if len(sys.argv) > 1 else os.path.join(TOP, "release/hidlog"))
-    wrong = [f"a log as it is breaks {found(log, run)}" for log in (GOOD, BAD) if found(log, run)]
+    run = make_runner(sys.argv[1] if len(sys.argv) > 1 else os.path.join(TOP, "release/hidlog"))
+    wrong = [
+        f"an unchanged log violates {find_violation(log, run)}"
+        for log in (VALID_LOG, INVALID_LOG)
+        if find_violation(log, run)
+    ]
     for number, (rule, log, command, which, change) in enumerate(CASES):
-        broken = found(log, doctored(run, command, which, change))
+        broken = find_violation(log, make_altering_runner(run, command, which, change))
         if broken != rule:
             wrong.append(f"case {number}: {rule}, {command} {which}: found {broken}")
-    wrong += [f"no case breaks {rule}" for rule in RULES if rule not in {case[0] for case in CASES}]
-    print("\n".join([*wrong, f"{len(CASES)} doctored answers, {len(RULES)} rules, {len(wrong)} wrong"]))
+    wrong += [f"no case violates {rule}" for rule in RULES if rule not in {case[0] for case in CASES}]
+    print("\n".join([*wrong, f"{len(CASES)} changed outputs, {len(RULES)} rules, {len(wrong)} wrong"]))
     return 1 if wrong else 0
 
 

@@ -1,5 +1,5 @@
-// A libFuzzer target over the state files of the bridges (examples/ssh/state.c): what is refused is refused with a
-// reason, and what is taken is written again as the same key. tests/fuzz/guided.sh builds it.
+// A libFuzzer target for the state files of the bridges (examples/ssh/state.c): a refused file has a reason, and an accepted
+// one is written again as the same key. tests/fuzz/guided.sh builds it.
 #include "state.h"
 
 #include <openssl/crypto.h>
@@ -13,10 +13,10 @@ static void close_state(void) {
     OPENSSL_cleanse(&state, sizeof state);
 }
 
-// What was taken can be used: each credential has its pair and its text.
-static void look(void) {
+// Each credential of an accepted file has its key pair and text.
+static void check_credentials(void) {
     struct hidlog_credential credential;
-    for (size_t place = 0; hidlog_key_credential(&state.held.key, place, &credential) == 0; place++) {
+    for (size_t place = 0; hidlog_key_get_credential(&state.held.key, place, &credential) == 0; place++) {
         const char *application = state_application(&state, credential.id);
         if (application == NULL || strlen(application) >= APPLICATION ||
             software_keys_find(&state.held.keys, credential.id) == NULL) {
@@ -26,12 +26,12 @@ static void look(void) {
 }
 
 int LLVMFuzzerTestOneInput(const uint8_t *data, size_t size) {
-    static uint8_t first[STATE_MOST], second[STATE_MOST];
-    if (size > STATE_MOST || state_read(&state, data, size) != NULL) {
+    static uint8_t first[STATE_MAX_BYTES], second[STATE_MAX_BYTES];
+    if (size > STATE_MAX_BYTES || state_read(&state, data, size) != NULL) {
         OPENSSL_cleanse(&state, sizeof state);
         return 0;
     }
-    look();
+    check_credentials();
     size_t len = state_write(&state, first);
     close_state();
     if (state_read(&state, first, len) != NULL || state_write(&state, second) != len ||

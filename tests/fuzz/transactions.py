@@ -1,12 +1,12 @@
 #!/usr/bin/env python3
-"""Plays hostile logs of up to four hosts, and judges what `show` says of their transactions.
+"""Runs malformed logs of up to four hosts, and checks the transactions in the output of `show`.
 
     tests/fuzz/transactions.py [--seed N] [--count N] [--program FILE] [--only NUMBER]
 
-What each packet belongs to comes from a machine of the transport's rules (CTAP 2.1, section 11.2): it steps the inputs, and
-says as it goes for which message the key sends each packet. It knows nothing of the program's own walk over a log, and
-stops where the log has a packet that the rules don't have. Which reply the key needs, `live` says. `show --json`,
-`--summary` and `--explain` have to say the same.
+The transaction of each packet comes from a model of the transport (CTAP 2.1, section 11.2), which processes the inputs
+and tells for which message the key sends each packet. It is independent of the program's tracking of transactions, and
+stops at a packet that the model does not expect. The needed replies come from `live`. `show --json`, `--summary` and
+`--explain` must agree.
 """
 
 from __future__ import annotations
@@ -24,25 +24,25 @@ sys.dont_write_bytecode = True
 TOP = os.path.realpath(os.path.join(os.path.dirname(os.path.abspath(__file__)), "..", ".."))
 sys.path.insert(0, os.path.join(TOP, "conformance"))
 
-from framing import BROADCAST, KEEPALIVE_MS, LONGEST, first_data, next_data
+from framing import BROADCAST, KEEPALIVE_MS, MAX_MESSAGE_BYTES, continuation_data, first_data
 from hidlog_conformance import ctap_cbor
-from hostile import MAKE, RESET, Maker, encode
-from judging import judge_all
+from malformed_requests import MAKE, RESET, LogGenerator, encode
+from oracle_runner import check_logs
 
 PING, INIT, CBOR, CANCEL, KEEPALIVE, ERROR = 0x01, 0x06, 0x10, 0x11, 0x3B, 0x3F
-EXCLUDED = 0x19
+STATUS_CREDENTIAL_EXCLUDED = 0x19
 INPUTS = (b">", b"t", b"p", b"k", b"s")
 REPLIES = {b"presence": b"p", b"key": b"k", b"signature": b"s"}
-FIRST_MEMBERS = {0x01: "fmt", 0x02: "credential", 0x04: "versions", 0x08: "credential"}
+FIRST_RESPONSE_MEMBERS = {0x01: "fmt", 0x02: "credential", 0x04: "versions", 0x08: "credential"}
 
 
-class Finding(Exception):
-    """What the program says and the machine doesn't."""
+class FindingError(Exception):
+    """A difference between the program and the model."""
 
 
 @dataclasses.dataclass
 class Transaction:
-    """A message of a host, and what came of it."""
+    """A message of a host, and its end."""
 
     line: int
     channel: int
@@ -56,7 +56,7 @@ class Transaction:
 
     @property
     def is_whole(self) -> bool:
-        return self.length <= LONGEST and len(self.data) >= self.length
+        return self.length <= MAX_MESSAGE_BYTES and len(self.data) >= self.length
 
     @property
     def request(self) -> Optional[int]:
@@ -64,8 +64,8 @@ class Transaction:
 
 
 @dataclasses.dataclass
-class Made:
-    """A credential that the key holds, and the line at which the answer ends that made it."""
+class CreatedCredential:
+    """A credential of the key, and the last line of the response that made it."""
 
     relying_party: str
     user: bytes
@@ -73,14 +73,14 @@ class Made:
     name: bytes
     line: int
 
-    def replaces(self, other: "Made") -> bool:
-        """Whether it takes the place of another one: that of the same account, where both are discoverable."""
+    def replaces(self, other: "CreatedCredential") -> bool:
+        """Returns whether it replaces another one: that of the same account, if both are discoverable."""
         same = (self.relying_party, self.user) == (other.relying_party, other.user)
         return same and self.is_discoverable and other.is_discoverable
 
 
-def needs_in(live: list[bytes]) -> list[bytes]:
-    """The letter of the reply that the key needs before each input, as `live` says; none where it needs nothing."""
+def read_needs(live: list[bytes]) -> list[bytes]:
+    """Returns the letter of the reply that the key needs before each input, by `live`; empty for none."""
     needs = [b""]
     for line in live:
         if line[:1] in INPUTS:
@@ -90,24 +90,25 @@ def needs_in(live: list[bytes]) -> list[bytes]:
     return needs
 
 
-def signs_in(asked: Transaction) -> bool:
-    """Whether a user signs in by a request: not by authenticatorGetAssertion with `up: false` (CTAP 2.1, section 6.2)."""
+def is_sign_in(asked: Transaction) -> bool:
+    """Returns whether a request is a sign-in: not authenticatorGetAssertion with `up: false` (CTAP 2.1, section
+    6.2)."""
     if asked.request != 0x02:
         return asked.request == 0x08
     return ctap_cbor.decode(asked.data[1 : asked.length]).get(5, {}).get("up", True) is True
 
 
 class Machine:
-    """The transport, stepped by the lines of a log that the key wrote itself."""
+    """A model of the transport, for logs that the key wrote."""
 
     def __init__(
         self, lines: list[bytes], needs: list[bytes], numbers: Optional[list[int]] = None, until: Optional[int] = None
     ) -> None:
-        """Steps the inputs of lines, which have these numbers, or those from 1 on; up to that of a number. Before each input
-        the key needs a reply."""
+        """Processes the inputs of lines with these numbers (default: from 1), up to a number, and the replies needed
+        before each."""
         self.owners: dict[int, Optional[int]] = {}
         self.transactions: dict[int, Transaction] = {}
-        self.given = 0
+        self.allocated = 0
         self.now = 0
         self.open: Optional[Transaction] = None
         self.work: Optional[Transaction] = None
@@ -115,15 +116,15 @@ class Machine:
         self.sent: collections.deque[tuple[int, bytes]] = collections.deque()
         self.strays: collections.Counter[str] = collections.Counter()
         self.is_stray = False
-        # Why the key sends an ERROR with this code at the input that was stepped last.
+        # Why the key sends an ERROR with this code at the last input.
         self.reasons: dict[int, str] = {}
-        # When the KEEPALIVE before the input was sent, if any.
+        # The time of the last KEEPALIVE before the input, if any.
         self.alive_before: Optional[int] = None
         self.is_kept_alive = False
         self.answers: dict[int, Optional[Transaction]] = {}
         self.message: tuple[int, bytes] = (0, b"")
         self.told: dict[int, int] = {}
-        self.held: list[Made] = []
+        self.held: list[CreatedCredential] = []
         self.excluded: dict[int, tuple[int, int]] = {}
         inputs = []
         for number, line in zip(numbers or range(1, len(lines) + 1), lines):
@@ -143,31 +144,31 @@ class Machine:
         self.is_stray = False
         self.reasons = {}
         self.alive_before = self.alive if self.is_kept_alive else None
-        self.pass_time()
+        self.advance_time()
         if words[0] == b">":
-            self.serve(number, bytes.fromhex(words[2].decode()))
+            self.handle_packet(number, bytes.fromhex(words[2].decode()))
         elif words[0] != b"t":
             if self.work and words[0] == need:
                 self.owners[number] = self.work.line
             else:
                 self.strays["replies"] += 1
-            self.go_on()
+            self.handle_key_packet()
         if self.sent:
-            raise Finding(f"line {self.sent[0][0]}: the rules have no such packet")
+            raise FindingError(f"line {self.sent[0][0]}: unexpected packet")
 
     # ---- packets of the key
 
     def expect(self, owner: Optional[Transaction], channel: int, command: int, code: Optional[int] = None) -> bytes:
-        """Takes the next packet that was sent, which begins a message, and its continuation packets."""
+        """Processes the next message of the key."""
         if not self.sent:
-            raise Finding(f"{command:02x} {code} on {channel:08x} is missing")
+            raise FindingError(f"{command:02x} {code} on {channel:08x} is missing")
         number, packet = self.sent.popleft()
         if packet[:5] != channel.to_bytes(4, "big") + bytes([0x80 | command]) or code not in (None, packet[7]):
-            raise Finding(f"line {number}: {command:02x} {code} on {channel:08x} was due")
+            raise FindingError(f"line {number}: {command:02x} {code} on {channel:08x} was expected")
         self.owners[number] = owner.line if owner else None
         length = int.from_bytes(packet[5:7], "big")
         self.answers[number] = owner
-        # The line at which its last answer on a channel begins.
+        # The first line of the last response, by channel.
         self.told.pop(channel, None)
         if command not in (KEEPALIVE, ERROR):
             self.told[channel] = number
@@ -189,20 +190,20 @@ class Machine:
         packet = self.expect(owner, owner.channel, owner.command)
         owner.end = ("status", packet[7]) if owner.command == CBOR else ("answer",)
         if owner.request == MAKE:
-            self.make(owner, *self.message)
+            self.record_credential(owner, *self.message)
         elif owner.request == RESET and packet[7] == 0:
             self.held = []
 
     # ---- credentials
 
-    def make(self, owner: Transaction, line: int, message: bytes) -> None:
-        """Keeps the credential that an answer made, or notes which one a refusal excludes."""
-        if message[0] not in (0, EXCLUDED):
+    def record_credential(self, owner: Transaction, line: int, message: bytes) -> None:
+        """Records the credential that a response made, or the excluded one."""
+        if message[0] not in (0, STATUS_CREDENTIAL_EXCLUDED):
             return
         asked = ctap_cbor.decode(owner.data[1:])
         site = asked[2]["id"]
-        if message[0] == EXCLUDED:
-            # An entry of another type names no credential.
+        if message[0] == STATUS_CREDENTIAL_EXCLUDED:
+            # An entry with an unknown type matches no credential.
             names = [descriptor["id"] if descriptor["type"] == "public-key" else None for descriptor in asked[5]]
             held = [
                 credential for credential in self.held if credential.relying_party == site and credential.name in names
@@ -211,7 +212,7 @@ class Machine:
                 self.excluded[line] = names.index(held[-1].name), held[-1].line
             return
         data = ctap_cbor.decode(message[1:])[2]
-        made = Made(
+        made = CreatedCredential(
             relying_party=site,
             user=asked[3]["id"],
             is_discoverable=asked.get(7, {}).get("rk", False),
@@ -220,8 +221,8 @@ class Machine:
         )
         self.held = [credential for credential in self.held if not made.replaces(credential)] + [made]
 
-    def go_on(self) -> None:
-        """Takes what the key sends for work: a new status, or its answer."""
+    def handle_key_packet(self) -> None:
+        """Processes the key's packets for a request: a new status, or the response."""
         if self.work and self.sent:
             if self.sent[0][1][4] == 0x80 | KEEPALIVE:
                 self.keep_alive()
@@ -236,9 +237,9 @@ class Machine:
         self.alive = self.now
         self.is_kept_alive = True
 
-    def pass_time(self) -> None:
+    def advance_time(self) -> None:
         if self.open and self.now - self.open.last >= 500:
-            times = f"its last packet came at {self.open.last}, 500 ms or more before {self.now}"
+            times = f"its last packet came at {self.open.last} ms, 500 ms or more before {self.now} ms"
             self.refuse(self.open, 0x05, f"the message timed out: {times}")
             self.open = None
         elif self.work and self.now - self.alive >= KEEPALIVE_MS:
@@ -246,10 +247,10 @@ class Machine:
 
     # ---- packets of hosts
 
-    def serve(self, number: int, packet: bytes) -> None:
+    def handle_packet(self, number: int, packet: bytes) -> None:
         channel = int.from_bytes(packet[:4], "big")
         if packet[4] < 0x80:
-            self.take_more(number, channel, packet)
+            self.handle_continuation(number, channel, packet)
         elif packet[4] == 0x80 | CANCEL:
             self.cancel(number, channel)
         else:
@@ -267,7 +268,7 @@ class Machine:
         else:
             self.strays["CANCELs"] += 1
 
-    def take_more(self, number: int, channel: int, packet: bytes) -> None:
+    def handle_continuation(self, number: int, channel: int, packet: bytes) -> None:
         message = self.open
         if message is None or message.channel != channel:
             self.strays["continuations"] += 1
@@ -275,41 +276,41 @@ class Machine:
             return
         self.owners[number] = message.line
         if packet[4] != message.next:
-            self.refuse(message, 0x04, f"expected continuation packet +{message.next}, got +{packet[4]}")
+            self.refuse(message, 0x04, f"expected sequence number {message.next}, got {packet[4]}")
             self.open = None
             return
         message.next += 1
         message.last = self.now
-        message.data += next_data(packet, message.length - len(message.data))
+        message.data += continuation_data(packet, message.length - len(message.data))
         if message.is_whole:
             self.open = None
             self.finish(message)
 
     def begin(self, begun: Transaction) -> None:
-        """The reply table, row by row."""
+        """Applies the rules about ERRORs in order."""
         channel, opened, work = begun.channel, self.open, self.work
         is_init = begun.command == INIT
-        is_given = 1 <= channel <= self.given
-        if not is_given and not (channel == BROADCAST and is_init):
-            allocated = f"only channels 1 to {self.given} have been allocated"
-            self.refuse(begun, 0x0B, allocated if self.given else "no channel has been allocated yet")
+        is_allocated = 1 <= channel <= self.allocated
+        if not is_allocated and not (channel == BROADCAST and is_init):
+            allocated = f"only channels 1 to {self.allocated} have been allocated"
+            self.refuse(begun, 0x0B, allocated if self.allocated else "no channel has been allocated yet")
         elif is_init and begun.length != 8:
             self.refuse(begun, 0x03, f"INIT must have 8 data bytes, not {begun.length}")
             if opened and opened.channel == channel:
                 opened.end = ("dropped", begun.line)
                 self.open = None
         elif is_init:
-            self.greet(begun)
+            self.respond_to_init(begun)
         elif any(transaction and transaction.channel != channel for transaction in (opened, work)) or work:
             self.refuse(begun, 0x06, "a request is waiting on this channel")
         elif opened:
             began = "a new message began before the open one on its channel was complete"
-            self.refuse(begun, 0x04, f"{began}: expected packet +{opened.next}")
+            self.refuse(begun, 0x04, f"{began}: expected continuation packet {opened.next}")
             opened.end = ("replaced", begun.line)
             self.open = None
         elif begun.command not in (PING, CBOR):
             self.refuse(begun, 0x01, f"CTAPHID command 0x{begun.command:02x} is not supported")
-        elif begun.length > LONGEST or begun.command == CBOR and not begun.length:
+        elif begun.length > MAX_MESSAGE_BYTES or begun.command == CBOR and not begun.length:
             sizes = f"{begun.length} bytes: CBOR has 1 to 7609, PING 0 to 7609"
             self.refuse(begun, 0x03, f"a message of command 0x{begun.command:02x} cannot have {sizes}")
         elif begun.is_whole:
@@ -317,10 +318,10 @@ class Machine:
         else:
             self.open = begun
 
-    def greet(self, begun: Transaction) -> None:
+    def respond_to_init(self, begun: Transaction) -> None:
         self.answer(begun)
         if begun.channel == BROADCAST:
-            self.given += 1
+            self.allocated += 1
             return
         for transaction in (self.open, self.work):
             if transaction and transaction.channel == begun.channel:
@@ -337,128 +338,130 @@ class Machine:
         else:
             self.answer(message)
 
-    # ---- what it comes to
+    # ---- totals
 
     def counts(self) -> dict[str, int]:
         ends = [(transaction.request, transaction.end) for transaction in self.transactions.values()]
         return {
-            "credentials made": sum(end == ("status", 0) and request == 0x01 for request, end in ends),
-            "credentials used": sum(
-                signs_in(asked) for asked in self.transactions.values() if asked.end == ("status", 0)
-            ),
-            "credentials excluded": sum(end == ("status", 0x19) for _, end in ends),
+            "registrations": sum(end == ("status", 0) and request == 0x01 for request, end in ends),
+            "assertions": sum(is_sign_in(asked) for asked in self.transactions.values() if asked.end == ("status", 0)),
+            "registrations excluded": sum(end == ("status", 0x19) for _, end in ends),
             "requests refused": sum(end[0] == "status" and end[1] != 0 for _, end in ends),
-            "messages refused by ERROR": sum(end[0] == "error" for _, end in ends),
-            "continuation packets of no open message": self.strays["continuations"],
-            "CANCELs for which nothing waited": self.strays["CANCELs"],
-            "replies for which nothing waited": self.strays["replies"],
+            "transport errors": sum(end[0] == "error" for _, end in ends),
+            "unexpected continuation packets": self.strays["continuations"],
+            "unexpected CANCELs": self.strays["CANCELs"],
+            "unexpected replies": self.strays["replies"],
         }
 
 
-class Hosts(Maker):
-    """Logs of up to four hosts, each line of which is one of a log."""
+class HostGenerator(LogGenerator):
+    """Logs of up to four hosts, with only valid lines."""
 
     def __init__(self, seed: str) -> None:
         super().__init__(seed)
-        self.hosts = self.one_of(1, 2, 3, 4)
+        self.hosts = self.choose(1, 2, 3, 4)
 
-    def flow(self) -> list[tuple]:
-        return self.registrations(self.channel()) if self.often(0.2) else super().flow()
+    def host_events(self) -> list[tuple]:
+        return self.registrations(self.channel()) if self.happens(0.2) else super().host_events()
 
     def registrations(self, channel: int) -> list[tuple]:
-        """Registrations of two users at one site, and then some with a list of what was made before, and of what wasn't."""
-        site = self.one_of(*self.sites)
+        """Returns registrations of two users at one RP, and then some with lists of known and unknown credentials."""
+        site = self.choose(*self.sites)
         events: list[tuple] = []
-        makes = self.one_of(1, 2, 3, 4)
-        for number in range(makes + self.one_of(1, 2)):
+        makes = self.choose(1, 2, 3, 4)
+        for number in range(makes + self.choose(1, 2)):
             user = bytes([self.chance.randrange(2)])
-            asked = {1: self.some_bytes(32), 2: {"id": site}, 3: {"id": user}, 7: {"rk": self.often(0.7)}}
+            asked = {1: self.random_bytes(32), 2: {"id": site}, 3: {"id": user}, 7: {"rk": self.happens(0.7)}}
             asked[4] = [{"alg": -7, "type": "public-key"}]
             if number >= makes:
-                asked[5] = [{"type": "public-key", "id": self.credential(site)} for _ in range(self.one_of(1, 2, 3))]
+                asked[5] = [{"type": "public-key", "id": self.credential(site)} for _ in range(self.choose(1, 2, 3))]
             replies = self.presence(), self.key(site), self.signature()
             events += self.request(channel, bytes([MAKE]) + encode(asked), *replies)
         return events
 
-    def log(self) -> bytes:
-        return b"".join(line + b"\n" for line in self.lines())
+    def make_log(self) -> bytes:
+        return b"".join(line + b"\n" for line in self.iter_lines())
 
 
-def said(objects: list[dict], machine: Machine) -> None:
-    """Compares the objects of `show --json` with the machine."""
+def check_objects(objects: list[dict], machine: Machine) -> None:
+    """Compares the objects of `show --json` with the model."""
     ended: dict[int, dict] = {}
     for row in objects:
         kind, line = row["kind"], row.get("line")
         if kind in ("packet", "presence", "key", "signature") and row.get("transaction") != machine.owners[line]:
-            raise Finding(f"line {line} is of {machine.owners[line]}, not of {row.get('transaction')}")
+            raise FindingError(f"line {line} belongs to {machine.owners[line]}, not to {row.get('transaction')}")
         if kind == "answer":
             owner = machine.answers[line]
             if row.get("transaction") != (owner.line if owner else None):
-                raise Finding(f"the answer of line {line} is of another transaction")
+                raise FindingError(f"the response of line {line} belongs to another transaction")
             if row.get("command") != (owner.request if owner else None):
-                raise Finding(f"the answer of line {line} is to {owner and owner.request}, not to {row.get('command')}")
+                raise FindingError(
+                    f"the response of line {line} is to {owner and owner.request}, not to {row.get('command')}"
+                )
         if kind == "transaction":
             if row["transaction"] in ended:
-                raise Finding(f"the transaction of line {row['transaction']} ends twice")
+                raise FindingError(f"the transaction of line {row['transaction']} ends twice")
             ended[row["transaction"]] = row
     for line, wanted in machine.transactions.items():
         row = ended.pop(line, None)
         if row is None:
-            raise Finding(f"the transaction of line {line} is missing")
+            raise FindingError(f"the transaction of line {line} is missing")
         detail = {"status": "status", "error": "code", "dropped": "by", "replaced": "by"}.get(row["end"])
         end = (row["end"], row[detail]) if detail else (row["end"],)
         if end != wanted.end:
-            raise Finding(f"the transaction of line {line} ended by {wanted.end}, not by {end}")
+            raise FindingError(f"the transaction of line {line} ended by {wanted.end}, not by {end}")
         if row["keepalives"] != wanted.keepalives:
-            raise Finding(f"the transaction of line {line} had {wanted.keepalives} KEEPALIVEs, not {row['keepalives']}")
+            raise FindingError(
+                f"the transaction of line {line} had {wanted.keepalives} KEEPALIVEs, not {row['keepalives']}"
+            )
         if ("came" in row) == wanted.is_whole:
-            raise Finding(f"the message of line {line} is {'' if wanted.is_whole else 'not '}whole")
+            raise FindingError(f"the message of line {line} is {'' if wanted.is_whole else 'not '}whole")
     if ended:
-        raise Finding(f"there is no transaction of line {min(ended)}")
+        raise FindingError(f"no transaction begins at line {min(ended)}")
 
 
-def explained(text: str, machine: Machine) -> None:
-    """Looks at the names of members, at what is said of RP ids, and at which credentials are excluded."""
+def check_names(text: str, machine: Machine) -> None:
+    """Checks the names of members, RP IDs, and excluded credentials."""
     if "  not that of " in text:
-        raise Finding("an RP id's hash is said to be another one's")
+        raise FindingError("a wrong message about an RP ID hash")
     for found in re.finditer(r"^(\d+)   answer 00 \{.*\n\1     1 (\S+?):", text, re.MULTILINE):
         owner = machine.answers[int(found[1])]
-        wanted = FIRST_MEMBERS.get(owner.request) if owner and owner.request is not None else None
+        wanted = FIRST_RESPONSE_MEMBERS.get(owner.request) if owner and owner.request is not None else None
         if found[2] != wanted:
-            raise Finding(f"line {found[1]}: the first member is {wanted}, not {found[2]}")
+            raise FindingError(f"line {found[1]}: the first member is {wanted}, not {found[2]}")
     pattern = r"^(\d+)   excludeList\[(\d+)\] is the credential of line (\d+)$"
     named = {int(match[1]): (int(match[2]), int(match[3])) for match in re.finditer(pattern, text, re.MULTILINE)}
     for line in sorted(named.keys() | machine.excluded.keys()):
         if named.get(line) != machine.excluded.get(line):
-            raise Finding(f"line {line} excludes {machine.excluded.get(line)}, not {named.get(line)}")
+            raise FindingError(f"line {line} excludes {machine.excluded.get(line)}, not {named.get(line)}")
 
 
-def summed(text: str, machine: Machine) -> None:
+def check_summary(text: str, machine: Machine) -> None:
     for title, count in machine.counts().items():
         if f"\n{title}: {count}\n" not in f"\n{text}":
-            raise Finding(f"{title}: {count}, says the machine")
+            raise FindingError(f"{title}: the model has {count}")
 
 
-def judge(task: tuple[str, str, int]) -> tuple[int, Optional[str], int]:
-    """Plays the log of a number. What was found, and how many transactions it has."""
+def check_log(task: tuple[str, str, int]) -> tuple[int, Optional[str], int]:
+    """Runs the log with a number; returns a finding, and the number of transactions."""
     program, seed, number = task
 
     def run(log: bytes, *words: str) -> bytes:
         return subprocess.run([program, *words], input=log, capture_output=True, check=True, timeout=600).stdout
 
-    log = run(Hosts(f"{seed}/{number}").log(), "replay")
+    log = run(HostGenerator(f"{seed}/{number}").make_log(), "replay")
     try:
-        machine = Machine(log.splitlines(), needs_in(run(log, "live").splitlines()))
-        said([json.loads(line) for line in run(log, "show", "--json").splitlines()], machine)
-        explained(run(log, "show", "--explain").decode(), machine)
-        summed(run(log, "show", "--summary").decode(), machine)
-    except Finding as finding:
+        machine = Machine(log.splitlines(), read_needs(run(log, "live").splitlines()))
+        check_objects([json.loads(line) for line in run(log, "show", "--json").splitlines()], machine)
+        check_names(run(log, "show", "--explain").decode(), machine)
+        check_summary(run(log, "show", "--summary").decode(), machine)
+    except FindingError as finding:
         return number, str(finding), 0
     return number, None, len(machine.transactions)
 
 
 def main() -> int:
-    return judge_all(__doc__ or "", judge, "{} logs, {} transactions, {} logs of which something wrong is said")
+    return check_logs(__doc__ or "", check_log, "{} logs, {} transactions, {} logs with errors")
 
 
 if __name__ == "__main__":

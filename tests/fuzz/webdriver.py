@@ -1,7 +1,7 @@
 #!/usr/bin/python3
-"""Random requests to `hidlog webdriver`, byte by byte over sockets. A request with a fault, by the rules as
-tests/webdriver/gate.py states them, never reaches the driver, and neither does what follows it; each response is one of
-WebDriver; and the proxy serves the next request.
+"""Sends random requests to `hidlog webdriver`, byte by byte over sockets. An invalid request, by the rules in
+tests/webdriver/gate.py, never reaches the driver, nor does what follows it; each response is a WebDriver response; and
+the proxy serves the next request.
 
     tests/fuzz/webdriver.py [--count 1500] [--seed 1]
 """
@@ -17,12 +17,12 @@ from pathlib import Path
 sys.path.insert(0, str(Path(__file__).resolve().parents[1] / "webdriver"))
 
 import gate
-from sockets import Rig, bench, status_of
+from sockets import ProxyFixture, make_proxy, parse_status
 
-LINE = re.compile(rb"([!#$%&'*+.^_`|~0-9A-Za-z-]+):[ \t]*([\t\x20-\x7e\x80-\xff]*?)[ \t]*\Z")
-START = re.compile(rb"([A-Z]+) ([\x21-\x7e\x80-\xff]+) HTTP/1\.[0-9]\Z")
-NAMES = {"host": "hosts", "origin": "origins", "sec-fetch-site": "sites", "content-type": "types"}
-NAMES |= {"content-length": "lengths", "transfer-encoding": "encodings"}
+HEADER_LINE = re.compile(rb"([!#$%&'*+.^_`|~0-9A-Za-z-]+):[ \t]*([\t\x20-\x7e\x80-\xff]*?)[ \t]*\Z")
+REQUEST_LINE = re.compile(rb"([A-Z]+) ([\x21-\x7e\x80-\xff]+) HTTP/1\.[0-9]\Z")
+HEAD_MEMBERS = {"host": "hosts", "origin": "origins", "sec-fetch-site": "sites", "content-type": "types"}
+HEAD_MEMBERS |= {"content-length": "lengths", "transfer-encoding": "encodings"}
 HEADERS = ["Host", "Origin", "Content-Type", "Content-Length", "Transfer-Encoding", "Sec-Fetch-Site", "X", "Expect"]
 HEADERS += ["Connection", "Upgrade", "host", "CONTENT-LENGTH", "Content_Length", "Content-Length ", " Content-Length"]
 BYTES = [
@@ -52,22 +52,22 @@ BYTES += [
 ]
 
 
-def value_of(rng: random.Random, name: str, port: int) -> str:
-    """Returns a value for a header, mostly a good one."""
+def random_value(rng: random.Random, name: str, port: int) -> str:
+    """Returns a value for a header, mostly a valid one."""
     good = {"host": f"127.0.0.1:{port}", "content-type": "application/json", "content-length": "2"}
-    choices = [good.get(name.strip().lower(), "x")] * 3 + ["".join(rng.choices(gate.PARTS, k=2))]
+    choices = [good.get(name.strip().lower(), "x")] * 3 + ["".join(rng.choices(gate.HEADER_PARTS, k=2))]
     return str(rng.choice(choices)).replace("4444", str(port))
 
 
 def random_request(rng: random.Random, port: int) -> bytes:
-    """Returns the bytes of a request: a good one, other headers, and other bytes in it."""
+    """Returns the bytes of a request: a valid one, with changed headers and bytes."""
     is_post = rng.random() < 0.5
     path = rng.choice(["/session", "/status", "/session/known/url", "/sessions", "/session/known"])
     lines = [f"{'POST' if is_post else rng.choice(['GET', 'DELETE'])} {path} HTTP/1.1", f"Host: 127.0.0.1:{port}"]
     lines += ["Content-Type: application/json", "Content-Length: 2"] if is_post else []
     for _ in range(rng.choice([0, 0, 1, 2])):
         name = rng.choice(HEADERS)
-        lines.insert(rng.randint(1, len(lines)), f"{name}: {value_of(rng, name, port)}")
+        lines.insert(rng.randint(1, len(lines)), f"{name}: {random_value(rng, name, port)}")
     if rng.random() < 0.2:
         del lines[rng.randrange(1, len(lines))]
     data = "\r\n".join([*lines, "", ""]).encode("utf-8") + (b"{}" if is_post else b"")
@@ -77,26 +77,26 @@ def random_request(rng: random.Random, port: int) -> bytes:
     return data
 
 
-def faults_of(data: bytes, port: int) -> list[str]:
+def find_faults(data: bytes, port: int) -> list[str]:
     """Returns what is wrong with the first request in some bytes, by RFC 9112 and the rules of the gate."""
     # A single LF may end a line.
     found = re.search(rb"\r?\n\r?\n", data)
     if not found:
         return ["end"]
     start, *lines = re.split(rb"\r?\n", data[: found.start()].lstrip(b"\r\n"))
-    first = START.match(start)
-    parsed = [LINE.match(line) for line in lines]
+    first = REQUEST_LINE.match(start)
+    parsed = [HEADER_LINE.match(line) for line in lines]
     if not first or not all(parsed):
         return ["syntax"]
-    values: dict[str, list[str]] = {name: [] for name in NAMES.values()}
+    values: dict[str, list[str]] = {name: [] for name in HEAD_MEMBERS.values()}
     for line in parsed:
         assert line
-        if name := NAMES.get(line[1].decode().lower()):
+        if name := HEAD_MEMBERS.get(line[1].decode().lower()):
             values[name].append(line[2].decode("latin-1"))
     head = gate.Head(first[1].decode(), first[2].decode("latin-1"), **values)
     port_of_table, gate.PORT = gate.PORT, port
     try:
-        wrong = gate.faults_of(head)
+        wrong = gate.find_faults(head)
     finally:
         gate.PORT = port_of_table
     digits = "".join(values["lengths"])
@@ -105,15 +105,18 @@ def faults_of(data: bytes, port: int) -> list[str]:
     return wrong
 
 
-def try_one(rig: Rig, data: bytes) -> bool:
+def try_one(rig: ProxyFixture, data: bytes) -> bool:
     """Sends bytes, and returns whether they reached the driver."""
-    response = rig.raw(data)
-    asked = rig.taken()
-    wrong = faults_of(data, rig.port)
+    response = rig.exchange_bytes(data)
+    asked = rig.take_requests()
+    wrong = find_faults(data, rig.port)
     assert not (asked and wrong), (data, asked, wrong)
     assert not response or response.startswith(b"HTTP/1.1 "), (data, response)
     if wrong and response:
-        assert status_of(response) >= 400 and len(re.findall(rb"HTTP/1.1 [0-9]{3} ", response)) == 1, (data, response)
+        assert parse_status(response) >= 400 and len(re.findall(rb"HTTP/1.1 [0-9]{3} ", response)) == 1, (
+            data,
+            response,
+        )
     assert b"Traceback" not in response, (data, response)
     return bool(asked)
 
@@ -122,17 +125,17 @@ def main() -> int:
     parser = argparse.ArgumentParser()
     parser.add_argument("--count", type=int, default=1500)
     parser.add_argument("--seed", type=int, default=1)
-    given = parser.parse_args()
-    rng = random.Random(given.seed)
+    options = parser.parse_args()
+    rng = random.Random(options.seed)
     reached = 0
-    with bench() as rig:
-        for number in range(given.count):
+    with make_proxy() as rig:
+        for number in range(options.count):
             reached += try_one(rig, random_request(rng, rig.port))
             if number % 100 == 0:
-                assert status_of(rig.raw(rig.head("GET /status HTTP/1.1"))) == 200
-                rig.taken()
+                assert parse_status(rig.exchange_bytes(rig.make_head("GET /status HTTP/1.1"))) == 200
+                rig.take_requests()
     print(
-        f"ok  {given.count} random requests to hidlog webdriver, of which {reached} reach the driver, each without a fault"
+        f"ok  {options.count} random requests to hidlog webdriver, of which {reached} reach the driver, each without a fault"
     )
     return 0
 

@@ -1,34 +1,34 @@
 #!/usr/bin/env bash
-# Installs each package by its own tool in a clean Debian, and follows its README there to the letter, until it has
-# registered and signed in: Python, node, C, Go, Rust, Ruby and Java. Says how many seconds each took, with what Debian's
-# packages take to come. Needs root, debootstrap and its mirror. Ends with 3 where one is missing.
+# Installs each package with its own tool in a clean Debian, and runs the commands of its README, up to a registration and
+# a sign-in: Python, node, C, Go, Rust, Ruby and Java. Prints the seconds of each, including the download of Debian's
+# packages. Needs root, debootstrap and its mirror; exits with 3 if one is missing.
 #
-#     tests/packages/clean.sh FOLDER [PACKAGES]    FOLDER is made by debootstrap, or used again; PACKAGES, else made anew
-#     HIDLOG_CASES=node                            only the cases whose name has this
+#     tests/packages/clean.sh FOLDER [PACKAGES]    FOLDER is created by debootstrap or reused; PACKAGES [default: built]
+#     HIDLOG_CASES=node                            only the cases whose name contains this
 set -euo pipefail
 top=$(cd "$(dirname "${BASH_SOURCE[0]}")/../.." && pwd)
 folder=${1:?usage: tests/packages/clean.sh FOLDER [PACKAGES]}
-[ "$(id -u)" = 0 ] || { echo "root is needed for a folder of debootstrap; nothing was run" >&2 && exit 3; }
+[ "$(id -u)" = 0 ] || { echo "debootstrap needs root; nothing was run" >&2 && exit 3; }
 [ -d "$folder/usr" ] || debootstrap --variant=minbase bookworm "$folder" >"${folder%/}.log" || exit 3
-room=$(mktemp -d)
-# What a program of the copy still holds is let go, and nothing is removed through a mount.
-away() {
-    umount -l "$room/system/proc" "$room/system/dev" 2>/dev/null || true
-    rm -rf --one-file-system "$room"
+scratch=$(mktemp -d)
+# Detaches mounts, even those in use, and removes nothing through a mount.
+clean_up() {
+    umount -l "$scratch/system/proc" "$scratch/system/dev" 2>/dev/null || true
+    rm -rf --one-file-system "$scratch"
 }
-trap away EXIT
+trap clean_up EXIT
 packages=${2-}
 if [ -z "$packages" ]; then
-    packages=$room/packages
+    packages=$scratch/packages
     "$top/packages/build.sh" "$packages" >/dev/null
 fi
 version=$(sed -n 's/^version: //p' "$top/release/BUILD")
 failed=0
 
-# Runs commands in a new copy of the system, which has the packages in /packages: clean NAME LIMIT COMMANDS
-clean() {
+# Runs commands in a new copy of the system, with the packages in /packages: run_in_clean_system NAME COMMANDS
+run_in_clean_system() {
     [[ $1 == *${HIDLOG_CASES-}* ]] || return 0
-    local began=$SECONDS system=$room/system
+    local began=$SECONDS system=$scratch/system
     rm -rf --one-file-system "$system"
     cp -a "$folder" "$system"
     mkdir -p "$system/packages" "$system/work"
@@ -38,21 +38,21 @@ clean() {
     mount -t proc proc "$system/proc"
     chroot "$system" /usr/bin/env -i PATH=/usr/sbin:/usr/bin:/sbin:/bin HOME=/root LANG=C.UTF-8 \
         DEBIAN_FRONTEND=noninteractive bash -euo pipefail -c "$start
-$2" >"$room/said" 2>&1 </dev/null && status=ok || status=FAILED
+$2" >"$scratch/said" 2>&1 </dev/null && status=ok || status=FAILED
     umount -l "$system/proc" "$system/dev"
-    echo "$status $1, $((SECONDS - began)) s: $(tail -1 "$room/said")"
+    echo "$status $1, $((SECONDS - began)) s: $(tail -1 "$scratch/said")"
     if [ "$status" = FAILED ]; then
-        tail -25 "$room/said" | sed 's/^/    /'
+        tail -25 "$scratch/said" | sed 's/^/    /'
         failed=1
     fi
 }
 
-# What is there first: no sudo, which READMEs name, and a list of packages. readme FILE [HEADING] runs a README's lines.
+# Defines sudo, which READMEs use, and updates the package lists. readme FILE [HEADING] runs a README's commands.
 # shellcheck disable=SC2016 # the shell in the system expands it
 start='
 sudo() { "$@"; }
 apt-get() { command apt-get -qq -o Dpkg::Use-Pty=0 -y --no-install-recommends "$@"; }
-readme() {
+run_readme() {
     awk -v heading="${2-}" "
         /^## / { is_on = heading == \"\" || \$0 == \"## \" heading }
         NR == 1 { is_on = heading == \"\" }
@@ -62,23 +62,23 @@ readme() {
 }
 cd /work
 apt-get update'
-debs="/packages/hidlog_${version}_amd64.deb /packages/libhidlog0_${version}_amd64.deb"
+debs="/packages/hidlog_${version}_amd64.deb /packages/libhidlog1_${version}_amd64.deb"
 
-clean "C, of libhidlog-dev" "apt-get install $debs /packages/libhidlog-dev_${version}_amd64.deb
-readme /usr/share/doc/libhidlog-dev/README.md | tee out
+run_in_clean_system "C, of libhidlog-dev" "apt-get install $debs /packages/libhidlog-dev_${version}_amd64.deb
+run_readme /usr/share/doc/libhidlog-dev/README.md | tee out
 grep -q 'sign in' out"
-clean "C, of the tarball" "tar -xzf /packages/hidlog-$version-linux-x86_64.tar.gz && cd hidlog-$version
+run_in_clean_system "C, of the tarball" "tar -xzf /packages/hidlog-$version-linux-x86_64.tar.gz && cd hidlog-$version
 bin/hidlog check examples/sign_in.log
 apt-get install gcc libc6-dev pkgconf libfido2-dev libssl-dev
-readme README.md 'Register and sign in from C' | tee out
+run_readme README.md 'Register and sign in from C' | tee out
 grep -q 'sign in' out"
-clean "Python, of python3-hidlog" "apt-get install $debs /packages/python3-hidlog_${version}_amd64.deb
-readme /usr/share/doc/python3-hidlog/README.md Python"
-clean "Ruby and Java, of python3-hidlog" "mkdir -p /usr/share/man/man1
+run_in_clean_system "Python, of python3-hidlog" "apt-get install $debs /packages/python3-hidlog_${version}_amd64.deb
+run_readme /usr/share/doc/python3-hidlog/README.md Python"
+run_in_clean_system "Ruby and Java, of python3-hidlog" "mkdir -p /usr/share/man/man1
 apt-get install $debs /packages/python3-hidlog_${version}_amd64.deb ruby openjdk-17-jdk-headless
-readme /usr/share/doc/python3-hidlog/README.md 'Ruby, Java, Go, Perl, PHP' | tee out
+run_readme /usr/share/doc/python3-hidlog/README.md 'Ruby, Java, Go, Perl, PHP' | tee out
 [ \"\$(grep -c '^ok\$' out)\" = 2 ] && tail -1 out"
-clean "the command, with python3-hidlog and without" "apt-get install $debs
+run_in_clean_system "the command, with python3-hidlog and without" "apt-get install $debs
 ! hidlog mermaid /usr/share/doc/hidlog/examples/sign_in.log 2>said && cat said
 hidlog --help >help
 apt-get install /packages/python3-hidlog_${version}_amd64.deb
@@ -92,20 +92,20 @@ apt-get purge python3-hidlog
 hidlog check examples/sign_in.log
 dpkg -i /packages/hidlog-uhid_${version}_amd64.deb || apt-get install -f
 hidlog-uhid --version"
-clean "Python, of the wheel" "apt-get install python3-venv python3-cryptography python3-pytest
+run_in_clean_system "Python, of the wheel" "apt-get install python3-venv python3-cryptography python3-pytest
 python3 -m venv --system-site-packages venv
 venv/bin/pip install --quiet --no-index /packages/*x86_64.whl
 venv/bin/python -c 'import importlib.metadata; print(importlib.metadata.metadata(\"hidlog\").get_payload())' |
     awk '/^\`\`\`/ { n++; next } n == 1' >test_it.py
 venv/bin/python -m pytest -q"
-clean "node, of npm's package" "apt-get install nodejs npm
+run_in_clean_system "node, of npm's package" "apt-get install nodejs npm
 npm init -y >/dev/null && npm i -D --offline --no-audit --no-fund /packages/hidlog-$version.tgz
 awk '/^\`\`\`js/ { n++; next } /^\`\`\`/ { n += n % 2 } n % 2 && n < 2' node_modules/hidlog/README.md >/dev/null
 { awk '/^\`\`\`js\$/ { is_on = 1; next } /^\`\`\`/ { is_on = 0 } is_on' node_modules/hidlog/README.md; } >all.mjs
 { grep '^import' all.mjs; grep -v '^import' all.mjs; } >readme.mjs
 node readme.mjs
-readme node_modules/hidlog/README.md Recordings"
-clean "Go" "apt-get install golang-go gcc libc6-dev unzip ca-certificates
+run_readme node_modules/hidlog/README.md Recordings"
+run_in_clean_system "Go" "apt-get install golang-go gcc libc6-dev unzip ca-certificates
 cp /packages/hidlog-go-$version.zip .
 unzip -p hidlog-go-$version.zip cogtzil.example/hidlog@v$version/README.md >README.md
 mkdir -p proxy/cogtzil.example/hidlog/@v
@@ -116,7 +116,7 @@ mkdir example && cd example && go mod init example
 go get cogtzil.example/hidlog@\$version
 awk '/^\`\`\`/ { n++; next } n == 1' ../README.md >sign_in_test.go
 go test -v"
-clean "Rust" "apt-get install cargo gcc libc6-dev libssl-dev git
+run_in_clean_system "Rust" "apt-get install cargo gcc libc6-dev libssl-dev git
 cp /packages/*.crate . && tar -xzf hidlog-$version.crate && cp hidlog-$version/README.md .
 awk '/^## Install/ { is_on = 1 } /^## A test/ { is_on = 0 } is_on && /^    / { sub(\"    \", \"\"); print }' README.md >install.sh
 source install.sh

@@ -1,15 +1,15 @@
 #!/usr/bin/env python3
-"""Runs the program on the cases of cases.txt, of the folder logs and of tables.py, on snapshots, and on changed requests.
+"""Runs the program on the cases of cases.txt, the folder logs and tables.py, on snapshots, and on changed requests.
 
-    tests/program/cases.py [PROGRAM [TEST ..]]      release/hidlog where none is named, and all tests
+    tests/program/cases.py [PROGRAM [TEST ..]]      PROGRAM [default: release/hidlog], TEST [default: all]
 
-A case is a block of lines. The first is the exit status and the words. Of each further line the first sign says where it
-is: `-` in the log, `+` in what is written, `|` in both, `?` in what is said of faults. A line that begins with `#` is a
-remark. Two dots at a packet's end mean zeros, up to 128 digits in all. A line of a mere `!` says that the log's last line
-has no line feed. The log is on standard input, and in the file `log` too. The expected texts follow from
-docs/use/LOG_FORMAT.md and the standard.
+A case is a block of lines. The first line has the exit status and the arguments. The first character of each other line
+says where the line belongs: `-` to the log, `+` to standard output, `|` to both, `?` to standard error, `#` to none (a
+comment). Two dots at the end of a packet stand for zeros, up to 128 digits. A line `!` means that the log's last line has
+no line feed. The log is on standard input, and in the file `log`. The expected texts follow from docs/use/LOG_FORMAT.md
+and the standard.
 
-Exit status: 1 where something isn't as it should be.
+Exit status: 1 if a test fails.
 """
 
 from __future__ import annotations
@@ -20,14 +20,18 @@ import tempfile
 from dataclasses import dataclass
 from pathlib import Path
 
-from changed import (
-    a_registration_cut_short_is_refused,
-    changed_requests,
-    large_heads_long_keys_and_deep_values,
-    three_hosts_in_every_order,
+from modified_logs import (
+    test_changed_requests,
+    test_large_heads_long_keys_and_deep_values,
+    test_three_hosts_in_every_order,
+    test_truncated_registration_is_refused,
 )
-from snapshots import each_byte_of_a_snapshot_changed, snapshots_are_loaded_or_refused, snapshots_are_saved_as_version_2
-from tables import made
+from snapshots import (
+    test_each_byte_of_snapshot_changed,
+    test_snapshots_are_loaded_or_refused,
+    test_snapshots_are_saved_as_version_2,
+)
+from tables import iter_cases
 
 HERE = Path(__file__).resolve().parent
 TOP = HERE.parents[1]
@@ -42,7 +46,7 @@ SIGN_IN = """\
 
 @dataclass(frozen=True)
 class Case:
-    """The words of a run, its log, and how it ends. Where `has_more`, the output is only a part of what is written."""
+    """The arguments of a run, its log, and its expected result. With `has_more`, the output is only a part."""
 
     text: str
     has_more: bool = False
@@ -55,31 +59,31 @@ class Case:
     def status(self) -> int:
         return int(self.text.partition(" ")[0])
 
-    def lines(self, signs: str) -> bytes:
+    def select_lines(self, signs: str) -> bytes:
         """Returns the lines of the case that begin with one of these signs."""
         lines = self.text.split("\n")[1:]
-        text = "".join(expanded(line[1:]) + "\n" for line in lines if line[:1] and line[0] in signs)
+        text = "".join(expand_packet(line[1:]) + "\n" for line in lines if line[:1] and line[0] in signs)
         return (text[:-1] if "!" in lines and "-" in signs else text).encode()
 
-    def run(self, room: Path) -> None:
+    def run(self, work_dir: Path) -> None:
         """Runs the program in a folder. Fails unless it ends as the case says."""
-        log = self.lines("-|")
-        (room / "log").write_bytes(log)
-        ended = subprocess.run([PROGRAM, *self.words], cwd=room, input=log, capture_output=True, timeout=600)
-        written, wanted = ended.stdout, self.lines("+|")
+        log = self.select_lines("-|")
+        (work_dir / "log").write_bytes(log)
+        ended = subprocess.run([PROGRAM, *self.words], cwd=work_dir, input=log, capture_output=True, timeout=600)
+        written, wanted = ended.stdout, self.select_lines("+|")
         assert ended.returncode == self.status, f"{self.text}\nended with {ended.returncode}"
-        assert ended.stderr == self.lines("?"), f"{self.text}\nsaid {ended.stderr.decode()}"
+        assert ended.stderr == self.select_lines("?"), f"{self.text}\nsaid {ended.stderr.decode()}"
         assert written == wanted or self.has_more and wanted in written, f"{self.text}\nwrote {written.decode()}"
 
 
-def expanded(line: str) -> str:
-    """Returns a line with the zeros that two dots mean where it has a packet."""
+def expand_packet(line: str) -> str:
+    """Returns a line with the two dots at the end of a packet replaced by zeros."""
     front, dots, _ = line.partition("..")
     is_packet = bool(dots) and line[:1] in ("<", ">")
     return front + "0" * (128 - len(front.rpartition(" ")[2])) if is_packet else line
 
 
-def snapshot(version: int, head: int, end: bytes) -> bytes:
+def make_snapshot(version: int, head: int, end: bytes) -> bytes:
     """Returns a snapshot with one row: of example.com, the user 01 and the id AA.., with this end from its counter on."""
     out = bytes([0xA2, 0x01, version, 0x02, 0x81, head])
     for key, value in ((1, RP), (2, b"\xaa" * 32), (3, b"\xbb" * 32), (4, b"\xcc" * 32)):
@@ -87,104 +91,105 @@ def snapshot(version: int, head: int, end: bytes) -> bytes:
     return out + b"\x05\x41\x01\x06\xf5\x07" + end
 
 
-def saves(room: Path, old: bytes, case: str, new: bytes) -> None:
+def check_saved(work_dir: Path, old: bytes, case: str, new: bytes) -> None:
     """A snapshot of version 1 is loaded, a host signs in, and one of version 2 is saved. Loaded again, it stays."""
-    wanted = snapshot(2, 0xA8, new)
-    (room / "old").write_bytes(snapshot(1, 0xA7, old))
-    Case(case, has_more=True).run(room)
-    assert (room / "new").read_bytes() == wanted, f"{case}\nsaved {(room / 'new').read_bytes().hex()}"
-    (room / "old").write_bytes(wanted)
-    Case("0 hidlog replay --save=new --load=old\n+= held 0 rows 1 pending 0 requests 0 bytes 0 steps 0").run(room)
-    assert (room / "new").read_bytes() == wanted, f"{case}\nisn't saved as it was loaded"
+    wanted = make_snapshot(2, 0xA8, new)
+    (work_dir / "old").write_bytes(make_snapshot(1, 0xA7, old))
+    Case(case, has_more=True).run(work_dir)
+    assert (work_dir / "new").read_bytes() == wanted, f"{case}\nsaved {(work_dir / 'new').read_bytes().hex()}"
+    (work_dir / "old").write_bytes(wanted)
+    Case("0 hidlog replay --save=new --load=old\n+= held 0 rows 1 pending 0 requests 0 bytes 0 steps 0").run(work_dir)
+    assert (work_dir / "new").read_bytes() == wanted, f"{case}\nisn't saved as it was loaded"
 
 
-def cases_of(file: Path) -> list[Case]:
+def read_cases(file: Path) -> list[Case]:
     """Returns the cases of a file."""
     lines = [word for word in file.read_text(encoding="utf-8").split("\n") if not word.startswith("#")]
     return [Case(text) for text in "\n".join(lines).strip("\n").split("\n\n")]
 
 
-def cases_of_the_file(room: Path) -> None:
-    """Help, wrong words, logs with and without a fault, and files that can't be read or written."""
-    for case in cases_of(HERE / "cases.txt"):
-        case.run(room)
+def test_cases_of_file(work_dir: Path) -> None:
+    """Help, invalid arguments, valid and invalid logs, and files that cannot be read or written."""
+    for case in read_cases(HERE / "cases.txt"):
+        case.run(work_dir)
 
 
-def cases_of_logs(room: Path) -> None:
-    """What each command makes of logs."""
+def test_log_outputs(work_dir: Path) -> None:
+    """The output of each command for logs."""
     files = sorted((HERE / "logs").glob("*.txt"))
     assert len(files) == 11, f"there are {len(files)} files of cases"
     for file in files:
-        for case in cases_of(file):
-            case.run(room)
+        for case in read_cases(file):
+            case.run(work_dir)
 
 
-def cases_of_tables(room: Path) -> None:
-    """Names of numbers, items in diagnostic notation, long messages, and characters that can't be seen."""
-    for text in made():
-        Case(text).run(room)
+def test_tables(work_dir: Path) -> None:
+    """Names of codes, items in diagnostic notation, long messages, and invisible characters."""
+    for text in iter_cases():
+        Case(text).run(work_dir)
 
 
-def a_spent_counter_answers_without_presence(room: Path) -> None:
-    """A sign-in whose counter is 2^32 - 1 is refused with 15, and no presence is asked for."""
+def test_exhausted_counter_is_rejected_without_presence(work_dir: Path) -> None:
+    """A sign-in with the counter 2^32 - 1 is rejected with 15, without a request for presence."""
     spent = b"\x1a\xff\xff\xff\xff"
     case = "0 hidlog replay --load old --save new\n" + SIGN_IN + "+< 000000019000011500.."
-    saves(room, spent, case, spent + b"\x08\x60")
+    check_saved(work_dir, spent, case, spent + b"\x08\x60")
 
 
-def a_refused_signature_raises_the_counter(room: Path) -> None:
-    """A signature that the caller refuses is answered with 7f, and the counter is raised all the same."""
+def test_refused_signature_increments_counter(work_dir: Path) -> None:
+    """If the caller provides no signature, the status is 7f, and the counter is incremented anyway."""
     case = "0 hidlog replay --load old --save new\n" + SIGN_IN + "-p 10 granted\n-s 20 no\n+< 000000019000017f00.."
-    saves(room, b"\x00", case, b"\x01\x08\x60")
+    check_saved(work_dir, b"\x00", case, b"\x01\x08\x60")
 
 
-def a_signature_raises_the_counter(room: Path) -> None:
-    """What is to be signed has the raised counter, and it is said what the key needs."""
+def test_signature_increments_counter(work_dir: Path) -> None:
+    """The bytes to sign have the incremented counter, and the log has the signature need."""
     case = (
         "0 hidlog live --load old --save new\n"
         + SIGN_IN
         + "-p 10 granted\n-s 20 dd\n+p 10 granted\n+< 00000001bb000101..\n"
         + f"+# signed {RP.hex()}0100000002{'22' * 32}\n+# need signature {'aa' * 32}\n+s 20 dd"
     )
-    saves(room, b"\x01", case, b"\x02\x08\x60")
+    check_saved(work_dir, b"\x01", case, b"\x02\x08\x60")
 
 
-def each_byte_of_requests_changed(room: Path) -> None:
-    """Whatever a host sends in place of a registration or a sign-in, it is answered, and the next host is greeted."""
-    changed_requests(room, snapshot(1, 0xA7, b"\x00"))
+def test_each_byte_of_requests_changed(work_dir: Path) -> None:
+    """Whatever a host sends instead of a registration or a sign-in, it gets a response, and so does the next host's
+    INIT."""
+    test_changed_requests(work_dir, make_snapshot(1, 0xA7, b"\x00"))
 
 
-def nothing_is_saved_after_a_fault(room: Path) -> None:
-    """A fault of the log leaves the file of --save as it was."""
+def test_nothing_is_saved_after_error(work_dir: Path) -> None:
+    """An error in the log leaves the file of --save unchanged."""
     said = "?hidlog: line 2: not a log line"
-    Case(f"1 hidlog replay --save new\n|t 5\n-t 05\n{said}").run(room)
-    assert not (room / "new").exists() or (room / "new").read_bytes() == b"", "something was saved"
+    Case(f"1 hidlog replay --save new\n|t 5\n-t 05\n{said}").run(work_dir)
+    assert not (work_dir / "new").exists() or (work_dir / "new").read_bytes() == b"", "something was saved"
 
 
-def arguments_are_utf_8(room: Path) -> None:
-    """Words that are no UTF-8 are refused, and others are read."""
+def test_arguments_are_utf_8(work_dir: Path) -> None:
+    """Arguments that are not UTF-8 are rejected; others are accepted."""
     for word, faults in ((b"r\xe9play", b"hidlog: an argument is not UTF-8\n"), ("r\u00e9play".encode(), None)):
-        ended = subprocess.run([PROGRAM.encode(), word], cwd=room, input=b"", capture_output=True, timeout=600)
+        ended = subprocess.run([PROGRAM.encode(), word], cwd=work_dir, input=b"", capture_output=True, timeout=600)
         assert ended.returncode == 2, f"{word!r} ended with {ended.returncode}"
         assert ended.stderr == faults or faults is None and word in ended.stderr, f"{word!r}: {ended.stderr!r}"
 
 
 TESTS = [
-    cases_of_the_file,
-    cases_of_logs,
-    cases_of_tables,
-    a_spent_counter_answers_without_presence,
-    a_refused_signature_raises_the_counter,
-    a_signature_raises_the_counter,
-    nothing_is_saved_after_a_fault,
-    arguments_are_utf_8,
-    a_registration_cut_short_is_refused,
-    large_heads_long_keys_and_deep_values,
-    three_hosts_in_every_order,
-    each_byte_of_requests_changed,
-    snapshots_are_loaded_or_refused,
-    snapshots_are_saved_as_version_2,
-    each_byte_of_a_snapshot_changed,
+    test_cases_of_file,
+    test_log_outputs,
+    test_tables,
+    test_exhausted_counter_is_rejected_without_presence,
+    test_refused_signature_increments_counter,
+    test_signature_increments_counter,
+    test_nothing_is_saved_after_error,
+    test_arguments_are_utf_8,
+    test_truncated_registration_is_refused,
+    test_large_heads_long_keys_and_deep_values,
+    test_three_hosts_in_every_order,
+    test_each_byte_of_requests_changed,
+    test_snapshots_are_loaded_or_refused,
+    test_snapshots_are_saved_as_version_2,
+    test_each_byte_of_snapshot_changed,
 ]
 
 

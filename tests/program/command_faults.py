@@ -1,8 +1,8 @@
-"""Faults of the system at each call of the Python package's commands: each after the imports fails in turn, and kills.
+"""Makes each system call of the Python package's commands fail, after their imports, or kills the command there.
 
-A command ends as without the fault, or with one line and a status that no verdict has; what it writes is whole, or the
-status says that it isn't; an older file is whole; only a kill leaves a file beside it. Where each read and write is short,
-it ends as without that.
+A command must end as without the failure, or with one line of error and status 2. Its output must be complete, or the
+status must not be 0. An older file must stay complete; only a kill may leave a temporary file. With short reads and
+writes, a command must end as without them.
 """
 
 from __future__ import annotations
@@ -29,11 +29,11 @@ ENVIRONMENT = {
     "PYTHONPATH": f"{TOP / 'python/src'}:{TOP / 'conformance'}",
     "PYTHONDONTWRITEBYTECODE": "1",
     "PYTHONHASHSEED": "0",
-    "HIDLOG": str(TOP / "release/hidlog"),
+    "HIDLOG_PROGRAM": str(TOP / "release/hidlog"),
 }
-MARK = "/hidlog-begins"
-# So many places of each call are tried, unless all are.
-SAMPLE = 3
+START_MARK = "/hidlog-begins"
+# Number of places tried for each call, unless all are.
+SAMPLE_SIZE = 3
 # Loads what a command loads, and marks in strace's output where the command begins.
 DRIVER = f"""
 import importlib, os, sys
@@ -41,33 +41,33 @@ from hidlog import __main__
 for name in sys.argv.pop(1).split():
     importlib.import_module(name)
 if "hidlog.judge" in sys.modules:
-    from hidlog.captures import corpus
-    list(map(corpus.module, ("judged_log", "judged_report", "judged_host", "judged_key", "transactions")))
+    from hidlog.captures import conformance
+    list(map(conformance.load_module, ("judged_log", "judged_report", "judged_host", "judged_key", "transactions")))
 if "hidlog.browser_process" in sys.modules:
     from hidlog import SecurityKey
     with SecurityKey() as key: key.browser("https://example.com")
 if "hidlog.core" in sys.modules:
-    sys.modules["hidlog.core"].library()
-os.access({MARK!r}, 0)
+    sys.modules["hidlog.core"].load_library()
+os.access({START_MARK!r}, 0)
 sys.exit(__main__.main())
 """
-LINES = b'{"id": 1, "credentials": 0}\n{"id": 2, "log": 0}\n'
+LINES = b'{"id": 1, "getCredentials": 0}\n{"id": 2, "getLog": 0}\n'
 FAILED_FIRST = 2
-# The kernel never fails them so.
+# The kernel never returns these errors for them.
 NEVER_FAILS = {"futex", "getpid", "gettid"}
 
 
 @dataclass(frozen=True)
 class Run:
-    """A run of a command in a folder, which is {} in its words. `kept` files are made there first."""
+    """A run of a command in a folder, with {} for the folder in its arguments. `kept` files are created there first."""
 
     name: str
     words: Tuple[str, ...]
-    # The modules that are loaded before it begins.
+    # The modules loaded before it starts.
     modules: str
     data: bytes = b""
     kept: Dict[str, bytes] = field(default_factory=dict)
-    # The file that it writes, in the place of the kept one.
+    # The file that it writes, instead of the kept one.
     output: str = ""
     # Whether strace follows the processes that it starts.
     follows: bool = True
@@ -75,7 +75,7 @@ class Run:
     reports: bool = False
 
     def start(self, folder: Path, trace: Sequence[str]) -> "subprocess.CompletedProcess[bytes]":
-        """Runs it once in a folder."""
+        """Runs the command once in a folder."""
         for name, data in self.kept.items():
             (folder / name).write_bytes(data)
         trace = [word for word in trace if self.follows or word not in ("-f", "--seccomp-bpf")]
@@ -86,8 +86,8 @@ class Run:
 
 
 REGISTRATION = (EXAMPLES / "registration.log").read_bytes()
-BROKEN = (EXAMPLES / "failing/counter_stays.log").read_bytes()
-LOADED_BY_IMPORT = "hidlog.captures.commands hidlog.core hidlog.captures.corpus hidlog_conformance.transactions"
+STALE_COUNTER_LOG = (EXAMPLES / "failing/stale_sign_count.log").read_bytes()
+LOADED_BY_IMPORT = "hidlog.captures.commands hidlog.core hidlog.captures.conformance hidlog_conformance.transactions"
 LOADED_BY_JUDGE = "hidlog.judge cryptography.hazmat.backends.openssl.backend"
 TICKS = b"t 1\np 2 granted\nt 3\n"
 RUNS = [
@@ -107,13 +107,13 @@ RUNS = [
         kept={"in": REGISTRATION, "out": b"old"},
         output="out",
     ),
-    Run("judge", ("judge", "{}/in"), LOADED_BY_JUDGE, kept={"in": BROKEN}),
+    Run("judge", ("judge", "{}/in"), LOADED_BY_JUDGE, kept={"in": STALE_COUNTER_LOG}),
     Run("judge of standard input", ("judge", "--format", "junit"), LOADED_BY_JUDGE, data=REGISTRATION),
     Run(
         "check-many",
         ("check-many", "--jobs", "1", "{}"),
-        "hidlog.many_command concurrent.futures.thread",
-        kept={"one.log": REGISTRATION, "two.log": BROKEN},
+        "hidlog.batch_check_cli concurrent.futures.thread",
+        kept={"one.log": REGISTRATION, "two.log": STALE_COUNTER_LOG},
         reports=True,
     ),
     Run("mermaid", ("mermaid", "{}/in"), "hidlog.mermaid", kept={"in": REGISTRATION}),
@@ -134,7 +134,7 @@ RUNS = [
 ]
 
 
-def counts_of(log: Path) -> Tuple[Dict[str, int], Dict[str, int], Dict[str, int]]:
+def count_calls(log: Path) -> Tuple[Dict[str, int], Dict[str, int], Dict[str, int]]:
     """Returns how often the first process makes each call until the mark, how often in all, and how often others do."""
     base: Dict[str, int] = {}
     whole: Dict[Tuple[str, str], int] = {}
@@ -146,7 +146,7 @@ def counts_of(log: Path) -> Tuple[Dict[str, int], Dict[str, int], Dict[str, int]
         process, name = found[1] or "", found[2]
         first = first or process
         whole[process, name] = whole.get((process, name), 0) + 1
-        if MARK in line:
+        if START_MARK in line:
             base = {call: count for (of, call), count in whole.items() if of == first}
     own = {call: count for (of, call), count in whole.items() if of == first}
     others: Dict[str, int] = {}
@@ -156,37 +156,39 @@ def counts_of(log: Path) -> Tuple[Dict[str, int], Dict[str, int], Dict[str, int]
     return base, own, others
 
 
-def places_of(log: Path) -> List[Place]:
+def list_places(log: Path) -> List[Place]:
     """Returns the places of a run after the mark, and those of the processes and threads that it starts."""
-    base, own, others = counts_of(log)
+    base, own, others = count_calls(log)
     assert base, "the mark is missing"
     found = []
-    for name in sorted({*own, *others} - injection.NEVER - NEVER_FAILS):
+    for name in sorted({*own, *others} - injection.NEVER_INJECTED - NEVER_FAILS):
         numbers = {*range(base.get(name, 0) + 1, own.get(name, 0) + 2), *range(1, others.get(name, 0) + 1)}
         if own.get(name, 0) == base.get(name, 0) and not others.get(name):
             continue
-        faults = (*injection.FAULTS.get(name, injection.OTHERS), "KILL")
+        faults = (*injection.FAULTS.get(name, injection.OTHER_ERRORS), "KILL")
         # Python itself waits for ever for a thread that has no memory to begin.
         starts = range(1, others.get(name, 0) + 1) if "ENOMEM" in faults else ()
         found += [Place(name, number, fault) for fault in faults for number in sorted(numbers.difference(starts))]
     return found
 
 
-def began(log: Path) -> bool:
-    """Returns whether the command had begun when the fault came, by what strace wrote."""
+def has_started(log: Path) -> bool:
+    """Returns whether the command had started when the fault occurred, by strace's output."""
     text = log.read_text(encoding="utf-8", errors="replace")
-    return MARK in text.partition("(INJECTED)")[0]
+    return START_MARK in text.partition("(INJECTED)")[0]
 
 
-def wrong(
+def find_error(
     run: Run, right: "subprocess.CompletedProcess[bytes]", new: bytes, place: Place, folder: Path
 ) -> Optional[str]:
     """Runs with a fault, and returns what is wrong with what it left."""
     log, space = folder / "strace", folder / "space"
     space.mkdir()
-    trace = [word.replace("trace=openat,", "trace=openat,access,faccessat,faccessat2,") for word in place.words(log)]
+    trace = [
+        word.replace("trace=openat,", "trace=openat,access,faccessat,faccessat2,") for word in place.strace_prefix(log)
+    ]
     ended = run.start(space, trace)
-    if not began(log):
+    if not has_started(log):
         return None
     status, said = ended.returncode, ended.stderr.decode(errors="replace")
     if "Traceback" in said or "Exception ignored" in said:
@@ -201,10 +203,10 @@ def wrong(
         return f"status {status} without a word"
     if not right.stdout.startswith(ended.stdout) and not run.reports:
         return f"standard output is another: {ended.stdout[:80]!r}"
-    return wrong_files(run, new, status == right.returncode, is_killed, space)
+    return find_file_error(run, new, status == right.returncode, is_killed, space)
 
 
-def wrong_files(run: Run, new: bytes, is_done: bool, is_killed: bool, space: Path) -> Optional[str]:
+def find_file_error(run: Run, new: bytes, is_done: bool, is_killed: bool, space: Path) -> Optional[str]:
     """Returns what is wrong with the files that a run left."""
     names = {*run.kept, *([run.output] if run.output else [])}
     others = sorted(path.name for path in space.iterdir() if path.name not in names)
@@ -220,33 +222,35 @@ def wrong_files(run: Run, new: bytes, is_done: bool, is_killed: bool, space: Pat
     return None
 
 
-def sample_of(places: Sequence[Place]) -> List[Place]:
+def sample_places(places: Sequence[Place]) -> List[Place]:
     """Returns some places of each call, evenly spaced over its faults and numbers."""
     found: List[Place] = []
     for call in sorted({place.call for place in places}):
         own = [place for place in places if place.call == call]
-        found += own[len(own) // (SAMPLE + 1) :: len(own) // (SAMPLE + 1) + 1]
+        found += own[len(own) // (SAMPLE_SIZE + 1) :: len(own) // (SAMPLE_SIZE + 1) + 1]
     return found
 
 
-def loop(run: Run, jobs: int, is_whole: bool) -> int:
+def run_faults(run: Run, jobs: int, is_whole: bool) -> int:
     """Runs with each fault in turn, or with a sample of them. Returns how many are wrong."""
     with tempfile.TemporaryDirectory() as first, tempfile.TemporaryDirectory() as second:
         right = run.start(Path(first), [])
         assert right.returncode in (0, 1) and b"Traceback" not in right.stderr, right
         new = Path(first, run.output).read_bytes() if run.output else b""
         run.start(Path(first), ["strace", "-f", "-qq", "-o", f"{second}/calls"])
-        places = places_of(Path(second, "calls"))
-    chosen = places if is_whole else sample_of(places)
-    found = injection.each(chosen, lambda place, at: wrong(run, right, new, place, at), jobs)
-    return injection.report(f"hidlog {run.name}", len(chosen), found, {})
+        places = list_places(Path(second, "calls"))
+    chosen = places if is_whole else sample_places(places)
+    found = injection.check_places(chosen, lambda place, at: find_error(run, right, new, place, at), jobs)
+    return injection.report_failures(f"hidlog {run.name}", len(chosen), found, {})
 
 
-def short(run: Run) -> int:
-    """Runs with reads and writes that are short. Returns 1 where the end is another, or a file that was written."""
+def run_short_calls(run: Run) -> int:
+    """Runs with short reads and writes. Returns 1 if the exit status or a written file differs."""
     with tempfile.TemporaryDirectory() as first, tempfile.TemporaryDirectory() as second:
         with tempfile.TemporaryDirectory() as library:
-            right, ended = run.start(Path(first), []), run.start(Path(second), injection.short_calls(Path(library)))
+            right, ended = run.start(Path(first), []), run.start(
+                Path(second), injection.short_calls_prefix(Path(library))
+            )
         files = [{path.name: path.read_bytes() for path in Path(folder).iterdir()} for folder in (first, second)]
     if (ended.returncode, ended.stdout) == (right.returncode, right.stdout) and files[0] == files[1]:
         return 0
@@ -254,11 +258,11 @@ def short(run: Run) -> int:
     return 1
 
 
-def check(only: Sequence[str], jobs: int, is_whole: bool) -> int:
+def run_all(only: Sequence[str], jobs: int, is_whole: bool) -> int:
     """Runs all loops. Returns how many places are wrong."""
     runs = [run for run in RUNS if not only or f"hidlog {run.name}" in only]
-    wrong = sum(loop(run, jobs, is_whole) for run in runs)
+    wrong = sum(run_faults(run, jobs, is_whole) for run in runs)
     if shutil.which("gcc") is None:
         print("skipped  short reads and writes: gcc is missing")
         return wrong
-    return wrong + sum(map(short, runs))
+    return wrong + sum(map(run_short_calls, runs))

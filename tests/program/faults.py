@@ -1,13 +1,14 @@
 #!/usr/bin/env python3
-"""Faults of the system at every call of the program, and of the Python package where it saves: each call fails in turn,
-and kills, until there is no further one. After each a whole snapshot is left, the old or the new one, in its place or
-beside it; and the status and the text say which. What goes to standard output is whole, or is told to be cut off.
-Then a sample of the calls of the package's commands (command_faults.py), or with --every all of them.
+"""Makes each system call of the program fail, or kills the program there; so for the Python package when it saves.
 
-    tests/program/faults.py [PROGRAM] [--only NAME ..] [--jobs N] [--every]    release/hidlog where none is named
+    tests/program/faults.py [PROGRAM] [--only NAME ..] [--jobs N] [--every]    PROGRAM [default: release/hidlog]
 
-Needs strace. Exit status: 1 where a place is wrong that isn't in the table of known failures, or where a known failure
-fails no more; 3 where strace is missing.
+After each run there must be a complete snapshot, the old or the new one, at its path or as a temporary file, and the
+status and the message must say which. Standard output must be complete, or reported as incomplete. At the end, a sample
+of the calls of the package's commands (command_faults.py), with --every all of them.
+
+Needs strace. Exit status: 1 if a call fails that is not in the table of known failures, or a known failure no longer
+occurs; 3 if strace is missing.
 """
 
 from __future__ import annotations
@@ -30,19 +31,20 @@ from injection import Place
 TOP = Path(__file__).resolve().parents[2]
 EXAMPLES = TOP / "examples"
 SNAPSHOT, AGAIN = EXAMPLES / "example_com.snapshot", EXAMPLES / "sign_in_again.log"
-# The libc of a static program makes these before main. It ends without a word where one fails.
-BEFORE_MAIN = {"brk", "mprotect", "arch_prctl", "set_tid_address", "set_robust_list", "rseq", "prlimit64", "readlink"}
+# libc makes these calls before main, and exits without a message if one fails.
+STARTUP_CALLS = {"brk", "mprotect", "arch_prctl", "set_tid_address", "set_robust_list", "rseq", "prlimit64", "readlink"}
 # Calls whose failure means that the file isn't on the disk, however it looks.
 # What fsync took is there when closing fails.
-WRITES = {"write", "pwrite64", "ftruncate", "fsync", "fdatasync", "rename", "openat"}
+WRITE_CALLS = {"write", "pwrite64", "ftruncate", "fsync", "fdatasync", "rename", "openat"}
 
-# Known failures of today's program and package: for each loop, places as patterns, and why. One that passes is said.
-KNOWN: dict[str, dict[str, str]] = {}
+# Known failures: for each loop, patterns of places, and the reason. A known failure that passes is reported.
+KNOWN_FAILURES: dict[str, dict[str, str]] = {}
 
 
 @dataclass(frozen=True)
 class Run:
-    """A run of the program on a folder: its words, in which {} is the folder; what it reads, what it saves over."""
+    """A run of the program in a folder: its arguments, with {} for the folder, its input, and the file it
+    overwrites."""
 
     name: str
     words: tuple[str, ...]
@@ -50,13 +52,13 @@ class Run:
     old: Optional[bytes] = None
     saves: bool = True
 
-    def at(self, folder: Path) -> Path:
+    def arguments_in(self, folder: Path) -> Path:
         return folder / "keys"
 
     def start(self, program: str, folder: Path, trace: Sequence[str]) -> subprocess.CompletedProcess[bytes]:
-        """Runs it once, in a folder that has the old file alone."""
+        """Runs it once, in a folder with only the old file."""
         if self.old is not None:
-            self.at(folder).write_bytes(self.old)
+            self.arguments_in(folder).write_bytes(self.old)
         command = [*trace, program, *(word.format(folder) for word in self.words)]
         with open(self.log, "rb") as log:
             return subprocess.run(command, stdin=log, capture_output=True, timeout=600, env=ENVIRONMENT)
@@ -65,9 +67,9 @@ class Run:
 ENVIRONMENT = {"PATH": os.environ["PATH"], "PYTHONPATH": str(TOP / "python/src"), "PYTHONDONTWRITEBYTECODE": "1"}
 
 
-def wrong_file(run: Run, program: str, folder: Path, new: bytes, status: int, said: str) -> Optional[str]:
+def find_file_error(run: Run, program: str, folder: Path, new: bytes, status: int, said: str) -> Optional[str]:
     """Returns what is wrong with the files that a run left."""
-    path, whole = run.at(folder), {new} if run.old is None else {run.old, new}
+    path, whole = run.arguments_in(folder), {new} if run.old is None else {run.old, new}
     others = [path for path in folder.iterdir() if path.name not in ("keys", "strace", "keys.hidlog-sum")]
     there = path.read_bytes() if path.exists() else None
     if status == 0 and (there != new or others):
@@ -75,7 +77,7 @@ def wrong_file(run: Run, program: str, folder: Path, new: bytes, status: int, sa
     if there is None and run.old is None:
         return None
     if there in whole:
-        return refused_after(program, path) if there in (new, SHORT) else None
+        return is_refused_after(program, path) if there in (new, SHORT) else None
     copies = [other for other in others if other.read_bytes() in whole]
     if not copies:
         return f"neither the old nor the new snapshot is left: {len(there or b'')} bytes"
@@ -86,61 +88,63 @@ def wrong_file(run: Run, program: str, folder: Path, new: bytes, status: int, sa
     return None if status == -signal.SIGKILL or copies[0].name in said else f"the copy isn't named: {said!r}"
 
 
-def refused_after(program: str, path: Path) -> Optional[str]:
-    """Returns what is wrong where a snapshot that is whole isn't loaded. What Python saves is no snapshot."""
+def is_refused_after(program: str, path: Path) -> Optional[str]:
+    """Returns an error if a complete snapshot is not loaded. Files saved by Python are not snapshots."""
     if Path(program).name != "hidlog":
         return None
     loaded = subprocess.run([program, "replay", "--load", str(path)], input=b"", capture_output=True, timeout=600)
     return None if loaded.returncode == 0 else f"the new snapshot isn't loaded: {loaded.stderr!r}"
 
 
-def wrong_words(place: Place, log: Path, status: int, said: str) -> Optional[str]:
+def find_message_error(place: Place, log: Path, status: int, said: str) -> Optional[str]:
     """Returns what is wrong with the status and the text of a run."""
     is_injected = injection.was_injected(log, place)
     if status == -signal.SIGKILL and place.fault == "KILL":
         return None
     if status == 0:
-        is_lost = is_injected and place.call in WRITES and place.fault not in ("EINTR", "EAGAIN")
-        is_lost = is_lost and not injection.was_beside(log)
+        is_lost = is_injected and place.call in WRITE_CALLS and place.fault not in ("EINTR", "EAGAIN")
+        is_lost = is_lost and not injection.was_recoverable(log)
         return f"status 0 after {place}" if is_lost or said else None
-    if said or place.call in BEFORE_MAIN:
+    if said or place.call in STARTUP_CALLS:
         return None
     return f"status {status} without a word"
 
 
-def judged(run: Run, program: str, new: bytes, output: bytes, place: Place, folder: Path) -> Optional[str]:
+def find_error(run: Run, program: str, new: bytes, output: bytes, place: Place, folder: Path) -> Optional[str]:
     """Runs with a fault, and returns what is wrong with what it left."""
-    log, room = folder / "strace", folder / "room"
-    room.mkdir()
-    ended = run.start(program, room, place.words(log))
+    log, work_dir = folder / "strace", folder / "room"
+    work_dir.mkdir()
+    ended = run.start(program, work_dir, place.strace_prefix(log))
     said = ended.stderr.decode(errors="replace")
     if ended.returncode == 0 and ended.stdout != output:
         return "status 0, and standard output isn't whole"
     if not output.startswith(ended.stdout):
         return f"standard output is another: {ended.stdout[:80]!r}"
-    wrong = wrong_words(place, log, ended.returncode, said)
+    wrong = find_message_error(place, log, ended.returncode, said)
     if wrong is None and run.saves:
-        wrong = wrong_file(run, program, room, new, ended.returncode, said)
+        wrong = find_file_error(run, program, work_dir, new, ended.returncode, said)
     return wrong
 
 
-def loop(run: Run, program: str, jobs: int) -> int:
+def run_faults(run: Run, program: str, jobs: int) -> int:
     """Runs with each fault in turn. Returns how many places are wrong and not known, or known and right."""
     with tempfile.TemporaryDirectory() as first, tempfile.TemporaryDirectory() as second:
         right = run.start(program, Path(first), [])
         assert right.returncode == 0 and not right.stderr, right
-        new = run.at(Path(first)).read_bytes() if run.saves else b""
-        counts = injection.calls_of(lambda trace: run.start(program, Path(first), trace), Path(second))
-    base = base_of(run)
+        new = run.arguments_in(Path(first)).read_bytes() if run.saves else b""
+        counts = injection.count_calls(lambda trace: run.start(program, Path(first), trace), Path(second))
+    base = count_interpreter_calls(run)
     added = {name for name, count in counts.items() if count > base.get(name, 0)}
-    places = [place for place in injection.places_of(counts, added) if place.number > base.get(place.call, 0)]
-    wrong = injection.each(places, lambda place, at: judged(run, program, new, right.stdout, place, at), jobs)
-    return injection.report(run.name, len(places), wrong, KNOWN.get(run.name, {}))
+    places = [place for place in injection.list_places(counts, added) if place.number > base.get(place.call, 0)]
+    wrong = injection.check_places(
+        places, lambda place, at: find_error(run, program, new, right.stdout, place, at), jobs
+    )
+    return injection.report_failures(run.name, len(places), wrong, KNOWN_FAILURES.get(run.name, {}))
 
 
-# ---- the Python package: what it does once its modules are there
+# ---- the Python package, after its imports
 
-# A key that has answered an INIT, so that there is something to save.
+# A key after INIT, so that it has something to save.
 MODULES = """
 import sys, hidlog
 from pathlib import Path
@@ -156,25 +160,25 @@ PYTHON = {
 }
 
 
-def base_of(run: Run) -> dict[str, int]:
+def count_interpreter_calls(run: Run) -> dict[str, int]:
     """Returns the calls of the interpreter before it saves, which aren't the package's."""
     if run.name not in PYTHON:
         return {}
     with tempfile.TemporaryDirectory() as folder:
         words = ["-c", MODULES, folder]
-        return injection.calls_of(
+        return injection.count_calls(
             lambda trace: subprocess.run([*trace, sys.executable, *words], env=ENVIRONMENT, capture_output=True),
             Path(folder),
         )
 
 
 SHORT, LONG = bytes.fromhex("a201020280"), SNAPSHOT.read_bytes() + b"x" * 5000
-LOADED = ("--load", str(SNAPSHOT), "--save", "{}/keys", "--explain")
+LOAD_AND_SAVE = ("--load", str(SNAPSHOT), "--save", "{}/keys", "--explain")
 RUNS = [
-    Run("replay --save over a shorter file", ("replay", *LOADED), AGAIN, SHORT),
-    Run("replay --save over a longer file", ("replay", *LOADED), AGAIN, LONG),
-    Run("replay --save to a new file", ("replay", *LOADED), AGAIN),
-    Run("live --save over a shorter file", ("live", *LOADED), AGAIN, SHORT),
+    Run("replay --save over a shorter file", ("replay", *LOAD_AND_SAVE), AGAIN, SHORT),
+    Run("replay --save over a longer file", ("replay", *LOAD_AND_SAVE), AGAIN, LONG),
+    Run("replay --save to a new file", ("replay", *LOAD_AND_SAVE), AGAIN),
+    Run("live --save over a shorter file", ("live", *LOAD_AND_SAVE), AGAIN, SHORT),
     Run("replay --load", ("replay", "--load", str(SNAPSHOT)), AGAIN, saves=False),
     Run("replay", ("replay",), EXAMPLES / "registration.log", saves=False),
     Run("live", ("live",), EXAMPLES / "registration.log", saves=False),
@@ -204,8 +208,8 @@ def main() -> int:
         return 3
     program = str(Path(words.program).resolve())
     chosen = [(run, program) for run in RUNS] + [(run, sys.executable) for run in PYTHON_RUNS]
-    bad = sum(loop(run, of, words.jobs) for run, of in chosen if not words.only or run.name in words.only)
-    bad += command_faults.check(words.only, words.jobs, words.every)
+    bad = sum(run_faults(run, of, words.jobs) for run, of in chosen if not words.only or run.name in words.only)
+    bad += command_faults.run_all(words.only, words.jobs, words.every)
     return 1 if bad else 0
 
 

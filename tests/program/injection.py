@@ -1,5 +1,5 @@
-"""Faults of the system at every place: runs a command again and again under strace, where the n-th call of a name fails
-or kills it, until there is no n-th call."""
+"""Injects system call failures: runs a command repeatedly under strace, where the n-th call of a name fails or kills
+the command, until there is no n-th call."""
 
 from __future__ import annotations
 
@@ -12,7 +12,7 @@ from dataclasses import dataclass
 from pathlib import Path
 from typing import Callable, Iterable, Optional, Sequence
 
-# What a call of a name can fail with; any other fails with EIO, or is interrupted.
+# The errors of each call; other calls fail with EIO or EINTR.
 FAULTS = {
     "openat": ("EIO", "EMFILE", "ENOMEM", "ESTALE", "ENOSPC"),
     "write": ("EIO", "ENOSPC", "EAGAIN", "EINTR"),
@@ -24,9 +24,9 @@ FAULTS = {
     "mmap": ("ENOMEM",),
     "brk": ("ENOMEM",),
 }
-OTHERS = ("EIO", "EINTR")
+OTHER_ERRORS = ("EIO", "EINTR")
 # Calls that end a program, or whose fault strace can't inject.
-NEVER = {"execve", "exit_group", "exit", "rt_sigreturn", "restart_syscall", "vfork", "fork", "clone", "clone3"}
+NEVER_INJECTED = {"execve", "exit_group", "exit", "rt_sigreturn", "restart_syscall", "vfork", "fork", "clone", "clone3"}
 _CALL = re.compile(r"^(?:\d+ +)?([a-z_0-9]+)\(", re.MULTILINE)
 
 
@@ -38,8 +38,8 @@ class Place:
     number: int
     fault: str
 
-    def words(self, log: Path) -> list[str]:
-        """Returns what goes before the command, so that strace injects it."""
+    def strace_prefix(self, log: Path) -> list[str]:
+        """Returns the strace command prefix that injects it."""
         how = "signal=KILL" if self.fault == "KILL" else f"error={self.fault}"
         if how == "error=ENOMEM" and self.call == "brk":
             how = "retval=0"  # it returns no error: where memory is short, the end that there was
@@ -53,9 +53,9 @@ class Place:
         return f"{self.fault} at {self.call} {self.number}"
 
 
-def short_calls(folder: Path) -> list[str]:
-    """Returns what goes before the command, so that each read and write moves half of what it is asked to, which strace
-    doesn't do. Makes the library in a folder, with gcc."""
+def short_calls_prefix(folder: Path) -> list[str]:
+    """Returns a command prefix that makes each read and write transfer half of the requested bytes, which strace cannot
+    do. Compiles a library in a folder, with gcc."""
     library = folder / "short_calls.so"
     source = Path(__file__).with_name("short_calls.c")
     subprocess.run(["gcc", "-shared", "-fPIC", "-O1", "-Wall", "-Werror", "-o", str(library), str(source)], check=True)
@@ -63,14 +63,15 @@ def short_calls(folder: Path) -> list[str]:
 
 
 def was_injected(log: Path, place: Place) -> bool:
-    """Whether the call came, by what strace wrote."""
+    """Whether the call was made, by strace's output."""
     text = log.read_text(encoding="utf-8", errors="replace")
     is_kill = place.fault == "KILL"
     return _CALL.findall(text).count(place.call) >= place.number if is_kill else "(INJECTED)" in text
 
 
-def was_beside(log: Path) -> bool:
-    """Whether what failed was about the copy beside a file that is saved, or about reading: the file isn't touched by that."""
+def was_recoverable(log: Path) -> bool:
+    """Whether the failed call was on a temporary file beside the saved one, or a read, so that the file is
+    unchanged."""
     opened: dict[str, str] = {}
     for line in log.read_text(encoding="utf-8", errors="replace").splitlines():
         if found := re.search(r"openat\(.*, (\".*\", \S+?)(?:, 0\d+)?\) = (\d+)$", line):
@@ -82,7 +83,7 @@ def was_beside(log: Path) -> bool:
     return False
 
 
-def calls_of(run: Callable[[Sequence[str]], object], folder: Path) -> dict[str, int]:
+def count_calls(run: Callable[[Sequence[str]], object], folder: Path) -> dict[str, int]:
     """Returns how often a run makes each call."""
     log = folder / "calls"
     run(["strace", "-f", "-qq", "-o", str(log)])
@@ -92,20 +93,22 @@ def calls_of(run: Callable[[Sequence[str]], object], folder: Path) -> dict[str, 
     return counts
 
 
-def places_of(counts: dict[str, int], only: Optional[Iterable[str]] = None) -> list[Place]:
-    """Returns each place of a run, with each fault that can happen there; of these calls alone, where some are named."""
-    names = [call for call in sorted(counts) if call not in NEVER and (only is None or call in only)]
+def list_places(counts: dict[str, int], only: Optional[Iterable[str]] = None) -> list[Place]:
+    """Returns the places of a run with the faults of each, limited to some calls if any are named."""
+    names = [call for call in sorted(counts) if call not in NEVER_INJECTED and (only is None or call in only)]
     # One more than were counted, since a run may make one more: then nothing is injected, and nothing is wrong.
     return [
         Place(name, number, fault)
         for name in names
-        for fault in (*FAULTS.get(name, OTHERS), "KILL")
+        for fault in (*FAULTS.get(name, OTHER_ERRORS), "KILL")
         for number in range(1, counts[name] + 2)
     ]
 
 
-def each(places: Sequence[Place], judge: Callable[[Place, Path], Optional[str]], jobs: int) -> list[tuple[Place, str]]:
-    """Judges each place in a folder of its own. Returns those that are wrong, with what is."""
+def check_places(
+    places: Sequence[Place], judge: Callable[[Place, Path], Optional[str]], jobs: int
+) -> list[tuple[Place, str]]:
+    """Checks each place in a new folder. Returns the failing ones, with the error."""
 
     def one(place: Place) -> Optional[str]:
         with tempfile.TemporaryDirectory() as folder:
@@ -119,9 +122,9 @@ def each(places: Sequence[Place], judge: Callable[[Place, Path], Optional[str]],
         return [(place, wrong) for place, wrong in found if wrong is not None]
 
 
-def report(name: str, count: int, wrong: Sequence[tuple[Place, str]], known: dict[str, str]) -> int:
-    """Says what came of a loop. A wrong place is expected where the table of known failures has it, and a known failure
-    that no place shows any more is said too. Returns how many failures are new, or known and gone."""
+def report_failures(name: str, count: int, wrong: Sequence[tuple[Place, str]], known: dict[str, str]) -> int:
+    """Prints the result of a loop: new failures, and known failures that no longer occur. Returns the number of
+    both."""
     bad, seen = 0, set()
     for place, said in wrong:
         mark = next((pattern for pattern in known if re.fullmatch(pattern, str(place))), None)

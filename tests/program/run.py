@@ -1,10 +1,9 @@
 #!/usr/bin/env python3
-"""Runs the program as hurried and hostile users do: bad paths, full disks, signals, closed pipes, folders, faults of
-the system. Faults are injected by strace, where it is there; what needs it is skipped by name without it.
+"""Tests the program with bad paths, full disks, signals, closed pipes, directories, and failing system calls.
 
-    tests/program/run.py [PROGRAM]        release/hidlog where none is named
+    tests/program/run.py [PROGRAM]        PROGRAM [default: release/hidlog]
 
-Exit status: 1 where something isn't as it should be.
+Failures are injected by strace; without it, these tests are skipped by name. Exit status: 1 if a test fails.
 """
 
 from __future__ import annotations
@@ -23,20 +22,33 @@ from concurrent.futures import ThreadPoolExecutor
 from pathlib import Path
 from typing import Any, Callable, Optional, Sequence
 
-import held
-import person
+import output_buffering
+import explain_output
 import saving
-from running import AGAIN, COUNTS, EXAMPLES, INIT, PROGRAM, SNAPSHOT, STACK, TOP, Said, explained, run, wants
+from running import (
+    COUNTS,
+    EXAMPLES,
+    INIT,
+    PROGRAM,
+    SIGN_IN_AGAIN,
+    SNAPSHOT,
+    STACK_BYTES,
+    TOP,
+    Said,
+    check_result,
+    run,
+    run_explained,
+)
 
 NOBODY = 65534
 
 
-def lacks(room: Path, path: str, reason: str) -> bytes:
+def check_no_file(work_dir: Path, path: str, reason: str) -> bytes:
     return f"hidlog: cannot write snapshot\n  {path}: {reason}\n".encode()
 
 
-def as_nobody() -> None:
-    """Makes a process of root's one that permissions hold for."""
+def become_nobody() -> None:
+    """Changes to an unprivileged user if this is root, so that file permissions apply."""
     if os.geteuid() == 0:
         os.setgroups([])
         os.setgid(NOBODY)
@@ -46,122 +58,161 @@ def as_nobody() -> None:
 # ---- where --save writes
 
 
-def live_refuses_first(room: Path) -> None:
-    """`live` says what is wrong with the path of --save before it reads a line."""
-    missing, folder = f"{room}/none/keys", str(room)
-    wants(
-        explained(["live", "--save", missing], INIT),
+def test_live_checks_save_first(work_dir: Path) -> None:
+    """`live` checks the path of --save before it reads a line."""
+    missing, folder = f"{work_dir}/none/keys", str(work_dir)
+    check_result(
+        run_explained(["live", "--save", missing], INIT),
         2,
-        lacks(room, missing, "No such file or directory (os error 2)"),
+        check_no_file(work_dir, missing, "No such file or directory (os error 2)"),
         b"",
     )
-    wants(explained(["live", "--save", folder], INIT), 2, lacks(room, folder, "Is a directory (os error 21)"), b"")
-    wants(explained(["live", "--save", ""], INIT), 2, lacks(room, "", "No such file or directory (os error 2)"), b"")
+    check_result(
+        run_explained(["live", "--save", folder], INIT),
+        2,
+        check_no_file(work_dir, folder, "Is a directory (os error 21)"),
+        b"",
+    )
+    check_result(
+        run_explained(["live", "--save", ""], INIT),
+        2,
+        check_no_file(work_dir, "", "No such file or directory (os error 2)"),
+        b"",
+    )
     inside = f"{SNAPSHOT}/keys"
-    wants(explained(["live", "--save", inside], INIT), 2, lacks(room, inside, "Not a directory (os error 20)"), b"")
-    said = explained(["live", "--save", f"{room}/keys"], b"t 5\n")
-    wants(said, 0, b"")
-    assert sorted(os.listdir(room)) == ["keys", "keys.hidlog-sum"], os.listdir(room)
+    check_result(
+        run_explained(["live", "--save", inside], INIT),
+        2,
+        check_no_file(work_dir, inside, "Not a directory (os error 20)"),
+        b"",
+    )
+    said = run_explained(["live", "--save", f"{work_dir}/keys"], b"t 5\n")
+    check_result(said, 0, b"")
+    assert sorted(os.listdir(work_dir)) == ["keys", "keys.hidlog-sum"], os.listdir(work_dir)
 
 
-def live_needs_permission(room: Path) -> None:
-    """A file or a folder that may not be written to is refused before the session, and nothing is made there."""
-    keys = room / "keys"
+def test_live_needs_permission(work_dir: Path) -> None:
+    """A path of --save that is not writable is rejected before the session, and nothing is created there."""
+    keys = work_dir / "keys"
     keys.write_bytes(b"old")
     keys.chmod(0o444)
-    room.chmod(0o555)
+    work_dir.chmod(0o555)
     denied = "Permission denied (os error 13)"
-    wants(explained(["live", "--save", str(keys)], INIT, before=as_nobody), 2, lacks(room, str(keys), denied), b"")
-    wants(explained(["live", "--save", f"{keys}2"], INIT, before=as_nobody), 2, lacks(room, f"{keys}2", denied), b"")
-    said = explained(["replay", "--save", str(keys)], b"", before=as_nobody)
-    wants(said, 2, lacks(room, str(keys), denied), COUNTS)
-    room.chmod(0o755)
-    assert keys.read_bytes() == b"old" and os.listdir(room) == ["keys"]
-
-
-def replay_refuses_last(room: Path) -> None:
-    """`replay` writes its result whole, and then says that the snapshot can't be written."""
-    missing = f"{room}/none/keys"
-    wants(
-        explained(["replay", "--save", missing]),
+    check_result(
+        run_explained(["live", "--save", str(keys)], INIT, before=become_nobody),
         2,
-        lacks(room, missing, "No such file or directory (os error 2)"),
+        check_no_file(work_dir, str(keys), denied),
+        b"",
+    )
+    check_result(
+        run_explained(["live", "--save", f"{keys}2"], INIT, before=become_nobody),
+        2,
+        check_no_file(work_dir, f"{keys}2", denied),
+        b"",
+    )
+    said = run_explained(["replay", "--save", str(keys)], b"", before=become_nobody)
+    check_result(said, 2, check_no_file(work_dir, str(keys), denied), COUNTS)
+    work_dir.chmod(0o755)
+    assert keys.read_bytes() == b"old" and os.listdir(work_dir) == ["keys"]
+
+
+def test_replay_reports_save_last(work_dir: Path) -> None:
+    """`replay` writes its complete result, and then reports that it cannot write the snapshot."""
+    missing = f"{work_dir}/none/keys"
+    check_result(
+        run_explained(["replay", "--save", missing]),
+        2,
+        check_no_file(work_dir, missing, "No such file or directory (os error 2)"),
         COUNTS,
     )
-    wants(explained(["replay", "--save", str(room)]), 2, lacks(room, str(room), "Is a directory (os error 21)"), COUNTS)
+    check_result(
+        run_explained(["replay", "--save", str(work_dir)]),
+        2,
+        check_no_file(work_dir, str(work_dir), "Is a directory (os error 21)"),
+        COUNTS,
+    )
     full = "No space left on device (os error 28)"
-    wants(explained(["replay", "--save", "/dev/full"]), 2, lacks(room, "/dev/full", full), COUNTS)
+    check_result(
+        run_explained(["replay", "--save", "/dev/full"]), 2, check_no_file(work_dir, "/dev/full", full), COUNTS
+    )
 
 
-def the_log_is_kept(room: Path) -> None:
+def test_log_is_not_overwritten(work_dir: Path) -> None:
     """--save onto the log that is read, or onto the result, is refused."""
-    log = room / "log"
+    log = work_dir / "log"
     log.write_bytes(INIT)
-    lost = lacks(room, str(log), "it is the log, which would be lost")
-    wants(explained(["live", "--save", str(log)], stdin=log), 2, lost, b"")
-    said = explained(["replay", "--save", str(log)], stdin=log)
+    lost = check_no_file(work_dir, str(log), "it is the input log")
+    check_result(run_explained(["live", "--save", str(log)], stdin=log), 2, lost, b"")
+    said = run_explained(["replay", "--save", str(log)], stdin=log)
     assert said.returncode == 2 and said.stderr == lost and said.stdout.startswith(INIT)
     assert log.read_bytes() == INIT
-    other = room / "link"
+    other = work_dir / "link"
     os.link(log, other)
-    assert explained(["replay", "--save", str(other)], stdin=log).returncode == 2 and log.read_bytes() == INIT
-    with open(room / "out", "wb") as out:
-        words = [PROGRAM, "replay", "--explain", "--save", str(room / "out")]
+    assert run_explained(["replay", "--save", str(other)], stdin=log).returncode == 2 and log.read_bytes() == INIT
+    with open(work_dir / "out", "wb") as out:
+        words = [PROGRAM, "replay", "--explain", "--save", str(work_dir / "out")]
         ended = subprocess.run(words, input=b"", stdout=out, stderr=subprocess.PIPE)
-    wants(ended, 2, lacks(room, str(room / "out"), "it is the file that standard output goes to"))
-    assert (room / "out").read_bytes() == COUNTS
+    check_result(
+        ended, 2, check_no_file(work_dir, str(work_dir / "out"), "it is the file that standard output goes to")
+    )
+    assert (work_dir / "out").read_bytes() == COUNTS
 
 
-def a_pipe_needs_its_reader(room: Path) -> None:
+def test_fifo_needs_reader(work_dir: Path) -> None:
     """--save to a FIFO without a reader is refused at once; one with a reader gets the snapshot."""
-    fifo = room / "fifo"
+    fifo = work_dir / "fifo"
     os.mkfifo(fifo)
-    wants(explained(["replay", "--save", str(fifo)]), 2, lacks(room, str(fifo), "Broken pipe (os error 32)"), COUNTS)
+    check_result(
+        run_explained(["replay", "--save", str(fifo)]),
+        2,
+        check_no_file(work_dir, str(fifo), "Broken pipe (os error 32)"),
+        COUNTS,
+    )
     reader = os.open(fifo, os.O_RDONLY | os.O_NONBLOCK)
     try:
-        wants(explained(["replay", "--save", str(fifo)]), 0, b"", COUNTS)
+        check_result(run_explained(["replay", "--save", str(fifo)]), 0, b"", COUNTS)
         assert os.read(reader, 100) == bytes.fromhex("a201020280")
     finally:
         os.close(reader)
 
 
-def saved_whole(room: Path) -> bytes:
-    """Returns what a sign-in with the example's credential saves."""
-    keys = room / "wanted"
-    wants(run(["replay", "--load", str(SNAPSHOT), "--save", str(keys)], AGAIN.read_bytes()), 0, b"")
+def save_snapshot(work_dir: Path) -> bytes:
+    """Returns the snapshot that a sign-in with the example's credential saves."""
+    keys = work_dir / "wanted"
+    check_result(run(["replay", "--load", str(SNAPSHOT), "--save", str(keys)], SIGN_IN_AGAIN.read_bytes()), 0, b"")
     return keys.read_bytes()
 
 
-def saving_replaces(room: Path) -> None:
-    """A shorter, a longer and an equal snapshot take the place of what the file had, whole and in place."""
-    wanted = saved_whole(room)
+def test_saving_replaces_file(work_dir: Path) -> None:
+    """A shorter, a longer and an equal snapshot replace the whole contents of the file."""
+    wanted = save_snapshot(work_dir)
     for old in (b"", b"x", wanted[:-1], wanted, wanted + b"x", wanted * 400):
-        keys = room / "keys"
+        keys = work_dir / "keys"
         keys.write_bytes(old)
         node = keys.stat().st_ino
-        wants(run(["replay", "--load", str(SNAPSHOT), "--save", str(keys)], AGAIN.read_bytes()), 0, b"")
+        check_result(run(["replay", "--load", str(SNAPSHOT), "--save", str(keys)], SIGN_IN_AGAIN.read_bytes()), 0, b"")
         assert keys.read_bytes() == wanted and keys.stat().st_ino == node, f"over {len(old)} bytes"
 
 
-def a_failed_write_keeps(room: Path) -> None:
-    """A write of the snapshot that fails, or a kill at it, leaves the old file as it was. The first ones are those of its
-    sums and of the copy."""
+def test_failed_write_keeps_file(work_dir: Path) -> None:
+    """If a write of the snapshot fails, or the program is killed there, the old file is unchanged. The first writes are
+    those of the checksums and of the copy."""
     for old in (SNAPSHOT.read_bytes(), bytes.fromhex("a201020280")):
         for fault in ("error=ENOSPC", "error=EIO", "signal=KILL"):
-            keys = room / "keys"
+            keys = work_dir / "keys"
             keys.write_bytes(old)
             words = ["replay", "--load", str(SNAPSHOT), "--save", str(keys)]
             trace = ["-e", f"inject=pwrite64:{fault}:when=3"]
-            said = run(words, AGAIN.read_bytes(), trace=trace)
+            said = run(words, SIGN_IN_AGAIN.read_bytes(), trace=trace)
             assert said.returncode != 0, f"{fault}: nothing was injected"
             assert keys.read_bytes() == old, f"{fault}: the file has {len(keys.read_bytes())} bytes"
             if fault.startswith("error"):
                 assert said.stderr == b"hidlog: cannot write snapshot\n", said.stderr
 
 
-def a_full_disk_keeps(room: Path) -> None:
-    """A file system without a free block leaves the old snapshot, and one that isn't longer is written there."""
-    folder = room / "small"
+def test_full_disk_keeps_file(work_dir: Path) -> None:
+    """On a full file system the old snapshot is kept, unless the new one needs no more blocks."""
+    folder = work_dir / "small"
     folder.mkdir()
     if (
         subprocess.run(
@@ -169,25 +220,25 @@ def a_full_disk_keeps(room: Path) -> None:
         ).returncode
         != 0
     ):
-        raise Skipped("no file system can be mounted here")
+        raise TestSkippedError("no file system can be mounted here")
     try:
         keys, fill, fresh = folder / "keys", folder / "fill", folder / "fresh"
-        wanted = saved_whole(room)
+        wanted = save_snapshot(work_dir)
         for old in (wanted + b"x" * 1000, bytes.fromhex("a201020280")):
             keys.write_bytes(old)
             fresh.write_bytes(b"")
-            filled(fill)
-            said = explained(["replay", "--load", str(SNAPSHOT), "--save", str(fresh)], AGAIN.read_bytes())
+            fill_disk(fill)
+            said = run_explained(["replay", "--load", str(SNAPSHOT), "--save", str(fresh)], SIGN_IN_AGAIN.read_bytes())
             assert said.returncode == 2 and fresh.read_bytes() == b"", said.stderr
-            wants(said, 2, lacks(room, str(fresh), "No space left on device (os error 28)"))
-            said = explained(["replay", "--load", str(SNAPSHOT), "--save", str(keys)], AGAIN.read_bytes())
+            check_result(said, 2, check_no_file(work_dir, str(fresh), "No space left on device (os error 28)"))
+            said = run_explained(["replay", "--load", str(SNAPSHOT), "--save", str(keys)], SIGN_IN_AGAIN.read_bytes())
             assert keys.read_bytes() == (wanted if said.returncode == 0 else old), said.stderr
             fill.unlink()
     finally:
         subprocess.run(["umount", folder], check=True)
 
 
-def filled(path: Path) -> None:
+def fill_disk(path: Path) -> None:
     """Writes a file until its file system is full."""
     with open(path, "wb", buffering=0) as file:
         try:
@@ -197,31 +248,31 @@ def filled(path: Path) -> None:
             pass
 
 
-def two_at_once(room: Path) -> None:
-    """With `--save new` and `mv` none of 200 programs on one file finds half a snapshot."""
-    keys = room / "keys"
+def test_concurrent_saves(work_dir: Path) -> None:
+    """With `--save new` and `mv`, none of 200 programs using one file reads an incomplete snapshot."""
+    keys = work_dir / "keys"
     shutil.copy(SNAPSHOT, keys)
     script = '"$0" replay --load "$1" --save "$1.$2" <"$3" >/dev/null && mv "$1.$2" "$1" && rm "$1.$2.hidlog-sum"'
 
     def once(number: int) -> Said:
-        words = ["sh", "-c", script, PROGRAM, str(keys), str(number), str(AGAIN)]
+        words = ["sh", "-c", script, PROGRAM, str(keys), str(number), str(SIGN_IN_AGAIN)]
         return subprocess.run(words, capture_output=True)
 
     with ThreadPoolExecutor(8) as lanes:
         for said in lanes.map(once, range(200)):
-            wants(said, 0, b"")
-    assert os.listdir(room) == ["keys"]
+            check_result(said, 0, b"")
+    assert os.listdir(work_dir) == ["keys"]
 
 
 # ---- signals
 
 
-def signals_save_nothing(room: Path) -> None:
-    """SIGINT and SIGTERM end `live` without a word and keep the old file; closing its input saves."""
-    keys = room / "keys"
+def test_signals_save_nothing(work_dir: Path) -> None:
+    """SIGINT and SIGTERM end `live` without a message and keep the old file; at the end of its input it saves."""
+    keys = work_dir / "keys"
     for number in (signal.SIGINT, signal.SIGTERM):
         keys.write_bytes(b"old")
-        with live(keys) as program:
+        with start_live(keys) as program:
             assert program.stdin is not None and program.stdout is not None and program.stderr is not None
             program.stdin.write(b"t 5\n")
             program.stdin.flush()
@@ -229,59 +280,61 @@ def signals_save_nothing(room: Path) -> None:
             program.send_signal(number)
             assert program.wait(60) == -number and program.stderr.read() == b""
         assert keys.read_bytes() == b"old"
-    with live(keys) as program:
+    with start_live(keys) as program:
         output, faults = program.communicate(b"t 5\n", 60)
         assert program.returncode == 0 and faults == b"" and output.endswith(COUNTS)
     assert keys.read_bytes() == bytes.fromhex("a201020280")
 
 
-def live(keys: Path) -> subprocess.Popen[bytes]:
-    """Starts `live --save`. It doesn't ignore SIGINT, as what a shell starts in the background does."""
+def start_live(keys: Path) -> subprocess.Popen[bytes]:
+    """Starts `live --save`, with SIGINT not ignored, unlike a background process of a shell."""
     pipe = subprocess.PIPE
     command = [PROGRAM, "live", "--save", str(keys)]
-    return subprocess.Popen(command, stdin=pipe, stdout=pipe, stderr=pipe, preexec_fn=heed_interrupts)
+    return subprocess.Popen(command, stdin=pipe, stdout=pipe, stderr=pipe, preexec_fn=restore_interrupts)
 
 
-def heed_interrupts() -> None:
+def restore_interrupts() -> None:
     signal.signal(signal.SIGINT, signal.SIG_DFL)
 
 
 # ---- what is said
 
 
-def snapshots_are_refused_in_words(room: Path) -> None:
-    """A snapshot that can't be read or is refused is named, with the reason, in all four commands."""
+def test_invalid_snapshots_are_reported(work_dir: Path) -> None:
+    """All four commands report the path of an unreadable or invalid snapshot, and the reason."""
     whole = SNAPSHOT.read_bytes()
     cases = [
         (b"", "1", "it is empty"),
-        (whole[:-1], "1", "it begins as a snapshot, and is cut off or changed"),
-        (whole + b"\0", "1", "it begins as a snapshot, and is cut off or changed"),
-        (whole[:2] + b"\x03" + whole[3:], "1", "it is of version 3, and 1 and 2 are read"),
-        (b"# a log\n", "1", "it is no snapshot"),
-        (bytes.fromhex("a20102029841") + b"\0" * 65, "2", "it has more than 64 credentials"),
-        (bytes.fromhex("a201020281a0"), "3", "credential 1 is broken, or is there twice"),
+        (whole[:-1], "1", "the snapshot is truncated or corrupt"),
+        (whole + b"\0", "1", "the snapshot is truncated or corrupt"),
+        (whole[:2] + b"\x03" + whole[3:], "1", "unsupported version 3 (supported: 1, 2)"),
+        (b"# a log\n", "1", "it is not a snapshot"),
+        (bytes.fromhex("a20102029841") + b"\0" * 65, "2", "more than 64 credentials"),
+        (bytes.fromhex("a201020281a0"), "3", "credential 1 is invalid or a duplicate"),
     ]
-    keys = room / "keys"
+    keys = work_dir / "keys"
     for command in ("replay", "live", "check", "quiet"):
         words = [command, "--load", str(keys)]
         for data, number, reason in cases:
             keys.write_bytes(data)
-            wants(explained(words, INIT), 2, f"hidlog: snapshot refused: {number}\n  {keys}: {reason}\n".encode(), b"")
+            check_result(
+                run_explained(words, INIT), 2, f"hidlog: snapshot refused: {number}\n  {keys}: {reason}\n".encode(), b""
+            )
         keys.unlink()
         cannot = f"hidlog: cannot read snapshot\n  {keys}: No such file or directory (os error 2)\n"
-        wants(explained(words, INIT), 2, cannot.encode(), b"")
-        cannot = f"hidlog: cannot read snapshot\n  {room}: Is a directory (os error 21)\n"
-        wants(explained([command, "--load", str(room)], INIT), 2, cannot.encode(), b"")
+        check_result(run_explained(words, INIT), 2, cannot.encode(), b"")
+        cannot = f"hidlog: cannot read snapshot\n  {work_dir}: Is a directory (os error 21)\n"
+        check_result(run_explained([command, "--load", str(work_dir)], INIT), 2, cannot.encode(), b"")
         keys.write_bytes(whole)
         keys.chmod(0)
         cannot = f"hidlog: cannot read snapshot\n  {keys}: Permission denied (os error 13)\n"
-        room.chmod(0o755)
-        wants(explained(words, INIT, before=as_nobody), 2, cannot.encode(), b"")
+        work_dir.chmod(0o755)
+        check_result(run_explained(words, INIT, before=become_nobody), 2, cannot.encode(), b"")
         keys.chmod(0o644)
 
 
-def bad_lines_say_where(_: Path) -> None:
-    """A line that isn't a log line is told with the first byte that doesn't fit."""
+def test_invalid_lines_are_located(_: Path) -> None:
+    """An invalid log line is reported with its first invalid byte."""
     feed = "is a carriage return: lines end with a line feed alone (tr -d '\\r' drops the others)"
     letters = "a log line begins with >, <, t, p, k, s, # or ="
     words = "expected granted, denied or timeout"
@@ -290,7 +343,7 @@ def bad_lines_say_where(_: Path) -> None:
     cases = [
         (INIT.replace(b"\n", b"\r\n"), f"byte 133 {feed}"),
         (b"\r", f"byte 1 {feed}"),
-        (b"\xef\xbb\xbf# a log", "byte 1 begins a byte order mark: a log has none"),
+        (b"\xef\xbb\xbf# a log", "byte 1 is a byte order mark, which a log must not have"),
         (b"t 05", "byte 4 is '5': a time has no leading zero"),
         (b"t", "it ends after byte 1: expected a space"),
         (b"t ", "it ends after byte 2: expected a time in milliseconds"),
@@ -329,31 +382,31 @@ def bad_lines_say_where(_: Path) -> None:
     ]
     for line, reason in cases:
         for command in ("replay", "live", "check", "quiet", "show"):
-            wants(run([command], line + b"\n"), 1, b"hidlog: line 1: not a log line\n")
-            said = explained([command], line + b"\n")
-            wants(said, 1, f"hidlog: line 1: not a log line\n  {reason}\n".encode())
-    # The line is found after many others too, and before those that were read with it.
+            check_result(run([command], line + b"\n"), 1, b"hidlog: line 1: not a log line\n")
+            said = run_explained([command], line + b"\n")
+            check_result(said, 1, f"hidlog: line 1: not a log line\n  {reason}\n".encode())
+    # The line is also found after many others, and before those read in the same block.
     for front in (1, 3, 40, 5000):
         log = b"# a comment of some length, so that reads end within lines\n" * front + b"t 5x\nt 6y\n" + b"t 7\n" * 99
-        said = explained(["quiet"], log)
-        wants(
+        said = run_explained(["quiet"], log)
+        check_result(
             said,
             1,
             f"hidlog: line {front + 1}: not a log line\n  byte 4 is 'x': expected the end of the line\n".encode(),
         )
 
 
-def other_faults_have_no_reason(_: Path) -> None:
-    """A fault of another kind says nothing about lines that weren't played."""
+def test_other_errors_have_no_reason(_: Path) -> None:
+    """Errors of other kinds do not mention the lines that were not played."""
     said = (
         b"  the log has in line 1:\n    < 00000000 +0\n  the key sends no packet here\n"
         b"  no input comes before this packet\n"
     )
     different, long = b"< " + b"0" * 128 + b"\nt 5x\n", b"#" * 256 + b"\nt 5x\n"
-    wants(run(["check"], different), 1, b"hidlog: line 0: differs at packet 1\n", b"")
-    wants(explained(["check"], different), 1, b"hidlog: line 0: differs at packet 1\n" + said, b"")
-    for runs in (run, explained):
-        wants(runs(["replay"], long), 1, b"hidlog: line 1: longer than 255 bytes\n", b"")
+    check_result(run(["check"], different), 1, b"hidlog: line 0: differs at packet 1\n", b"")
+    check_result(run_explained(["check"], different), 1, b"hidlog: line 0: differs at packet 1\n" + said, b"")
+    for runs in (run, run_explained):
+        check_result(runs(["replay"], long), 1, b"hidlog: line 1: longer than 255 bytes\n", b"")
 
 
 # ---- streams that fail
@@ -362,24 +415,24 @@ def other_faults_have_no_reason(_: Path) -> None:
 WRITING_FAILED = b"hidlog: writing failed\n"
 
 
-def a_closed_pipe_is_told(room: Path) -> None:
-    """A standard output that nobody reads, as of `| head`, is a write that failed; with help the status is 2."""
+def test_closed_pipe_is_reported(work_dir: Path) -> None:
+    """If standard output is closed by its reader, as by `| head`, writing fails; for --help the status is 2."""
     for words, status in ((["replay"], 1), (["live"], 1), (["quiet"], 1), (["show"], 1), (["--help"], 2)):
         reader, writer = os.pipe()
         os.close(reader)
         said = subprocess.run([PROGRAM, *words], input=INIT * 9, stdout=writer, stderr=subprocess.PIPE)
         os.close(writer)
-        wants(said, status, WRITING_FAILED)
+        check_result(said, status, WRITING_FAILED)
     # In the midst of its output, too.
     script = '"$0" replay 2>"$1" <"$2" | head -1 >/dev/null; echo "${PIPESTATUS[0]}"'
-    (room / "log").write_bytes(INIT * 40_000)
-    words = ["bash", "-c", script, PROGRAM, str(room / "faults"), str(room / "log")]
+    (work_dir / "log").write_bytes(INIT * 40_000)
+    words = ["bash", "-c", script, PROGRAM, str(work_dir / "faults"), str(work_dir / "log")]
     assert subprocess.run(words, capture_output=True).stdout == b"1\n"
-    assert (room / "faults").read_bytes() == WRITING_FAILED
+    assert (work_dir / "faults").read_bytes() == WRITING_FAILED
 
 
-def a_full_output_says_so(_: Path) -> None:
-    """A standard output that can't be written to is told, explained with the reason; help too."""
+def test_full_output_is_reported(_: Path) -> None:
+    """An error of writing to standard output is reported, also for --help; the explained form has the reason."""
     full = b"  standard output: No space left on device (os error 28)\n"
     for words, status in ((["replay"], 1), (["check"], 1), (["show"], 1), (["--help"], 2), (["--version"], 2)):
         forms: list[list[str]] = [[]] if words[0].startswith("-") else [[], ["--explain"]]
@@ -389,19 +442,19 @@ def a_full_output_says_so(_: Path) -> None:
             if words == ["check"]:
                 assert said.returncode == 1 and said.stderr.startswith(b"hidlog: line 1: differs at packet 1\n"), said
             else:
-                wants(said, status, WRITING_FAILED + (full if more else b""))
+                check_result(said, status, WRITING_FAILED + (full if more else b""))
 
 
-def a_full_standard_error_changes_nothing(_: Path) -> None:
-    """A text that can't be written to standard error changes no status."""
+def test_full_standard_error_changes_nothing(_: Path) -> None:
+    """An error of writing to standard error does not change the exit status."""
     for words, status in ((["replay"], 1), (["replay", "--load", "/none"], 2), (["--what"], 2)):
         with open("/dev/full", "wb") as faults:
             said = subprocess.run([PROGRAM, *words], input=b"t 05\n", stdout=subprocess.PIPE, stderr=faults)
         assert said.returncode == status, f"{words}: {said.returncode}"
 
 
-def folders_on_standard_input(_: Path) -> None:
-    """A folder on standard input is told by each command, explained with the reason."""
+def test_directory_on_standard_input(_: Path) -> None:
+    """Each command reports that standard input is a directory; the explained form has the reason."""
     reason = b"  standard input: Is a directory (os error 21)\n"
     for command in ("replay", "live", "check", "quiet", "show"):
         for words, more in (([command], b""), ([command, "--explain"], reason)):
@@ -410,11 +463,11 @@ def folders_on_standard_input(_: Path) -> None:
                 said = subprocess.run([PROGRAM, *words], stdin=folder, capture_output=True)
             finally:
                 os.close(folder)
-            wants(said, 1, b"hidlog: line 1: reading failed\n" + more, b"")
+            check_result(said, 1, b"hidlog: line 1: reading failed\n" + more, b"")
 
 
-def failed_calls_are_not_made_again(_: Path) -> None:
-    """A read or a write that failed once is told, and made no more: EINTR and EAGAIN too. What came before isn't lost."""
+def test_failed_calls_are_not_repeated(_: Path) -> None:
+    """A failed read or write is reported and not repeated, even after EINTR or EAGAIN. Earlier output is not lost."""
     log = (EXAMPLES / "registration.log").read_bytes()
     lived = run(["live"], log).stdout
     for error, name in (
@@ -423,184 +476,187 @@ def failed_calls_are_not_made_again(_: Path) -> None:
     ):
         for when in (1, 2):
             said = run(["replay"], log, trace=["-e", f"inject=write:error={error}:when={when}"])
-            wants(said, 1, WRITING_FAILED)
+            check_result(said, 1, WRITING_FAILED)
             assert log.startswith(said.stdout) and said.stdout.count(b"= held") == 0, said
         for when in (1, 2, 5):
             said = run(["live"], log, trace=["-e", f"inject=write:error={error}:when={when}"])
-            wants(said, 1, WRITING_FAILED)
+            check_result(said, 1, WRITING_FAILED)
             assert lived.startswith(said.stdout) and said.stdout.count(b"> ") <= when, said
         said = run(["replay"], log, trace=["-e", f"inject=read:error={error}:when=1"])
-        wants(said, 1, b"hidlog: line 1: reading failed\n", b"")
+        check_result(said, 1, b"hidlog: line 1: reading failed\n", b"")
         said = run(["replay"], log, trace=["-e", f"inject=read:error={error}:when=2"])
         # All lines were read before, and each was played; only the counts are missing.
         lines = log.splitlines(keepends=True)[:-1]
         inputs = log.rpartition(b"= held")[0]
-        wants(said, 1, f"hidlog: line {len(lines) + 2}: reading failed\n".encode(), inputs)
+        check_result(said, 1, f"hidlog: line {len(lines) + 2}: reading failed\n".encode(), inputs)
         said = run(["replay", "--explain"], INIT, trace=["-e", f"inject=write:error={error}:when=1"])
-        wants(said, 1, WRITING_FAILED + f"  standard output: {name}\n".encode(), b"")
+        check_result(said, 1, WRITING_FAILED + f"  standard output: {name}\n".encode(), b"")
         said = run(["replay", "--explain"], INIT, trace=["-e", f"inject=read:error={error}:when=1"])
-        wants(said, 1, f"hidlog: line 1: reading failed\n  standard input: {name}\n".encode(), b"")
+        check_result(said, 1, f"hidlog: line 1: reading failed\n  standard input: {name}\n".encode(), b"")
 
 
 # ---- logs by their names
 
 
-def files_are_read_by_name(room: Path) -> None:
-    """A file that is named is played as it is on standard input, by each command; `-` is standard input."""
+def test_file_arguments(work_dir: Path) -> None:
+    """Each command gives the same result for a file argument as for standard input; `-` is standard input."""
     log = EXAMPLES / "registration.log"
     for words in (["replay"], ["live"], ["check"], ["quiet"], ["show"]):
         wanted = run(words, stdin=log)
-        wants(wanted, 0, b"")
+        check_result(wanted, 0, b"")
         assert wanted.stdout != b""
         for given in ([str(log)], ["-"], ["--", str(log)]):
             said = run([*words, *given], stdin=log if given == ["-"] else None)
-            wants(said, 0, b"", wanted.stdout)
-    odd = room / "-odd \u00e9.log"
-    odd.write_bytes(AGAIN.read_bytes())
+            check_result(said, 0, b"", wanted.stdout)
+    odd = work_dir / "-odd \u00e9.log"
+    odd.write_bytes(SIGN_IN_AGAIN.read_bytes())
     said = run(["check", "--load", str(SNAPSHOT), "--", str(odd)])
-    wants(said, 0, b"", run(["check", "--load", str(SNAPSHOT)], stdin=AGAIN).stdout)
+    check_result(said, 0, b"", run(["check", "--load", str(SNAPSHOT)], stdin=SIGN_IN_AGAIN).stdout)
 
 
-def bad_files_are_told(room: Path) -> None:
-    """A file that isn't there, a folder and an unreadable file are told with the path and the reason. The status is 1,
-    nothing is written, and a snapshot isn't looked at first."""
-    closed = room / "closed.log"
+def test_unreadable_files_are_reported(work_dir: Path) -> None:
+    """A missing file, a directory and an unreadable file are reported with the path and the reason. The status is 1,
+    nothing is written, and no snapshot is read first."""
+    closed = work_dir / "closed.log"
     closed.write_bytes(INIT)
     closed.chmod(0)
     cases = [
-        (f"{room}/none.log", "No such file or directory (os error 2)"),
-        (str(room), "Is a directory (os error 21)"),
+        (f"{work_dir}/none.log", "No such file or directory (os error 2)"),
+        (str(work_dir), "Is a directory (os error 21)"),
         (str(closed), "Permission denied (os error 13)"),
         ("", "No such file or directory (os error 2)"),
     ]
     for command in ("replay", "live", "check", "quiet", "show"):
         for path, reason in cases:
-            said = explained([command, path], before=as_nobody)
-            wants(said, 1, f"hidlog: cannot read log\n  {path}: {reason}\n".encode(), b"")
-    said = explained(["replay", "--load", "/none", f"{room}/none.log"])
+            said = run_explained([command, path], before=become_nobody)
+            check_result(said, 1, f"hidlog: cannot read log\n  {path}: {reason}\n".encode(), b"")
+    said = run_explained(["replay", "--load", "/none", f"{work_dir}/none.log"])
     assert said.returncode == 1 and said.stderr.startswith(b"hidlog: cannot read log\n"), said.stderr
 
 
-def faults_of_files_say_why(room: Path) -> None:
-    """A fault of a file that is named has the same text and reason as on standard input; of a failed read the path."""
-    log = room / "a.log"
+def test_file_errors_have_reasons(work_dir: Path) -> None:
+    """An error in a file argument has the same text and reason as on standard input; a failed read also has the
+    path."""
+    log = work_dir / "a.log"
     log.write_bytes(INIT + b"t 5\r\n")
     for command in ("replay", "live", "quiet", "show"):
-        wants(explained([command, str(log)]), 1, explained([command], stdin=log).stderr)
-    assert b"byte 4 is a carriage return" in explained(["show", str(log)]).stderr
+        check_result(run_explained([command, str(log)]), 1, run_explained([command], stdin=log).stderr)
+    assert b"byte 4 is a carriage return" in run_explained(["show", str(log)]).stderr
     reading = ["-P", str(log), "-e", "inject=read:error=EIO:when=1"]
-    wants(
-        explained(["replay", str(log)], trace=reading),
+    check_result(
+        run_explained(["replay", str(log)], trace=reading),
         1,
         f"hidlog: line 1: reading failed\n  {log}: Input/output error (os error 5)\n".encode(),
         b"",
     )
 
 
-# What is said of a log that has INIT alone.
-MISSING = """\
+# The result for a log with only INIT.
+MISSING_PACKET = """\
   in INIT 06 on channel ffffffff, from line 1
   the log has no packet here, up to line 2
   the key sends:
     < ffffffff INIT 17  nonce 0001020304050607 channel 00000001 version 2 device 1.0.0 capabilities 0c CBOR NMSG
-  line 1 completes the message, which is answered
-  the log has no packet of the key: hidlog replay plays a log of inputs, and check compares its result
+  line 1 completes the message
+  the log has no packets from the key; run `hidlog replay` first, then check its output
 """
 
 
-def several_are_checked(room: Path) -> None:
-    """`check` compares each file on a session of its own, and says of each what came of it; no other command does."""
+def test_several_logs_are_checked(work_dir: Path) -> None:
+    """`check` compares each file in a separate session, and prints a result for each; no other command takes
+    several."""
     good, again = EXAMPLES / "registration.log", EXAMPLES / "sign_in.log"
-    same = explained(["check"], stdin=good).stdout
-    more = explained(["check"], stdin=again).stdout
-    wants(
-        explained(["check", str(good), str(again), str(good)]),
+    same = run_explained(["check"], stdin=good).stdout
+    more = run_explained(["check"], stdin=again).stdout
+    check_result(
+        run_explained(["check", str(good), str(again), str(good)]),
         0,
         b"",
         f"{good}: ".encode() + same + f"{again}: ".encode() + more + f"{good}: ".encode() + same,
     )
-    differs, bad, none = room / "differs.log", room / "bad.log", room / "none.log"
+    differs, bad, none = work_dir / "differs.log", work_dir / "bad.log", work_dir / "none.log"
     differs.write_bytes(INIT + b"t 5\n")
     bad.write_bytes(b"t 5\nt 6x\n")
     told = (
-        f"{differs}: line 1: differs at packet 1\n{MISSING}"
+        f"{differs}: line 1: differs at packet 1\n{MISSING_PACKET}"
         f"{bad}: line 2: not a log line\n  byte 4 is 'x': expected the end of the line\n"
         f"hidlog: cannot read log\n  {none}: No such file or directory (os error 2)\n"
     )
     paths = [str(path) for path in (differs, bad, none, good)]
-    wants(explained(["check", *paths]), 1, told.encode(), f"{good}: ".encode() + same)
+    check_result(run_explained(["check", *paths]), 1, told.encode(), f"{good}: ".encode() + same)
     # Standard input may be one of them, and a snapshot is loaded for each.
-    loaded = explained(["check", "--load", str(SNAPSHOT)], stdin=AGAIN).stdout
-    said = explained(["check", "--load", str(SNAPSHOT), "-", str(AGAIN)], stdin=AGAIN)
-    wants(said, 0, b"", b"-: " + loaded + f"{AGAIN}: ".encode() + loaded)
-    mixed = explained(["check", str(good), "-", str(again)], again.read_bytes())
-    wants(mixed, 0, b"", f"{good}: ".encode() + same + b"-: " + more + f"{again}: ".encode() + more)
-    wants(
-        explained(["check", "--load", "/none", str(good), str(good)]),
+    loaded = run_explained(["check", "--load", str(SNAPSHOT)], stdin=SIGN_IN_AGAIN).stdout
+    said = run_explained(["check", "--load", str(SNAPSHOT), "-", str(SIGN_IN_AGAIN)], stdin=SIGN_IN_AGAIN)
+    check_result(said, 0, b"", b"-: " + loaded + f"{SIGN_IN_AGAIN}: ".encode() + loaded)
+    mixed = run_explained(["check", str(good), "-", str(again)], again.read_bytes())
+    check_result(mixed, 0, b"", f"{good}: ".encode() + same + b"-: " + more + f"{again}: ".encode() + more)
+    check_result(
+        run_explained(["check", "--load", "/none", str(good), str(good)]),
         2,
         b"hidlog: cannot read snapshot\n  /none: No such file or directory (os error 2)\n",
         b"",
     )
     for command in ("replay", "live", "quiet", "show"):
-        said = explained([command, str(good), str(again)])
+        said = run_explained([command, str(good), str(again)])
         assert said.returncode == 2 and b"unexpected argument" in said.stderr and said.stdout == b""
 
 
-def forms_are_shown(room: Path) -> None:
-    """`show --summary` and `show --json` say other things than lines, of a log with a fault too; with both words the
-    summary is JSON."""
+def test_show_forms(work_dir: Path) -> None:
+    """`show --summary` and `show --json` replace the lines, even for a log with an error; with both options the summary
+    is JSON."""
     log = EXAMPLES / "sign_in.log"
-    lines = explained(["show", str(log)]).stdout
-    summary = explained(["show", "--summary", str(log)])
-    wants(summary, 0, b"")
+    lines = run_explained(["show", str(log)]).stdout
+    summary = run_explained(["show", "--summary", str(log)])
+    check_result(summary, 0, b"")
     assert b"authenticatorGetAssertion" in summary.stdout and summary.stdout != lines
-    said = explained(["show", "--json", str(log)])
-    wants(said, 0, b"")
+    said = run_explained(["show", "--json", str(log)])
+    check_result(said, 0, b"")
     objects = [json.loads(line) for line in said.stdout.splitlines()]
     assert len(objects) > 20 and all(isinstance(row, dict) for row in objects)
-    said = explained(["show", "--summary", "--json", str(log)])
-    wants(said, 0, b"")
-    *closed, counts = [json.loads(line) for line in said.stdout.splitlines()]
+    said = run_explained(["show", "--summary", "--json", str(log)])
+    check_result(said, 0, b"")
+    first, *closed, counts = [json.loads(line) for line in said.stdout.splitlines()]
+    assert first == objects[0] == {"kind": "format", "format": 2}
     assert closed == [row for row in objects if row["kind"] == "transaction"] and counts["kind"] == "summary"
-    bad = room / "bad.log"
+    bad = work_dir / "bad.log"
     bad.write_bytes(log.read_bytes() + b"t 5x\n")
     count = len(bad.read_bytes().splitlines())
     told = f"hidlog: line {count}: not a log line\n  byte 4 is 'x': expected the end of the line\n".encode()
-    said = explained(["show", "--summary", str(bad)])
-    wants(said, 1, told, summary.stdout)
-    said = explained(["show", "--json", str(bad)])
-    wants(said, 1, told)
+    said = run_explained(["show", "--summary", str(bad)])
+    check_result(said, 1, told, summary.stdout)
+    said = run_explained(["show", "--json", str(bad)])
+    check_result(said, 1, told)
     assert [json.loads(line) for line in said.stdout.splitlines()][-1] not in objects
     for form in ("--summary", "--json"):
         with open("/dev/full", "wb") as out:
             ended = subprocess.run([PROGRAM, "show", form, str(log)], stdout=out, stderr=subprocess.PIPE)
-        wants(ended, 1, WRITING_FAILED)
+        check_result(ended, 1, WRITING_FAILED)
 
 
-KINDS = {
-    "packet", "tick", "presence", "key", "signature", "comment", "request", "answer", "transaction", "fault",
+OBJECT_KINDS = {
+    "format", "packet", "tick", "presence", "key", "signature", "comment", "request", "answer", "transaction", "fault",
 }  # fmt: skip
 
 
-def objects_of(log: bytes) -> list[dict[str, Any]]:
-    """Returns what `show --json` writes of a log. Each line is an object of a kind that the log format's page names."""
+def read_objects(log: bytes) -> list[dict[str, Any]]:
+    """Returns the output of `show --json`. Each line is an object of a kind documented in LOG_FORMAT.md."""
     shown = run(["show", "--json"], log).stdout
     objects = [json.loads(line) for line in shown.split(b"\n")[:-1]]
-    assert all(row["kind"] in KINDS for row in objects)
+    assert all(row["kind"] in OBJECT_KINDS for row in objects)
     return objects
 
 
-def shows_each_packet(log: bytes) -> None:
-    """Fails unless each packet before a fault has its object, in the log's order."""
-    objects = objects_of(log)
+def check_each_packet_shown(log: bytes) -> None:
+    """Fails unless each packet before an error has its object, in the log's order."""
+    objects = read_objects(log)
     fault: dict[str, Any] = next((row for row in objects if row["kind"] == "fault"), {})
     numbers = [number for number, line in enumerate(log.split(b"\n"), 1) if line[:1] in (b">", b"<")]
     before = [number for number in numbers if number < fault.get("line", len(log) + 1)]
     assert [row["line"] for row in objects if row["kind"] == "packet"] == before
 
 
-def changed(log: bytes, chance: random.Random) -> bytes:
-    """Returns a log with other digits in some packets, and a comment of any bytes after each input."""
+def change_digits(log: bytes, chance: random.Random) -> bytes:
+    """Returns a log with digits changed in some packets, and a comment of random bytes after each input."""
     lines = bytearray()
     for line in log.splitlines(keepends=True):
         if line[:1] in (b">", b"<") and chance.random() < 0.5:
@@ -612,58 +668,59 @@ def changed(log: bytes, chance: random.Random) -> bytes:
     return bytes(lines)
 
 
-def every_log_is_json(_: Path) -> None:
+def test_every_log_is_json(work_dir: Path) -> None:
     """`show --json` writes JSON, with an object for each packet, of every log, and of changed ones."""
-    folders = [EXAMPLES.glob("**/*.log"), (TOP / "conformance/sessions").glob("*/*.log")]
+    subprocess.run([TOP / "conformance/make.py", "--output", work_dir / "sessions"], check=True)
+    folders = [EXAMPLES.glob("**/*.log"), (work_dir / "sessions").glob("*/*.log")]
     logs = [path.read_bytes() for folder in folders for path in sorted(folder)]
     assert len(logs) > 700
     chance = random.Random(49)
-    made = [changed((EXAMPLES / "sign_in.log").read_bytes(), chance) for _ in range(60)]
+    made = [change_digits((EXAMPLES / "sign_in.log").read_bytes(), chance) for _ in range(60)]
     with ThreadPoolExecutor() as several:
-        list(several.map(shows_each_packet, [*logs, *made]))
+        list(several.map(check_each_packet_shown, [*logs, *made]))
 
 
-def a_full_output_ends_several(_: Path) -> None:
-    """Where standard output is full or closed, no further log is compared."""
+def test_full_output_stops_check(_: Path) -> None:
+    """If standard output is full or closed, no further log is compared."""
     good = str(EXAMPLES / "registration.log")
     with open("/dev/full", "wb") as out:
         said = subprocess.run([PROGRAM, "check", good, good, "/none"], stdout=out, stderr=subprocess.PIPE)
-    wants(said, 1, WRITING_FAILED)
+    check_result(said, 1, WRITING_FAILED)
 
 
-def many_files_take_no_memory(room: Path) -> None:
-    """A thousand logs are compared in the stack and the memory that one takes."""
-    log = room / "a.log"
+def test_many_files_need_no_memory(work_dir: Path) -> None:
+    """Comparing a thousand logs needs no more stack and memory than comparing one."""
+    log = work_dir / "a.log"
     log.write_bytes((EXAMPLES / "registration.log").read_bytes())
 
     def small() -> None:
-        resource.setrlimit(resource.RLIMIT_STACK, (STACK + 40_000, resource.RLIM_INFINITY))
+        resource.setrlimit(resource.RLIMIT_STACK, (STACK_BYTES + 40_000, resource.RLIM_INFINITY))
         resource.setrlimit(resource.RLIMIT_AS, (24 << 20, 24 << 20))
 
     said = run(["check", *[str(log)] * 1000], before=small)
     assert said.returncode == 0 and said.stderr == b"" and len(said.stdout.splitlines()) == 1000, said
 
 
-def the_named_log_is_kept(room: Path) -> None:
+def test_named_log_is_not_overwritten(work_dir: Path) -> None:
     """--save onto the log that is named is refused, also by another name of it."""
-    log, link = room / "log", room / "link"
+    log, link = work_dir / "log", work_dir / "link"
     log.write_bytes(INIT)
     os.symlink(log, link)
     for path in (log, link):
-        lost = lacks(room, str(path), "it is the log, which would be lost")
-        wants(explained(["live", "--save", str(path), str(log)]), 2, lost, b"")
-        said = explained(["replay", "--save", str(path), str(log)])
+        lost = check_no_file(work_dir, str(path), "it is the input log")
+        check_result(run_explained(["live", "--save", str(path), str(log)]), 2, lost, b"")
+        said = run_explained(["replay", "--save", str(path), str(log)])
         assert said.returncode == 2 and said.stderr == lost and said.stdout.startswith(INIT)
         assert log.read_bytes() == INIT
     # What isn't the log may be saved to, whatever standard input is.
-    keys = room / "keys"
+    keys = work_dir / "keys"
     keys.write_bytes(b"old")
-    wants(explained(["replay", "--save", str(keys), str(log)], stdin=keys), 0, b"")
+    check_result(run_explained(["replay", "--save", str(keys), str(log)], stdin=keys), 0, b"")
     assert keys.read_bytes() == bytes.fromhex("a201020280")
 
 
-def at_a_terminal(words: Sequence[str], typed: bytes) -> bytes:
-    """Returns what the program says on standard error where standard input is a terminal at which this is typed."""
+def run_at_terminal(words: Sequence[str], typed: bytes) -> bytes:
+    """Returns standard error of the program, with a text typed at its terminal as standard input."""
     terminal, end = os.openpty()
     with subprocess.Popen([PROGRAM, *words], stdin=end, stdout=subprocess.DEVNULL, stderr=subprocess.PIPE) as program:
         os.close(end)
@@ -674,24 +731,24 @@ def at_a_terminal(words: Sequence[str], typed: bytes) -> bytes:
     return faults
 
 
-def a_terminal_is_told(_: Path) -> None:
-    """Where standard input is a terminal and no file is named, it is said once what is awaited, if it is explained."""
-    awaited = b"hidlog: reads a log from the terminal, up to Ctrl-D\n"
+def test_terminal_prompt(_: Path) -> None:
+    """If standard input is a terminal, the explained form prints once that the program waits for input."""
+    awaited = b"hidlog: reading a log from the terminal; end it with Ctrl-D\n"
     for words in (["replay"], ["live"], ["check"], ["quiet"], ["show"], ["show", "-"]):
-        assert at_a_terminal([*words, "--explain"], b"t 5\nt 6\n") == awaited, words
-        assert at_a_terminal(words, b"t 5\nt 6\n") == b"", words
-    assert at_a_terminal(["show", "--explain", str(AGAIN)], b"") == b""
-    assert at_a_terminal(["--help"], b"") == b""
+        assert run_at_terminal([*words, "--explain"], b"t 5\nt 6\n") == awaited, words
+        assert run_at_terminal(words, b"t 5\nt 6\n") == b"", words
+    assert run_at_terminal(["show", "--explain", str(SIGN_IN_AGAIN)], b"") == b""
+    assert run_at_terminal(["--help"], b"") == b""
 
 
 # ---- what it takes
 
 
-def little_stack_is_enough(_: Path) -> None:
+def test_little_stack_is_enough(_: Path) -> None:
     """Each command runs in the stack that docs/use/LIMITS.md names."""
 
     def small() -> None:
-        resource.setrlimit(resource.RLIMIT_STACK, (STACK, resource.RLIM_INFINITY))
+        resource.setrlimit(resource.RLIMIT_STACK, (STACK_BYTES, resource.RLIM_INFINITY))
 
     log = (EXAMPLES / "registration.log").read_bytes()
     for words in (
@@ -705,61 +762,66 @@ def little_stack_is_enough(_: Path) -> None:
         ["show", "--json"],
         ["show", "--summary", "--json"],
     ):
-        wants(run(words, log, before=small), 0, b"")
-    wants(run(["replay", "--load", str(SNAPSHOT)], AGAIN.read_bytes(), before=small), 0, b"")
-    # What differs is said there, too.
+        check_result(run(words, log, before=small), 0, b"")
+    check_result(run(["replay", "--load", str(SNAPSHOT)], SIGN_IN_AGAIN.read_bytes(), before=small), 0, b"")
+    # This includes a difference.
     bob = str(EXAMPLES / "failing/bob.snapshot")
-    for name, loaded in (("counter_stays", ()), ("wrong_snapshot", ("--load", bob))):
-        said = explained(["check", "--all", *loaded], stdin=EXAMPLES / f"failing/{name}.log", before=small)
+    for name, loaded in (("stale_sign_count", ()), ("wrong_snapshot", ("--load", bob))):
+        said = run_explained(["check", "--all", *loaded], stdin=EXAMPLES / f"failing/{name}.log", before=small)
         assert said.returncode == 1 and b"  the key sends:\n" in said.stderr, said
         twice = [str(EXAMPLES / f"failing/{name}.log")] * 2
         said = run(["check", "--all", "--json", *loaded, *twice], before=small)
         assert said.returncode == 1 and said.stdout.count(b'"kind":"differences"') == 2, said
 
 
-class Skipped(Exception):
-    """Something is missing that a test needs."""
+class TestSkippedError(Exception):
+    """A dependency of a test is missing."""
 
 
-TRACED = {a_failed_write_keeps, faults_of_files_say_why, failed_calls_are_not_made_again, *held.TRACED}
+TRACED = {
+    test_failed_write_keeps_file,
+    test_file_errors_have_reasons,
+    test_failed_calls_are_not_repeated,
+    *output_buffering.TRACED,
+}
 TESTS = [
-    live_refuses_first,
-    live_needs_permission,
-    replay_refuses_last,
-    the_log_is_kept,
-    a_pipe_needs_its_reader,
-    saving_replaces,
-    a_failed_write_keeps,
-    a_full_disk_keeps,
-    two_at_once,
-    signals_save_nothing,
-    snapshots_are_refused_in_words,
-    bad_lines_say_where,
-    other_faults_have_no_reason,
-    a_closed_pipe_is_told,
-    a_full_output_says_so,
-    a_full_standard_error_changes_nothing,
-    folders_on_standard_input,
-    failed_calls_are_not_made_again,
-    files_are_read_by_name,
-    bad_files_are_told,
-    faults_of_files_say_why,
-    several_are_checked,
-    forms_are_shown,
-    every_log_is_json,
-    a_full_output_ends_several,
-    many_files_take_no_memory,
-    the_named_log_is_kept,
-    a_terminal_is_told,
-    little_stack_is_enough,
-    *held.TESTS,
-    *person.TESTS,
+    test_live_checks_save_first,
+    test_live_needs_permission,
+    test_replay_reports_save_last,
+    test_log_is_not_overwritten,
+    test_fifo_needs_reader,
+    test_saving_replaces_file,
+    test_failed_write_keeps_file,
+    test_full_disk_keeps_file,
+    test_concurrent_saves,
+    test_signals_save_nothing,
+    test_invalid_snapshots_are_reported,
+    test_invalid_lines_are_located,
+    test_other_errors_have_no_reason,
+    test_closed_pipe_is_reported,
+    test_full_output_is_reported,
+    test_full_standard_error_changes_nothing,
+    test_directory_on_standard_input,
+    test_failed_calls_are_not_repeated,
+    test_file_arguments,
+    test_unreadable_files_are_reported,
+    test_file_errors_have_reasons,
+    test_several_logs_are_checked,
+    test_show_forms,
+    test_every_log_is_json,
+    test_full_output_stops_check,
+    test_many_files_need_no_memory,
+    test_named_log_is_not_overwritten,
+    test_terminal_prompt,
+    test_little_stack_is_enough,
+    *output_buffering.TESTS,
+    *explain_output.TESTS,
     *saving.TESTS,
 ]
 
 
-def tried(test: Callable[[Path], None]) -> Optional[str]:
-    """Runs a test in a folder of its own. Returns what is wrong, if anything is."""
+def run_test(test: Callable[[Path], None]) -> Optional[str]:
+    """Runs a test in a new folder. Returns its error, if any."""
     if test in TRACED and shutil.which("strace") is None:
         print(f"skipped  {test.__name__}: strace is missing")
         return None
@@ -767,7 +829,7 @@ def tried(test: Callable[[Path], None]) -> Optional[str]:
         Path(folder).chmod(0o755)
         try:
             test(Path(folder))
-        except Skipped as missing:
+        except TestSkippedError as missing:
             print(f"skipped  {test.__name__}: {missing}")
         except (AssertionError, subprocess.TimeoutExpired) as wrong:
             return str(wrong)
@@ -777,7 +839,7 @@ def tried(test: Callable[[Path], None]) -> Optional[str]:
 def main() -> int:
     failed = 0
     for test in TESTS:
-        wrong = tried(test)
+        wrong = run_test(test)
         if wrong is not None:
             print(f"FAILED   {test.__name__}: {wrong}")
             failed += 1

@@ -1,4 +1,4 @@
-"""Runs of the program that the tests of this folder share."""
+"""Functions to run the program, shared by the tests of this folder."""
 
 from __future__ import annotations
 
@@ -14,11 +14,11 @@ TOP = Path(__file__).resolve().parents[2]
 PROGRAM = str(Path(sys.argv[1]).resolve() if len(sys.argv) > 1 else TOP / "release/hidlog")
 EXAMPLES = TOP / "examples"
 SNAPSHOT = EXAMPLES / "example_com.snapshot"
-AGAIN = EXAMPLES / "sign_in_again.log"
+SIGN_IN_AGAIN = EXAMPLES / "sign_in_again.log"
 INIT = b"> 0 " + b"ffffffff8600080001020304050607".ljust(128, b"0") + b"\n"
 COUNTS = b"= held 0 rows 0 pending 0 requests 0 bytes 0 steps 0\n"
 # What docs/use/LIMITS.md says of the program, with the arguments and the environment that lie on it.
-STACK = 144 << 10
+STACK_BYTES = 144 << 10
 
 Said = subprocess.CompletedProcess[bytes]
 
@@ -41,7 +41,7 @@ def run(
         return subprocess.run(command, stdin=file, capture_output=True, preexec_fn=before, timeout=600)
 
 
-def explained(
+def run_explained(
     words: Sequence[str],
     log: bytes = b"",
     *,
@@ -61,7 +61,8 @@ def explained(
 
 
 def run_in_parts(words: Sequence[str], log: bytes, part: int) -> Said:
-    """Runs the program on a log through a pipe, so many bytes at a time, each part once the one before was read."""
+    """Runs the program on a log through a pipe, in parts of `part` bytes, each written once the previous one was
+    read."""
     with subprocess.Popen(
         [PROGRAM, *words], stdin=subprocess.PIPE, stdout=subprocess.PIPE, stderr=subprocess.PIPE, bufsize=0
     ) as program:
@@ -69,7 +70,7 @@ def run_in_parts(words: Sequence[str], log: bytes, part: int) -> Said:
         for start in range(0, len(log), part):
             try:
                 program.stdin.write(log[start : start + part])
-                while program.poll() is None and unread(program.stdin.fileno()):
+                while program.poll() is None and count_unread(program.stdin.fileno()):
                     time.sleep(0.0002)
             except BrokenPipeError:
                 break
@@ -77,14 +78,14 @@ def run_in_parts(words: Sequence[str], log: bytes, part: int) -> Said:
         return Said(program.args, program.returncode, output, faults)
 
 
-def unread(pipe: int) -> int:
+def count_unread(pipe: int) -> int:
     """Returns how many bytes of a pipe wait for its reader."""
     count = fcntl.ioctl(pipe, termios.FIONREAD, bytes(4))
     return int.from_bytes(count, sys.byteorder)
 
 
-def wants(said: Said, status: int, faults: bytes, output: Optional[bytes] = None) -> None:
-    """Fails unless the program ended so, and said so."""
+def check_result(said: Said, status: int, faults: bytes, output: Optional[bytes] = None) -> None:
+    """Fails unless the exit status and the message are as expected."""
     assert said.returncode == status, f"status {said.returncode} and not {status}: {said.stderr!r}"
     assert said.stderr == faults, f"said {said.stderr!r} and not {faults!r}"
     if output is not None:

@@ -1,6 +1,6 @@
 /*
- * A library to be preloaded: each read, write, send and receive of more than
- * one byte is of half of it, as the system may do at any call.
+ * A library for LD_PRELOAD: each read, write, send and receive of more than
+ * one byte transfers half of it, as the system may do at any call.
  */
 #define _GNU_SOURCE
 #include <sys/socket.h>
@@ -8,23 +8,23 @@
 #include <sys/types.h>
 #include <unistd.h>
 
-static size_t half(size_t size) {
+static size_t halve(size_t size) {
     return size - size / 2;
 }
 
 ssize_t read(int file, void *data, size_t size) {
-    return syscall(SYS_read, file, data, half(size));
+    return syscall(SYS_read, file, data, halve(size));
 }
 
 ssize_t write(int file, const void *data, size_t size) {
-    return syscall(SYS_write, file, data, half(size));
+    return syscall(SYS_write, file, data, halve(size));
 }
 
 ssize_t send(int file, const void *data, size_t size, int flags) {
-    return syscall(SYS_sendto, file, data, half(size), flags, NULL, 0);
+    return syscall(SYS_sendto, file, data, halve(size), flags, NULL, 0);
 }
 
 ssize_t recv(int file, void *data, size_t size, int flags) {
-    /* Bytes that are only looked at stay for the next call. */
-    return syscall(SYS_recvfrom, file, data, half(size), flags, NULL, NULL);
+    /* With MSG_PEEK, too: the bytes stay for the next call. */
+    return syscall(SYS_recvfrom, file, data, halve(size), flags, NULL, NULL);
 }

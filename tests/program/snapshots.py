@@ -8,11 +8,13 @@ from __future__ import annotations
 
 import ctypes
 from pathlib import Path
-from typing import Optional
+from typing import Optional, Tuple, Union
 
-from running import COUNTS, TOP, explained, run
+from running import COUNTS, TOP, run, run_explained
 
 NOT_SNAPSHOT, TOO_MANY, ROW_BROKEN = 1, 2, 3
+# The number of a refusal, and how its reason may begin.
+Refusal = Tuple[int, Union[str, Tuple[str, ...]]]
 # The SHA-256 hash of `example.com`, the id without its last byte, the coordinates, and the head of a user handle.
 RP_AND_ID = b"\x01\x58\x20" + bytes.fromhex("a379a6f6eeafb9a55e378c118034e2751e682fab9f2d30ab13d2125586ce1947")
 RP_AND_ID += b"\x02\x58\x20" + b"\xaa" * 31
@@ -22,56 +24,61 @@ OLD, OLD_NAMED = b"\xa2\x01\x01\x02\x81\xa7", b"\xa2\x01\x01\x02\x81\xa8"
 UNNAMED, NAMED = b"\xa2\x01\x02\x02\x81\xa7", b"\xa2\x01\x02\x02\x81\xa8"
 
 
-def row(last_of_id: int, user: int, rest: bytes) -> bytes:
+def make_row(last_of_id: int, user: int, rest: bytes) -> bytes:
     """Returns a row's members, with what is after its user handle."""
     return RP_AND_ID + bytes([last_of_id]) + COORDINATES + bytes([user]) + rest
 
 
-def one(heads: bytes, rest: bytes) -> bytes:
+def make_snapshot(heads: bytes, rest: bytes) -> bytes:
     """Returns a snapshot of a row."""
-    return heads + row(0xAA, 1, rest)
+    return heads + make_row(0xAA, 1, rest)
 
 
-SPENT = b"\x06\xf5\x07\x1a\xff\xff\xff\xff"
-TWICE = b"\xa2\x01\x01\x02\x82" + (b"\xa7" + row(0xAA, 1, SPENT)) * 2
-MANY = b"\xa2\x01\x01\x02\x98\x41" + (b"\xa7" + row(0xAA, 1, SPENT)) * 65
-NONE, BROKEN = (NOT_SNAPSHOT, "it"), (ROW_BROKEN, "credential 1")
-# Snapshots, each with the number of its fault and what that is said of, or None where it is loaded. The last two have
+EXHAUSTED_COUNTER = b"\x06\xf5\x07\x1a\xff\xff\xff\xff"
+DUPLICATE_ROWS = b"\xa2\x01\x01\x02\x82" + (b"\xa7" + make_row(0xAA, 1, EXHAUSTED_COUNTER)) * 2
+TOO_MANY_ROWS = b"\xa2\x01\x01\x02\x98\x41" + (b"\xa7" + make_row(0xAA, 1, EXHAUSTED_COUNTER)) * 65
+MESSAGE_SUBJECTS = ("it is", "the snapshot is", "unsupported version")
+NONE, BROKEN = (NOT_SNAPSHOT, MESSAGE_SUBJECTS), (ROW_BROKEN, "credential 1")
+# Snapshots, each with the number of its error and the subject, or None if it is loaded. The last two have
 # names of 64 and 65 bytes.
-LOADED: list[tuple[bytes, Optional[tuple[int, str]]]] = [
+LOADED: list[tuple[bytes, Optional[Refusal]]] = [
     (b"\xa0", NONE),
     (b"\xa2\x01\x00\x02\x80", NONE),
     (b"\xa2\x01\x03\x02\x80", NONE),
     (b"\xa2\x01\x01\x02\x80\x00", NONE),
     (b"\xa2\x01\x01\x02\x80", None),
     (b"\xa2\x01\x02\x02\x80", None),
-    (one(OLD_NAMED, b"\x06\xf5\x07\x00\x08\x60"), BROKEN),
-    (one(UNNAMED, b"\x06\xf5\x07\x00"), BROKEN),
-    (one(OLD, b"\x06\xf5\x07\x1b\x00\x00\x00\x01\x00\x00\x00\x00"), BROKEN),
-    (one(OLD, b"\x06\xf5\x07\x18\x05"), NONE),
-    (one(NAMED, b"\x06\xf5\x07\x00\x08\x40"), BROKEN),
-    (TWICE, (ROW_BROKEN, "credential 2")),
-    (MANY, (TOO_MANY, "it")),
-    (one(NAMED, b"\x06\xf5\x07\x00\x08\x78\x40" + b"a" * 64), None),
-    (one(NAMED, b"\x06\xf5\x07\x00\x08\x78\x41" + b"a" * 65), BROKEN),
+    (make_snapshot(OLD_NAMED, b"\x06\xf5\x07\x00\x08\x60"), BROKEN),
+    (make_snapshot(UNNAMED, b"\x06\xf5\x07\x00"), BROKEN),
+    (make_snapshot(OLD, b"\x06\xf5\x07\x1b\x00\x00\x00\x01\x00\x00\x00\x00"), BROKEN),
+    (make_snapshot(OLD, b"\x06\xf5\x07\x18\x05"), NONE),
+    (make_snapshot(NAMED, b"\x06\xf5\x07\x00\x08\x40"), BROKEN),
+    (DUPLICATE_ROWS, (ROW_BROKEN, "credential 2")),
+    (TOO_MANY_ROWS, (TOO_MANY, "more than 64")),
+    (make_snapshot(NAMED, b"\x06\xf5\x07\x00\x08\x78\x40" + b"a" * 64), None),
+    (make_snapshot(NAMED, b"\x06\xf5\x07\x00\x08\x78\x41" + b"a" * 65), BROKEN),
 ]
 # Snapshots of a row, and as what each is saved: one of version 1 as one of version 2, which is saved as itself, with a
 # name too.
 SAVED = [
-    (one(OLD, SPENT), one(NAMED, SPENT + b"\x08\x60")),
-    (one(NAMED, SPENT + b"\x08\x60"), one(NAMED, SPENT + b"\x08\x60")),
-    (one(NAMED, b"\x06\xf5\x07\x00\x08\x61\x62"), one(NAMED, b"\x06\xf5\x07\x00\x08\x61\x62")),
+    (make_snapshot(OLD, EXHAUSTED_COUNTER), make_snapshot(NAMED, EXHAUSTED_COUNTER + b"\x08\x60")),
+    (make_snapshot(NAMED, EXHAUSTED_COUNTER + b"\x08\x60"), make_snapshot(NAMED, EXHAUSTED_COUNTER + b"\x08\x60")),
+    (make_snapshot(NAMED, b"\x06\xf5\x07\x00\x08\x61\x62"), make_snapshot(NAMED, b"\x06\xf5\x07\x00\x08\x61\x62")),
 ]
-# The bytes before the first of two rows, the rows, and how many bytes one has.
-HEADS = b"\xa2\x01\x02\x02\x82"
-TWO = (
-    HEADS + b"\xa8" + row(0xAA, 1, b"\x06\xf5\x07\x00\x08\x61b") + b"\xa8" + row(0xAB, 2, b"\x06\xf5\x07\x00\x08\x61c")
+# The bytes before the first of two rows, the rows, and the length of a row.
+TWO_ROWS_HEAD = b"\xa2\x01\x02\x02\x82"
+TWO_ROWS = (
+    TWO_ROWS_HEAD
+    + b"\xa8"
+    + make_row(0xAA, 1, b"\x06\xf5\x07\x00\x08\x61b")
+    + b"\xa8"
+    + make_row(0xAB, 2, b"\x06\xf5\x07\x00\x08\x61c")
 )
-ROW = 151
-# Where a row's id ends, counted from the row's first byte, and where its user handle is.
+ROW_BYTES = 151
+# Offsets in a row: the last byte of the credential ID, and the user handle.
 LAST_OF_ID, USER = 70, 143
 # What may be at places of a row: the first and the last place, counted from the row's first byte, the least and the
-# greatest byte, and whether a row may have them. With any other byte the text is no snapshot.
+# greatest byte, and whether a row may have them. With any other byte the text is not a snapshot.
 CHANGES = [
     # The row is an array; the first key is 0.
     (0, 0, 0x90, 0x90, False),
@@ -115,7 +122,7 @@ CHANGES = [
 
 
 class Outcome(ctypes.Structure):
-    """struct hidlog_outcome of hidlog.h."""
+    """struct hidlog_result of hidlog.h."""
 
     _fields_ = [
         ("status", ctypes.c_uint32),
@@ -126,19 +133,19 @@ class Outcome(ctypes.Structure):
     ]
 
 
-def expected(place: int, byte: int) -> Optional[tuple[int, str]]:
-    """Returns what is said of the two rows with such a byte at a place, or None where they are loaded."""
+def expected_error(place: int, byte: int) -> Optional[Refusal]:
+    """Returns the error for the two rows with this byte at a position, or None if they are loaded."""
     # In version 1 rows have no names.
     if place == 2 and byte == 1:
         return BROKEN
-    if place < len(HEADS):
+    if place < len(TWO_ROWS_HEAD):
         return NONE
-    number, within = divmod(place - len(HEADS), ROW)
+    number, within = divmod(place - len(TWO_ROWS_HEAD), ROW_BYTES)
     # The other row has this id, or this user handle.
     if (within, byte) in ((LAST_OF_ID, 0xAB - number), (USER, 2 - number)):
         return ROW_BROKEN, "credential 2"
     # The name, of one byte.
-    if within == ROW - 1 and byte < 0x80:
+    if within == ROW_BYTES - 1 and byte < 0x80:
         return None
     for first, last, least, most, holds in CHANGES:
         if first <= within <= last and least <= byte <= most:
@@ -146,10 +153,10 @@ def expected(place: int, byte: int) -> Optional[tuple[int, str]]:
     return NONE
 
 
-def loads(room: Path, text: bytes, wanted: Optional[tuple[int, str]], rows: int) -> None:
-    """Fails unless the program loads so many rows, or refuses the snapshot with this number and says it of that."""
-    (room / "old").write_bytes(text)
-    words = ["replay", "--load", str(room / "old")]
+def check_load(work_dir: Path, text: bytes, wanted: Optional[Refusal], rows: int) -> None:
+    """Fails unless the program loads this number of rows, or rejects the snapshot with this error and its subject."""
+    (work_dir / "old").write_bytes(text)
+    words = ["replay", "--load", str(work_dir / "old")]
     said = run(words)
     if wanted is None:
         assert said.returncode == 0 and said.stderr == b"", f"{text.hex()}: {said.stderr!r}"
@@ -158,37 +165,40 @@ def loads(room: Path, text: bytes, wanted: Optional[tuple[int, str]], rows: int)
     front = f"hidlog: snapshot refused: {wanted[0]}\n".encode()
     assert said.returncode == 2 and said.stdout == b"", f"{text.hex()} is loaded"
     assert said.stderr == front, f"{text.hex()}: {said.stderr!r}"
-    front += f"  {room / 'old'}: {wanted[1]} ".encode()
-    assert explained(words).stderr.startswith(front), f"{text.hex()}: {said.stderr!r}"
+    reasons = wanted[1] if isinstance(wanted[1], tuple) else (wanted[1],)
+    fronts = tuple(front + f"  {work_dir / 'old'}: {reason} ".encode() for reason in reasons)
+    assert run_explained(words).stderr.startswith(fronts), f"{text.hex()}: {said.stderr!r}"
 
 
-def snapshots_are_loaded_or_refused(room: Path) -> None:
-    """Texts that are no snapshots, too many rows, and rows that are broken."""
+def test_snapshots_are_loaded_or_refused(work_dir: Path) -> None:
+    """Bytes that are not snapshots, too many rows, and invalid rows."""
     for text, wanted in LOADED:
-        loads(room, text, wanted, text.count(COORDINATES))
+        check_load(work_dir, text, wanted, text.count(COORDINATES))
 
 
-def snapshots_are_saved_as_version_2(room: Path) -> None:
+def test_snapshots_are_saved_as_version_2(work_dir: Path) -> None:
     """A snapshot of either version is saved as one of version 2."""
     for old, new in SAVED:
-        (room / "old").write_bytes(old)
-        said = run(["replay", "--load", str(room / "old"), "--save", str(room / "new")])
+        (work_dir / "old").write_bytes(old)
+        said = run(["replay", "--load", str(work_dir / "old"), "--save", str(work_dir / "new")])
         assert said.returncode == 0 and said.stderr == b"", said.stderr.decode()
         assert said.stdout == COUNTS.replace(b"rows 0", b"rows 1"), said.stdout.decode()
-        assert (room / "new").read_bytes() == new, f"{old.hex()} is saved as {(room / 'new').read_bytes().hex()}"
+        assert (
+            work_dir / "new"
+        ).read_bytes() == new, f"{old.hex()} is saved as {(work_dir / 'new').read_bytes().hex()}"
 
 
-def each_byte_of_a_snapshot_changed(room: Path) -> None:
-    """Two rows with each byte changed to each other value; with the first of each range the program says of which row."""
-    assert len(TWO) == len(HEADS) + 2 * ROW
-    check = ctypes.CDLL(str(TOP / "release/libhidlog.so.0")).hidlog_check
+def test_each_byte_of_snapshot_changed(work_dir: Path) -> None:
+    """Two rows with each byte changed to each other value; for the first of each range, the program reports the row."""
+    assert len(TWO_ROWS) == len(TWO_ROWS_HEAD) + 2 * ROW_BYTES
+    check = ctypes.CDLL(str(TOP / "release/libhidlog.so.1")).hidlog_check
     check.restype = None
     size, outcome = ctypes.c_size_t, Outcome()
-    text, out = ctypes.create_string_buffer(TWO, len(TWO)), ctypes.create_string_buffer(64)
-    words = [b"", size(0), text, size(len(TWO)), out, size(64), ctypes.byref(outcome)]
-    for place, old in enumerate(TWO):
+    text, out = ctypes.create_string_buffer(TWO_ROWS, len(TWO_ROWS)), ctypes.create_string_buffer(64)
+    words = [b"", size(0), text, size(len(TWO_ROWS)), out, size(64), ctypes.byref(outcome)]
+    for place, old in enumerate(TWO_ROWS):
         for byte in range(256):
-            wanted = None if byte == old else expected(place, byte)
+            wanted = None if byte == old else expected_error(place, byte)
             text[place] = bytes([byte])
             check(*words)
             told = (outcome.status, outcome.fault)
@@ -196,6 +206,6 @@ def each_byte_of_a_snapshot_changed(room: Path) -> None:
         text[place] = bytes([old])
     for number in range(2):
         for first, _, least, _, _ in CHANGES:
-            place = len(HEADS) + ROW * number + first
-            changed = TWO[:place] + bytes([least]) + TWO[place + 1 :]
-            loads(room, changed, None if changed == TWO else expected(place, least), 2)
+            place = len(TWO_ROWS_HEAD) + ROW_BYTES * number + first
+            changed = TWO_ROWS[:place] + bytes([least]) + TWO_ROWS[place + 1 :]
+            check_load(work_dir, changed, None if changed == TWO_ROWS else expected_error(place, least), 2)

@@ -1,6 +1,4 @@
-"""Cases that are made from tables, and those that have characters that can't be seen.
-
-Each is a text as cases.txt has it. The tables are those of CTAP 2.1, RFC 8949 and docs/use/LOG_FORMAT.md.
+"""Cases generated from tables, and cases with invisible characters, in the format of cases.txt. The tables are those of CTAP 2.1, RFC 8949 and docs/use/LOG_FORMAT.md.
 """
 
 from __future__ import annotations
@@ -119,7 +117,7 @@ CTAPHID = {
 # Texts with the characters at both ends of each range that is escaped, as bytes of CBOR, between those beside them that
 # aren't: control characters, line breaks, Unicode's Default_Ignorable_Code_Point (DerivedCoreProperties.txt), U+2800, and
 # U+FFF9 to U+FFFB, which mark what is beside a text.
-HIDDEN = """\
+INVISIBLE_CHARACTERS = """\
 66c280c29fc2a0 \\u0080\\u009f\u00a0
 66c2acc2adc2ae \u00ac\\u00ad\u00ae
 66cd8ecd8fcd90 \u034e\\u034f\u0350
@@ -177,7 +175,7 @@ a320f441abf5612ff6 {-1: false, h'ab': true, "/": null}
 """
 
 # Requests of one packet, 05 a command that has no name. Faults are counted from the byte after the first one.
-REQUESTS = """\
+REQUEST_CASES = """\
 2d 2d
 01 01  authenticatorMakeCredential
 0500 05 0
@@ -192,21 +190,21 @@ ff1805 ff fault 3 at 0  NotShortest: a number or a length that has a shorter enc
 0561ff 05 fault 7 at 0  NotUtf8: a text that isn't UTF-8
 """
 
-# Lines with characters that can't be seen, and of 255 and 256 bytes.
-LINES = [
+# Lines with invisible characters, and lines of 255 and 256 bytes.
+LINE_CASES = [
     "1 hidlog replay --explain\n-t 5\r\n?hidlog: line 1: not a log line\n"
     "?  byte 4 is a carriage return: lines end with a line feed alone (tr -d '\\r' drops the others)",
     "1 hidlog replay --explain\n-\r\n?hidlog: line 1: not a log line\n"
     "?  byte 1 is a carriage return: lines end with a line feed alone (tr -d '\\r' drops the others)",
-    "1 hidlog replay --explain\n-\ufefft 5\n?hidlog: line 1: not a log line\n?  byte 1 begins a byte order mark: a log has none",
+    "1 hidlog replay --explain\n-\ufefft 5\n?hidlog: line 1: not a log line\n?  byte 1 is a byte order mark, which a log must not have",
     "1 hidlog replay --explain\n|t 5\n-\x20\n?hidlog: line 2: not a log line\n?  byte 1 is ' ': a log line begins with >, <, t, p, k, s, # or =",
     f"0 hidlog replay\n|{'#' * 255}\n!\n+{COUNTS}",
     f"1 hidlog replay\n-{'#' * 256}\n!\n?hidlog: line 1: longer than 255 bytes",
     f"1 hidlog replay --explain\n-{'x' * 255}\n!\n?hidlog: line 1: not a log line\n?  byte 1 is 'x': a log line begins with >, <, t, p, k, s, # or =",
     f"1 hidlog replay\n-{'x' * 256}\n!\n?hidlog: line 1: longer than 255 bytes",
 ]
-# Of what `live` reads, comments that say what was needed before are dropped, and no others.
-COMMENTS = [
+# From its input, `live` drops the comments about needs, and no others.
+COMMENT_CASES = [
     "0 hidlog live\n|#\n|#\x20\n|# need\n|# needs\n|#need key\n|# Need key\n|# signed\n|# signedness\n|#  need key\n"
     f"|# a need\n+{COUNTS}",
     "0 hidlog live\n-# need\x20\n-# need nothing\n-# need more\n-# need\x20\x20\n-# signed\x20\n-# signed 00\n-# signed xx\n"
@@ -214,61 +212,62 @@ COMMENTS = [
     "-# need\x20\n-# need nothing\n-# need more\n-# need\x20\x20\n-# signed\x20\n-# signed 00\n-# signed xx\n!\n"
     f"+{COUNTS}",
 ]
-# Comments as they are shown.
-SHOWN = [
+# Comments, and how they are shown.
+SHOW_CASES = [
     '0 hidlog show --explain\n-# alice "registers" \\ \x1b[31m\x9b\u202e\u2066\ufeff\U000e0041ü\n-#\n'
     '+1 # alice "registers" \\ \\u001b[31m\\u009b\\u202e\\u2066\\ufeff\\u{0e0041}ü\n+2 #',
     '0 hidlog show --json\n-# "a" \\ \x1b\x9b\u202eü\U000e0041\n'
+    '+{"kind":"format","format":2}\n'
     '+{"line":1,"kind":"comment","text":"# \\"a\\" \\\\ \\u001b\\u009b\\u202eü\\udb40\\udc41"}',
 ]
 
 
-def rows(table: str) -> Iterator[tuple[str, str]]:
+def iter_rows(table: str) -> Iterator[tuple[str, str]]:
     """Yields the first word of each line, and the rest."""
     for line in table.rstrip("\n").split("\n"):
         first, _, rest = line.partition(" ")
         yield first, rest
 
 
-def named(name: str) -> str:
-    """Returns what is written for a name at a line's end."""
+def format_named(name: str) -> str:
+    """Returns the output for a name at the end of a line."""
     return f"  {name}" if name else ""
 
 
-def message(data: str, shown: str) -> str:
+def message_case(data: str, shown: str) -> str:
     """Returns the case of a CBOR message of one packet of a host."""
     length = len(data) // 2
     return f"0 hidlog show --explain\n-> 0 0000000190{length:04x}{data}..\n+1 > 0 00000001 CBOR {length}\n+1   request {shown}"
 
 
-def long_message(length: int, end: str) -> str:
+def long_message_case(length: int, end: str) -> str:
     """Returns the case of a message of the key in 129 packets: a byte string of zeros after its first byte."""
     first = f"-< 0000000190{length:04x}0059{length - 4:04x}..\n+1 < 00000001 CBOR {length}\n"
     rest = (f"-< 00000001{number:02x}..\n+{number + 2} < 00000001 +{number}\n" for number in range(128))
     return ("0 hidlog show --explain\n" + first + "".join(rest) + end).rstrip("\n")
 
 
-def made() -> Iterator[str]:
+def iter_cases() -> Iterator[str]:
     """Yields the cases."""
-    for number, name in rows(STATUSES):
+    for number, name in iter_rows(STATUSES):
         head = f"0 hidlog show --explain\n-< 00000001900001{number}..\n+1 < 00000001 CBOR 1\n"
-        yield f"{head}+1   answer {number}{named(name)}"
-    for number, name in rows(COMMANDS):
-        yield message(number, number + named(name))
-    for number, name in rows(ERRORS):
-        yield f"0 hidlog show --explain\n-< 00000001bf0001{number}..\n+1 < 00000001 ERROR 1 {number}{named(name)}"
+        yield f"{head}+1   answer {number}{format_named(name)}"
+    for number, name in iter_rows(COMMANDS):
+        yield message_case(number, number + format_named(name))
+    for number, name in iter_rows(ERRORS):
+        yield f"0 hidlog show --explain\n-< 00000001bf0001{number}..\n+1 < 00000001 ERROR 1 {number}{format_named(name)}"
     for command in range(128):
         shown = CTAPHID.get(command, f"0x{command:02x} 65535")
         yield f"0 hidlog show --explain\n-< 0123abcd{command | 128:02x}ffffa0..\n+1 < 0123abcd {shown}"
-    for item, text in rows(HIDDEN):
-        yield message(f"05{item}", f'05 "{text}"')
-    for item, text in rows(ITEMS):
-        yield message(f"05{item}", f"05 {text}")
-    for request, text in rows(REQUESTS):
-        yield message(request, text)
-    yield long_message(7609, f"+129   answer 00 h'{'0' * 15210}'  CTAP2_OK")
-    yield long_message(7610, "")
-    yield from [*LINES, *COMMENTS, *SHOWN]
+    for item, text in iter_rows(INVISIBLE_CHARACTERS):
+        yield message_case(f"05{item}", f'05 "{text}"')
+    for item, text in iter_rows(ITEMS):
+        yield message_case(f"05{item}", f"05 {text}")
+    for request, text in iter_rows(REQUEST_CASES):
+        yield message_case(request, text)
+    yield long_message_case(7609, f"+129   answer 00 h'{'0' * 15210}'  CTAP2_OK")
+    yield long_message_case(7610, "")
+    yield from [*LINE_CASES, *COMMENT_CASES, *SHOW_CASES]
     # Words that move a terminal's cursor or turn the line around: ESC, and RIGHT-TO-LEFT OVERRIDE.
     yield (
         "2 hidlog --a\x1b[2J\u202eb\n?error: unexpected argument '--a\\u001b[2J\\u202eb' found\n?\n"

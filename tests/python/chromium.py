@@ -1,4 +1,4 @@
-"""Chromium, driven by chromedriver, at a page of http://localhost that has the key of web/dist in a script."""
+"""Chromium, driven by chromedriver, with a page on http://localhost that loads the key of web/dist."""
 
 from __future__ import annotations
 
@@ -16,22 +16,22 @@ from http.server import BaseHTTPRequestHandler, ThreadingHTTPServer
 from pathlib import Path
 from typing import Any
 
-SCRIPT = Path(os.environ["HIDLOG_EXAMPLES"]).parent / "web" / "dist" / "security_key.js"
+KEY_SCRIPT = Path(os.environ["HIDLOG_EXAMPLES"]).parent / "web" / "dist" / "security_key.js"
 
 
 class Page(BaseHTTPRequestHandler):
-    """An empty page, and the script of the key in a page."""
+    """Serves an empty page, and the key's script for pages."""
 
     def do_GET(self) -> None:
-        """Answers any path."""
+        """Responds to any path."""
         is_script = self.path == "/security_key.js"
         self.send_response(200)
         self.send_header("Content-Type", "text/javascript" if is_script else "text/html")
         self.end_headers()
-        self.wfile.write(SCRIPT.read_bytes() if is_script else b'<script src="security_key.js"></script>')
+        self.wfile.write(KEY_SCRIPT.read_bytes() if is_script else b'<script src="security_key.js"></script>')
 
     def log_message(self, *_: Any) -> None:
-        """Says nothing of each request."""
+        """Does not log requests."""
 
 
 class Driver:
@@ -45,7 +45,7 @@ class Driver:
         self.url += f"/{started['sessionId']}"
 
     def call(self, path: str, given: Any, method: str = "POST") -> Any:
-        """Calls a command of WebDriver and returns its value."""
+        """Runs a WebDriver command, and returns its value."""
         body = json.dumps(given).encode() if method == "POST" else None
         kind = {"Content-Type": "application/json"}
         request = urllib.request.Request(self.url + path, body, kind, method=method)
@@ -53,7 +53,7 @@ class Driver:
             return json.load(answer)["value"]
 
     def devtools(self, command: str, **parameters: Any) -> Any:
-        """Calls a command of DevTools."""
+        """Sends a DevTools command."""
         return self.call("/goog/cdp/execute", {"cmd": command, "params": parameters})
 
     def run(self, script: str, *words: Any, waits: bool = False) -> Any:
@@ -62,7 +62,7 @@ class Driver:
 
 
 def wait_for(port: int) -> None:
-    """Waits up to a minute until something listens at a port of this machine."""
+    """Waits up to a minute for a listener on a local port."""
     for _ in range(600):
         try:
             socket.create_connection(("127.0.0.1", port)).close()
@@ -72,14 +72,14 @@ def wait_for(port: int) -> None:
     raise TimeoutError(f"nothing listens at port {port}")
 
 
-def is_there() -> bool:
+def is_installed() -> bool:
     """Returns whether chromedriver is installed."""
     return shutil.which("chromedriver") is not None
 
 
 @contextmanager
 def page() -> Iterator[Driver]:
-    """Returns a page of a secure origin."""
+    """Provides a page with a secure origin."""
     server = ThreadingHTTPServer(("127.0.0.1", 0), Page)
     threading.Thread(target=server.serve_forever, daemon=True).start()
     with socket.socket() as free:

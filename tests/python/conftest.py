@@ -1,7 +1,6 @@
-"""What the tests share: both forms of the key, and the examples.
+"""Shared fixtures: keys in this process and in a separate one, and the examples.
 
-Tests of python-fido2's client and server are left out where it is missing; some are for version 0.9 alone, whose
-interface they use.
+Tests with python-fido2's client and server are ignored if it is missing; some need the interface of version 0.9.
 """
 
 from __future__ import annotations
@@ -16,8 +15,8 @@ import hidlog
 from hidlog import core
 
 pytest_plugins = ["pytester"]
-OF_ANY_VERSION = ["test_fido2.py"]
-OF_VERSION_0_9 = ["test_key.py", "test_state.py", "test_json.py", "test_chromium_json.py"]
+FIDO2_TESTS = ["test_fido2.py"]
+FIDO2_0_9_TESTS = ["test_key.py", "test_state.py", "test_json.py", "test_chromium_json.py"]
 collect_ignore: list[str] = []
 try:
     from fido2 import __version__ as fido2_version
@@ -26,16 +25,16 @@ except ImportError:
     try:
         import fido2  # noqa: F401
     except ImportError:
-        collect_ignore += OF_ANY_VERSION
+        collect_ignore += FIDO2_TESTS
 if not fido2_version.startswith("0.9"):
-    collect_ignore += OF_VERSION_0_9
-# The form over the C library is tested where the library has a key that is held.
-FORMS = [True, *([False] if core.has_held_key() else [])]
+    collect_ignore += FIDO2_0_9_TESTS
+# Keys in this process are tested if the C library supports them.
+PROCESS_OPTIONS = [True, *([False] if core.supports_in_process() else [])]
 
 
-@pytest.fixture(params=FORMS, ids=lambda it: "process" if it else "library")
+@pytest.fixture(params=PROCESS_OPTIONS, ids=lambda item: "process" if item else "library")
 def make(request: pytest.FixtureRequest) -> Iterator[Callable[..., hidlog.SecurityKey]]:
-    """Gives a function that makes a key in a form. At the end each recording has to be what the key sends."""
+    """Provides a function that creates a key. At the end, each recording must match what the key sends."""
     keys = []
 
     def made(**options: Any) -> hidlog.SecurityKey:
@@ -52,5 +51,5 @@ def make(request: pytest.FixtureRequest) -> Iterator[Callable[..., hidlog.Securi
 
 @pytest.fixture
 def example() -> Callable[[str], bytes]:
-    """Gives a function that reads a file of examples/."""
+    """Provides a function that reads a file of examples/."""
     return lambda name: Path(os.environ["HIDLOG_EXAMPLES"], name).read_bytes()

@@ -1,15 +1,17 @@
 #!/usr/bin/env bash
-# Runs the package where its users have it: tests/python/environments.sh [CACHE [PART ..]], by default each part
+# Tests the package in the environments of its users: tests/python/environments.sh [CACHE [PART ..]], by default all
+# parts
 #
-#     fido2          none of it, and versions 0.9, 1.2 and 2.2 (Debian's bookworm, trixie and sid): the suite of
-#                    ceremonies, and examples/python, where a warning is an error
-#     pythons        each of 3.9 to 3.13 that is there: pip installs the wheel into an empty environment, which signs in
-#     musl           a C client with the wheel's library, loaded by musl's loader, plays a sign-in again
+#     fido2          without python-fido2, and with versions 0.9, 1.2 and 2.2 (Debian's bookworm, trixie and sid): the
+#                    tests of ceremonies, and examples/python, with warnings as errors
+#     pythons        each installed Python of 3.9 to 3.13: pip installs the wheel into an empty environment, which signs
+#                    in
+#     musl           a C client with the wheel's library, loaded by musl's loader, replays a sign-in
 #     aarch64        pip installs the wheel for aarch64 under qemu, and it signs in there
 #
-# What isn't installed is downloaded from Debian into CACHE, and unpacked there; nothing of it is installed. With
-# HIDLOG_OFFLINE=1 nothing is downloaded. What is missing is skipped by name. The last line is `N passed, N failed, N
-# skipped`. HIDLOG_PYTHONS names the interpreters, by default those of the path and of pyenv.
+# Missing packages are downloaded from Debian into CACHE and unpacked there, not installed; with HIDLOG_OFFLINE=1
+# nothing is downloaded. Parts with missing dependencies are skipped by name. The last line is `N passed, N failed, N
+# skipped`. HIDLOG_PYTHONS lists the interpreters [default: those in PATH and of pyenv].
 set -uo pipefail
 here=$(cd "$(dirname "${BASH_SOURCE[0]}")" && pwd)
 top=$(cd "$here/../.." && pwd)
@@ -21,59 +23,59 @@ cache=$(cd "$cache" && pwd)
 system=/usr/bin/python3
 debian=/usr/lib/python3/dist-packages
 export PYTHONDONTWRITEBYTECODE=1 HIDLOG_EXAMPLES=$top/examples
-unset PYTHONPATH HIDLOG HIDLOG_LIBRARY
+unset PYTHONPATH HIDLOG_PROGRAM HIDLOG_LIBRARY
 passed=0
 failed=0
 skipped=0
 tried=
 
-ok() {
+report_ok() {
     echo "ok       $*"
     passed=$((passed + 1))
 }
 
-skip() {
+report_skipped() {
     echo "skipped  $*"
     skipped=$((skipped + 1))
 }
 
-# Runs a command, and prints the end of what it wrote where it fails: attempt TITLE COMMAND ..
-attempt() {
-    if "${@:2}" >"$work/said" 2>&1 </dev/null; then
-        ok "$1: $(tail -1 "$work/said")"
+# Runs a command, and prints the end of its output if it fails: run_case TITLE COMMAND ..
+run_case() {
+    if "${@:2}" >"$work/output" 2>&1 </dev/null; then
+        report_ok "$1: $(tail -1 "$work/output")"
     else
         echo "FAILED   $1"
-        sed 's/^/    /' "$work/said" | tail -30
+        sed 's/^/    /' "$work/output" | tail -30
         failed=$((failed + 1))
     fi
 }
 
-# Calls apt-get for a suite of Debian and a processor, in folders of CACHE: apt SUITE PROCESSOR WORD ..
-apt() {
-    local room=$cache/apt-$1-$2
-    mkdir -p "$room/lists/partial" "$room/archives/partial"
+# Runs apt-get for a Debian suite and a processor, with directories in CACHE: run_apt_get SUITE PROCESSOR ARG ..
+run_apt_get() {
+    local folder=$cache/apt-$1-$2
+    mkdir -p "$folder/lists/partial" "$folder/archives/partial"
     printf '%s\n' "deb [signed-by=/usr/share/keyrings/debian-archive-keyring.gpg] http://deb.debian.org/debian $1 main" \
         "deb-src [signed-by=/usr/share/keyrings/debian-archive-keyring.gpg] http://deb.debian.org/debian $1 main" \
-        >"$room/sources.list"
-    apt-get -qq -o "Dir::Etc::sourcelist=$room/sources.list" -o Dir::Etc::sourceparts=/dev/null \
-        -o "Dir::State::lists=$room/lists" -o "Dir::Cache=$room" -o "APT::Architecture=$2" \
+        >"$folder/sources.list"
+    apt-get -qq -o "Dir::Etc::sourcelist=$folder/sources.list" -o Dir::Etc::sourceparts=/dev/null \
+        -o "Dir::State::lists=$folder/lists" -o "Dir::Cache=$folder" -o "APT::Architecture=$2" \
         -o "APT::Architectures=$2" -o APT::Sandbox::User=root "${@:3}" >/dev/null 2>&1
 }
 
-# Unpacks packages into a folder of CACHE, once: unpack FOLDER SUITE PROCESSOR PACKAGE ..
-unpack() {
+# Unpacks packages into a directory of CACHE, once: unpack_packages DIR SUITE PROCESSOR PACKAGE ..
+unpack_packages() {
     local to=$cache/$1 name
     [ ! -e "$to/.whole" ] || return 0
     [ -z "${HIDLOG_OFFLINE-}" ] || return 1
     mkdir -p "$to/.debs"
-    (cd "$to/.debs" && apt "$2" "$3" update && apt "$2" "$3" download "${@:4}") || return 1
+    (cd "$to/.debs" && run_apt_get "$2" "$3" update && run_apt_get "$2" "$3" download "${@:4}") || return 1
     for name in "$to"/.debs/*.deb; do
         dpkg-deb -x "$name" "$to" || return 1
     done
     touch "$to/.whole"
 }
 
-# Links what tests need of Debian's packages, which is the same for each interpreter, into a folder.
+# Links modules of Debian's packages that do not depend on the interpreter into a directory.
 link_packages() {
     local name
     mkdir -p "$1"
@@ -82,63 +84,63 @@ link_packages() {
     done
 }
 
-# Prints the wheel of pip that an interpreter brings: in the module ensurepip, and Debian's own beside it.
-pip_of() {
+# Prints the path of the pip wheel that comes with an interpreter: in the module ensurepip, or Debian's own.
+find_pip_wheel() {
     "$1" -c 'import ensurepip, glob, os
 own = os.path.join(os.path.dirname(ensurepip.__file__), "_bundled", "pip-*.whl")
 print((glob.glob(own) + glob.glob("/usr/share/python-wheels/pip-*.whl"))[0])'
 }
 
-# Makes an empty environment with the wheel: environment FOLDER INTERPRETER . The interpreter runs its pip from the wheel,
-# since to put it into each environment takes longer than all the rest.
-environment() {
+# Creates an empty virtual environment with the wheel: create_environment DIR INTERPRETER. The interpreter runs pip from its
+# wheel, because installing pip into each environment would take longer than everything else.
+create_environment() {
     local pip
-    pip=$(pip_of "$2") && "$2" -m venv --without-pip "$1" &&
+    pip=$(find_pip_wheel "$2") && "$2" -m venv --without-pip "$1" &&
         PYTHONPATH=$pip "$1/bin/python" -m pip install --quiet --no-index --no-deps "$work"/dist/*x86_64.whl
 }
 
-# Runs the suite of ceremonies: ceremonies INTERPRETER WORD .. . Chromium is no part of it.
-ceremonies() {
+# Runs the tests of ceremonies, without Chromium: run_ceremony_tests INTERPRETER ARG ..
+run_ceremony_tests() {
     (cd "$work/tests" && "$@" -m pytest -q -p no:cacheprovider -k "not chromium and not page" \
-        test_browser.py test_browser_cases.py test_threads.py test_mistakes.py test_readers.py)
+        test_browser.py test_browser_cases.py test_threads.py test_invalid_arguments.py test_readers.py)
 }
 
-# The suite of ceremonies, python-fido2's own client as a side of it, and the examples, beside a version.
-beside_fido2() {
+# Runs the tests of ceremonies, the comparison with python-fido2's client, and the examples, with one version of it.
+test_with_fido2_version() {
     local version=$1 path=$2 python=$work/system/bin/python
     export PYTHONPATH=$path
-    attempt "ceremonies with $version" ceremonies "$python" -W error
+    run_case "ceremonies with $version" run_ceremony_tests "$python" -W error
     if [ -n "$path" ]; then
-        attempt "$version as a side" bash -c 'cd "$1" && "$2" -m pytest -q -p no:cacheprovider test_fido2.py' _ "$work/tests" "$python"
-        attempt "examples with $version" "$python" -W error -m pytest -q -W error -p no:cacheprovider "$top/examples/python"
+        run_case "$version compared" bash -c 'cd "$1" && "$2" -m pytest -q -p no:cacheprovider test_fido2.py' _ "$work/tests" "$python"
+        run_case "examples with $version" "$python" -W error -m pytest -q -W error -p no:cacheprovider "$top/examples/python"
     fi
     unset PYTHONPATH
 }
 
-fido2() {
-    environment "$work/system" "$system" || return
+test_fido2() {
+    create_environment "$work/system" "$system" || return
     link_packages "$work/packages"
     ln -sfn "$debian"/_cffi_backend.*.so "$work/packages/"
     echo "$work/packages" >"$(echo "$work"/system/lib/python3*/site-packages)/packages.pth"
-    beside_fido2 "no python-fido2" ""
+    test_with_fido2_version "no python-fido2" ""
     tried=yes
     if [ -d "$debian/fido2" ]; then
         mkdir -p "$work/installed"
         ln -sfn "$debian/fido2" "$debian/six.py" "$work/installed/"
-        beside_fido2 "the python-fido2 that is installed" "$work/installed"
+        test_with_fido2_version "the python-fido2 that is installed" "$work/installed"
     fi
     local suite path
     for suite in trixie sid; do
-        if unpack "fido2-$suite" "$suite" amd64 python3-fido2 publicsuffix; then
+        if unpack_packages "fido2-$suite" "$suite" amd64 python3-fido2 publicsuffix; then
             path=$cache/fido2-$suite/usr/lib/python3/dist-packages
-            beside_fido2 "python-fido2 $(sed -n 's/^Version: //p' "$path"/fido2-*/METADATA)" "$path"
+            test_with_fido2_version "python-fido2 $(sed -n 's/^Version: //p' "$path"/fido2-*/METADATA)" "$path"
         else
-            skip "python-fido2 of $suite: Debian isn't reached, or HIDLOG_OFFLINE is set"
+            report_skipped "python-fido2 of $suite: Debian isn't reached, or HIDLOG_OFFLINE is set"
         fi
     done
 }
 
-interpreters() {
+list_interpreters() {
     if [ -n "${HIDLOG_PYTHONS-}" ]; then
         tr ':' '\n' <<<"$HIDLOG_PYTHONS"
         return
@@ -151,7 +153,7 @@ interpreters() {
     done
 }
 
-# Has the module that cryptography's bindings need for an interpreter: Debian's, or compiled from Debian's source of it.
+# Provides the module that cryptography's bindings need for an interpreter: Debian's, or compiled from Debian's source.
 compile_cffi() {
     local source=$cache/cffi-source name
     name=_cffi_backend$("$1" -c 'import sysconfig; print(sysconfig.get_config_var("EXT_SUFFIX"))')
@@ -162,66 +164,66 @@ compile_cffi() {
     if ! compgen -G "$source/cffi-*/c/_cffi_backend.c" >/dev/null; then
         [ -z "${HIDLOG_OFFLINE-}" ] || return 1
         mkdir -p "$source"
-        (cd "$source" && apt bookworm amd64 update && apt bookworm amd64 source --tar-only python-cffi &&
+        (cd "$source" && run_apt_get bookworm amd64 update && run_apt_get bookworm amd64 source --tar-only python-cffi &&
             tar -xf python-cffi_*.orig.tar.gz) || return 1
     fi
-    # Python 3.13 has another name for one function than this version of the source.
+    # Python 3.13 renamed a function that this version of the source uses.
     gcc '-D_PyErr_WriteUnraisableMsg(text, object)=PyErr_WriteUnraisable(object)' -shared -fPIC -O1 -w "-I$("$1" -c 'import sysconfig; print(sysconfig.get_paths()["include"])')" -DUSE__THREAD \
         -DHAVE_SYNC_SYNCHRONIZE -o "$2/$name" \
         "$source"/cffi-*/c/_cffi_backend.c -lffi
 }
 
-pythons() {
-    local python room
+test_pythons() {
+    local python venv
     while read -r python; do
-        room=$work/$("$python" -c 'import platform; print(platform.python_version())')
-        [ ! -e "$room" ] || continue
-        attempt "$(basename "$room") installs the wheel" environment "$room" "$python"
-        attempt "$(basename "$room") imports it and checks a log" "$room/bin/hidlog" check "$top/examples/sign_in.log"
-        attempt "$(basename "$room") checks a log by the library" "$room/bin/python" -c \
+        venv=$work/$("$python" -c 'import platform; print(platform.python_version())')
+        [ ! -e "$venv" ] || continue
+        run_case "$(basename "$venv") installs the wheel" create_environment "$venv" "$python"
+        run_case "$(basename "$venv") imports it and checks a log" "$venv/bin/hidlog" check "$top/examples/sign_in.log"
+        run_case "$(basename "$venv") checks a log by the library" "$venv/bin/python" -c \
             "import hidlog, sys; print(hidlog.check(open(sys.argv[1], 'rb').read()).raise_for_fault().text.decode())" \
             "$top/examples/sign_in.log"
-        if [ -n "${tried-}" ] && [ "$("$system" -c 'import platform; print(platform.python_version())')" = "$(basename "$room")" ]; then
+        if [ -n "${tried-}" ] && [ "$("$system" -c 'import platform; print(platform.python_version())')" = "$(basename "$venv")" ]; then
             continue # the suite ran with it above
         fi
-        link_packages "$room/packages"
-        if compile_cffi "$room/bin/python" "$room/packages" >"$work/said" 2>&1; then
-            echo "$room/packages" >"$(echo "$room"/lib/python3*/site-packages)/packages.pth"
-            attempt "$(basename "$room") signs in: the suite of ceremonies" ceremonies "$room/bin/python"
+        link_packages "$venv/packages"
+        if compile_cffi "$venv/bin/python" "$venv/packages" >"$work/output" 2>&1; then
+            echo "$venv/packages" >"$(echo "$venv"/lib/python3*/site-packages)/packages.pth"
+            run_case "$(basename "$venv") signs in: the tests of ceremonies" run_ceremony_tests "$venv/bin/python"
         else
-            skip "$(basename "$room") signs in: Debian has no cffi for it, and its source wasn't compiled"
+            report_skipped "$(basename "$venv") signs in: Debian has no cffi for it, and its source wasn't compiled"
         fi
-    done < <(interpreters)
+    done < <(list_interpreters)
 }
 
-musl() {
+test_musl() {
     if ! command -v musl-gcc >/dev/null; then
-        skip "musl: musl-gcc is missing (apt-get install musl-tools)"
+        report_skipped "musl: musl-gcc is missing (apt-get install musl-tools)"
         return
     fi
     mkdir -p "$work/musl"
     (cd "$work/musl" && unzip -q -o "$work"/dist/*x86_64.whl 'hidlog/*')
-    attempt "musl links a client with the wheel's library" musl-gcc -O1 -I "$top/release" -o "$work/musl/client" \
-        "$top/tests/c/key.c" "$work/musl/hidlog/libhidlog.so.0" "-Wl,-rpath,$work/musl/hidlog"
-    attempt "musl's loader takes it, and it signs in: $(readelf -p .interp "$work/musl/client" | grep -o '/lib.*')" \
+    run_case "musl links a client with the wheel's library" musl-gcc -O1 -I "$top/release" -o "$work/musl/client" \
+        "$top/tests/c/key.c" "$work/musl/hidlog/libhidlog.so.1" "-Wl,-rpath,$work/musl/hidlog"
+    run_case "musl's loader takes it, and it signs in: $(readelf -p .interp "$work/musl/client" | grep -o '/lib.*')" \
         bash -c '"$1" <"$2" | cmp - "$2" && echo "a session as it was recorded"' _ "$work/musl/client" "$top/examples/sign_in.log"
 }
 
-aarch64() {
+test_aarch64() {
     local root=$cache/aarch64 wheels
     wheels=$(echo /usr/share/python-wheels/pip-*.whl)
     if ! command -v qemu-aarch64-static >/dev/null || [ ! -e "$wheels" ]; then
-        skip "aarch64: qemu-user-static or python3-venv is missing"
-    elif ! unpack aarch64 bookworm arm64 libc6 libgcc-s1 libpython3.11-minimal libpython3.11-stdlib python3.11-minimal \
+        report_skipped "aarch64: qemu-user-static or python3-venv is missing"
+    elif ! unpack_packages aarch64 bookworm arm64 libc6 libgcc-s1 libpython3.11-minimal libpython3.11-stdlib python3.11-minimal \
         python3.11 libssl3 zlib1g libexpat1 libffi8 liblzma5 libbz2-1.0 libuuid1 libsqlite3-0 libcrypt1 \
         python3-cryptography python3-cffi-backend; then
-        skip "aarch64: Debian isn't reached, or HIDLOG_OFFLINE is set"
+        report_skipped "aarch64: Debian isn't reached, or HIDLOG_OFFLINE is set"
     else
         local python=(qemu-aarch64-static -L "$root" "$root/usr/bin/python3.11") to=$work/aarch64
-        attempt "aarch64 installs its wheel" env "PYTHONPATH=$wheels" "${python[@]}" -m pip install --quiet --no-index \
+        run_case "aarch64 installs its wheel" env "PYTHONPATH=$wheels" "${python[@]}" -m pip install --quiet --no-index \
             --no-deps --root-user-action=ignore --target "$to" "$work"/dist/*aarch64.whl
-        attempt "aarch64 signs in" env "PYTHONPATH=$to:$root$debian" "${python[@]}" "$work/tests/sign_in.py"
-        attempt "aarch64 has the program: $(qemu-aarch64-static "$to/hidlog/hidlog" --version)" \
+        run_case "aarch64 signs in" env "PYTHONPATH=$to:$root$debian" "${python[@]}" "$work/tests/sign_in.py"
+        run_case "aarch64 has the program: $(qemu-aarch64-static "$to/hidlog/hidlog" --version)" \
             qemu-aarch64-static "$to/hidlog/hidlog" check "$top/examples/sign_in.log"
     fi
 }
@@ -235,7 +237,7 @@ export HIDLOG_DIST=$work/dist
 parts=("${@:2}")
 [ ${#parts[@]} -gt 0 ] || parts=(fido2 pythons musl aarch64)
 for part in "${parts[@]}"; do
-    "$part"
+    "test_$part"
 done
 echo "$passed passed, $failed failed, $skipped skipped"
 [ "$failed" = 0 ]

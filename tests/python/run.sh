@@ -1,8 +1,8 @@
 #!/usr/bin/env bash
-# Tests the package hidlog as it is installed: makes the wheel, installs it into a new environment without the
-# toolchain, and runs the tests beside this there. Ends with 3 where a package of Debian is missing.
+# Tests the installed package hidlog: builds the wheel, installs it into a new virtual environment, and runs the tests
+# in this directory. Exits with 3 if a Debian package is missing.
 #
-#     tests/python/run.sh [WORD ..]        words for pytest, such as -k notes
+#     tests/python/run.sh [ARG ..]        arguments for pytest, such as -k notes
 set -euo pipefail
 tests=$(cd "$(dirname "${BASH_SOURCE[0]}")" && pwd)
 top=$tests/../..
@@ -16,9 +16,9 @@ trap 'rm -rf "$work"' EXIT
 "$top/python/build.sh" "$work/dist"
 "$python" -m venv --system-site-packages "$work/venv"
 "$work/venv/bin/pip" install --quiet --no-index --no-deps "$work"/dist/*x86_64.whl
-# The tests are run outside of the clone, so that only the installed package is found.
+# The tests run outside the clone, so that only the installed package is found.
 cp "$tests"/*.py "$tests"/*.json "$work"
 export HIDLOG_EXAMPLES=$top/examples HIDLOG_DIST=$work/dist
 export PYTHONDONTWRITEBYTECODE=1
 cd "$work"
-env -u PYTHONPATH -u HIDLOG -u HIDLOG_LIBRARY PATH="$work/venv/bin:/usr/bin:/bin" "$work/venv/bin/python" -m pytest -q -p no:cacheprovider "$@" .
+env -u PYTHONPATH -u HIDLOG_PROGRAM -u HIDLOG_LIBRARY PATH="$work/venv/bin:/usr/bin:/bin" "$work/venv/bin/python" -m pytest -q -p no:cacheprovider "$@" .

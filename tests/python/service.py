@@ -1,4 +1,4 @@
-"""A service and a browser of python-fido2, version 0.9."""
+"""A service and a browser with python-fido2 0.9."""
 
 from __future__ import annotations
 
@@ -12,11 +12,11 @@ from fido2.server import Fido2Server
 import hidlog
 
 ORIGIN = "https://example.com"
-REFUSED = ClientError.ERR
+REFUSED_ERROR = ClientError.ERR
 
 
 class Service:
-    """A service and a browser of python-fido2."""
+    """A service and a browser with python-fido2."""
 
     def __init__(self, key: hidlog.SecurityKey):
         self.key = key
@@ -26,14 +26,14 @@ class Service:
     def register(
         self, name: str = "alice", known: tuple[Any, ...] = (), discoverable: bool = True, **words: Any
     ) -> Any:
-        """Registers, and returns what the service keeps."""
+        """Registers, and returns the service's credential data."""
         user = {"id": name.encode(), "name": name, "displayName": name.title()}
         asked, state = self.server.register_begin(user, list(known), resident_key=discoverable)
         made = self.client.make_credential(asked["publicKey"], **words)
         return self.server.register_complete(state, made.client_data, made.attestation_object).credential_data
 
     def sign_in(self, credentials: list[Any], allowed: tuple[Any, ...] = (), account: int = 0, **words: Any) -> Any:
-        """Signs in, and returns the browser's answer, which the service found good."""
+        """Signs in, and returns the browser's response, verified by the service."""
         asked, state = self.server.authenticate_begin(list(allowed))
         found = self.client.get_assertion(asked["publicKey"], **words).get_response(account)
         parts = (found.client_data, found.authenticator_data, found.signature)
@@ -41,7 +41,7 @@ class Service:
         return found
 
 
-def assert_refused(code: int, status: int | None, ask: Callable[..., Any], *words: Any, **options: Any) -> None:
+def check_refused(code: int, status: int | None, ask: Callable[..., Any], *words: Any, **options: Any) -> None:
     with pytest.raises(ClientError) as caught:
         ask(*words, **options)
     assert (caught.value.code, getattr(caught.value.cause, "code", None)) == (code, status)

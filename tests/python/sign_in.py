@@ -1,4 +1,4 @@
-"""A registration and a sign-in with nothing but the package. Its recording has to be what the key sends."""
+"""A registration and a sign-in with only the package. The recording must match what the key sends."""
 
 import platform
 
@@ -17,5 +17,5 @@ with hidlog.SecurityKey(verification="verified") as key:
     made = browser.create(OPTIONS)
     found = browser.get({"challenge": OPTIONS["challenge"], "userVerification": "required"})
     assert found["id"] == made["id"]
-said = hidlog.check(key.log).raise_for_fault().text.decode().strip()
-print(platform.machine(), platform.python_version(), said)
+summary = hidlog.check(key.log).raise_for_fault().text.decode().strip()
+print(platform.machine(), platform.python_version(), summary)

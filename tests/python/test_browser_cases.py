@@ -1,15 +1,15 @@
-"""One table of registrations and sign-ins, browser_cases.json, on every side that is there.
+"""The cases of registrations and sign-ins in browser_cases.json, with all installed implementations.
 
-What Chromium's own virtual authenticator returns is the measure: it is recorded in browser_cases_chromium.json, which
-HIDLOG_RECORD_CASES=1 writes anew, and compared with a Chromium that is there. The members of a case:
+The expected results are those of Chromium's own virtual authenticator, in browser_cases_chromium.json. They are compared
+with an installed Chromium, and HIDLOG_RECORD_CASES=1 records them again. The members of a case:
 
-    call, options, without   what is called, and how its options differ from those at the table's beginning
-    raw                      options in the place of these
-    before                   registrations that come before; "$0" is the id of the first
+    call, options, without   the call, and how its options differ from those at the start of the table
+    raw                      options that replace these
+    before                   earlier registrations; "$0" is the ID of the first
     key, presence            options of the key, and what the user does
-    then                     "failed": after what comes before, the user fails verification
-    mediation, wrapped       the call's mediation; options inside of a member publicKey
-    differs                  why Chromium's authenticator returns something else
+    then                     "failed": after the earlier registrations, user verification fails
+    mediation, wrapped       the call's mediation; options in a member publicKey
+    differs                  why Chromium's authenticator returns a different result
 """
 
 from __future__ import annotations
@@ -21,26 +21,26 @@ from pathlib import Path
 from typing import Any
 
 import pytest
-from chromium import Driver, is_there, page
-from sides import CASES, TABLE, chromium, ours, page_key
+from chromium import Driver, is_installed, page
+from implementations import CASES, TABLE, run_with_chromium, run_with_package, run_with_page_key
 
-RECORD = os.environ.get("HIDLOG_RECORD_CASES")
+IS_RECORDING = os.environ.get("HIDLOG_RECORD_CASES")
 HERE = Path(__file__).parent
-RECORDED = HERE / "browser_cases_chromium.json"
-THEIRS: dict[str, Any] = {} if RECORD else json.loads(RECORDED.read_text(encoding="utf-8"))
+CHROMIUM_RESULTS_FILE = HERE / "browser_cases_chromium.json"
+CHROMIUM_RESULTS: dict[str, Any] = {} if IS_RECORDING else json.loads(CHROMIUM_RESULTS_FILE.read_text(encoding="utf-8"))
 
 
 @pytest.fixture(scope="module")
 def driver() -> Iterator[Driver]:
-    """A page with the key of web/dist in a script."""
-    if not is_there():
+    """Provides a page that loads the key of web/dist."""
+    if not is_installed():
         pytest.skip("chromedriver is missing (apt-get install chromium-driver)")
     with page() as made:
         yield made
 
 
 def is_compared(name: str) -> bool:
-    """Returns whether Chromium can be the measure: it has no user who denies."""
+    """Returns whether a case is compared with Chromium, whose user can't deny."""
     return "presence" not in CASES[name]
 
 
@@ -50,30 +50,30 @@ def test_the_table_is_large() -> None:
 
 @pytest.mark.parametrize("name", CASES)
 def test_the_browser(name: str) -> None:
-    ended = ours(CASES[name])
+    ended = run_with_package(CASES[name])
     if not is_compared(name):
         assert ended == {"error": "NotAllowedError"}
     elif "differs" in CASES[name]:
-        assert ended != THEIRS[name]
+        assert ended != CHROMIUM_RESULTS[name]
     else:
-        assert ended == THEIRS[name]
+        assert ended == CHROMIUM_RESULTS[name]
 
 
 def test_chromium_returns_what_is_recorded(driver: Driver) -> None:
-    found = {name: chromium(it, driver) for name, it in CASES.items() if is_compared(name)}
-    if RECORD:
-        lines = [f" {json.dumps(name)}: {json.dumps(it)}" for name, it in found.items()]
-        Path(RECORD).write_text("{\n" + ",\n".join(lines) + "\n}\n", encoding="utf-8")
-    assert {name: it for name, it in found.items() if it != THEIRS.get(name)} == {}
+    found = {name: run_with_chromium(case, driver) for name, case in CASES.items() if is_compared(name)}
+    if IS_RECORDING:
+        lines = [f" {json.dumps(name)}: {json.dumps(result)}" for name, result in found.items()]
+        Path(IS_RECORDING).write_text("{\n" + ",\n".join(lines) + "\n}\n", encoding="utf-8")
+    assert {name: it for name, it in found.items() if it != CHROMIUM_RESULTS.get(name)} == {}
 
 
 def test_the_key_in_a_page_returns_the_same(driver: Driver) -> None:
     different, missing = {}, {}
     for name, case in CASES.items():
-        theirs = page_key(case, driver)
+        theirs = run_with_page_key(case, driver)
         if isinstance(theirs, str):
             missing[name] = theirs
-        elif theirs != ours(case):
-            different[name] = (theirs, ours(case))
+        elif theirs != run_with_package(case):
+            different[name] = (theirs, run_with_package(case))
     assert different == {}
     assert len(missing) < len(CASES) / 8, missing

@@ -1,4 +1,4 @@
-"""A key with capacity for 256 credentials: the library that HIDLOG_LIBRARY names, in a process of its own."""
+"""A key for 256 credentials: the library in HIDLOG_LIBRARY, in a separate process."""
 
 from __future__ import annotations
 
@@ -10,8 +10,8 @@ from pathlib import Path
 
 import pytest
 
-LIBRARY = Path(os.environ["HIDLOG_EXAMPLES"]).resolve().parent / "release" / "libhidlog-256.so.0"
-PROGRAM = """
+LIBRARY = Path(os.environ["HIDLOG_EXAMPLES"]).resolve().parent / "release" / "libhidlog-256.so.1"
+SCRIPT = """
 import hidlog
 
 with hidlog.SecurityKey() as key:
@@ -22,7 +22,7 @@ with hidlog.SecurityKey() as key:
         key.credentials.add("example.com", b"one more")
         raise SystemExit("one more was added")
     except hidlog.ArgumentError as error:
-        assert str(error) == "the key holds 256 credentials, and that is the most", error
+        assert str(error) == "the key is full: it has 256 credentials", error
     saved = key.snapshot()
     with hidlog.SecurityKey(snapshot=saved, private_keys=key.private_keys) as other:
         assert len(other.credentials) == 256
@@ -34,9 +34,9 @@ with hidlog.SecurityKey() as key:
 """
 
 
-@pytest.mark.skipif(not LIBRARY.is_file() or platform.machine() != "x86_64", reason="libhidlog-256.so.0 isn't here")
+@pytest.mark.skipif(not LIBRARY.is_file() or platform.machine() != "x86_64", reason="libhidlog-256.so.1 isn't here")
 def test_a_key_holds_what_its_library_has_capacity_for() -> None:
     environment = {**os.environ, "HIDLOG_LIBRARY": str(LIBRARY)}
-    words = [sys.executable, "-c", PROGRAM]
+    words = [sys.executable, "-c", SCRIPT]
     ran = subprocess.run(words, env=environment, capture_output=True, text=True, check=False)
     assert ran.returncode == 0, ran.stderr

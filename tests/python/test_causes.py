@@ -1,4 +1,4 @@
-"""Why a key refuses, as errors say it. The sentences are those that hidlog.h's codes stand for, written by hand."""
+"""Causes of refusals in error messages. The expected texts of hidlog.h's codes are written by hand."""
 
 from __future__ import annotations
 
@@ -20,13 +20,13 @@ CBOR = 0x10
 
 
 def browser(**options: Any) -> tuple[SecurityKey, Browser]:
-    """A browser at https://example.com with a key."""
+    """Provides a browser at https://example.com with a key."""
     key = SecurityKey(**options)
     return key, Browser(key, "https://example.com")
 
 
-def _cause_in(caught: pytest.ExceptionInfo[hidlog.NotAllowedError]) -> str:
-    """The cause of the status that the DOM's error comes from."""
+def _get_cause(caught: pytest.ExceptionInfo[hidlog.NotAllowedError]) -> str:
+    """Returns the cause of the CTAP status behind a DOM error."""
     refused = caught.value.__cause__
     assert isinstance(refused, hidlog.CtapError)
     return refused.cause
@@ -36,7 +36,7 @@ def test_what_the_user_does() -> None:
     key, page = browser(presence="denied")
     with pytest.raises(hidlog.NotAllowedError, match="OPERATION_DENIED.*: the user refused$") as caught:
         page.create(CREATION)
-    assert _cause_in(caught) == "the user refused" == key.cause() == key.cause(0x27)
+    assert _get_cause(caught) == "the user refused" == key.cause() == key.cause(0x27)
     assert key.cause(0x2E) == ""
     key.presence = "timeout"
     with pytest.raises(hidlog.NotAllowedError, match=": the user did not respond in time$"):
@@ -66,7 +66,7 @@ def test_credentials_that_there_are_not() -> None:
             0x12,
             "the parameters are not canonical CBOR at byte 0: Reserved: a length that is reserved or indefinite",
         ),
-        (b"\x08", 0x30, "no assertion is pending"),
+        (b"\x08", 0x30, "no assertion is pending: none was left by an authenticatorGetAssertion before"),
     ],
 )
 def test_requests_that_fail_a_check(request_bytes: bytes, status: int, cause: str) -> None:
@@ -89,7 +89,7 @@ def test_a_fault_has_no_cause() -> None:
     key.faults.status = "KEY_STORE_FULL"
     with pytest.raises(hidlog.NotAllowedError) as caught:
         page.create(CREATION)
-    assert _cause_in(caught) == "" and not str(caught.value).endswith(":")
+    assert _get_cause(caught) == "" and not str(caught.value).endswith(":")
 
 
 def test_a_key_in_a_process_has_none() -> None:

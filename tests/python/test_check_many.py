@@ -1,4 +1,4 @@
-"""Many recordings over executors, with workers that die."""
+"""check_many with executors whose workers die."""
 
 from __future__ import annotations
 
@@ -18,18 +18,19 @@ import pytest
 
 import hidlog
 from hidlog.standard import STATUS_NAMES
-from hidlog.many import check_block
+from hidlog.batch_check import check_batch
 
 EXAMPLES = Path(os.environ["HIDLOG_EXAMPLES"])
-SAME = EXAMPLES / "registration.log"
+MATCHING_LOG = EXAMPLES / "registration.log"
 
 
 @pytest.fixture
 def recordings(tmp_path: Path) -> list[Path]:
-    """Gives 200 recordings: most are the same, some differ, are no log, or aren't there; one began with credentials."""
+    """Provides 200 recordings: most match, some mismatch, are not logs, or are missing; one started with
+    credentials."""
     paths = [tmp_path / f"{number:03}.log" for number in range(200)]
     for number, path in enumerate(paths):
-        log = SAME.read_bytes()
+        log = MATCHING_LOG.read_bytes()
         path.write_bytes(log.replace(b"\n< 0", b"\n< 1") if number % 7 == 0 else log if number % 11 else b"nothing\n")
     (tmp_path / "199.log").write_bytes((EXAMPLES / "service_after_restart.log").read_bytes())
     (tmp_path / "199.log.snapshot").write_bytes((EXAMPLES / "service.snapshot").read_bytes())
@@ -37,78 +38,78 @@ def recordings(tmp_path: Path) -> list[Path]:
     return paths
 
 
-def one_by_one(paths: list[Path]) -> list[tuple[str, str]]:
-    """Returns what the commands on single logs say, in a list of its own."""
+def check_each(paths: list[Path]) -> list[tuple[str, str]]:
+    """Returns the expected results, from checks of single logs."""
     listed: list[tuple[str, str]] = []
     for path in paths:
         beside = Path(f"{path}.snapshot")
         if not path.is_file():
-            listed.append((str(path), "unread"))
+            listed.append((str(path), "unreadable"))
             continue
         result = hidlog.check(path.read_bytes(), beside.read_bytes() if beside.is_file() else None)
-        listed.append((str(path), "same" if result.status == 0 else "differs"))
+        listed.append((str(path), "match" if result.status == 0 else "mismatch"))
     return listed
 
 
-def outcomes(found: Iterator[hidlog.Checked]) -> list[tuple[str, str]]:
-    return sorted((it.path, it.outcome) for it in found)
+def summarize(found: Iterator[hidlog.CheckResult]) -> list[tuple[str, str]]:
+    return sorted((result.path, result.outcome) for result in found)
 
 
 def test_executors(recordings: list[Path]) -> None:
-    wanted = one_by_one(recordings)
-    assert {it[1] for it in wanted} == {"same", "differs", "unread"}
+    wanted = check_each(recordings)
+    assert {item[1] for item in wanted} == {"match", "mismatch", "unreadable"}
     with ThreadPoolExecutor(3) as threads:
-        assert outcomes(hidlog.check_many(recordings, threads)) == wanted
-        assert outcomes(hidlog.check_many(recordings, threads, send=True, block=3, at_once=1)) == wanted
-    assert outcomes(hidlog.check_many(iter(recordings))) == wanted
+        assert summarize(hidlog.check_many(recordings, threads)) == wanted
+        assert summarize(hidlog.check_many(recordings, threads, send=True, block=3, at_once=1)) == wanted
+    assert summarize(hidlog.check_many(iter(recordings))) == wanted
 
 
 def test_a_worker_that_is_killed(recordings: list[Path]) -> None:
-    """Its recordings are tried again by another pool; in a pool that was handed in the check ends."""
+    """Its recordings are tried again in another pool. If the pool was passed in, the check ends."""
     pools: list[ProcessPoolExecutor] = []
 
     def pool() -> ProcessPoolExecutor:
         pools.append(ProcessPoolExecutor(2))
         return pools[-1]
 
-    def killing(found: Iterator[hidlog.Checked]) -> Iterator[hidlog.Checked]:
+    def killing(found: Iterator[hidlog.CheckResult]) -> Iterator[hidlog.CheckResult]:
         for number, it in enumerate(found):
             if number == 60:
                 os.kill(next(iter(pools[-1]._processes)), signal.SIGKILL)
             yield it
 
-    assert outcomes(killing(hidlog.check_many(recordings, pool, block=5, at_once=4))) == one_by_one(recordings)
+    assert summarize(killing(hidlog.check_many(recordings, pool, block=5, at_once=4))) == check_each(recordings)
     assert len(pools) == 2
-    with pytest.raises(BrokenExecutor, match="a function that makes"):
+    with pytest.raises(BrokenExecutor, match="a function that creates"):
         list(killing(hidlog.check_many(recordings, pool(), block=5, at_once=4)))
 
 
-def poisoned(block: list[Any]) -> list[hidlog.Checked]:
-    """Checks as a worker that dies of one recording."""
-    if any(it.path.endswith("077.log") for it in block):
+def die_on_recording(block: list[Any]) -> list[hidlog.CheckResult]:
+    """Checks a batch in a worker that dies on one recording."""
+    if any(item.path.endswith("077.log") for item in block):
         os.kill(os.getpid(), signal.SIGKILL)
-    return check_block(block)
+    return check_batch(block)
 
 
 def test_a_recording_that_kills_each_worker(recordings: list[Path], monkeypatch: pytest.MonkeyPatch) -> None:
-    monkeypatch.setattr("hidlog.many.check_block", poisoned)
+    monkeypatch.setattr("hidlog.batch_check.check_batch", die_on_recording)
     found = list(hidlog.check_many(recordings, lambda: ProcessPoolExecutor(2)))
-    assert sorted(it.path for it in found) == sorted(map(str, recordings))
-    assert [Path(it.path).name for it in found if it.outcome == "lost"] == ["077.log"]
+    assert sorted(result.path for result in found) == sorted(map(str, recordings))
+    assert [Path(item.path).name for item in found if item.outcome == "worker-lost"] == ["077.log"]
 
 
 def test_dask(recordings: list[Path]) -> None:
-    """Workers of Dask, of which one is killed."""
+    """Dask workers, one of which is killed."""
     distributed = pytest.importorskip("distributed")
     words = {"n_workers": 3, "threads_per_worker": 1, "processes": True, "dashboard_address": None}
     with distributed.LocalCluster(**words) as cluster, distributed.Client(cluster) as client:
         executor = client.get_executor(pure=False)
         found = []
-        for it in hidlog.check_many(recordings, executor, send=True, block=5, at_once=6):
-            found.append(it)
+        for item in hidlog.check_many(recordings, executor, send=True, block=5, at_once=6):
+            found.append(item)
             if len(found) == 60:
                 os.kill(sorted(client.run(os.getpid).values())[0], signal.SIGKILL)
-        assert outcomes(iter(found)) == one_by_one(recordings)
+        assert summarize(iter(found)) == check_each(recordings)
 
 
 def test_wrong_words(recordings: list[Path]) -> None:
@@ -129,17 +130,17 @@ def command(*words: Any) -> subprocess.CompletedProcess[str]:
 
 
 def test_the_command(recordings: list[Path]) -> None:
-    folder, wanted = recordings[0].parent, [it for it in one_by_one(recordings) if it[1] != "unread"]
+    folder, wanted = recordings[0].parent, [element for element in check_each(recordings) if element[1] != "unreadable"]
     ran = command(folder, "--jobs", 2)
-    bad = [it for it in wanted if it[1] != "same"]
+    bad = [item for item in wanted if item[1] != "match"]
     assert (ran.returncode, len(ran.stdout.splitlines())) == (1, len(bad))
-    assert ran.stderr == f"{len(bad)} differs, {len(wanted) - len(bad)} same\n"
+    assert ran.stderr == f"{len(wanted) - len(bad)} match, {len(bad)} mismatch\n"
     ran = command(folder, "--report", "json")
-    assert sorted((it["path"], it["outcome"]) for it in map(json.loads, ran.stdout.splitlines())) == wanted
+    assert sorted((each["path"], each["outcome"]) for each in map(json.loads, ran.stdout.splitlines())) == wanted
     suite = xml.fromstring(command(folder, "--report", "junit").stdout)
     assert (suite.get("tests"), suite.get("failures")) == (str(len(wanted)), str(len(bad)))
     ran = command(recordings[1])
-    assert (ran.returncode, ran.stdout, ran.stderr) == (0, "", "1 same\n")
+    assert (ran.returncode, ran.stdout, ran.stderr) == (0, "", "1 match\n")
     wrong: list[list[Any]] = [[folder, "--jobs", 0], [folder, "--executor", "host:1"], [folder / "nothing"], []]
     for words in wrong:
         ran = command(*words)
@@ -147,14 +148,14 @@ def test_the_command(recordings: list[Path]) -> None:
 
 
 def test_errors_come_through_a_pool() -> None:
-    """An error that can't be pickled breaks a whole pool."""
+    """An exception that can't be pickled breaks a whole pool."""
     for error in (
         hidlog.CtapError(0x2E),
-        hidlog.KeyLost(),
+        hidlog.InvalidChannelError(),
         hidlog.NotAllowedError("no", 0x27),
         hidlog.LogError("line 3"),
-        hidlog.ArgumentTypeError("it has to be str"),
+        hidlog.ArgumentTypeError("it must be str"),
     ):
         again = pickle.loads(pickle.dumps(error))
         assert (type(again), str(again), vars(again)) == (type(error), str(error), vars(error))
-    assert {pickle.loads(pickle.dumps(hidlog.CtapError(it))).status for it in STATUS_NAMES} == set(STATUS_NAMES)
+    assert {pickle.loads(pickle.dumps(hidlog.CtapError(name))).status for name in STATUS_NAMES} == set(STATUS_NAMES)

@@ -1,4 +1,4 @@
-"""JSON of WebAuthn Level 3, against what Chromium makes of it and writes, by chromedriver."""
+"""The JSON of WebAuthn Level 3, compared with Chromium's by chromedriver."""
 
 from __future__ import annotations
 
@@ -7,13 +7,13 @@ from collections.abc import Iterator
 from typing import Any
 
 import pytest
-from chromium import Driver, is_there, page
+from chromium import Driver, is_installed, page
 from test_json import CREATION, REQUEST
 
 from hidlog import webauthn_json
 
-# Returns an object of the browser's with each buffer as {"bytes": base64url}.
-SHOW = """
+# Converts a browser's object, with buffers as {"bytes": base64url}.
+SHOW_SCRIPT = """
 const show = (value) => {
     if (value instanceof ArrayBuffer || ArrayBuffer.isView(value)) {
         const bytes = new Uint8Array(value.buffer ?? value, value.byteOffset ?? 0, value.byteLength);
@@ -24,11 +24,11 @@ const show = (value) => {
         return value.map(show);
     }
     return value && typeof value === "object"
-        ? Object.fromEntries(Object.entries(value).map(([name, it]) => [name, show(it)])) : value;
+        ? Object.fromEntries(Object.entries(value).map(([name, member]) => [name, show(member)])) : value;
 };
 """
-PARSE = SHOW + "return show(PublicKeyCredential[arguments[0]](arguments[1]));"
-SIGN_UP_AND_IN = """
+PARSE_SCRIPT = SHOW_SCRIPT + "return show(PublicKeyCredential[arguments[0]](arguments[1]));"
+SIGN_IN_SCRIPT = """
 const done = arguments[arguments.length - 1];
 (async () => {
     const parts = async (credential, names) => ({
@@ -58,43 +58,46 @@ const done = arguments[arguments.length - 1];
 
 @pytest.fixture(scope="module")
 def browser() -> Iterator[Driver]:
-    """A page of a secure origin, with Chromium's own virtual authenticator."""
-    if not is_there():
+    """Provides a page with a secure origin and Chromium's own virtual authenticator."""
+    if not is_installed():
         pytest.skip("chromedriver is missing (apt-get install chromium-driver)")
     with page() as driver:
         yield driver
 
 
-def shown(value: Any) -> Any:
-    """Returns a value with its bytes as the script shows them."""
+def convert_bytes(value: Any) -> Any:
+    """Returns a value with bytes as the script converts them."""
     if isinstance(value, bytes):
         return {"bytes": urlsafe_b64encode(value).rstrip(b"=").decode()}
     if isinstance(value, dict):
-        return {name: shown(it) for name, it in value.items()}
-    return [shown(it) for it in value] if isinstance(value, list) else value
+        return {name: convert_bytes(member) for name, member in value.items()}
+    return [convert_bytes(item) for item in value] if isinstance(value, list) else value
 
 
-def known(ours: Any, theirs: Any) -> Any:
-    """Returns what Chromium keeps of ours: without members that it doesn't know, and with its defaults of false."""
+def to_chromium_value(ours: Any, theirs: Any) -> Any:
+    """Returns our value as Chromium stores it: without members unknown to it, and with its defaults of false."""
     if isinstance(theirs, dict) and isinstance(ours, dict):
         defaults = {name: it for name, it in theirs.items() if it is False}
-        return {**defaults, **{name: known(it, theirs[name]) for name, it in ours.items() if name in theirs}}
+        return {
+            **defaults,
+            **{name: to_chromium_value(member, theirs[name]) for name, member in ours.items() if name in theirs},
+        }
     if isinstance(theirs, list) and isinstance(ours, list) and len(ours) == len(theirs):
-        return [known(a, b) for a, b in zip(ours, theirs)]
+        return [to_chromium_value(a, b) for a, b in zip(ours, theirs)]
     return ours
 
 
 def test_creation_options_are_what_chromium_makes_of_them(browser: Driver) -> None:
-    theirs = browser.run(PARSE, "parseCreationOptionsFromJSON", CREATION)
-    ours = shown(webauthn_json.creation_options(CREATION))
-    assert known(ours, theirs) == theirs
+    theirs = browser.run(PARSE_SCRIPT, "parseCreationOptionsFromJSON", CREATION)
+    ours = convert_bytes(webauthn_json.creation_options(CREATION))
+    assert to_chromium_value(ours, theirs) == theirs
     assert {"rp", "user", "challenge", "pubKeyCredParams", "excludeCredentials", "extensions"} <= set(theirs)
 
 
 def test_request_options_are_what_chromium_makes_of_them(browser: Driver) -> None:
-    theirs = browser.run(PARSE, "parseRequestOptionsFromJSON", REQUEST)
-    ours = shown(webauthn_json.request_options(REQUEST))
-    assert known(ours, theirs) == theirs
+    theirs = browser.run(PARSE_SCRIPT, "parseRequestOptionsFromJSON", REQUEST)
+    ours = convert_bytes(webauthn_json.request_options(REQUEST))
+    assert to_chromium_value(ours, theirs) == theirs
     assert {"challenge", "rpId", "allowCredentials", "extensions"} <= set(theirs)
 
 
@@ -102,14 +105,16 @@ def test_answers_are_what_chromium_writes(browser: Driver) -> None:
     key = {"protocol": "ctap2", "transport": "usb", "hasResidentKey": True, "isUserConsenting": True}
     key |= {"hasUserVerification": True, "isUserVerified": True}
     browser.call("/webauthn/authenticator", key)
-    answer = browser.run(SHOW + SIGN_UP_AND_IN, waits=True)
+    answer = browser.run(SHOW_SCRIPT + SIGN_IN_SCRIPT, waits=True)
     assert "error" not in answer, answer
     made, found = answer["made"], answer["found"]
     data = {
-        name: webauthn_json.data_of(it["bytes"]) for name, it in found.items() if isinstance(it, dict) and "bytes" in it
+        name: webauthn_json.b64url_decode(member["bytes"])
+        for name, member in found.items()
+        if isinstance(member, dict) and "bytes" in member
     }
-    client_data = webauthn_json.data_of(made["clientDataJSON"]["bytes"])
-    attestation = webauthn_json.data_of(made["attestationObject"]["bytes"])
+    client_data = webauthn_json.b64url_decode(made["clientDataJSON"]["bytes"])
+    attestation = webauthn_json.b64url_decode(made["attestationObject"]["bytes"])
     assert made["json"] == webauthn_json.registration_json(
         client_data, attestation, made["extensions"], tuple(made["transports"]), made["attachment"]
     )

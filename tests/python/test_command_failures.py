@@ -1,4 +1,5 @@
-"""Failures of the package's commands: input files are kept, hostile input is refused, a signal ends in a line."""
+"""Failures of the package's commands: input files stay unchanged, hostile input is refused, a signal prints one
+line."""
 
 from __future__ import annotations
 
@@ -19,27 +20,27 @@ import pytest
 
 import hidlog
 from hidlog import entry_point, files
-from hidlog.captures import CaptureError, pcapng_of, read
+from hidlog.captures import CaptureError, read, to_pcapng
 
-from test_by_library import WITHOUT
+from test_library_cli import WITHOUT_PROGRAM
 
 HIDLOG = [sys.executable, "-m", "hidlog"]
 Example = Callable[[str], bytes]
 Ran = subprocess.CompletedProcess[bytes]
 # A line of usbmon's text.
-USBMON = b"ffff8881 10 S Ii:1:003:1 -115 64 <\n"
+TRUNCATED_USBMON = b"ffff8881 10 S Ii:1:003:1 -115 64 <\n"
 
 
-def run(folder: Path, *words: str, data: bytes = b"", prepare: Callable[[], None] | None = None) -> Ran:
+def run_hidlog(folder: Path, *words: str, data: bytes = b"", prepare: Callable[[], None] | None = None) -> Ran:
     command = [*HIDLOG, *words]
     return subprocess.run(command, input=data, capture_output=True, cwd=folder, timeout=600, preexec_fn=prepare)
 
 
 @pytest.fixture
 def folder(tmp_path: Path, example: Example) -> Path:
-    """Makes a folder with a log and its capture, and links to them."""
+    """Provides a directory with a log and its capture, and links to them."""
     (tmp_path / "log").write_bytes(example("registration.log"))
-    (tmp_path / "capture").write_bytes(pcapng_of(example("registration.log")))
+    (tmp_path / "capture").write_bytes(to_pcapng(example("registration.log")))
     for name in ("log", "capture"):
         (tmp_path / f"{name}.link").symlink_to(name)
         os.link(tmp_path / name, tmp_path / f"{name}.other")
@@ -50,8 +51,8 @@ def folder(tmp_path: Path, example: Example) -> Path:
 @pytest.mark.parametrize("command, name", [("import", "capture"), ("export", "log")])
 def test_the_input_is_not_the_output(folder: Path, command: str, name: str, suffix: str) -> None:
     before, listed = (folder / name).read_bytes(), sorted(os.listdir(folder))
-    ran = run(folder, command, name, "-o", name + suffix)
-    assert ran.returncode == 2 and b"is the input file; name another" in ran.stderr
+    ran = run_hidlog(folder, command, name, "-o", name + suffix)
+    assert ran.returncode == 2 and b"is the input file; use another" in ran.stderr
     with open(folder / name, "rb") as file:
         words = [*HIDLOG, command, "-", "-o", name + suffix]
         assert subprocess.run(words, stdin=file, cwd=folder, capture_output=True).returncode == 2
@@ -60,10 +61,12 @@ def test_the_input_is_not_the_output(folder: Path, command: str, name: str, suff
 
 @pytest.mark.parametrize("command, name", [("import", "capture"), ("export", "log")])
 def test_a_short_write_keeps_the_older_file(folder: Path, command: str, name: str) -> None:
-    """The system lets the process write 100 bytes of a file, and fails then."""
+    """Writes fail after 100 bytes of a file."""
     (folder / "out").write_bytes(b"old")
     listed = sorted(os.listdir(folder))
-    ran = run(folder, command, name, "-o", "out", prepare=lambda: resource.setrlimit(resource.RLIMIT_FSIZE, (100, 100)))
+    ran = run_hidlog(
+        folder, command, name, "-o", "out", prepare=lambda: resource.setrlimit(resource.RLIMIT_FSIZE, (100, 100))
+    )
     assert ran.returncode == 2 and ran.stderr.endswith(f"hidlog {command}: out: File too large\n".encode())
     assert (folder / "out").read_bytes() == b"old" and sorted(os.listdir(folder)) == listed
 
@@ -72,16 +75,16 @@ def test_an_output_keeps_its_mode_and_is_written_through_links(folder: Path) -> 
     (folder / "out").write_bytes(b"old")
     (folder / "out").chmod(0o640)
     (folder / "link").symlink_to("out")
-    assert run(folder, "import", "capture", "-o", "link").returncode == 0
+    assert run_hidlog(folder, "import", "capture", "-o", "link").returncode == 0
     assert (folder / "link").is_symlink() and (folder / "out").read_bytes() == (folder / "log").read_bytes()
     assert (folder / "out").stat().st_mode & 0o777 == 0o640
-    assert run(folder, "import", "capture", "-o", "/dev/stdout").stdout == (folder / "log").read_bytes()
+    assert run_hidlog(folder, "import", "capture", "-o", "/dev/stdout").stdout == (folder / "log").read_bytes()
 
 
 @pytest.mark.parametrize("data", [b"", b"# nothing\n", b"t 1\nt 2\n"])
 def test_an_empty_recording_is_a_failure(folder: Path, data: bytes) -> None:
-    ran = run(folder, "judge", "-", data=data)
-    text = b"hidlog judge: standard input: the recording is empty: no line has a packet\n"
+    ran = run_hidlog(folder, "judge", "-", data=data)
+    text = b"hidlog judge: standard input: the recording has no packets\n"
     assert (ran.returncode, ran.stdout, ran.stderr) == (2, b"", text)
 
 
@@ -91,22 +94,25 @@ def test_pipes_in_folders_are_skipped(folder: Path) -> None:
     (logs / "inner.log" / "one.log").write_bytes((folder / "log").read_bytes())
     os.mkfifo(logs / "pipe.log")
     (logs / "loop.log").symlink_to("loop.log")
-    ran = run(folder, "check-many", "logs")
-    skipped = ["hidlog check-many: skipped logs/%s.log: not a regular file" % it for it in ("loop", "pipe")]
-    assert (ran.returncode, ran.stdout) == (0, b"") and sorted(ran.stderr.decode().splitlines()) == ["1 same", *skipped]
+    ran = run_hidlog(folder, "check-many", "logs")
+    skipped = ["hidlog check-many: skipped logs/%s.log: not a regular file" % name for name in ("loop", "pipe")]
+    assert (ran.returncode, ran.stdout) == (0, b"") and sorted(ran.stderr.decode().splitlines()) == [
+        "1 match",
+        *skipped,
+    ]
 
 
 @pytest.mark.parametrize("command", ["check-many", "judge", "import", "export"])
 def test_a_pipe_without_a_writer_is_a_failure(folder: Path, command: str) -> None:
     os.mkfifo(folder / "pipe.log")
-    ran = run(folder, command, "pipe.log")
+    ran = run_hidlog(folder, command, "pipe.log")
     assert ran.returncode == 2 and b"no program writes to this named pipe" in ran.stdout + ran.stderr
 
 
 def test_a_pipe_with_a_writer_is_read(folder: Path) -> None:
     os.mkfifo(folder / "pipe.log")
     with subprocess.Popen(["cp", "--", "log", "pipe.log"], cwd=folder):
-        assert run(folder, "judge", "pipe.log").stdout == run(folder, "judge", "log").stdout
+        assert run_hidlog(folder, "judge", "pipe.log").stdout == run_hidlog(folder, "judge", "log").stdout
 
 
 @pytest.mark.parametrize(
@@ -114,35 +120,35 @@ def test_a_pipe_with_a_writer_is_read(folder: Path) -> None:
 )
 def test_a_folder_is_no_file(folder: Path, words: str) -> None:
     (folder / "x.log").mkdir()
-    ran = run(folder, *words.replace("./.", "x.log").split())
+    ran = run_hidlog(folder, *words.replace("./.", "x.log").split())
     assert ran.returncode == 2 and b"Traceback" not in ran.stderr and ran.stderr.count(b"3") == 0, ran.stderr
 
 
 def test_an_unreadable_recording_is_a_failure_among_verdicts(folder: Path, example: Example) -> None:
-    (folder / "broken.log").write_bytes(example("failing/counter_stays.log"))
-    assert run(folder, "check-many", "log", "broken.log").returncode == 1
-    assert run(folder, "check-many", "log", "broken.log", "nothing.log").returncode == 2
+    (folder / "broken.log").write_bytes(example("failing/stale_sign_count.log"))
+    assert run_hidlog(folder, "check-many", "log", "broken.log").returncode == 1
+    assert run_hidlog(folder, "check-many", "log", "broken.log", "nothing.log").returncode == 2
 
 
-@pytest.mark.parametrize("data", [USBMON, b"FIDO <- 1 {1: 2}\n", b"\n", b"\0"])
+@pytest.mark.parametrize("data", [TRUNCATED_USBMON, b"FIDO <- 1 {1: 2}\n", b"\n", b"\0"])
 def test_a_capture_that_unpacks_to_too_much_is_refused(data: bytes) -> None:
-    """A file of about a megabyte has a gigabyte in it."""
-    piece = gzip.compress(USBMON + data * ((16 << 20) // len(data)))
+    """A file of about 1 MB unpacks to 1 GB."""
+    piece = gzip.compress(TRUNCATED_USBMON + data * ((16 << 20) // len(data)))
     with pytest.raises(CaptureError, match="unpacks to more than 64 MiB; unpack it first"):
         read(piece * 64)
 
 
 def test_a_packed_capture_is_read(folder: Path) -> None:
     packed = gzip.compress((folder / "capture").read_bytes())
-    assert [it.log for it in read(packed)] == [(folder / "log").read_bytes()]
+    assert [item.log for item in read(packed)] == [(folder / "log").read_bytes()]
     for word in ("-", "capture.gz"):
         (folder / "capture.gz").write_bytes(packed)
-        assert run(folder, "import", word, data=packed).stdout == (folder / "log").read_bytes()
+        assert run_hidlog(folder, "import", word, data=packed).stdout == (folder / "log").read_bytes()
 
 
 @pytest.mark.parametrize("seconds, ticks", [(0, 2**63), (0, 1795 * 10**15), (-(2**40), 5)])
 def test_timestamps_that_no_clock_has(folder: Path, seconds: int, ticks: int) -> None:
-    """pcapng with an interface's offset in seconds, and ticks of a millisecond."""
+    """pcapng with an interface's offset in seconds, and timestamps in milliseconds."""
     packet = bytes.fromhex("ffffffff860008").ljust(64, b"\0")
     usb = struct.pack("<QcBBBHcc", 1, b"S", 1, 1, 7, 1, b"-", b"\0") + struct.pack("<qiiII", 0, 0, -115, 64, 64)
     frame = usb + bytes(24) + packet
@@ -153,9 +159,9 @@ def test_timestamps_that_no_clock_has(folder: Path, seconds: int, ticks: int) ->
         (6, struct.pack("<IIIII", 0, ticks >> 32, ticks & 0xFFFFFFFF, len(frame), len(frame)) + frame),
     ]
     data = b"".join(
-        struct.pack("<II", kind, len(it) + 12) + it + struct.pack("<I", len(it) + 12) for kind, it in blocks
+        struct.pack("<II", kind, len(body) + 12) + body + struct.pack("<I", len(body) + 12) for kind, body in blocks
     )
-    ran = run(folder, "import", "-", data=data)
+    ran = run_hidlog(folder, "import", "-", data=data)
     assert (ran.returncode, ran.stdout, ran.stderr.count(b"\n")) == (2, b"", 1)
     assert b"standard input: the timestamp of packet 1 of bus 1 device 7 is " in ran.stderr
 
@@ -182,7 +188,7 @@ def test_numbers_of_any_length(text: bytes) -> None:
 
 
 def browser(folder: Path, *lines: bytes) -> list[bytes]:
-    ran = run(folder, "browser", "--origin", "https://example.com", data=b"\n".join(lines))
+    ran = run_hidlog(folder, "browser", "--origin", "https://example.com", data=b"\n".join(lines))
     assert ran.returncode == 0, ran.stderr
     return ran.stdout.splitlines()
 
@@ -191,12 +197,12 @@ def browser(folder: Path, *lines: bytes) -> list[bytes]:
     "line, error, said",
     [
         (b"[" * 100_000, "SyntaxError", "nested too deeply"),
-        (b'{"id": ' + b"[" * 980 + b"]" * 980 + b', "log": 0}', "", ""),
+        (b'{"id": ' + b"[" * 980 + b"]" * 980 + b', "getLog": 0}', "", ""),
         (b'{"create": ' + b'{"publicKey":' * 5000 + b"0" + b"}" * 5001, "SyntaxError", "nested too deeply"),
-        (b'{"id": "' + b"x" * (1 << 21) + b'", "log": 0}', "SyntaxError", "more than 1048576 bytes"),
+        (b'{"id": "' + b"x" * (1 << 21) + b'", "getLog": 0}', "SyntaxError", "more than 1048576 bytes"),
         (b"\xff\xfe{}", "SyntaxError", "utf-8"),
-        (b'{"id": NaN, "log": 0}', "TypeError", "NaN is no number of JSON"),
-        (b'{"id": ' + b"9" * 5000 + b', "log": 0}', "", ""),
+        (b'{"id": NaN, "getLog": 0}', "TypeError", "NaN is not a JSON number"),
+        (b'{"id": ' + b"9" * 5000 + b', "getLog": 0}', "", ""),
         (b'{"get": "\\ud800"}', "TypeError", ""),
     ],
     ids=range(8),
@@ -204,7 +210,7 @@ def browser(folder: Path, *lines: bytes) -> list[bytes]:
 def test_a_browsers_process_goes_on_after_a_line_that_it_cannot_read(
     folder: Path, line: bytes, error: str, said: str
 ) -> None:
-    first, last = browser(folder, line, b'{"id": 7, "credentials": 0}')
+    first, last = browser(folder, line, b'{"id": 7, "getCredentials": 0}')
     assert json.loads(last) == {"id": 7, "value": []}
     refusal = json.loads(first) if error else {}
     assert not error or (refusal["error"] == error and said in refusal["message"]), refusal
@@ -215,9 +221,9 @@ def test_a_signal_ends_a_command_in_a_line(folder: Path, number: int, status: in
     command = [*HIDLOG, "browser", "--origin", "https://example.com"]
     with subprocess.Popen(command, stdin=-1, stdout=-1, stderr=-1, preexec_fn=default_signals) as started:
         assert started.stdin and started.stdout and started.stderr
-        started.stdin.write(b'{"id": 1, "log": 0}\n')
+        started.stdin.write(b'{"id": 1, "getLog": 0}\n')
         started.stdin.flush()
-        started.stdout.readline()  # it has begun
+        started.stdout.readline()  # it has started
         for _ in range(2):  # as `timeout` does
             started.send_signal(number)
         said = started.stderr.read()
@@ -231,8 +237,8 @@ def default_signals() -> None:
 
 @pytest.mark.parametrize("number, status", [(signal.SIGTERM, 143), (signal.SIGINT, 130)])
 def test_shrink_writes_the_shortest_log_so_far(folder: Path, number: int, status: int) -> None:
-    """The command waits in its ninth run, until the signal came."""
-    (folder / "long").write_bytes(b"".join(b"t %d\n" % it for it in range(100)) + b"p 100 granted\n")
+    """The command waits for a signal in its ninth run."""
+    (folder / "long").write_bytes(b"".join(b"t %d\n" % index for index in range(100)) + b"p 100 granted\n")
     text = "echo >> runs; [ $(wc -l < runs) -lt 9 ] || { echo > waits; exec sleep 600; }; ! grep -q granted"
     command = [*HIDLOG, "shrink", "long", "sh", "-c", text]
     with subprocess.Popen(command, cwd=folder, stdout=-1, stderr=-1, preexec_fn=default_signals) as started:
@@ -244,24 +250,24 @@ def test_shrink_writes_the_shortest_log_so_far(folder: Path, number: int, status
         log, said = started.stdout.read(), started.stderr.read()
     lines = log.splitlines()
     assert started.returncode == status and lines[-1] == b"p 100 granted" and len(lines) < 101, said
-    assert said.endswith(b"\nthe shortest log so far is written\n")
+    assert said.endswith(b"\nthe shortest log so far was written\n")
 
 
 def test_shrink_writes_what_it_has_where_the_command_is_gone(folder: Path) -> None:
-    (folder / "long").write_bytes(b"".join(b"t %d\n" % it for it in range(100)) + b"p 100 granted\n")
+    (folder / "long").write_bytes(b"".join(b"t %d\n" % index for index in range(100)) + b"p 100 granted\n")
     (folder / "tool").write_text("#!/bin/sh\necho >> runs; [ $(wc -l < runs) -lt 9 ] || rm tool; ! grep -q granted\n")
     (folder / "tool").chmod(0o755)
-    ran = run(folder, "shrink", "long", "./tool")
+    ran = run_hidlog(folder, "shrink", "long", "./tool")
     lines = ran.stdout.splitlines()
     assert ran.returncode == 2 and lines[-1] == b"p 100 granted" and len(lines) < 101
     assert ran.stderr.splitlines()[-2:] == [
         b"hidlog shrink: ./tool can't be run any longer: No such file or directory",
-        b"the shortest log so far is written",
+        b"the shortest log so far was written",
     ]
 
 
 def test_live_answers_line_by_line_through_the_library(folder: Path) -> None:
-    command = [sys.executable, "-c", WITHOUT, "live"]
+    command = [sys.executable, "-c", WITHOUT_PROGRAM, "live"]
     with subprocess.Popen(command, stdin=-1, stdout=-1) as started:
         assert started.stdin and started.stdout
         for line in (folder / "log").read_bytes().splitlines(keepends=True):
@@ -316,11 +322,11 @@ def test_a_mistake_of_the_package_has_no_verdicts_status(capsys: pytest.CaptureF
 
 
 def test_a_new_file_is_never_one_that_is_there(tmp_path: Path, monkeypatch: pytest.MonkeyPatch) -> None:
-    """Also one with the name that is taken beside the target."""
+    """Not even one with the temporary file's name."""
     monkeypatch.setattr(files, "token_hex", lambda _: "1")
     (tmp_path / ".log.1").write_bytes(b"another's")
     with pytest.raises(FileExistsError):
-        files.write_whole(tmp_path / "log", b"new")
+        files.write_atomically(tmp_path / "log", b"new")
     assert (tmp_path / ".log.1").read_bytes() == b"another's" and not (tmp_path / "log").exists()
 
 
@@ -340,7 +346,7 @@ def test_saved_keys_are_private_and_damage_is_refused(tmp_path: Path) -> None:
 
 
 def test_a_failure_of_standard_output_is_not_lost(tmp_path: Path) -> None:
-    """Also where a command, or argparse, takes it for an error of a file."""
+    """Even if a command, or argparse, handles it as an error of a file."""
     text = "def command():\n try:\n  print('x' * 10**6)\n except OSError:\n  return 0\n"
     text += "import sys\nfrom hidlog.entry_point import run\nsys.exit(run('hidlog test', command))"
     with open("/dev/full", "wb") as full:

@@ -1,28 +1,28 @@
-"""python-fido2 beside the browser of the package, in whichever version is there, over the same table."""
+"""Compares python-fido2, of the installed version, with the package's browser on browser_cases.json."""
 
 from __future__ import annotations
 
 from typing import Any
 
 import pytest
-from fido2_side import IS_OLD, call_of
-from sides import CASES, Case, Json, ended, ours
+from fido2_implementation import IS_VERSION_0_9, make_call
+from implementations import CASES, Case, Json, run_calls, run_with_package
 
 import hidlog
 
-# Version 0.9 writes client data as WebAuthn Level 1 had it.
+# Version 0.9 writes the client data of WebAuthn Level 1.
 OLD_CLIENT_DATA: Json = {"clientExtensions": {}}
 
 
-def is_for(case: Case) -> bool:
-    """Returns whether python-fido2's client can be asked: it has no mediation, and an authenticator of one kind."""
+def is_supported(case: Case) -> bool:
+    """Returns whether python-fido2's client supports a case: it has no mediation, and authenticators of one kind."""
     return not set(case) & {"raw", "key", "mediation"}
 
 
-def theirs(case: Case) -> Json | None:
-    """Returns what the client returns, or None where it takes no such options."""
+def run_with_fido2(case: Case) -> Json | None:
+    """Returns what the client returns, or None if it does not accept such options."""
     with hidlog.SecurityKey() as key:
-        call = call_of(key)
+        call = make_call(key)
 
         def called(name: str, options: Any, more: Json) -> Json:
             key.presence = case.get("presence", "granted") if name == case["call"] else "granted"
@@ -30,15 +30,15 @@ def theirs(case: Case) -> Json | None:
             return made
 
         try:
-            return ended(called, case)
+            return run_calls(called, case)
         except (ValueError, TypeError, LookupError, AttributeError):
             return None  # options that a page's own reader would have refused
 
 
-def compared(one: Json) -> Json:
-    """Returns what is compared: all but the results of extensions, which the client has not."""
-    kept = {name: it for name, it in one["seen"].items() if name != "clientExtensionResults"}
-    if IS_OLD:
+def select_members(one: Json) -> Json:
+    """Returns the compared members: all except extension results, which the client lacks."""
+    kept = {name: member for name, member in one["seen"].items() if name != "clientExtensionResults"}
+    if IS_VERSION_0_9:
         kept["clientData"] = {**kept["clientData"], **OLD_CLIENT_DATA}
         kept["clientData"].pop("crossOrigin", None)
     return kept
@@ -46,14 +46,14 @@ def compared(one: Json) -> Json:
 
 def test_both_return_the_same_where_both_return_a_credential() -> None:
     both = []
-    for name, case in filter(lambda it: is_for(it[1]), CASES.items()):
-        one, other = theirs(case), ours(case)
+    for name, case in ((name, case) for name, case in CASES.items() if is_supported(case)):
+        one, other = run_with_fido2(case), run_with_package(case)
         if one and "seen" in one and "seen" in other:
             both.append(name)
-            assert compared(one) == compared(other), name
+            assert select_members(one) == select_members(other), name
     assert len(both) >= 60, both
 
 
 @pytest.mark.parametrize("name", ["create, denied", "get, denied", "get, an unknown id", "get, nothing is registered"])
 def test_both_refuse(name: str) -> None:
-    assert theirs(CASES[name]) == ours(CASES[name]) == {"error": "NotAllowedError"}
+    assert run_with_fido2(CASES[name]) == run_with_package(CASES[name]) == {"error": "NotAllowedError"}

@@ -1,4 +1,4 @@
-"""JSON of WebAuthn Level 3, against python-fido2's own and against values written out from the standard."""
+"""The JSON of WebAuthn Level 3, compared with python-fido2's and with values written from the standard."""
 
 from __future__ import annotations
 
@@ -63,7 +63,7 @@ def test_every_member_of_creation_options_both_ways() -> None:
     assert made["excludeCredentials"] == [{"id": b"\xff\xef", "type": "public-key", "transports": ["usb", "nfc"]}]
     assert made["extensions"] == {"credProps": True, "prf": {"eval": {"first": b"\1", "second": b"\2"}}}
     same = ("rp", "pubKeyCredParams", "timeout", "authenticatorSelection", "hints", "attestation", "attestationFormats")
-    assert {it: made[it] for it in same} == {it: CREATION[it] for it in same}
+    assert {item: made[item] for item in same} == {element: CREATION[element] for element in same}
     assert webauthn_json.creation_options_json(made) == CREATION
 
 
@@ -103,8 +103,8 @@ def test_options_of_python_fido2s_server() -> None:
     "path, value, error, text",
     [
         ("challenge", None, hidlog.ArgumentError, "challenge is missing"),
-        ("challenge", "A+/=", hidlog.ArgumentError, "challenge isn't base64url without padding"),
-        ("challenge", 7, TypeError, "challenge has to be base64url in a str, not int"),
+        ("challenge", "A+/=", hidlog.ArgumentError, "challenge is not base64url without padding"),
+        ("challenge", 7, TypeError, "challenge must be a base64url str, not int"),
         ("user", None, hidlog.ArgumentError, "user is missing"),
         ("user", {"name": "a"}, hidlog.ArgumentError, "user.id is missing"),
         ("rp", None, hidlog.ArgumentError, "rp is missing"),
@@ -118,12 +118,12 @@ def test_wrong_options_are_refused(path: str, value: Any, error: type[Exception]
 
 @pytest.mark.parametrize("origin", ["example.com", "", "https://"])
 def test_a_wrong_origin_is_refused(make: Make, origin: str) -> None:
-    with pytest.raises(hidlog.ArgumentError, match="is no origin"):
+    with pytest.raises(hidlog.ArgumentError, match="is not an origin"):
         make().browser(origin)
 
 
 def test_a_page_and_a_service_in_json(make: Make) -> None:
-    """A service that is written out reads what the browser made with python-fido2's own readers."""
+    """A minimal service reads the browser's responses with python-fido2's parsers."""
     browser = make().browser(ORIGIN)
     made = json.loads(json.dumps(browser.create({**CREATION, "rp": {"name": "Example"}, "excludeCredentials": []})))
     assert set(made) == {"id", "rawId", "response", "authenticatorAttachment", "clientExtensionResults", "type"}
@@ -152,7 +152,7 @@ def test_a_page_and_a_service_in_json(make: Make) -> None:
         signed = parts["authenticatorData"] + sha256(parts["clientDataJSON"]).digest()
         public.verify(parts["signature"], signed, ec.ECDSA(SHA256()))
         assert AuthenticatorData(parts["authenticatorData"]).rp_id_hash == sha256(b"example.com").digest()
-    # The user handle comes with a discoverable credential, also where an allow list names it.
+    # A discoverable credential has a user handle, even if an allow list names it.
     assert parts["userHandle"] == b"alice"
 
 
@@ -176,5 +176,5 @@ def test_what_was_made_both_ways(make: Make) -> None:
 
 @pytest.mark.parametrize("data", [b"", b"\0", b"\xff\xef", bytes(range(256))])
 def test_base64url(data: bytes) -> None:
-    assert webauthn_json.text_of(data) == urlsafe_b64encode(data).decode().rstrip("=")
-    assert webauthn_json.data_of(webauthn_json.text_of(data)) == data
+    assert webauthn_json.b64url_encode(data) == urlsafe_b64encode(data).decode().rstrip("=")
+    assert webauthn_json.b64url_decode(webauthn_json.b64url_encode(data)) == data

@@ -1,4 +1,4 @@
-"""The commands on logs, as functions, by python -m hidlog and by the console script."""
+"""The commands on logs: as functions, with python -m hidlog, and with the console script."""
 
 from __future__ import annotations
 
@@ -11,7 +11,7 @@ from pathlib import Path
 import pytest
 
 import hidlog
-from hidlog.process import program
+from hidlog.subprocess_key import find_program
 
 Example = Callable[[str], bytes]
 
@@ -42,28 +42,28 @@ def test_faults_are_reported() -> None:
 def test_show_writes_what_the_program_writes(example: Example) -> None:
     for log in (example("sign_in.log"), example("service_presence_denied.log"), b"t 1\nt x\n", b""):
         for explain, word in ((False, "--plain"), (True, "--explain")):
-            theirs = subprocess.run([program(), "show", word], input=log, capture_output=True)
+            theirs = subprocess.run([find_program(), "show", word], input=log, capture_output=True)
             shown = hidlog.show(log, explain=explain)
             assert (shown.text, shown.status) == (theirs.stdout, theirs.returncode)
 
 
 def test_a_text_is_a_type_error() -> None:
-    with pytest.raises(TypeError, match="has to be bytes, bytearray or memoryview, not str"):
+    with pytest.raises(TypeError, match="must be bytes, bytearray or memoryview, not str"):
         hidlog.show("t 1\n")  # type: ignore[arg-type]
     for command in (hidlog.replay, hidlog.check, hidlog.quiet, hidlog.live):
-        with pytest.raises(TypeError, match="has to be bytes, bytearray or memoryview, not str"):
+        with pytest.raises(TypeError, match="must be bytes, bytearray or memoryview, not str"):
             command("t 1\n")  # type: ignore[arg-type]
 
 
 def test_what_is_written_may_be_much_longer_than_the_log(example: Example) -> None:
-    ticks = b"".join(b"t %d\n" % (1000 * it) for it in range(5000))
-    begun = b"\n".join(example("registration.log").splitlines()[:5]) + b"\n"
-    text = hidlog.replay(begun + ticks).raise_for_fault().text
-    # A KEEPALIVE as the work begins, and one at each tick but the first, at the same moment.
+    ticks = b"".join(b"t %d\n" % (1000 * index) for index in range(5000))
+    start_shrinking = b"\n".join(example("registration.log").splitlines()[:5]) + b"\n"
+    text = hidlog.replay(start_shrinking + ticks).raise_for_fault().text
+    # A KEEPALIVE at the request, and one at each tick except the first, which has the same timestamp.
     assert text.count(b"\n< 00000001bb0001") == 5000
 
 
-def ran(*words: str, log: bytes = b"", **variables: str) -> tuple[int, bytes, bytes]:
+def run_commands(*words: str, log: bytes = b"", **variables: str) -> tuple[int, bytes, bytes]:
     module = [sys.executable, "-m", "hidlog", *words]
     done = subprocess.run(module, input=log, capture_output=True, env={**os.environ, **variables})
     return done.returncode, done.stdout, done.stderr
@@ -72,16 +72,16 @@ def ran(*words: str, log: bytes = b"", **variables: str) -> tuple[int, bytes, by
 @pytest.mark.parametrize("command", ["replay", "check", "quiet", "show"])
 def test_each_command_is_the_program(example: Example, command: str) -> None:
     for log in (example("sign_in.log"), b"t 1\nt x\n"):
-        theirs = subprocess.run([program(), command], input=log, capture_output=True)
-        status, output, faults = ran(command, log=log)
+        theirs = subprocess.run([find_program(), command], input=log, capture_output=True)
+        status, output, faults = run_commands(command, log=log)
         assert (status, output) == (theirs.returncode, theirs.stdout)
         assert faults == theirs.stderr
 
 
 def test_a_missing_program_is_said_in_one_line() -> None:
-    status, output, text = ran("show", HIDLOG="/nowhere/hidlog")
+    status, output, text = run_commands("show", HIDLOG_PROGRAM="/nowhere/hidlog")
     assert (status, output, text.count(b"\n")) == (2, b"", 1)
-    assert text.startswith(b"hidlog: the program is missing: it is not /nowhere/hidlog.")
+    assert text.startswith(b"hidlog: hidlog program not found (tried /nowhere/hidlog)")
 
 
 def test_the_console_script_is_the_program(example: Example, tmp_path: Path) -> None:
@@ -96,6 +96,6 @@ def test_the_console_script_is_the_program(example: Example, tmp_path: Path) -> 
     for given in words:
         theirs, own = (
             subprocess.run([path, *given], cwd=tmp_path, capture_output=True, stdin=subprocess.DEVNULL)
-            for path in (program(), str(script))
+            for path in (find_program(), str(script))
         )
         assert (own.returncode, own.stdout, own.stderr) == (theirs.returncode, theirs.stdout, theirs.stderr)

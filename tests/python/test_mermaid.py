@@ -1,4 +1,4 @@
-"""A recorded session as a sequence diagram."""
+"""Sessions as Mermaid sequence diagrams."""
 
 from __future__ import annotations
 
@@ -11,7 +11,7 @@ from pathlib import Path
 from hidlog import mermaid
 
 EXAMPLES = Path(os.environ["HIDLOG_EXAMPLES"])
-BUSY = """sequenceDiagram
+BUSY_DIAGRAM = """sequenceDiagram
     participant host
     participant key
     participant user
@@ -25,11 +25,11 @@ BUSY = """sequenceDiagram
     key-->>host: KEEPALIVE STATUS_PROCESSING
     key->>host: CTAP2_OK
 """
-# A line of Mermaid: who, to whom, and a text without what would end it.
-LINE = re.compile(r"    (host|key|user)--?>>(host|key): ([^#;:<>{}\"]|#\d+;)+")
+# A line of Mermaid: sender, receiver, and a text without characters that would end it.
+DIAGRAM_LINE = re.compile(r"    (host|key|user)--?>>(host|key): ([^#;:<>{}\"]|#\d+;)+")
 
 
-def ran(*words: str, data: bytes = b"") -> subprocess.CompletedProcess[bytes]:
+def run_mermaid(*words: str, data: bytes = b"") -> subprocess.CompletedProcess[bytes]:
     return subprocess.run(
         [sys.executable, "-m", "hidlog", "mermaid", *words], input=data, capture_output=True, check=False
     )
@@ -37,23 +37,23 @@ def ran(*words: str, data: bytes = b"") -> subprocess.CompletedProcess[bytes]:
 
 def test_a_request_is_refused_while_another_waits() -> None:
     log = EXAMPLES / "failing" / "busy_channel.log"
-    assert ran(str(log)).stdout.decode() == BUSY == ran(data=log.read_bytes()).stdout.decode()
+    assert run_mermaid(str(log)).stdout.decode() == BUSY_DIAGRAM == run_mermaid(data=log.read_bytes()).stdout.decode()
 
 
 def test_each_example_is_a_diagram() -> None:
     logs = [*EXAMPLES.glob("*.log"), *(EXAMPLES / "failing").glob("*.log")]
     for log in logs:
-        lines = ran(str(log)).stdout.decode().splitlines()
-        assert lines[0] == "sequenceDiagram" and all(LINE.fullmatch(it) for it in lines[4:]), (log, lines)
+        lines = run_mermaid(str(log)).stdout.decode().splitlines()
+        assert lines[0] == "sequenceDiagram" and all(DIAGRAM_LINE.fullmatch(line) for line in lines[4:]), (log, lines)
     assert len(logs) > 15
 
 
 def test_texts_cannot_end_a_line() -> None:
     said = {"kind": "request", "channel": "1", "name": "x", "rpId": 'a;b\n"c" #d <e>: {f}'}
-    line = mermaid.diagram([said]).splitlines()[4]
-    assert LINE.fullmatch(line), line
+    line = mermaid.to_mermaid([said]).splitlines()[4]
+    assert DIAGRAM_LINE.fullmatch(line), line
 
 
 def test_a_file_that_is_not_there() -> None:
-    done = ran("nothing.log")
+    done = run_mermaid("nothing.log")
     assert (done.returncode, done.stdout, done.stderr) == (2, b"", b"hidlog: cannot read log\n")

@@ -1,4 +1,4 @@
-"""The wheel and the sdist as they are installed."""
+"""The wheel and the sdist, as installed."""
 
 from __future__ import annotations
 
@@ -15,9 +15,9 @@ import hidlog
 
 DIST = Path(os.environ["HIDLOG_DIST"])
 TOP = Path(os.environ["HIDLOG_EXAMPLES"]).resolve().parent
-HEADINGS = re.findall(r"^## (\d[\d.]*)", (TOP / "CHANGELOG.md").read_text(encoding="utf-8"), re.MULTILINE)
-VERSION = HEADINGS[0]
-PROCESSOR = re.compile(r"x86_64|aarch64")
+CHANGELOG_VERSIONS = re.findall(r"^## (\d[\d.]*)", (TOP / "CHANGELOG.md").read_text(encoding="utf-8"), re.MULTILINE)
+VERSION = CHANGELOG_VERSIONS[0]
+PROCESSOR_TAG = re.compile(r"x86_64|aarch64")
 
 
 def test_the_installed_package_is_tested() -> None:
@@ -28,8 +28,8 @@ def test_the_installed_package_is_tested() -> None:
 
 def test_each_public_name_is_there() -> None:
     found = {name: getattr(hidlog, name) for name in hidlog.__all__}
-    errors = {it for it in found.values() if isinstance(it, type) and issubclass(it, Exception)}
-    assert len(errors) >= 24 and all(issubclass(it, hidlog.HidlogError) for it in errors)
+    errors = {result for result in found.values() if isinstance(result, type) and issubclass(result, Exception)}
+    assert len(errors) >= 24 and all(issubclass(error, hidlog.HidlogError) for error in errors)
 
 
 def test_the_version_is_the_same_everywhere() -> None:
@@ -46,7 +46,7 @@ def test_the_sdist_makes_the_same_wheels(tmp_path: Path) -> None:
     for wheel in wheels:
         variables = {
             **os.environ,
-            "HIDLOG_PROCESSOR": PROCESSOR.findall(wheel.name)[0],
+            "HIDLOG_PROCESSOR": PROCESSOR_TAG.findall(wheel.name)[0],
             "SOURCE_DATE_EPOCH": "315532800",
         }
         words = ["/usr/bin/python3", "-m", "hatchling", "build", "-t", "wheel", "-d", str(tmp_path / "made")]
@@ -57,8 +57,8 @@ def test_the_sdist_makes_the_same_wheels(tmp_path: Path) -> None:
 def test_the_sdist_holds_each_file_once() -> None:
     (sdist,) = DIST.glob("*.tar.gz")
     with tarfile.open(sdist) as archive:
-        names = [it.name.partition("/")[2] for it in archive]
-        assert all(it.isfile() for it in archive) and len(set(names)) == len(names)
+        names = [element.name.partition("/")[2] for element in archive]
+        assert all(item.isfile() for item in archive) and len(set(names)) == len(names)
     assert {"LICENSE-MIT", "LICENSE-APACHE", "NOTICE", "README.md", "hatch_build.py", "src/hidlog/py.typed"} <= set(
         names
     )
@@ -68,9 +68,9 @@ def test_a_wheel_holds_what_its_record_says() -> None:
     for wheel in DIST.glob("*.whl"):
         with zipfile.ZipFile(wheel) as archive:
             record = archive.read(f"hidlog-{VERSION}.dist-info/RECORD").decode().splitlines()
-            assert sorted(it.split(",")[0] for it in record) == sorted(archive.namelist())
-            names = {it.rpartition("/")[2] for it in archive.namelist()}
-            assert {"LICENSE-MIT", "LICENSE-APACHE", "NOTICE", "libhidlog.so.0", "BUILD"} <= names
+            assert sorted(item.split(",")[0] for item in record) == sorted(archive.namelist())
+            names = {name.rpartition("/")[2] for name in archive.namelist()}
+            assert {"LICENSE-MIT", "LICENSE-APACHE", "NOTICE", "libhidlog.so.1", "BUILD"} <= names
             assert "hidlog" in names
 
 
@@ -96,7 +96,7 @@ def test_logs_need_no_other_package() -> None:
 
 
 def test_an_editable_install(tmp_path: Path) -> None:
-    """The clone stays as it is, and its own files are imported."""
+    """The clone is not changed, and its files are imported."""
     subprocess.run(["/usr/bin/python3", "-m", "venv", "--system-site-packages", tmp_path / "venv"], check=True)
     words = ["install", "--quiet", "--no-index", "--no-build-isolation", "--no-deps", "-e", str(TOP / "python")]
     subprocess.run([str(tmp_path / "venv/bin/pip"), *words], check=True)
@@ -106,10 +106,8 @@ def test_an_editable_install(tmp_path: Path) -> None:
 
 
 def test_nothing_is_imported_before_it_is_asked_for() -> None:
-    """Each process that has the plugin of pytest pays for what the import takes."""
-    words = (
-        "import sys, hidlog; print([it for it in sys.modules if it.startswith('hidlog.')], hidlog.check, hidlog.errors)"
-    )
+    """Each pytest process imports the plugin."""
+    words = "import sys, hidlog; print([name for name in sys.modules if name.startswith('hidlog.')], hidlog.check, hidlog.errors)"
     said = subprocess.run([sys.executable, "-c", words], capture_output=True, text=True, check=True)
     assert said.stdout.startswith("[] <function check")
-    assert set(hidlog.__all__) == set(hidlog._LATER)
+    assert set(hidlog.__all__) == set(hidlog._MODULE_OF)

@@ -1,4 +1,4 @@
-"""The fixtures, in a pytest of their own."""
+"""The fixtures, in a separate pytest."""
 
 from __future__ import annotations
 
@@ -8,7 +8,7 @@ from pathlib import Path
 
 import pytest
 
-SUITE = """
+FAILING_SUITE = """
 import hidlog
 
 def test_good(security_key):
@@ -16,7 +16,7 @@ def test_good(security_key):
 
 def test_bad(security_key, make_security_key):
     hidlog.Client(security_key).request(4)
-    security_key.note("the key of the failed test")
+    security_key.add_comment("the key of the failed test")
     other = make_security_key(presence="denied")
     other.credentials.add("example.com", b"alice")
     hidlog.Client(other).request(0x0B)
@@ -24,21 +24,21 @@ def test_bad(security_key, make_security_key):
 
 
 def test_the_recordings_of_a_failed_test(pytester: pytest.Pytester) -> None:
-    pytester.makepyfile(test_suite=SUITE)
+    pytester.makepyfile(test_suite=FAILING_SUITE)
     result = pytester.runpytest_subprocess("--security-key-log", "kept")
     result.assert_outcomes(passed=1, failed=1)
     names = ["test_suite.test_bad.key2.1.log", "test_suite.test_bad.key2.log", "test_suite.test_bad.log"]
-    assert sorted(it.name for it in Path("kept").glob("*.log")) == names
+    assert sorted(path.name for path in Path("kept").glob("*.log")) == names
     result.stdout.fnmatch_lines(
         [
             "*CtapError 0x27 OPERATION_DENIED: the user refused",
             "*- security key -*",
             "*authenticatorGetInfo *CTAP2_OK 00*",
             "recorded in kept/test_suite.test_bad.log",
-            "the call that failed came to line * of kept/test_suite.test_bad.log",
+            "the failed call reached line * of kept/test_suite.test_bad.log",
             "*- security key 2 -*",
             "*authenticatorSelection *CTAP2_ERR_OPERATION_DENIED 27*",
-            "the call that failed came to line * of kept/test_suite.test_bad.key2.log",
+            "the failed call reached line * of kept/test_suite.test_bad.key2.log",
         ]
     )
     assert b"# the key of the failed test\n" in Path("kept", names[2]).read_bytes()
@@ -48,15 +48,15 @@ def test_the_recordings_of_a_failed_test(pytester: pytest.Pytester) -> None:
 
 
 def test_without_the_option_nothing_is_kept(pytester: pytest.Pytester) -> None:
-    pytester.makepyfile(test_suite=SUITE)
+    pytester.makepyfile(test_suite=FAILING_SUITE)
     result = pytester.runpytest_subprocess("--security-key-process")
     result.assert_outcomes(passed=1, failed=1)
     assert not list(Path().glob("**/*.log"))
     assert "recorded in" not in result.stdout.str()
-    result.stdout.fnmatch_lines(["*authenticatorSelection *", "the call that failed came to line * of the log"])
+    result.stdout.fnmatch_lines(["*authenticatorSelection *", "the failed call reached line * of the log"])
 
 
-PHASES = """
+PHASES_SUITE = """
 import hidlog
 import pytest
 
@@ -79,19 +79,19 @@ def test_teardown(breaks):
 
 
 def test_set_up_and_teardown_keep_their_recordings(pytester: pytest.Pytester) -> None:
-    pytester.makepyfile(test_suite=PHASES)
+    pytester.makepyfile(test_suite=PHASES_SUITE)
     result = pytester.runpytest_subprocess("--security-key-log", "kept")
     result.assert_outcomes(passed=1, errors=2)
-    assert sorted(it.name for it in Path("kept").iterdir()) == [
+    assert sorted(path.name for path in Path("kept").iterdir()) == [
         "test_suite.test_set_up.log",
         "test_suite.test_teardown.log",
     ]
-    result.stdout.fnmatch_lines(["the setup that failed came to line *", "the teardown that failed came to line *"])
+    result.stdout.fnmatch_lines(["the failed setup reached line *", "the failed teardown reached line *"])
     for name in Path("kept").iterdir():
         assert b"\n> " in name.read_bytes()
 
 
-SCOPES = """
+SCOPES_SUITE = """
 import hidlog
 import pytest
 
@@ -106,7 +106,7 @@ def test_first(registered):
 
 def test_second(registered, security_key):
     assert registered is security_key
-    security_key.note("second")
+    security_key.add_comment("second")
     assert False
 """
 
@@ -114,42 +114,42 @@ def test_second(registered, security_key):
 @pytest.mark.parametrize("scope", ["class", "module", "package", "session"])
 @pytest.mark.parametrize("is_setting", [True, False])
 def test_fixtures_of_any_scope(pytester: pytest.Pytester, scope: str, is_setting: bool) -> None:
-    pytester.makepyfile(test_suite=IN_CLASS if scope == "class" else SCOPES.format(scope=scope))
+    pytester.makepyfile(test_suite=CLASS_SUITE if scope == "class" else SCOPES_SUITE.format(scope=scope))
     if is_setting:
         pytester.makeini(f"[pytest]\nsecurity_key_scope = {scope}\n")
     words = [] if is_setting else ["--security-key-scope", scope]
     result = pytester.runpytest_subprocess("--security-key-log", "kept", *words)
     result.assert_outcomes(passed=1, failed=1)
-    (log,) = (it for it in Path("kept").glob("*test_second.log"))
+    (log,) = (path for path in Path("kept").glob("*test_second.log"))
     assert b"# first\n" in log.read_bytes() and b"# second\n" in log.read_bytes()
 
 
-IN_CLASS = """
+CLASS_SUITE = """
 import pytest
 
 class TestAll:
     def test_first(self, security_key):
-        security_key.note("first")
+        security_key.add_comment("first")
 
     def test_second(self, security_key):
-        security_key.note("second")
+        security_key.add_comment("second")
         assert False
 """
 
 
 def test_a_wrong_scope_is_named(pytester: pytest.Pytester) -> None:
-    pytester.makepyfile(test_suite=SUITE)
+    pytester.makepyfile(test_suite=FAILING_SUITE)
     pytester.makeini("[pytest]\nsecurity_key_scope = modul\n")
     result = pytester.runpytest_subprocess()
-    assert "security_key_scope is 'modul'; it has to be one of function" in result.stdout.str() + result.stderr.str()
+    assert "security_key_scope is 'modul'; it must be one of function" in result.stdout.str() + result.stderr.str()
 
 
-SAME_NAMES = """
+SAME_NAMES_SUITE = """
 import pytest
 
 @pytest.mark.parametrize("name", ["a b", "a_b", "a:b", "A_B", "x" * 400])
 def test_names(security_key, name):
-    security_key.note(name[:20])
+    security_key.add_comment(name[:20])
     assert False
 """
 
@@ -158,15 +158,15 @@ def test_names(security_key, name):
 def test_names_that_look_the_same_are_numbered(pytester: pytest.Pytester, workers: int) -> None:
     if workers:
         pytest.importorskip("xdist")
-    pytester.makepyfile(test_suite=SAME_NAMES)
+    pytester.makepyfile(test_suite=SAME_NAMES_SUITE)
     words = ["-p", "xdist", "-n", str(workers)] if workers else []
     result = pytester.runpytest_subprocess("--security-key-log", "kept", *words)
     result.assert_outcomes(failed=5)
-    logs = [it.read_bytes().split(b"\n")[0] for it in Path("kept").glob("*.log")]
+    logs = [path.read_bytes().split(b"\n")[0] for path in Path("kept").glob("*.log")]
     assert sorted(logs) == [b"# A_B", b"# a b", b"# a:b", b"# a_b", b"# " + b"x" * 20]
 
 
-MANY = """
+MANY_SIGN_INS_SUITE = """
 import pytest
 
 OPTIONS = {
@@ -180,15 +180,15 @@ OPTIONS = {
 def test_ten_registrations(make_security_key, number):
     key = make_security_key()
     browser = key.browser("http://localhost:5000")
-    for it in range(10):
-        browser.create({**OPTIONS, "user": {"id": f"AA{it}A", "name": str(it), "displayName": ""}})
+    for user in range(10):
+        browser.create({**OPTIONS, "user": {"id": f"AA{user}A", "name": str(user), "displayName": ""}})
     assert len(key.credentials) == 10
 """
 
 
 def test_four_hundred_registrations_by_four_workers(pytester: pytest.Pytester) -> None:
     pytest.importorskip("xdist")
-    pytester.makepyfile(test_suite=MANY)
+    pytester.makepyfile(test_suite=MANY_SIGN_INS_SUITE)
     pytester.runpytest_subprocess("-p", "xdist", "-n", "4").assert_outcomes(passed=40)
 
 
@@ -197,7 +197,7 @@ def test_the_fixtures_are_listed(pytester: pytest.Pytester) -> None:
     result.stdout.fnmatch_lines(["make_security_key*", "security_key*"])
 
 
-FREED = """
+FREED_KEYS_SUITE = """
 import gc
 import pytest
 import hidlog
@@ -208,10 +208,10 @@ def test_one(number, security_key):
 
 def test_what_is_kept(security_key):
     gc.collect()
-    assert sum(isinstance(it, hidlog.SecurityKey) for it in gc.get_objects()) == 1
+    assert sum(isinstance(value, hidlog.SecurityKey) for value in gc.get_objects()) == 1
 """
 
 
 def test_keys_are_gone_after_their_tests(pytester: pytest.Pytester) -> None:
-    pytester.makepyfile(test_suite=FREED)
+    pytester.makepyfile(test_suite=FREED_KEYS_SUITE)
     pytester.runpytest_subprocess().assert_outcomes(passed=41)

@@ -1,4 +1,4 @@
-"""The readers of the package beside input that another wrote: what is wrong is a HidlogError that says what."""
+"""Invalid input for the package's parsers: each raises HidlogError with a description."""
 
 from __future__ import annotations
 
@@ -6,52 +6,78 @@ from collections.abc import Callable, Iterator
 from typing import Any
 
 import pytest
-from test_browser import creation
+from test_browser import make_creation_options
 
 import hidlog
 from hidlog import cbor, webauthn_json
 from hidlog.credentials import read_snapshot
-from hidlog.webauthn_client import Abilities, Call
+from hidlog.webauthn_client import AuthenticatorOptions, ClientCall
 
 Example = Callable[[str], bytes]
 
 
-def request_of_creation(options: Any) -> bytes:
-    return Call("create", options, "optional", "https://a.example", Abilities()).request().message
+def build_create_request(options: Any) -> bytes:
+    return ClientCall("create", options, "optional", "https://a.example", AuthenticatorOptions()).request().message
 
 
-def request_of_sign_in(options: Any) -> bytes:
-    return Call("get", options, "optional", "https://a.example", Abilities()).request().message
+def build_get_request(options: Any) -> bytes:
+    return ClientCall("get", options, "optional", "https://a.example", AuthenticatorOptions()).request().message
 
 
 PRF = {"eval": {"first": "AQ", "second": "Ag"}, "evalByCredential": {"_-8": {"first": "AQ"}}}
 EXTENSIONS = {"credProps": True, "credBlob": "AA", "largeBlob": {"support": "required", "write": "AQI"}, "prf": PRF}
-LISTED = [{"id": "_-8", "type": "public-key", "transports": ["usb"]}]
+DESCRIPTORS = [{"id": "_-8", "type": "public-key", "transports": ["usb"]}]
 OPTIONS = {
-    "create": creation(timeout=1, excludeCredentials=LISTED, hints=["hybrid"], extensions=EXTENSIONS),
-    "get": {"challenge": "AAEC", "rpId": "a.example", "allowCredentials": LISTED, "extensions": EXTENSIONS},
+    "create": make_creation_options(timeout=1, excludeCredentials=DESCRIPTORS, hints=["hybrid"], extensions=EXTENSIONS),
+    "get": {"challenge": "AAEC", "rpId": "a.example", "allowCredentials": DESCRIPTORS, "extensions": EXTENSIONS},
 }
-READS: list[Callable[[Any], Any]] = [
+READERS: list[Callable[[Any], Any]] = [
     webauthn_json.creation_options,
     webauthn_json.request_options,
     webauthn_json.creation_options_json,
     webauthn_json.request_options_json,
     webauthn_json.registration,
     webauthn_json.authentication,
-    request_of_creation,
-    request_of_sign_in,
+    build_create_request,
+    build_get_request,
 ]
-# Values of each type, shallow and deep, with texts that are base64url and that aren't.
-WRONG: list[Any] = [None, True, 0, -1, 1.5, 2**70, "", "A", "AAAA", "é", "\ud800", b"a", [], [1], ["AA"], [["AA", 1]]]
-WRONG += [[None], [{}], {}, {"id": 1}, {"first": 1}, {"eval": 1}, {"eval": {"first": 1}}, {"evalByCredential": [7]}]
+# Values of each type, shallow and nested, with valid and invalid base64url.
+WRONG_VALUES: list[Any] = [
+    None,
+    True,
+    0,
+    -1,
+    1.5,
+    2**70,
+    "",
+    "A",
+    "AAAA",
+    "é",
+    "\ud800",
+    b"a",
+    [],
+    [1],
+    ["AA"],
+    [["AA", 1]],
+]
+WRONG_VALUES += [
+    [None],
+    [{}],
+    {},
+    {"id": 1},
+    {"first": 1},
+    {"eval": 1},
+    {"eval": {"first": 1}},
+    {"evalByCredential": [7]},
+]
 
 
-def changes(value: Any, wrong: list[Any]) -> Iterator[Any]:
-    """Yields a value with each of the wrong ones in each of its places, and without each of its members."""
+def iter_changes(value: Any, wrong: list[Any]) -> Iterator[Any]:
+    """Yields a value with each wrong value at each position, and without each of its members."""
     yield from wrong
     places = value.items() if isinstance(value, dict) else enumerate(value) if isinstance(value, list) else ()
     for place, inner in places:
-        for changed in changes(inner, wrong):
+        for changed in iter_changes(inner, wrong):
             copied = value.copy()
             copied[place] = changed
             yield copied
@@ -60,19 +86,19 @@ def changes(value: Any, wrong: list[Any]) -> Iterator[Any]:
         yield copied
 
 
-def answers() -> dict[str, Any]:
+def make_responses() -> dict[str, Any]:
     with hidlog.SecurityKey() as key:
         browser = key.browser("https://a.example")
-        made = browser.create(creation())
+        made = browser.create(make_creation_options())
         return {"made": made, "found": browser.get({"challenge": "AAEC"})}
 
 
 @pytest.mark.parametrize("name", ["create", "get", "made", "found"])
 def test_json_with_a_wrong_value_in_each_place(name: str) -> None:
-    for given in changes({**OPTIONS, **answers()}[name], WRONG):
-        for read in READS:
+    for value in iter_changes({**OPTIONS, **make_responses()}[name], WRONG_VALUES):
+        for read in READERS:
             try:
-                read(given)
+                read(value)
             except hidlog.HidlogError as error:
                 assert str(error)
 
@@ -80,24 +106,29 @@ def test_json_with_a_wrong_value_in_each_place(name: str) -> None:
 @pytest.mark.parametrize(
     "members, text",
     [
-        ({"excludeCredentials": [7]}, "^a credential of excludeCredentials has to be a dict, not int$"),
-        ({"excludeCredentials": ["id"]}, "^a credential of excludeCredentials has to be a dict, not str$"),
-        ({"excludeCredentials": {"id": "AA"}}, "^excludeCredentials has to be a list, not dict$"),
-        ({"user": [["id", "AA"]]}, "^user has to be a dict, not list$"),
-        ({"extensions": "ab"}, "^extensions has to be a dict, not str$"),
-        ({"extensions": [1]}, "^extensions has to be a dict, not list$"),
-        ({"extensions": {"prf": {"eval": "ab"}}}, "^extensions.prf has to be a dict, not str$"),
-        ({"extensions": {"prf": {"evalByCredential": [1]}}}, "^evalByCredential has to be a dict, not list$"),
+        ({"excludeCredentials": [7]}, "^a credential of excludeCredentials must be a dict, not int$"),
+        ({"excludeCredentials": ["id"]}, "^a credential of excludeCredentials must be a dict, not str$"),
+        ({"excludeCredentials": {"id": "AA"}}, "^excludeCredentials must be a list, not dict$"),
+        ({"user": [["id", "AA"]]}, "^user must be a dict, not list$"),
+        ({"extensions": "ab"}, "^extensions must be a dict, not str$"),
+        ({"extensions": [1]}, "^extensions must be a dict, not list$"),
+        ({"extensions": {"prf": {"eval": "ab"}}}, "^extensions.prf must be a dict, not str$"),
+        ({"extensions": {"prf": {"evalByCredential": [1]}}}, "^evalByCredential must be a dict, not list$"),
     ],
 )
 def test_what_is_wrong_in_options_is_said(members: dict[str, Any], text: str) -> None:
     with pytest.raises(hidlog.ArgumentError, match=text):
-        webauthn_json.creation_options(creation(**members))
+        webauthn_json.creation_options(make_creation_options(**members))
 
 
 @pytest.mark.parametrize(
     "options",
-    [creation(excludeCredentials=[7]), creation(user=7), creation(extensions="ab"), creation(extensions={"prf": 7})],
+    [
+        make_creation_options(excludeCredentials=[7]),
+        make_creation_options(user=7),
+        make_creation_options(extensions="ab"),
+        make_creation_options(extensions={"prf": 7}),
+    ],
 )
 def test_a_browser_refuses_them_by_the_name_of_the_dom(options: dict[str, Any]) -> None:
     """Web IDL: a value that can't be converted to a dictionary is a TypeError."""
@@ -111,40 +142,40 @@ def test_a_browser_refuses_them_by_the_name_of_the_dom(options: dict[str, Any]) 
 )
 @pytest.mark.parametrize("after", [1, 2, 3])
 def test_a_recording_with_a_line_that_is_no_packet(example: Example, line: bytes, after: int) -> None:
-    """Before the first packet, where the key sends, and where the client does; as the program reports it."""
+    """Before the first packet, at a packet of the key, and at one of the client; with the program's error message."""
     lines = example("registration.log").splitlines()
-    assert [it[:1] for it in lines[:4]] == [b"#", b">", b"<", b">"]
+    assert [item[:1] for item in lines[:4]] == [b"#", b">", b"<", b">"]
     log = b"\n".join([*lines[:after], line, *lines[after:]]) + b"\n"
-    for read in (hidlog.SecurityKey.replay_of, lambda it: hidlog.check(it).raise_for_fault()):
+    for read in (hidlog.SecurityKey.from_recording, lambda log: hidlog.check(log).raise_for_fault()):
         with pytest.raises(hidlog.LogError, match=f"^line {after + 1}: not a log line$"):
             read(log)
 
 
-ROW = {number: bytes(32) for number in range(1, 5)} | {5: b"\1", 6: True, 7: 0, 8: "ann"}
+SNAPSHOT_ROW = {number: bytes(32) for number in range(1, 5)} | {5: b"\1", 6: True, 7: 0, 8: "ann"}
 
 
 @pytest.mark.parametrize(
     "value, text",
     [
-        ([1, 2, []], "it is no map of CBOR"),
-        ("abc", "it is no map of CBOR"),
+        ([1, 2, []], "it is not a CBOR map"),
+        ("abc", "it is not a CBOR map"),
         ({1: 2}, "it has no member 2"),
         ({2: []}, "it has no member 1"),
-        ({1: 3, 2: []}, "its version is 3; it has to be 1 or 2"),
-        ({1: 2, 2: {}}, "its credentials are no list of CBOR"),
-        ({1: 2, 2: [ROW, 7]}, "credential 2 is no map of CBOR"),
-        ({1: 2, 2: ["abcdefghi"]}, "credential 1 is no map of CBOR"),
-        ({1: 2, 2: [b"abcdefghi"]}, "credential 1 is no map of CBOR"),
-        ({1: 2, 2: [[1] * 9]}, "credential 1 is no map of CBOR"),
+        ({1: 3, 2: []}, "its version is 3; it must be 1 or 2"),
+        ({1: 2, 2: {}}, "its credentials are not a CBOR array"),
+        ({1: 2, 2: [SNAPSHOT_ROW, 7]}, "credential 2 is not a CBOR map"),
+        ({1: 2, 2: ["abcdefghi"]}, "credential 1 is not a CBOR map"),
+        ({1: 2, 2: [b"abcdefghi"]}, "credential 1 is not a CBOR map"),
+        ({1: 2, 2: [[1] * 9]}, "credential 1 is not a CBOR map"),
         ({1: 2, 2: [{1: bytes(32)}]}, "credential 1 has no member 2"),
-        ({1: 2, 2: [{**ROW, 3: b"x"}]}, "credential 1: x has 1 bytes; it has to have 32"),
-        ({1: 2, 2: [{**ROW, 7: "0"}]}, "credential 1: counter has to be a whole number, not str"),
+        ({1: 2, 2: [{**SNAPSHOT_ROW, 3: b"x"}]}, "credential 1: public_key_x has 1 bytes; it must have 32"),
+        ({1: 2, 2: [{**SNAPSHOT_ROW, 7: "0"}]}, "credential 1: sign_count must be int, not str"),
     ],
 )
 def test_what_is_wrong_in_a_snapshot_is_said(value: Any, text: str) -> None:
-    """Each of them is also refused by the program."""
+    """The program refuses each of them, too."""
     data = cbor.encode(value)
-    with pytest.raises(hidlog.SnapshotError, match=f"^this is no snapshot: {text}$"):
+    with pytest.raises(hidlog.SnapshotError, match=f"^not a snapshot: {text}$"):
         read_snapshot(data)
     with pytest.raises(hidlog.SnapshotError, match="^snapshot refused: "):
         hidlog.replay(b"", data).raise_for_fault()
@@ -170,17 +201,17 @@ def test_snapshots_with_a_wrong_value_in_each_place(example: Example) -> None:
         {1: 2},
         [{}],
     ]
-    for given in changes(whole, [*wrong, [[1] * 9], [b"abcdefghi"]]):
+    for value in iter_changes(whole, [*wrong, [[1] * 9], [b"abcdefghi"]]):
         try:
-            read_snapshot(cbor.encode(given))
+            read_snapshot(cbor.encode(value))
         except hidlog.SnapshotError as error:
-            assert str(error).startswith("this is no snapshot: ")
+            assert str(error).startswith("not a snapshot: ")
 
 
 @pytest.mark.parametrize("version", [1, 2])
 def test_snapshots_of_both_versions_are_read(version: int) -> None:
-    """Version 1 has no user names. The program takes both, too."""
-    row = {number: it for number, it in ROW.items() if number < 8 or version == 2}
+    """Version 1 has no user names. The program accepts both, too."""
+    row = {number: member for number, member in SNAPSHOT_ROW.items() if number < 8 or version == 2}
     data = cbor.encode({1: version, 2: [row]})
     hidlog.replay(b"", data).raise_for_fault()
     (held,) = read_snapshot(data)

@@ -1,4 +1,4 @@
-"""Signatures of recorded sessions. The expected outcomes are of the sessions: what was changed in them, by hand here."""
+"""Signatures of recorded sessions, with changes made by hand and their expected outcomes."""
 
 from __future__ import annotations
 
@@ -13,72 +13,76 @@ from service import Service
 
 import hidlog
 
-FAILING = Path(os.environ["HIDLOG_EXAMPLES"]) / "failing"
+FAILING_LOGS = Path(os.environ["HIDLOG_EXAMPLES"]) / "failing"
 
 
-def outcomes(log: bytes, snapshot: bytes | None = None) -> list[tuple[str, str]]:
-    return [(it.kind, it.outcome) for it in hidlog.signatures(log, snapshot)]
+def list_checks(log: bytes, snapshot: bytes | None = None) -> list[tuple[str, str]]:
+    return [(signature.kind, signature.outcome) for signature in hidlog.verify_signatures(log, snapshot)]
 
 
 def test_a_keys_own_session(make: Callable[..., hidlog.SecurityKey]) -> None:
     key = make()
     service = Service(key)
     service.sign_in([service.register()])
-    found = hidlog.signatures(key.log)
-    assert [(it.kind, it.outcome, it.rp_id) for it in found] == [
+    found = hidlog.verify_signatures(key.log)
+    assert [(result.kind, result.outcome, result.rp_id) for result in found] == [
         ("attestation", "good", "example.com"),
         ("assertion", "good", "example.com"),
     ]
-    assert [key.log.splitlines()[it.line - 1][:1] for it in found] == [b"<", b"<"]
+    assert [key.log.splitlines()[item.line - 1][:1] for item in found] == [b"<", b"<"]
 
 
 def test_each_bit_that_is_signed_counts() -> None:
-    """One bit of the hash in the request, of the flags in the answer, of the signature: each is seen at its answer."""
-    lines = (FAILING / "changed_request.log").read_bytes().splitlines(True)
-    assert outcomes(b"".join(lines)) == [("attestation", "good"), ("assertion", "wrong")]
+    """A changed bit of the request's hash, of the response's flags, or of the signature is detected at its response."""
+    lines = (FAILING_LOGS / "changed_request.log").read_bytes().splitlines(True)
+    assert list_checks(b"".join(lines)) == [("attestation", "good"), ("assertion", "wrong")]
     asked = next(at for at, it in enumerate(lines) if b"02a2016b6578616d706c652e636f6d" in it)
     begin = lines[asked].index(b"025820") + 6
     mended = bytearray(lines[asked])
     mended[begin + 7 : begin + 8] = b"%x" % (int(mended[begin + 7 : begin + 8], 16) ^ 1)
     good = [*lines[:asked], bytes(mended), *lines[asked + 1 :]]
-    assert outcomes(b"".join(good)) == [("attestation", "good"), ("assertion", "good")]
+    assert list_checks(b"".join(good)) == [("attestation", "good"), ("assertion", "good")]
     whole = b"".join(good)
     counter = b"470100000001"
     assert whole.count(counter) == 1
-    assert outcomes(whole.replace(counter, b"470500000001"))[1] == ("assertion", "wrong")
+    assert list_checks(whole.replace(counter, b"470500000001"))[1] == ("assertion", "wrong")
 
 
 def test_the_public_key_may_be_of_the_snapshot() -> None:
-    log, alice, bob = ((FAILING / it).read_bytes() for it in ("wrong_snapshot.log", "alice.snapshot", "bob.snapshot"))
-    assert outcomes(log, alice) == [("assertion", "good")]
-    assert outcomes(log) == outcomes(log, bob) == [("assertion", "unknown")]
-    assert "--load the snapshot" in hidlog.signatures(log)[0].text
+    log, alice, bob = (
+        (FAILING_LOGS / item).read_bytes() for item in ("wrong_snapshot.log", "alice.snapshot", "bob.snapshot")
+    )
+    assert list_checks(log, alice) == [("assertion", "good")]
+    assert list_checks(log) == list_checks(log, bob) == [("assertion", "unknown")]
+    assert "use --load with its snapshot" in hidlog.verify_signatures(log)[0].text
     with pytest.raises(hidlog.SnapshotError):
-        hidlog.signatures(log, b"no snapshot")
+        hidlog.verify_signatures(log, b"no snapshot")
     with pytest.raises(hidlog.ArgumentTypeError, match="the log"):
-        hidlog.signatures(7)  # type: ignore[arg-type]
+        hidlog.verify_signatures(7)  # type: ignore[arg-type]
 
 
-def ran(*words: str) -> subprocess.CompletedProcess[str]:
+def run_check(*words: str) -> subprocess.CompletedProcess[str]:
     return subprocess.run(
-        [sys.executable, "-m", "hidlog", "check", *words], capture_output=True, text=True, check=False, cwd=FAILING
+        [sys.executable, "-m", "hidlog", "check", *words], capture_output=True, text=True, check=False, cwd=FAILING_LOGS
     )
 
 
 def test_the_command() -> None:
-    assert ran("changed_request.log").stdout == "same 14 inputs 18 packets\n"
-    said = ran("--signatures", "changed_request.log")
+    assert run_check("changed_request.log").stdout == "same 14 inputs 18 packets\n"
+    said = run_check("--signatures", "changed_request.log")
     assert (said.returncode, said.stdout.splitlines()[-1]) == (1, "1 of 2 signatures are good")
     assert "line 45: the signature of the assertion is wrong" in said.stdout
-    said = ran("--signatures", "--load", "alice.snapshot", "wrong_snapshot.log")
+    said = run_check("--signatures", "--load", "alice.snapshot", "wrong_snapshot.log")
     assert (said.returncode, said.stdout) == (0, "same 7 inputs 9 packets\n1 of 1 signatures are good\n")
-    said = ran("--signatures", "--load", "two_clients.log", "wrong_snapshot.log")
+    said = run_check("--signatures", "--load", "two_clients.log", "wrong_snapshot.log")
     assert said.returncode == 2 and "snapshot" in said.stderr and len(said.stderr.splitlines()) == 1
-    said = ran("--signatures", "nothing.log")
+    said = run_check("--signatures", "nothing.log")
     assert (said.returncode, said.stderr) == (2, "hidlog check: nothing.log: No such file or directory\n")
 
 
 def test_without_cryptography() -> None:
-    text = "import sys; sys.modules['cryptography'] = None; import hidlog; hidlog.signatures(b't 1\\n')"
+    text = "import sys; sys.modules['cryptography'] = None; import hidlog; hidlog.verify_signatures(b't 1\\n')"
     said = subprocess.run([sys.executable, "-c", text], capture_output=True, text=True, check=False)
-    assert said.stderr.splitlines()[-1].startswith("hidlog.errors.MissingPart: cryptography is missing")
+    assert said.stderr.splitlines()[-1].startswith(
+        "hidlog.errors.MissingDependencyError: verifying signatures needs cryptography"
+    )

@@ -13,7 +13,7 @@ from service import Service
 import hidlog
 
 
-def saved(path: Path) -> tuple[bytes, list[Any]]:
+def save_key(path: Path) -> tuple[bytes, list[Any]]:
     """Saves a key with two credentials. Returns the file's bytes, and the credentials."""
     with hidlog.SecurityKey() as key:
         for name in ("alice", "bob"):
@@ -23,9 +23,9 @@ def saved(path: Path) -> tuple[bytes, list[Any]]:
 
 
 def test_each_bit_of_a_saved_key_changed(tmp_path: Path) -> None:
-    """A file with another bit is refused, or has the same credentials: in its white space, or in the sum's name."""
+    """A file with one bit changed is refused, or has the same credentials (in white space, or the checksum's name)."""
     path = tmp_path / "key.json"
-    data, credentials = saved(path)
+    data, credentials = save_key(path)
     loaded = []
     for place in range(len(data)):
         for bit in range(place % 3, 8, 3):
@@ -42,28 +42,28 @@ def test_each_bit_of_a_saved_key_changed(tmp_path: Path) -> None:
 
 def test_a_cut_off_file_is_refused(tmp_path: Path) -> None:
     path = tmp_path / "key.json"
-    data, _ = saved(path)
+    data, _ = save_key(path)
     for length in range(0, len(data.rstrip()), 7):
         path.write_bytes(data[:length])
-        with pytest.raises(hidlog.ArgumentError, match="isn't what SecurityKey.save writes"):
+        with pytest.raises(hidlog.ArgumentError, match="was not written by SecurityKey.save"):
             hidlog.SecurityKey.load(path)
 
 
 def test_a_file_without_a_sum_is_loaded(tmp_path: Path) -> None:
-    """Older versions wrote none. What is edited by hand is loaded once its sum is taken out."""
+    """Older versions wrote no checksum. An edited file is loaded if its checksum is removed."""
     path = tmp_path / "key.json"
-    data, credentials = saved(path)
+    data, credentials = save_key(path)
     members = json.loads(data)
-    # The sum of the other members, with sorted names and without white space.
+    # The checksum of the other members, with sorted names and without white space.
     given = members.pop("sha256")
     assert given == sha256(json.dumps(members, sort_keys=True, separators=(",", ":")).encode()).hexdigest()
     members["sha256"] = given
     members["backups"] = {credentials[0].id.hex(): [True, True]}
     path.write_text(json.dumps(members), encoding="ascii")
-    with pytest.raises(hidlog.ArgumentError, match="damaged or was edited: .* without the member sha256 it is loaded"):
+    with pytest.raises(hidlog.ArgumentError, match="damaged or was edited: .* remove that member to load it"):
         hidlog.SecurityKey.load(path)
     del members["sha256"]
     path.write_text(json.dumps(members), encoding="ascii")
     with hidlog.SecurityKey.load(path) as key:
-        assert [it.id for it in key.credentials] == [it.id for it in credentials]
+        assert [item.id for item in key.credentials] == [credential.id for credential in credentials]
         assert list(key.credentials)[0].backup != credentials[0].backup

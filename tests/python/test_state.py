@@ -1,4 +1,4 @@
-"""Credentials, and what outlives a session, in both forms of the key."""
+"""Credentials and saved state, with keys in this process and in a separate one."""
 
 from __future__ import annotations
 
@@ -11,7 +11,7 @@ from typing import Any
 
 import pytest
 from fido2.ctap import CtapError
-from service import REFUSED, Service, assert_refused
+from service import REFUSED_ERROR, Service, check_refused
 
 import hidlog
 from hidlog import cbor
@@ -29,7 +29,7 @@ def test_save_and_load(make: Make, tmp_path: Path) -> None:
         assert Service(again).sign_in([alice]).authenticator_data.counter == 2
         assert list(again.credentials)[0].user_name == "alice"
     (tmp_path / "wrong").write_text("{}")
-    with pytest.raises(hidlog.ArgumentError, match="isn't what SecurityKey.save writes"):
+    with pytest.raises(hidlog.ArgumentError, match="was not written by SecurityKey.save"):
         hidlog.SecurityKey.load(tmp_path / "wrong")
 
 
@@ -38,7 +38,7 @@ def test_loss_of_power(make: Make) -> None:
     service = Service(key)
     alice = service.register()
     key.restart()
-    # The channel is unknown to the key now: CTAPHID, ERR_INVALID_CHANNEL.
+    # The key no longer knows the channel: ERR_INVALID_CHANNEL.
     with pytest.raises(CtapError) as caught:
         service.client.ctap2.get_info()
     assert (caught.value.code, str(caught.value)) == (0x0B, "CtapError 0x0B INVALID_CHANNEL")
@@ -52,38 +52,38 @@ def test_credentials(make: Make) -> None:
     alice = service.register()
     held = key.credentials.get(alice.credential_id)
     assert held.rp_id_hash == sha256(b"example.com").digest()
-    assert (held.x, held.y) == (alice.public_key[-2], alice.public_key[-3])
-    bob = key.credentials.add("example.com", b"bob", "bob", counter=40)
-    assert [it.user_id for it in key.credentials] == [b"alice", b"bob"]
-    found = service.sign_in([_attested(bob)])
+    assert (held.public_key_x, held.public_key_y) == (alice.public_key[-2], alice.public_key[-3])
+    bob = key.credentials.add("example.com", b"bob", "bob", sign_count=40)
+    assert [credential.user_id for credential in key.credentials] == [b"alice", b"bob"]
+    found = service.sign_in([_read_cose_key(bob)])
     assert (found.user_handle, found.authenticator_data.counter) == (b"bob", 41)
-    key.credentials.change(bob.id, counter=7)
-    assert service.sign_in([_attested(bob)]).authenticator_data.counter == 8
+    key.credentials.update(bob.id, sign_count=7)
+    assert service.sign_in([_read_cose_key(bob)]).authenticator_data.counter == 8
     key.credentials.remove(bob.id)
     assert service.sign_in([alice]).user_handle == b"alice"
     key.credentials.clear()
     assert len(key.credentials) == 0
-    assert_refused(REFUSED.DEVICE_INELIGIBLE, 0x2E, service.sign_in, [alice])
+    check_refused(REFUSED_ERROR.DEVICE_INELIGIBLE, 0x2E, service.sign_in, [alice])
 
 
 def test_an_added_credential_replaces_that_of_its_user(make: Make) -> None:
-    """As a registration does (docs/use/PROFILE.md, authenticatorMakeCredential). Others stay."""
+    """Like a registration (docs/use/PROFILE.md, authenticatorMakeCredential). Other credentials stay."""
     key = make()
     first = key.credentials.add("example.com", b"alice")
     other = key.credentials.add("example.org", b"alice")
     hidden = key.credentials.add("example.com", b"alice", discoverable=False)
     second = key.credentials.add("example.com", b"alice")
     assert list(key.credentials) == [other, hidden, second] and first.id != second.id
-    assert key.credentials.of("example.com") == [hidden, second]
+    assert key.credentials.for_rp("example.com") == [hidden, second]
     key.credentials.remove(other.id)
     assert list(key.credentials) == [hidden, second]
     with pytest.raises(hidlog.ArgumentError, match="the same relying party and user"):
-        key.credentials.change(hidden.id, discoverable=True)
+        key.credentials.update(hidden.id, discoverable=True)
     with pytest.raises(
-        hidlog.ArgumentError, match="there is no member to change 'rp_id'; there are counter, user_name"
+        hidlog.ArgumentError, match="unknown member to change 'rp_id'; expected one of sign_count, user_name"
     ):
-        key.credentials.change(hidden.id, rp_id="example.org")
-    with pytest.raises(hidlog.ArgumentError, match="holds a credential with the id"):
+        key.credentials.update(hidden.id, rp_id="example.org")
+    with pytest.raises(hidlog.ArgumentError, match="already has a credential with ID"):
         key.credentials.add("example.com", credential_id=second.id)
 
 
@@ -94,12 +94,12 @@ def test_a_given_private_key_signs(make: Make) -> None:
     private = ec.generate_private_key(ec.SECP256R1())
     form = (serialization.Encoding.DER, serialization.PrivateFormat.PKCS8, serialization.NoEncryption())
     both: list[Any] = [private, private.private_bytes(*form)]
-    for given in both:
+    for private_key in both:
         key = make()
-        added = key.credentials.add("example.com", b"u", private_key=given)
-        assert added.x == private.public_key().public_numbers().x.to_bytes(32, "big")
-        assert Service(key).sign_in([_attested(added)]).user_handle == b"u"
-    with pytest.raises(hidlog.ArgumentError, match="has to be on P-256"):
+        added = key.credentials.add("example.com", b"u", private_key=private_key)
+        assert added.public_key_x == private.public_key().public_numbers().x.to_bytes(32, "big")
+        assert Service(key).sign_in([_read_cose_key(added)]).user_handle == b"u"
+    with pytest.raises(hidlog.ArgumentError, match="must be on P-256"):
         key.credentials.add("example.com", private_key=ec.generate_private_key(ec.SECP384R1()))
 
 
@@ -107,22 +107,22 @@ def test_credentials_change_only_while_nothing_is_served(make: Make) -> None:
     key = make(presence=None)
     hidlog.Client(key)
     key.write_packet(bytes.fromhex("00000001900001" "0b").ljust(64, b"\0"))
-    with pytest.raises(hidlog.KeyBusy):
+    with pytest.raises(hidlog.KeyBusyError):
         key.credentials.clear()
 
 
-def _attested(credential: hidlog.Credential) -> Any:
+def _read_cose_key(credential: hidlog.Credential) -> Any:
     from fido2.cose import ES256
     from fido2.ctap2 import AttestedCredentialData
 
-    public = ES256({1: 2, 3: -7, -1: 1, -2: credential.x, -3: credential.y})
+    public = ES256({1: 2, 3: -7, -1: 1, -2: credential.public_key_x, -3: credential.public_key_y})
     return AttestedCredentialData.create(bytes(16), credential.id, public)
 
 
-def changed_at_random(key: hidlog.SecurityKey, chance: Random) -> None:
+def change_at_random(key: hidlog.SecurityKey, chance: Random) -> None:
     """Adds, changes and removes credentials of three users at two services."""
     for _ in range(60):
-        ids = [it.id for it in key.credentials]
+        ids = [credential.id for credential in key.credentials]
         what = chance.randrange(8)
         if what < 3 or not ids:
             rp, user, kind = (
@@ -133,8 +133,8 @@ def changed_at_random(key: hidlog.SecurityKey, chance: Random) -> None:
             name = chance.choice([None, None, chance.randbytes(chance.choice([1, 32, 100]))])
             key.credentials.add(rp, user, f"name {user.hex()}", discoverable=kind, credential_id=name)
         elif what < 6:
-            members = {"counter": chance.randrange(1000), "user_name": "\u00e9" * chance.randrange(30)}
-            key.credentials.change(chance.choice([*ids, ids[-1]]), **members)
+            members = {"sign_count": chance.randrange(1000), "user_name": "\u00e9" * chance.randrange(30)}
+            key.credentials.update(chance.choice([*ids, ids[-1]]), **members)
         elif what < 7:
             key.credentials.remove(chance.choice(ids))
         else:
@@ -142,28 +142,28 @@ def changed_at_random(key: hidlog.SecurityKey, chance: Random) -> None:
 
 
 def test_both_forms_hold_the_same_after_changes() -> None:
-    """The key in this process changes credentials by the C library, and one in a process by snapshots."""
+    """A key in this process changes credentials through the C library, one in a separate process through snapshots."""
     for seed in range(4):
         keys = []
         for process in (False, True):
             with hidlog.SecurityKey(process=process, random=Random(seed).randbytes) as key:
-                changed_at_random(key, Random(seed))
+                change_at_random(key, Random(seed))
                 keys.append((list(key.credentials), key.snapshot(), key.recordings, sorted(key.private_keys)))
         assert keys[0] == keys[1]
         held, _, recordings, private = keys[0]
         assert len(private) == len(held)
-        for it in recordings:
-            hidlog.check(it.log, it.snapshot).raise_for_fault()
+        for recording in recordings:
+            hidlog.check(recording.log, recording.snapshot).raise_for_fault()
 
 
 def test_a_change_leaves_the_others_where_they_are() -> None:
     with hidlog.SecurityKey() as key:
-        ids = [key.credentials.add("example.com", bytes([it])).id for it in range(5)]
+        ids = [key.credentials.add("example.com", bytes([index])).id for index in range(5)]
         for place in (0, 2, 4):
             before = key.credentials[place]
-            assert key.credentials.change(before.id, counter=7, user_name="bob") == key.credentials[place]
-            assert key.credentials[place] == replace(before, counter=7, user_name="bob")
-            assert [it.id for it in key.credentials] == ids
+            assert key.credentials.update(before.id, sign_count=7, user_name="bob") == key.credentials[place]
+            assert key.credentials[place] == replace(before, sign_count=7, user_name="bob")
+            assert [credential.id for credential in key.credentials] == ids
 
 
 def test_private_keys_of_replaced_credentials_go(make: Make) -> None:
@@ -188,37 +188,37 @@ def test_a_refused_snapshot_leaves_the_key_as_it_was() -> None:
     with hidlog.SecurityKey() as key:
         alice = Service(key).register()
         with pytest.raises(hidlog.SnapshotError):
-            key._take_snapshot(b"\xa2")
+            key._load_snapshot(b"\xa2")
         assert Service(key).sign_in([alice]).authenticator_data.counter == 1
 
 
 def test_wrong_credentials_are_refused(make: Make) -> None:
     key = make()
-    with pytest.raises(hidlog.ArgumentError, match="holds no credential with the id 00"):
+    with pytest.raises(hidlog.ArgumentError, match="no credential with ID 00"):
         key.credentials.remove(bytes(32))
-    with pytest.raises(hidlog.ArgumentError, match="counter is -1; it has to be 0 to 4294967295"):
-        key.credentials.add("example.com", counter=-1)
-    with pytest.raises(hidlog.ArgumentError, match="user_id has 65 bytes; it has at most 64"):
+    with pytest.raises(hidlog.ArgumentError, match="sign_count is -1; it must be 0 to 4294967295"):
+        key.credentials.add("example.com", sign_count=-1)
+    with pytest.raises(hidlog.ArgumentError, match="user_id has 65 bytes; it must have at most 64"):
         key.credentials.add("example.com", bytes(65))
     made = key.credentials.add("example.com", b"alice")
-    full = [replace(made, id=bytes([it]) * 32, user_id=bytes([it])) for it in range(64)]
+    full = [replace(made, id=bytes([index]) * 32, user_id=bytes([index])) for index in range(64)]
     with make(snapshot=write_snapshot(full)) as other:
         assert list(other.credentials) == full
-        with pytest.raises(hidlog.ArgumentError, match="the key holds 64 credentials, and that is the most"):
+        with pytest.raises(hidlog.ArgumentError, match="the key is full: it has 64 credentials"):
             other.credentials.add("example.com", b"one more")
-        # A registration past the capacity: CTAP 2.1, CTAP2_ERR_KEY_STORE_FULL.
-        assert_refused(REFUSED.CONFIGURATION_UNSUPPORTED, 0x28, Service(other).register)
+        # A registration beyond the capacity: CTAP2_ERR_KEY_STORE_FULL.
+        check_refused(REFUSED_ERROR.CONFIGURATION_UNSUPPORTED, 0x28, Service(other).register)
 
 
 def test_the_clock_goes_on_as_credentials_change(make: Make) -> None:
     key = make()
-    key.pass_time(20_000)
+    key.advance_time(20_000)
     key.credentials.add("example.com", b"u")
-    assert 20_000 < key.moment < 20_100
-    key.pass_time(5_000)
-    assert 25_000 < key.moment < 25_100
+    assert 20_000 < key.time_ms < 20_100
+    key.advance_time(5_000)
+    assert 25_000 < key.time_ms < 25_100
     key.restart()
-    assert key.moment == 0
+    assert key.time_ms == 0
 
 
 def test_without_a_recording(make: Make) -> None:
@@ -227,20 +227,20 @@ def test_without_a_recording(make: Make) -> None:
     assert Service(key).sign_in([alice]).authenticator_data.counter == 1
     assert key.log == b""
     if key._process:
-        with pytest.raises(hidlog.HidlogError, match="record=False"):
+        with pytest.raises(hidlog.HidlogError, match="record=True"):
             len(key.credentials)
     else:
-        assert key.credentials.get(alice.credential_id).counter == 1
+        assert key.credentials.get(alice.credential_id).sign_count == 1
 
 
 def test_a_snapshot_at_its_limits(make: Make) -> None:
-    """The snapshot is that of an encoder that knows no rows, and the core takes it and lists the same credentials."""
+    """The snapshot equals that of a generic encoder, and the core loads it and lists the same credentials."""
     point = hidlog.SecurityKey().credentials.add("example.com")
     listed = [
         replace(
-            point, id=bytes([number]) * 32, user_id=user, user_name=name, counter=counter, discoverable=number % 2 == 0
+            point, id=bytes([number]) * 32, user_id=user, user_name=name, sign_count=count, discoverable=number % 2 == 0
         )
-        for number, (user, name, counter) in enumerate(
+        for number, (user, name, count) in enumerate(
             [
                 (b"", "", 0),
                 (b"a" * 23, "b" * 24, 23),
@@ -249,18 +249,18 @@ def test_a_snapshot_at_its_limits(make: Make) -> None:
             ]
         )
     ]
-    members = ("rp_id_hash", "id", "x", "y", "user_id", "discoverable", "counter", "user_name")
-    rows = [dict(enumerate((getattr(it, name) for name in members), 1)) for it in listed]
+    members = ("rp_id_hash", "id", "public_key_x", "public_key_y", "user_id", "discoverable", "sign_count", "user_name")
+    rows = [dict(enumerate((getattr(entry, name) for name in members), 1)) for entry in listed]
     assert write_snapshot(listed) == cbor.encode({1: 2, 2: rows})
     with make(snapshot=write_snapshot(listed)) as key:
         assert list(key.credentials) == listed and len(key.credentials) == len(listed)
         assert key.snapshot() == write_snapshot(listed)
-    with pytest.raises(hidlog.ArgumentError, match="ids of 32 bytes"):
+    with pytest.raises(hidlog.ArgumentError, match="must have 32 bytes"):
         write_snapshot([replace(point, id=b"short")])
 
 
 def test_a_key_as_text(make: Make) -> None:
-    """What dumps returned is the key again, and its counters are above those that a service has seen."""
+    """A key loaded from dumps has the same credentials, with signature counters above those seen by a service."""
     with make() as key:
         alice = Service(key).register()
         Service(key).sign_in([alice])
@@ -268,10 +268,12 @@ def test_a_key_as_text(make: Make) -> None:
     with hidlog.SecurityKey.loads(text) as again:
         assert list(again.credentials) == held
         assert Service(again).sign_in([alice]).authenticator_data.counter == 2
-    with hidlog.SecurityKey.loads(text, counter_margin=1000) as later:
-        assert [it.counter for it in later.credentials] == [it.counter + 1000 for it in held]
-    with hidlog.SecurityKey.loads(text, counter_margin=2**32 - 1) as last:
-        assert [it.counter for it in last.credentials] == [2**32 - 1] * len(held)
+    with hidlog.SecurityKey.loads(text, sign_count_margin=1000) as later:
+        assert [credential.sign_count for credential in later.credentials] == [
+            credential.sign_count + 1000 for credential in held
+        ]
+    with hidlog.SecurityKey.loads(text, sign_count_margin=2**32 - 1) as last:
+        assert [credential.sign_count for credential in last.credentials] == [2**32 - 1] * len(held)
     for wrong in (None, b"{}", "", "{}", text[:-9]):
         with pytest.raises(hidlog.ArgumentError):
             hidlog.SecurityKey.loads(wrong)  # type: ignore[arg-type]
@@ -282,7 +284,7 @@ def test_recordings_are_forgotten(make: Make) -> None:
         key.credentials.add("example.com", b"alice")
         hidlog.Client(key).request(4)
         before = key.snapshot()
-        key.forget_recordings()
+        key.clear_recordings()
         (recording,) = key.recordings
         assert recording.snapshot == before and b"\n< " in recording.log
         assert hidlog.check(recording.log, recording.snapshot).raise_for_fault()

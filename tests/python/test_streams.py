@@ -1,4 +1,4 @@
-"""Every command with a standard stream that is full, closed or broken: one line, and a status that no verdict has.
+"""Every command with a full, closed or broken standard stream: one line of error, and its own exit status.
 
 The commands of the program end as the program does, to the byte, also through the library.
 """
@@ -17,23 +17,31 @@ from tempfile import TemporaryFile
 
 import pytest
 
-from hidlog.process import program
+from hidlog.subprocess_key import find_program
 
-from test_by_library import WITHOUT
+from test_library_cli import WITHOUT_PROGRAM
 
-WITH = [sys.executable, "-m", "hidlog"]
-THROUGH = [sys.executable, "-c", WITHOUT]
+WITH_PROGRAM = [sys.executable, "-m", "hidlog"]
+WITHOUT_PROGRAM_COMMAND = [sys.executable, "-c", WITHOUT_PROGRAM]
 LINE = b'{"id": 1, "log": 0}\n'
-WRITING = b"hidlog: writing failed\n"
-# Commands of the program, each with something to write.
-OF_PROGRAM = ["check same.log", "replay same.log", "quiet same.log", "live same.log", "show same.log", "live", "replay"]
-NATIVE_ALONE = ["--version", "show --json same.log", "show --summary same.log", "check --all broken.log"]
+WRITING_FAILED = b"hidlog: writing failed\n"
+# Commands of the program, all with output.
+PROGRAM_COMMANDS = [
+    "check same.log",
+    "replay same.log",
+    "quiet same.log",
+    "live same.log",
+    "show same.log",
+    "live",
+    "replay",
+]
+PROGRAM_ONLY_COMMANDS = ["--version", "show --json same.log", "show --summary same.log", "check --all broken.log"]
 # Commands of the package.
-OWN = [
+PYTHON_COMMANDS = [
     "import capture",
     "import --list capture",
     "export same.log",
-    "export --dissector",
+    "export --dissector-path",
     "judge broken.log",
     "judge --format json same.log",
     "judge --format junit same.log",
@@ -51,23 +59,23 @@ OWN = [
     "browser --help",
     "webdriver --help",
 ]
-OF_BOTH = ["mermaid same.log", "check --signatures same.log"]
+MIXED_COMMANDS = ["mermaid same.log", "check --signatures same.log"]
 
 
 @pytest.fixture(scope="module")
 def folder(tmp_path_factory: pytest.TempPathFactory) -> Path:
-    """Makes a folder with logs and a capture."""
+    """Provides a directory with logs and a capture."""
     examples, made = Path(os.environ["HIDLOG_EXAMPLES"]), tmp_path_factory.mktemp("streams")
     (made / "same.log").write_bytes((examples / "registration.log").read_bytes())
-    (made / "broken.log").write_bytes((examples / "failing" / "counter_stays.log").read_bytes())
+    (made / "broken.log").write_bytes((examples / "failing" / "stale_sign_count.log").read_bytes())
     (made / "long.log").write_bytes(b"t 1\np 2 granted\nt 3\n")
-    subprocess.run([*WITH, "export", "same.log", "-o", "capture"], cwd=made, check=True)
+    subprocess.run([*WITH_PROGRAM, "export", "same.log", "-o", "capture"], cwd=made, check=True)
     return made
 
 
 @contextmanager
 def output(kind: str) -> Iterator[int]:
-    """Gives a descriptor that can't be written."""
+    """Provides a descriptor that can't be written."""
     if kind == "full":
         number = os.open("/dev/full", os.O_WRONLY)
     elif kind == "short":
@@ -83,13 +91,13 @@ def output(kind: str) -> Iterator[int]:
 
 
 def limit_files() -> None:
-    """Has a write behind the tenth byte of a file fail; SIGXFSZ kills whoever doesn't ignore it."""
+    """Makes writes after the tenth byte of a file fail. SIGXFSZ kills processes that do not ignore it."""
     resource.setrlimit(resource.RLIMIT_CORE, (0, 0))
     resource.setrlimit(resource.RLIMIT_FSIZE, (10, 10))
 
 
-def ended(command: list[str], words: str, folder: Path, kind: str, stream: int = 1) -> tuple[int, bytes, bytes]:
-    """Returns how a command ends whose standard output, error or input is full, closed or broken."""
+def run_command(command: list[str], words: str, folder: Path, kind: str, stream: int = 1) -> tuple[int, bytes, bytes]:
+    """Returns the result of a command whose standard output, error or input is full, closed or broken."""
     log = LINE if "browser" in words else (folder / "same.log").read_bytes()
     line = ["sh", "-c", f'exec "$@" {stream}>&-', "sh", *command] if kind == "closed" else command
     with output("broken" if kind == "closed" else kind) as number:
@@ -107,62 +115,66 @@ def ended(command: list[str], words: str, folder: Path, kind: str, stream: int =
 
 
 @pytest.mark.parametrize("kind", ["full", "closed", "broken"])
-@pytest.mark.parametrize("words", OF_PROGRAM)
+@pytest.mark.parametrize("words", PROGRAM_COMMANDS)
 def test_the_programs_commands_end_as_the_program(folder: Path, words: str, kind: str) -> None:
     for stream in (1, 2):
-        theirs = ended([program()], words, folder, kind, stream)
-        assert ended(WITH, words, folder, kind, stream) == theirs, stream
-        assert ended(THROUGH, words, folder, kind, stream) == theirs, stream
+        theirs = run_command([find_program()], words, folder, kind, stream)
+        assert run_command(WITH_PROGRAM, words, folder, kind, stream) == theirs, stream
+        assert run_command(WITHOUT_PROGRAM_COMMAND, words, folder, kind, stream) == theirs, stream
     assert theirs[0] == 0
-    assert ended([program()], words, folder, kind)[::2] == (1, WRITING)
+    assert run_command([find_program()], words, folder, kind)[::2] == (1, WRITING_FAILED)
 
 
 @pytest.mark.parametrize("kind", ["full", "closed", "broken"])
-@pytest.mark.parametrize("words", NATIVE_ALONE)
+@pytest.mark.parametrize("words", PROGRAM_ONLY_COMMANDS)
 def test_what_the_program_serves_alone(folder: Path, words: str, kind: str) -> None:
-    theirs = ended([program()], words, folder, kind)
-    assert ended(WITH, words, folder, kind) == theirs
-    status, _, said = ended(THROUGH, words, folder, kind)
-    assert (status, said.count(b"\n")) == (2, 1) and b"the program is missing" in said
+    theirs = run_command([find_program()], words, folder, kind)
+    assert run_command(WITH_PROGRAM, words, folder, kind) == theirs
+    status, _, said = run_command(WITHOUT_PROGRAM_COMMAND, words, folder, kind)
+    assert (status, said.count(b"\n")) == (2, 1) and b"program not found" in said
 
 
 @pytest.mark.parametrize("kind", ["full", "closed", "broken"])
 def test_help_is_written_without_the_program_too(folder: Path, kind: str) -> None:
-    assert ended(WITH, "--help", folder, kind) == ended([program()], "--help", folder, kind)
-    assert ended(THROUGH, "--help", folder, kind)[::2] == (2, b"hidlog: writing failed\n")
+    assert run_command(WITH_PROGRAM, "--help", folder, kind) == run_command([find_program()], "--help", folder, kind)
+    assert run_command(WITHOUT_PROGRAM_COMMAND, "--help", folder, kind)[::2] == (2, b"hidlog: writing failed\n")
 
 
-@pytest.mark.parametrize("words", OF_PROGRAM)
+@pytest.mark.parametrize("words", PROGRAM_COMMANDS)
 def test_a_short_write_ends_the_programs_commands_as_the_program(folder: Path, words: str) -> None:
-    theirs = ended([program()], words, folder, "short")
-    assert theirs == ended(WITH, words, folder, "short") == ended(THROUGH, words, folder, "short")
+    theirs = run_command([find_program()], words, folder, "short")
+    assert (
+        theirs
+        == run_command(WITH_PROGRAM, words, folder, "short")
+        == run_command(WITHOUT_PROGRAM_COMMAND, words, folder, "short")
+    )
     assert theirs[::2] == (-signal.SIGXFSZ, b"")
 
 
 @pytest.mark.parametrize("kind", ["full", "closed", "broken", "short"])
-@pytest.mark.parametrize("words", [*OWN, *OF_BOTH])
+@pytest.mark.parametrize("words", [*PYTHON_COMMANDS, *MIXED_COMMANDS])
 def test_the_packages_commands_end_with_a_line(folder: Path, words: str, kind: str) -> None:
-    status, _, said = ended(WITH, words, folder, kind)
-    assert status == 2 and b"Traceback" not in said and said.endswith(WRITING), said
-    if words in OF_BOTH:
-        status, _, said = ended(THROUGH, words, folder, kind)
-        assert status == 2 and (b"the program is missing" in said or said == WRITING)
+    status, _, said = run_command(WITH_PROGRAM, words, folder, kind)
+    assert status == 2 and b"Traceback" not in said and said.endswith(WRITING_FAILED), said
+    if words in MIXED_COMMANDS:
+        status, _, said = run_command(WITHOUT_PROGRAM_COMMAND, words, folder, kind)
+        assert status == 2 and (b"program not found" in said or said == WRITING_FAILED)
     else:
-        assert ended(THROUGH, words, folder, kind)[::2] == (status, said)
+        assert run_command(WITHOUT_PROGRAM_COMMAND, words, folder, kind)[::2] == (status, said)
 
 
 @pytest.mark.parametrize("kind", ["full", "closed", "broken"])
-@pytest.mark.parametrize("words", [*OWN, *OF_BOTH])
+@pytest.mark.parametrize("words", [*PYTHON_COMMANDS, *MIXED_COMMANDS])
 def test_standard_error_changes_no_status(folder: Path, words: str, kind: str) -> None:
-    right = subprocess.run([*WITH, *words.split()], input=LINE, cwd=folder, capture_output=True)
-    status, text, _ = ended(WITH, words, folder, kind, 2)
+    right = subprocess.run([*WITH_PROGRAM, *words.split()], input=LINE, cwd=folder, capture_output=True)
+    status, text, _ = run_command(WITH_PROGRAM, words, folder, kind, 2)
     assert (status, text) == (right.returncode, right.stdout) and right.returncode in (0, 1)
 
 
 @pytest.mark.parametrize("kind", ["full", "closed", "broken"])
 def test_a_failure_after_something_was_printed(folder: Path, kind: str) -> None:
-    status, _, said = ended(WITH, "check --signatures same.log nothing.log", folder, kind)
-    assert status == 2 and all(it.startswith(b"hidlog") for it in said.splitlines()), said
+    status, _, said = run_command(WITH_PROGRAM, "check --signatures same.log nothing.log", folder, kind)
+    assert status == 2 and all(line.startswith(b"hidlog") for line in said.splitlines()), said
 
 
 @pytest.mark.parametrize(
@@ -170,14 +182,14 @@ def test_a_failure_after_something_was_printed(folder: Path, kind: str) -> None:
 )
 def test_a_closed_standard_input_is_no_empty_one(folder: Path, words: str) -> None:
     ran = subprocess.run(
-        ["sh", "-c", 'exec "$@" <&-', "sh", *WITH, *words.split()], cwd=folder, capture_output=True, timeout=600
+        ["sh", "-c", 'exec "$@" <&-', "sh", *WITH_PROGRAM, *words.split()], cwd=folder, capture_output=True, timeout=600
     )
     assert (ran.returncode, ran.stdout) == (2, b"") and ran.stderr and b"Traceback" not in ran.stderr
 
 
 def test_a_closed_stream_is_no_file(folder: Path) -> None:
-    """The file that is opened next doesn't get the number of a standard stream."""
+    """The next file opened does not become a standard stream."""
     target = folder / "out.log"
     shell = ["sh", "-c", 'exec "$@" <&- >&- 2>&-', "sh"]
-    ran = subprocess.run([*shell, *WITH, "import", "capture", "-o", "out.log"], cwd=folder, timeout=600)
+    ran = subprocess.run([*shell, *WITH_PROGRAM, "import", "capture", "-o", "out.log"], cwd=folder, timeout=600)
     assert ran.returncode == 0 and target.read_bytes() == (folder / "same.log").read_bytes()

@@ -1,4 +1,4 @@
-"""Several threads on one key, and processes that os.fork makes."""
+"""Several threads with one key, and child processes of os.fork."""
 
 from __future__ import annotations
 
@@ -10,41 +10,43 @@ from concurrent.futures import ThreadPoolExecutor
 from typing import Any
 
 import pytest
-from test_browser import REQUEST, creation
+from test_browser import REQUEST_OPTIONS, make_creation_options
 
 import hidlog
 from hidlog import packets
 
 Make = Callable[..., hidlog.SecurityKey]
-THREADS = 4
-# Only what hangs takes so many seconds.
-HANGS = 60
+THREAD_COUNT = 4
+# Timeout in seconds: only a hanging call takes this long.
+TIMEOUT_SECONDS = 60
 
 
 def test_four_threads_lose_nothing(make: Make) -> None:
-    """Each makes 100 registrations at a site of its own, for 15 users in turn, and signs in after each."""
+    """Each thread registers 100 times at its own site, alternating between 15 users, and signs in after each."""
     key = make()
 
     def register(thread: int) -> list[str]:
         browser, made = key.browser(f"https://site{thread}.example"), []
         for number in range(100):
-            made.append(str(browser.create(creation(f"user {number % 15}"))["id"]))
+            made.append(str(browser.create(make_creation_options(f"user {number % 15}"))["id"]))
             allowed = [{"type": "public-key", "id": made[-1]}]
-            assert browser.get({**REQUEST, "allowCredentials": allowed})["id"] == made[-1]
+            assert browser.get({**REQUEST_OPTIONS, "allowCredentials": allowed})["id"] == made[-1]
         return made
 
-    with ThreadPoolExecutor(THREADS) as pool:
-        made = [it for listed in pool.map(register, range(THREADS)) for it in listed]
+    with ThreadPoolExecutor(THREAD_COUNT) as pool:
+        made = [entry for listed in pool.map(register, range(THREAD_COUNT)) for entry in listed]
     assert len(set(made)) == 400
-    assert [len(key.credentials.of(f"site{it}.example")) for it in range(THREADS)] == [15] * THREADS
+    assert [len(key.credentials.for_rp(f"site{index}.example")) for index in range(THREAD_COUNT)] == [15] * THREAD_COUNT
 
 
 def test_four_threads_with_one_browser(make: Make) -> None:
     browser = make().browser("https://example.com")
-    with ThreadPoolExecutor(THREADS) as pool:
-        made = list(pool.map(lambda it: str(browser.create(creation(f"user {it}"))["id"]), range(40)))
-        allowed = [{**REQUEST, "allowCredentials": [{"type": "public-key", "id": it}]} for it in made]
-        assert [it["id"] for it in pool.map(browser.get, allowed)] == made
+    with ThreadPoolExecutor(THREAD_COUNT) as pool:
+        made = list(
+            pool.map(lambda element: str(browser.create(make_creation_options(f"user {element}"))["id"]), range(40))
+        )
+        allowed = [{**REQUEST_OPTIONS, "allowCredentials": [{"type": "public-key", "id": each}]} for each in made]
+        assert [item["id"] for item in pool.map(browser.get, allowed)] == made
 
 
 def test_clients_of_several_threads(make: Make) -> None:
@@ -56,27 +58,27 @@ def test_clients_of_several_threads(make: Make) -> None:
         answer = client.request(1, {**parameters, 3: {"id": bytes([number])}})
         return bytes(answer[2][55:87])
 
-    with ThreadPoolExecutor(THREADS) as pool:
+    with ThreadPoolExecutor(THREAD_COUNT) as pool:
         assert len(set(pool.map(register, range(20)))) == 20
 
 
 def test_raw_packets_of_two_threads_have_a_queue_a_channel(make: Make) -> None:
-    """Each thread pings on a channel of its own, and then both read."""
+    """Each thread sends a PING on its own channel, and then both read."""
     key, meeting = make(), threading.Barrier(2)
     found: dict[bytes, bytes] = {}
 
     def ping(letter: bytes) -> None:
         nonce = letter * 8
-        key.write_packet(packets.packets_of(packets.Message(packets.BROADCAST, packets.INIT, nonce))[0])
-        meeting.wait(HANGS)
-        answer = key.read_packet(timeout=HANGS)
+        key.write_packet(packets.fragment_message(packets.Message(packets.BROADCAST, packets.INIT, nonce))[0])
+        meeting.wait(TIMEOUT_SECONDS)
+        answer = key.read_packet(timeout=TIMEOUT_SECONDS)
         assert answer[7:15] == nonce
         message = packets.Message(int.from_bytes(answer[15:19], "big"), packets.PING, letter * 50)
-        key.write_packet(packets.packets_of(message)[0])
-        meeting.wait(HANGS)
+        key.write_packet(packets.fragment_message(message)[0])
+        meeting.wait(TIMEOUT_SECONDS)
         collector, whole = packets.Collector(), None
         while whole is None:
-            whole = collector.add(key.read_packet(timeout=HANGS))
+            whole = collector.add(key.read_packet(timeout=TIMEOUT_SECONDS))
         found[letter] = whole.data
 
     with ThreadPoolExecutor(2) as pool:
@@ -86,52 +88,52 @@ def test_raw_packets_of_two_threads_have_a_queue_a_channel(make: Make) -> None:
 
 def test_a_thread_that_only_reads_gets_all_packets(make: Make) -> None:
     key = make()
-    key.write_packet(packets.packets_of(packets.Message(packets.BROADCAST, packets.INIT, b"12345678"))[0])
+    key.write_packet(packets.fragment_message(packets.Message(packets.BROADCAST, packets.INIT, b"12345678"))[0])
     with ThreadPoolExecutor(1) as pool:
-        assert pool.submit(key.read_packet).result(HANGS)[7:15] == b"12345678"
+        assert pool.submit(key.read_packet).result(TIMEOUT_SECONDS)[7:15] == b"12345678"
 
 
 def test_a_function_of_presence_that_uses_the_key_is_refused(make: Make) -> None:
     key = make()
     browser = key.browser("https://example.com")
-    key.presence = lambda _: str(browser.get(REQUEST)["type"])
-    with pytest.raises(hidlog.KeyBusy, match="a function of presence can't send another"):
-        browser.create(creation())
+    key.presence = lambda _: str(browser.get(REQUEST_OPTIONS)["type"])
+    with pytest.raises(hidlog.KeyBusyError, match="a presence callback cannot send a request"):
+        browser.create(make_creation_options())
     key.presence = "granted"
-    browser.create(creation())
+    browser.create(make_creation_options())
 
 
 def test_credentials_change_while_another_thread_registers(make: Make) -> None:
     key, ended = make(), threading.Event()
     browser, other = key.browser("https://example.com"), key.browser("https://other.example")
 
-    def change() -> None:
+    def update() -> None:
         while not ended.is_set():
             added = key.credentials.add("changed.example", b"u")
-            key.credentials.change(added.id, counter=5)
+            key.credentials.update(added.id, sign_count=5)
 
-    thread = threading.Thread(target=change)
+    thread = threading.Thread(target=update)
     thread.start()
     try:
-        for it in range(20):
-            browser.create(creation(f"user {it}"))
-            other.create(creation(f"user {it}"))
+        for index in range(20):
+            browser.create(make_creation_options(f"user {index}"))
+            other.create(make_creation_options(f"user {index}"))
     finally:
         ended.set()
         thread.join()
-    assert [len(key.credentials.of(it)) for it in ("example.com", "other.example")] == [20, 20]
+    assert [len(key.credentials.for_rp(item)) for item in ("example.com", "other.example")] == [20, 20]
 
 
-IN_CHILD: list[tuple[str, Callable[[hidlog.SecurityKey, Any], Any]]] = [
-    ("a sign-in", lambda key, browser: browser.get(REQUEST)),
+CHILD_CALLS: list[tuple[str, Callable[[hidlog.SecurityKey, Any], Any]]] = [
+    ("a sign-in", lambda key, browser: browser.get(REQUEST_OPTIONS)),
     ("the credentials", lambda key, browser: len(key.credentials)),
     ("an added credential", lambda key, browser: key.credentials.add("a")),
     ("a packet", lambda key, browser: key.write_packet(bytes(64))),
     ("a read", lambda key, browser: key.read_packet()),
-    ("a note", lambda key, browser: key.note("x")),
+    ("a note", lambda key, browser: key.add_comment("x")),
     ("a restart", lambda key, browser: key.restart()),
     ("what was saved", lambda key, browser: key.save(os.devnull)),
-    ("time", lambda key, browser: key.pass_time(1)),
+    ("time", lambda key, browser: key.advance_time(1)),
     ("presence", lambda key, browser: setattr(key, "presence", "denied")),
 ]
 
@@ -141,16 +143,16 @@ IN_CHILD: list[tuple[str, Callable[[hidlog.SecurityKey, Any], Any]]] = [
 def test_a_child_of_fork_is_refused_and_the_parent_goes_on(make: Make) -> None:
     key = make()
     browser = key.browser("https://example.com")
-    made = browser.create(creation())
+    made = browser.create(make_creation_options())
     child = os.fork()
     if child == 0:
         wrong = []
-        for name, call in IN_CHILD:
+        for name, call in CHILD_CALLS:
             try:
                 call(key, browser)
                 wrong.append(name)
-            except hidlog.KeyForked as error:
-                wrong += [] if f"made in process {os.getppid()}" in str(error) else [str(error)]
+            except hidlog.KeyForkedError as error:
+                wrong += [] if f"belongs to process {os.getppid()}" in str(error) else [str(error)]
             except BaseException as error:
                 wrong.append(f"{name}: {error!r}")
         key.close()
@@ -158,7 +160,7 @@ def test_a_child_of_fork_is_refused_and_the_parent_goes_on(make: Make) -> None:
             print(wrong, file=sys.stderr, flush=True)
         os._exit(len(wrong))
     assert os.waitpid(child, 0)[1] == 0
-    assert browser.get(REQUEST)["id"] == made["id"] and len(key.credentials) == 1
+    assert browser.get(REQUEST_OPTIONS)["id"] == made["id"] and len(key.credentials) == 1
 
 
 @pytest.mark.skipif(not hasattr(os, "fork"), reason="there is no os.fork")

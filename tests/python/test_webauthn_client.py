@@ -1,5 +1,5 @@
-"""The WebAuthn client of the C library as the package calls it: requests against python-fido2's CBOR, errors by the DOM's
-names, and values of Python that aren't JSON. browser_cases.json has its answers beside Chromium's."""
+"""The C library's WebAuthn client, as called by the package: requests compared with python-fido2's CBOR, errors of the
+DOM, and Python values that are not JSON. browser_cases.json compares its results with Chromium's."""
 
 from __future__ import annotations
 
@@ -14,7 +14,7 @@ from fido2 import cbor
 
 import hidlog
 from hidlog import webauthn_client
-from hidlog.webauthn_client import Abilities, Call
+from hidlog.webauthn_client import AuthenticatorOptions, ClientCall
 
 ORIGIN = "https://login.example.com:8443"
 ID = bytes(range(32))
@@ -32,58 +32,64 @@ CLIENT_DATA = (
 )
 
 
-def message(ceremony: str, options: Any, abilities: Abilities = Abilities(), origin: str = ORIGIN) -> bytes:
-    """Returns the request that options make."""
-    return Call(ceremony, options, "optional", origin, abilities).request().message
+def build_request(
+    ceremony: str, options: Any, authenticator: AuthenticatorOptions = AuthenticatorOptions(), origin: str = ORIGIN
+) -> bytes:
+    """Returns the request for options."""
+    return ClientCall(ceremony, options, "optional", origin, authenticator).request().message
 
 
-def hash_of(ceremony: str) -> bytes:
+def client_data_hash(ceremony: str) -> bytes:
     return sha256((CLIENT_DATA % ceremony).encode()).digest()
 
 
 def test_a_registration_is_what_ctap_says() -> None:
-    """CTAP 2.1, section 6.1: the members of authenticatorMakeCredential, in canonical CBOR."""
+    """CTAP 2.1, section 6.1: the parameters of authenticatorMakeCredential, in canonical CBOR."""
     listed = [{"type": "public-key", "id": ID_TEXT}, {"type": "another", "id": "AA"}]
     options = {**CREATION, "excludeCredentials": listed, "authenticatorSelection": {"residentKey": "preferred"}}
     expected = {
-        1: hash_of("create"),
+        1: client_data_hash("create"),
         2: {"id": "example.com", "name": "Example"},
         3: {"id": b"\xff\xef", "name": "ann", "displayName": "Ann"},
         4: [{"alg": -7, "type": "public-key"}],
         5: [{"id": ID, "type": "public-key"}],
         7: {"rk": True},
     }
-    assert message("create", options) == b"\x01" + cbor.encode(expected)
+    assert build_request("create", options) == b"\x01" + cbor.encode(expected)
     del expected[7]
-    assert message("create", options, Abilities(has_resident_key=False)) == b"\x01" + cbor.encode(expected)
+    assert build_request("create", options, AuthenticatorOptions(has_resident_key=False)) == b"\x01" + cbor.encode(
+        expected
+    )
 
 
 def test_a_sign_in_is_what_ctap_says() -> None:
-    """CTAP 2.1, section 6.2: the members of authenticatorGetAssertion."""
-    expected: dict[int, Any] = {1: "login.example.com", 2: hash_of("get")}
-    assert message("get", REQUEST) == b"\x02" + cbor.encode(expected)
+    """CTAP 2.1, section 6.2: the parameters of authenticatorGetAssertion."""
+    expected: dict[int, Any] = {1: "login.example.com", 2: client_data_hash("get")}
+    assert build_request("get", REQUEST) == b"\x02" + cbor.encode(expected)
     expected |= {1: "example.com", 3: [{"id": ID, "type": "public-key"}, {"id": b"", "type": "public-key"}]}
     listed = [{"type": "public-key", "id": ID_TEXT}, {"type": "public-key", "id": ""}]
     options = {**REQUEST, "rpId": "example.com", "allowCredentials": listed}
-    assert message("get", options) == b"\x02" + cbor.encode(expected)
+    assert build_request("get", options) == b"\x02" + cbor.encode(expected)
 
 
 def test_texts_are_utf8() -> None:
-    """Web IDL: half of a surrogate pair in a USVString is U+FFFD."""
+    """Web IDL: an unpaired surrogate in a USVString becomes U+FFFD."""
     user = {**CREATION["user"], "name": "d\u00f6rte \U0001f511", "displayName": 'a\ud800b"\\\n'}
-    sent = cbor.decode(message("create", {**CREATION, "user": user})[1:])
+    sent = cbor.decode(build_request("create", {**CREATION, "user": user})[1:])
     assert (sent[3]["name"], sent[3]["displayName"]) == ("d\u00f6rte \U0001f511", 'a\ufffdb"\\\n')
 
 
 def test_timeout_and_verification_are_reported() -> None:
-    called = Call("get", {**REQUEST, "timeout": 250}, "optional", ORIGIN, Abilities("verified")).request()
+    called = ClientCall(
+        "get", {**REQUEST, "timeout": 250}, "optional", ORIGIN, AuthenticatorOptions("verified")
+    ).request()
     assert (called.timeout_ms, called.is_verified) == (250, True)
     options = {**REQUEST, "userVerification": "discouraged"}
-    called = Call("get", options, "optional", ORIGIN, Abilities("verified")).request()
+    called = ClientCall("get", options, "optional", ORIGIN, AuthenticatorOptions("verified")).request()
     assert (called.timeout_ms, called.is_verified) == (600_000, False)
 
 
-SIXTY_FIVE = [{"type": "public-key", "id": "AA"}] * 65
+TOO_MANY_DESCRIPTORS = [{"type": "public-key", "id": "AA"}] * 65
 
 
 @pytest.mark.parametrize(
@@ -93,86 +99,93 @@ SIXTY_FIVE = [{"type": "public-key", "id": "AA"}] * 65
         ("get", {"challenge": "A"}, hidlog.EncodingError, "challenge: it isn't base64url without padding"),
         (
             "get",
-            {**REQUEST, "allowCredentials": SIXTY_FIVE},
+            {**REQUEST, "allowCredentials": TOO_MANY_DESCRIPTORS},
             hidlog.WebAuthnRangeError,
             "allowCredentials: .* at most 64",
         ),
         ("get", {}, hidlog.NotSupportedError, "the options are empty"),
         ("get", {**REQUEST, "rpId": "com"}, hidlog.SecurityError, "not a registrable domain suffix"),
-        ("get", {**REQUEST, "userVerification": "required"}, hidlog.NotAllowedError, "the key verifies no users"),
+        (
+            "get",
+            {**REQUEST, "userVerification": "required"},
+            hidlog.NotAllowedError,
+            "the key has no user verification",
+        ),
         ("get", {**REQUEST, "extensions": {"appid": "x"}}, hidlog.WebAuthnSyntaxError, "appid: .*nor a valid URL"),
         ("create", REQUEST, hidlog.WebAuthnTypeError, "pubKeyCredParams: Required member is undefined."),
-        ("create", {**CREATION, "timeout": 0}, hidlog.NotAllowedError, "the timeout of the options is 0"),
+        ("create", {**CREATION, "timeout": 0}, hidlog.NotAllowedError, "the request's timeout is 0"),
         ("create", {"publicKey": None}, hidlog.WebAuthnTypeError, "is not of type .dictionary."),
     ],
 )
 def test_what_is_refused(ceremony: str, options: Any, error: type[hidlog.WebAuthnError], text: str) -> None:
     with pytest.raises(error, match=text):
-        message(ceremony, options)
+        build_request(ceremony, options)
 
 
 def test_a_mediation_is_one_of_four() -> None:
     for mediation in ("odd", "", None, 1):
         with pytest.raises(hidlog.WebAuthnTypeError, match="^mediation"):
-            Call("get", REQUEST, mediation, ORIGIN, Abilities()).request()
+            ClientCall("get", REQUEST, mediation, ORIGIN, AuthenticatorOptions()).request()
     for mediation in ("silent", "optional", "required"):
-        assert Call("get", REQUEST, mediation, ORIGIN, Abilities()).request().message == message("get", REQUEST)
+        assert ClientCall("get", REQUEST, mediation, ORIGIN, AuthenticatorOptions()).request().message == build_request(
+            "get", REQUEST
+        )
 
 
 def test_a_status_is_an_error_of_the_dom() -> None:
     """WebAuthn Level 3, section 5.1.3, step 22: InvalidStateError for an excluded credential, else NotAllowedError."""
-    call = Call("create", CREATION, "optional", ORIGIN, Abilities())
+    call = ClientCall("create", CREATION, "optional", ORIGIN, AuthenticatorOptions())
     for status in range(1, 256):
-        refused = call.refusal(status)
+        refused = call.make_error(status)
         assert refused.name == ("InvalidStateError" if status == 0x19 else "NotAllowedError")
         assert refused.status == status and f"0x{status:02X}" in str(refused)
 
 
-class Word(str, enum.Enum):
+class StringEnum(str, enum.Enum):
     KIND = "public-key"
 
 
-class Number(enum.IntEnum):
+class IntEnumValue(enum.IntEnum):
     ES256 = -7
 
 
 def test_values_that_stand_for_json() -> None:
-    """Tuples, mappings, and enumerations of texts and numbers, as python-fido2 has them."""
-    listed = ({"type": Word.KIND, "id": ID_TEXT},)
-    parameters = ({"type": Word.KIND, "alg": Number.ES256},)
+    """Tuples, mappings, and enums of str and int, as in python-fido2."""
+    listed = ({"type": StringEnum.KIND, "id": ID_TEXT},)
+    parameters = ({"type": StringEnum.KIND, "alg": IntEnumValue.ES256},)
     given = UserDict({**CREATION, "rp": UserDict(CREATION["rp"]), "pubKeyCredParams": parameters})
     given["excludeCredentials"] = listed
     plain = {**CREATION, "excludeCredentials": [{"type": "public-key", "id": ID_TEXT}]}
-    assert message("create", given) == message("create", plain)
+    assert build_request("create", given) == build_request("create", plain)
 
 
-CYCLE: dict[str, Any] = {**CREATION}
-CYCLE["extensions"] = CYCLE
-DEEP: Any = {}
+CYCLIC_OPTIONS: dict[str, Any] = {**CREATION}
+CYCLIC_OPTIONS["extensions"] = CYCLIC_OPTIONS
+NESTED_OPTIONS: Any = {}
 for _ in range(5_000):
-    DEEP = {"a": DEEP}
+    NESTED_OPTIONS = {"a": NESTED_OPTIONS}
 
 
 @pytest.mark.parametrize(
     "options, text",
     [
-        ({**CREATION, "challenge": bytes(4)}, "bytes is no value of JSON; .*creation_options_json"),
-        ({**CREATION, "challenge": {1, 2}}, "set is no value of JSON"),
-        ({**CREATION, "timeout": float("nan")}, "have no JSON"),
-        (CYCLE, "contain a cycle"),
-        ({**CREATION, "extensions": DEEP}, "nested too deeply"),
-        ([CREATION], "options have to be a dict of JSON, not list"),
-        (None, "options have to be a dict of JSON, not NoneType"),
+        ({**CREATION, "challenge": bytes(4)}, "bytes is not JSON; .*creation_options_json"),
+        ({**CREATION, "challenge": {1, 2}}, "set is not JSON"),
+        ({**CREATION, "timeout": float("nan")}, "are not JSON"),
+        (CYCLIC_OPTIONS, "contain a cycle"),
+        ({**CREATION, "extensions": NESTED_OPTIONS}, "nested too deeply"),
+        ([CREATION], "options must be a dict, not list"),
+        (None, "options must be a dict, not NoneType"),
     ],
 )
 def test_values_without_json(options: Any, text: str) -> None:
     with pytest.raises(hidlog.WebAuthnTypeError, match=text):
-        message("create", options)
+        build_request("create", options)
 
 
 def test_a_small_buffer_is_an_error() -> None:
     """hidlog.h: HIDLOG_CLIENT_TOO_SMALL is -100."""
-    inputs = Call("create", CREATION, "optional", ORIGIN, Abilities())._inputs
+    inputs = ClientCall("create", CREATION, "optional", ORIGIN, AuthenticatorOptions())._inputs
     report, out = (ctypes.c_uint32 * 4)(), ctypes.create_string_buffer(10)
-    write_request, _ = webauthn_client._functions()
+    write_request, _ = webauthn_client._load_functions()
     assert write_request(*inputs, ctypes.byref(report), out, 10) == -100

@@ -1,4 +1,4 @@
-// Judges cases by Go's duo-labs/webauthn: reads a JSON array, and writes a line a case, "yes" or "no: reason".
+// Checks cases with Go's duo-labs/webauthn: reads a JSON array and writes one line per case, "yes" or "no: reason".
 package main
 
 import (
@@ -12,7 +12,7 @@ import (
 	"github.com/duo-labs/webauthn/webauthn"
 )
 
-type judged struct {
+type testCase struct {
 	Kind       string          `json:"kind"`
 	Origin     string          `json:"origin"`
 	RPID       string          `json:"rp_id"`
@@ -20,50 +20,50 @@ type judged struct {
 	PublicKey  string          `json:"public_key"`
 	Counter    uint32          `json:"counter"`
 	Credential json.RawMessage `json:"credential"`
-	// "required" or "discouraged", as the service asks for the user's verification.
+	// User verification that the relying party requests: "required" or "discouraged".
 	Verification string `json:"verification"`
 }
 
-func registration(it judged) error {
-	parsed, err := protocol.ParseCredentialCreationResponseBody(bytes.NewReader(it.Credential))
+func verifyRegistration(test testCase) error {
+	parsed, err := protocol.ParseCredentialCreationResponseBody(bytes.NewReader(test.Credential))
 	if err != nil {
 		return err
 	}
-	return parsed.Verify(it.Challenge, it.Verification == "required", it.RPID, it.Origin)
+	return parsed.Verify(test.Challenge, test.Verification == "required", test.RPID, test.Origin)
 }
 
-func assertion(it judged) error {
-	parsed, err := protocol.ParseCredentialRequestResponseBody(bytes.NewReader(it.Credential))
+func verifyAssertion(test testCase) error {
+	parsed, err := protocol.ParseCredentialRequestResponseBody(bytes.NewReader(test.Credential))
 	if err != nil {
 		return err
 	}
-	key, err := base64.RawURLEncoding.DecodeString(it.PublicKey)
+	key, err := base64.RawURLEncoding.DecodeString(test.PublicKey)
 	if err != nil {
 		return err
 	}
-	if err := parsed.Verify(it.Challenge, it.RPID, it.Origin, "", it.Verification == "required", key); err != nil {
+	if err := parsed.Verify(test.Challenge, test.RPID, test.Origin, "", test.Verification == "required", key); err != nil {
 		return err
 	}
-	stored := webauthn.Authenticator{SignCount: it.Counter}
+	stored := webauthn.Authenticator{SignCount: test.Counter}
 	stored.UpdateCounter(parsed.Response.AuthenticatorData.Counter)
 	if stored.CloneWarning {
-		return fmt.Errorf("the counter did not rise: CloneWarning")
+		return fmt.Errorf("the counter did not increase: CloneWarning")
 	}
 	return nil
 }
 
 func main() {
-	var cases []judged
+	var cases []testCase
 	if err := json.NewDecoder(os.Stdin).Decode(&cases); err != nil {
 		fmt.Fprintln(os.Stderr, err)
 		os.Exit(2)
 	}
-	for _, it := range cases {
-		judge := assertion
-		if it.Kind == "registration" {
-			judge = registration
+	for _, test := range cases {
+		verify := verifyAssertion
+		if test.Kind == "registration" {
+			verify = verifyRegistration
 		}
-		if err := judge(it); err != nil {
+		if err := verify(test); err != nil {
 			if detailed, ok := err.(*protocol.Error); ok {
 				err = fmt.Errorf("%s %s", detailed.Details, detailed.DevInfo)
 			}

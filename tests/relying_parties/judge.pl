@@ -1,5 +1,5 @@
 #!/usr/bin/perl
-# Judges cases by Perl's Authen::WebAuthn: reads a JSON array, and writes a line a case, "yes" or "no: reason".
+# Checks cases with Perl's Authen::WebAuthn: reads a JSON array and writes one line per case, "yes" or "no: reason".
 use strict;
 use warnings;
 use Authen::WebAuthn;
@@ -8,11 +8,11 @@ use JSON;
 $| = 1;
 my $cases = decode_json( do { local $/; <STDIN> } );
 for my $case (@$cases) {
-    my $service  = Authen::WebAuthn->new( rp_id => $case->{rp_id}, origin => $case->{origin} );
-    my $response = $case->{credential}{response};
+    my $relying_party = Authen::WebAuthn->new( rp_id => $case->{rp_id}, origin => $case->{origin} );
+    my $response      = $case->{credential}{response};
     eval {
         if ( $case->{kind} eq 'registration' ) {
-            $service->validate_registration(
+            $relying_party->validate_registration(
                 challenge_b64          => $case->{challenge},
                 requested_uv           => $case->{verification},
                 client_data_json_b64   => $response->{clientDataJSON},
@@ -20,7 +20,7 @@ for my $case (@$cases) {
             );
         }
         else {
-            $service->validate_assertion(
+            $relying_party->validate_assertion(
                 challenge_b64          => $case->{challenge},
                 credential_pubkey_b64  => $case->{public_key},
                 stored_sign_count      => $case->{counter},

@@ -1,35 +1,35 @@
 #!/usr/bin/env ruby
 # frozen_string_literal: true
 
-# Judges cases by Ruby's webauthn: reads a JSON array, and writes a line a case, "yes", "no: reason", or "none: reason"
-# where the library fails by itself and judges nothing.
+# Checks cases with Ruby's webauthn: reads a JSON array and writes one line per case: "yes", "no: reason", or
+# "none: reason" if the library itself fails before a verdict.
 require 'json'
 require 'webauthn'
 
-def configure(judged)
-  WebAuthn.configure do |service|
-    service.origin = judged['origin']
-    service.rp_id = judged['rp_id']
-    service.rp_name = 'Example'
+def configure(test_case)
+  WebAuthn.configure do |relying_party|
+    relying_party.origin = test_case['origin']
+    relying_party.rp_id = test_case['rp_id']
+    relying_party.rp_name = 'Example'
   end
 end
 
-def verify(judged)
-  if judged['kind'] == 'registration'
-    WebAuthn::Credential.from_create(judged['credential']).verify(
-      judged['challenge'], user_verification: judged['verification'] == 'required'
+def verify(test_case)
+  if test_case['kind'] == 'registration'
+    WebAuthn::Credential.from_create(test_case['credential']).verify(
+      test_case['challenge'], user_verification: test_case['verification'] == 'required'
     )
   else
-    WebAuthn::Credential.from_get(judged['credential']).verify(
-      judged['challenge'], public_key: judged['public_key'], sign_count: judged['counter'],
-                           user_verification: judged['verification'] == 'required'
+    WebAuthn::Credential.from_get(test_case['credential']).verify(
+      test_case['challenge'], public_key: test_case['public_key'], sign_count: test_case['counter'],
+                           user_verification: test_case['verification'] == 'required'
     )
   end
 end
 
-def judge(judged)
-  configure(judged)
-  verify(judged)
+def judge(test_case)
+  configure(test_case)
+  verify(test_case)
   'yes'
 rescue WebAuthn::Error => e
   "no: #{e.class}: #{e.message.gsub(/\s+/, ' ')}"
@@ -37,4 +37,4 @@ rescue StandardError => e
   "none: #{e.class}: #{e.message.gsub(/\s+/, ' ')}"
 end
 
-JSON.parse($stdin.read).each { |judged| puts judge(judged) }
+JSON.parse($stdin.read).each { |test_case| puts judge(test_case) }

@@ -1,12 +1,12 @@
 #!/usr/bin/env python3
-"""Has relying parties that aren't ours judge what the key makes: registrations and sign-ins, right ones and wrong ones.
+"""Verifies registrations and sign-ins of the key with relying party libraries of other makers, valid and invalid ones.
 
-    tests/relying_parties/run.py [NAME ..]     by default each library that is there: python, perl, ruby, go
+    tests/relying_parties/run.py [NAME ..]     default: all installed libraries: python, perl, ruby, go
 
-The key registers and signs in through python-fido2's client; with a verified user, at a service of http://localhost,
-through the browser of the package. Each library then gets the same cases as JSON, and has to
-say yes to the right ones and no to the wrong ones. The last line is `N passed, N failed, N skipped`. Exit status 1 where
-a library's answer is another, 3 where no library is there. It needs python3-fido2 and python3-cryptography.
+The key registers and signs in with python-fido2's client; with user verification, at a service of http://localhost,
+with the package's browser. Each library gets the same cases as JSON, and must accept the valid ones and reject the
+invalid ones. The last line is `N passed, N failed, N skipped`. Exit status 1 if a library differs, 3 if none is
+installed. Needs python3-fido2 and python3-cryptography.
 """
 
 from __future__ import annotations
@@ -29,49 +29,53 @@ sys.path.insert(0, str(TOP / "python" / "src"))
 from fido2 import cbor
 from fido2.client import Fido2Client
 from hidlog import SecurityKey, check
-from hidlog.webauthn_json import authentication_json, data_of as data, registration_json, text_of as text
+from hidlog.webauthn_json import authentication_json, b64url_decode as data, b64url_encode as text, registration_json
 
 ORIGIN, RP_ID = "https://example.com", "example.com"
-LOCAL = "http://localhost:5000"
+LOCAL_ORIGIN = "http://localhost:5000"
 Case = dict[str, Any]
 Json = dict[str, Any]
 
 
 class Library(NamedTuple):
-    """A relying party: its Debian package, whether it is there, and the command that judges cases."""
+    """A relying party library: its Debian package, whether it is installed, and the command that verifies cases."""
 
     package: str
     is_there: Callable[[], bool]
     command: list[str]
 
 
-def runs(*words: str) -> Callable[[], bool]:
-    """Returns a test whether a command is there and ends well."""
+def make_availability_test(*words: str) -> Callable[[], bool]:
+    """Returns a function that tests whether a command is installed and exits with 0."""
     return lambda: shutil.which(words[0]) is not None and not subprocess.run(words, capture_output=True).returncode
 
 
 GO_SOURCES = Path("/usr/share/gocode/src/github.com/duo-labs/webauthn")
 LIBRARIES = {
     "python": Library("python3-fido2", lambda: True, [sys.executable, str(HERE / "judge.py")]),
-    "perl": Library("libauthen-webauthn-perl", runs("perl", "-MAuthen::WebAuthn", "-e1"), ["perl", f"{HERE}/judge.pl"]),
-    "ruby": Library("ruby-webauthn", runs("ruby", "-rwebauthn", "-e1"), ["ruby", f"{HERE}/judge.rb"]),
+    "perl": Library(
+        "libauthen-webauthn-perl",
+        make_availability_test("perl", "-MAuthen::WebAuthn", "-e1"),
+        ["perl", f"{HERE}/judge.pl"],
+    ),
+    "ruby": Library("ruby-webauthn", make_availability_test("ruby", "-rwebauthn", "-e1"), ["ruby", f"{HERE}/judge.rb"]),
     "go": Library(
         "golang-go golang-github-duo-labs-webauthn-dev",
         lambda: shutil.which("go") is not None and GO_SOURCES.is_dir(),
         ["go", "run", f"{HERE}/judge.go"],
     ),
 }
-# Libraries that fail by themselves on every key of ES256, with what they then say.
-NO_VERDICT = {"ruby": "pkeys are immutable on OpenSSL 3.0"}
+# Libraries that fail with every ES256 key, and their error.
+KNOWN_WITHOUT_VERDICT = {"ruby": "pkeys are immutable on OpenSSL 3.0"}
 
 
-def client_of(key: SecurityKey, origin: str = ORIGIN) -> Fido2Client:
+def make_client(key: SecurityKey, origin: str = ORIGIN) -> Fido2Client:
     return Fido2Client(key.device(), origin, verify=lambda rp_id, _: True)
 
 
-def registered(key: SecurityKey, challenge: bytes, rp_id: str = RP_ID, origin: str = ORIGIN) -> Case:
-    """Registers, and returns the case of it."""
-    made = client_of(key, origin).make_credential(
+def make_registration_case(key: SecurityKey, challenge: bytes, rp_id: str = RP_ID, origin: str = ORIGIN) -> Case:
+    """Registers, and returns the case."""
+    made = make_client(key, origin).make_credential(
         {
             "rp": {"id": rp_id, "name": "Example"},
             "user": {"id": b"alice", "name": "alice", "displayName": "Alice"},
@@ -92,31 +96,31 @@ def registered(key: SecurityKey, challenge: bytes, rp_id: str = RP_ID, origin: s
     }
 
 
-def signed_in(key: SecurityKey, made: Case, challenge: bytes, rp_id: str = RP_ID, origin: str = ORIGIN) -> Case:
-    """Signs in, and returns the case of it, for a service that has seen no sign-in before."""
+def make_sign_in_case(key: SecurityKey, made: Case, challenge: bytes, rp_id: str = RP_ID, origin: str = ORIGIN) -> Case:
+    """Signs in, and returns the case, for a service that has seen no sign-in before."""
     asked = {"challenge": challenge, "rpId": rp_id}
-    found = client_of(key, origin).get_assertion(asked).get_response(0)
+    found = make_client(key, origin).get_assertion(asked).get_response(0)
     parts = (found.client_data, found.authenticator_data, found.signature, found.user_handle)
     answer = authentication_json(found.credential_id, *parts)
     return {**made, "kind": "assertion", "challenge": text(challenge), "counter": 0, "credential": answer}
 
 
-def changed(case: Case, **members: Any) -> Case:
+def iter_changed_cases(case: Case, **members: Any) -> Case:
     return {**deepcopy(case), **members}
 
 
-def with_last_bit(case: Case, member: str) -> Case:
+def flip_last_bit(case: Case, member: str) -> Case:
     """Returns the case with the last bit of a member of its response flipped."""
     other = deepcopy(case)
     response = other["credential"]["response"]
-    bytes_of = bytearray(data(response[member]))
-    bytes_of[-1] ^= 1
-    response[member] = text(bytes(bytes_of))
+    check_bytes = bytearray(data(response[member]))
+    check_bytes[-1] ^= 1
+    response[member] = text(bytes(check_bytes))
     return other
 
 
-def with_attestation_signature(case: Case) -> Case:
-    """Returns the registration with another signature of the right form in its attestation statement."""
+def replace_attestation_signature(case: Case) -> Case:
+    """Returns the registration with another, well-formed signature in its attestation statement."""
     other = deepcopy(case)
     response = other["credential"]["response"]
     made = cbor.decode(data(response["attestationObject"]))
@@ -127,21 +131,21 @@ def with_attestation_signature(case: Case) -> Case:
     return other
 
 
-def attested(key: SecurityKey, credential: Json) -> str:
+def read_cose_key(key: SecurityKey, credential: Json) -> str:
     """Returns the COSE key of a credential."""
     held = key.credentials.get(data(credential["id"]))
     return str(text(cbor.encode({1: 2, 3: -7, -1: 1, -2: held.x, -3: held.y})))
 
 
-def verified_cases() -> list[tuple[str, bool, Case]]:
-    """Returns cases of a service at http://localhost that requires a verified user and a resident key.
+def make_verified_cases() -> list[tuple[str, bool, Case]]:
+    """Returns cases of a service at http://localhost that requires user verification and a resident key.
 
-    The browser is the package's own. What it signs for a user who wasn't verified is to be refused.
+    The browser is the package's own. Signatures without user verification must be refused.
     """
     first, second = (os.urandom(32) for _ in range(2))
-    base = {"verification": "required", "origin": LOCAL, "rp_id": "localhost", "counter": 0}
+    base = {"verification": "required", "origin": LOCAL_ORIGIN, "rp_id": "localhost", "counter": 0}
     with SecurityKey(verification="verified", attachment="platform") as key:
-        browser = key.browser(LOCAL)
+        browser = key.browser(LOCAL_ORIGIN)
         asked: Json = {
             "rp": {"name": "Example"},
             "user": {"id": text(b"alice"), "name": "alice", "displayName": "Alice"},
@@ -152,7 +156,7 @@ def verified_cases() -> list[tuple[str, bool, Case]]:
         made = browser.create(asked)
         found = browser.get({"challenge": text(second), "userVerification": "required"})
         unseen = browser.get({"challenge": text(second), "userVerification": "discouraged"})
-        public = attested(key, found)
+        public = read_cose_key(key, found)
         key.verification = "none"
         unverified = browser.create({**asked, "authenticatorSelection": {"residentKey": "required"}})
         key.verification = "verified"
@@ -164,12 +168,12 @@ def verified_cases() -> list[tuple[str, bool, Case]]:
     registration = {**base, "kind": "registration", "challenge": text(first)}
     sign_in = {**base, "kind": "assertion", "challenge": text(second), "public_key": public}
     return [
-        ("a registration of a verified user", True, {**registration, "credential": made}),
-        ("a registration of a verified user, backed up", True, {**registration, "credential": backed}),
-        ("a registration of a user who isn't verified", False, {**registration, "credential": unverified}),
-        ("a sign-in of a verified user", True, {**sign_in, "credential": found}),
-        ("a sign-in of a user who isn't verified", False, {**sign_in, "credential": unseen}),
-        ("a sign-in whose flag UV was set later", False, {**sign_in, "credential": with_flag_uv(unseen)}),
+        ("a registration with user verification", True, {**registration, "credential": made}),
+        ("a registration with user verification, backed up", True, {**registration, "credential": backed}),
+        ("a registration without user verification", False, {**registration, "credential": unverified}),
+        ("a sign-in with user verification", True, {**sign_in, "credential": found}),
+        ("a sign-in without user verification", False, {**sign_in, "credential": unseen}),
+        ("a sign-in whose flag UV was set later", False, {**sign_in, "credential": set_flag_uv(unseen)}),
     ]
 
 
@@ -178,11 +182,11 @@ def check_flags(answers: list[tuple[Json, int]]) -> None:
     for answer, flags in answers:
         found = data(answer["response"]["authenticatorData"])[32]
         if found != flags:
-            raise SystemExit(f"run.py: the flags are 0x{found:02X} in place of 0x{flags:02X}")
+            raise SystemExit(f"run.py: the flags are 0x{found:02X} instead of 0x{flags:02X}")
 
 
-def with_flag_uv(answer: Json) -> Json:
-    """Returns a sign-in whose flag UV is set, and the signature as it was."""
+def set_flag_uv(answer: Json) -> Json:
+    """Returns a sign-in with flag UV set afterwards."""
     other = deepcopy(answer)
     changed_data = bytearray(data(other["response"]["authenticatorData"]))
     changed_data[32] |= 0x04
@@ -190,78 +194,78 @@ def with_flag_uv(answer: Json) -> Json:
     return other
 
 
-def cases_of(key: SecurityKey) -> list[tuple[str, bool, Case]]:
-    """Returns each case with its name and whether it is to be taken."""
+def make_cases(key: SecurityKey) -> list[tuple[str, bool, Case]]:
+    """Returns each case, with its name and whether it is valid."""
     first, second, third = (os.urandom(32) for _ in range(3))
-    made = registered(key, first)
-    elsewhere = registered(key, first, "evil.example", ORIGIN)
-    other_origin = registered(key, first, RP_ID, "https://evil.example")
-    # The newest credential answers: so the one to sign in with is registered last.
-    made = registered(key, first)
-    found = signed_in(key, made, second)
-    again = signed_in(key, made, third)
-    other_rp = signed_in(key, made, second, "evil.example")
+    made = make_registration_case(key, first)
+    elsewhere = make_registration_case(key, first, "evil.example", ORIGIN)
+    other_origin = make_registration_case(key, first, RP_ID, "https://evil.example")
+    # The newest credential signs, so the one to sign in with is registered last.
+    made = make_registration_case(key, first)
+    found = make_sign_in_case(key, made, second)
+    again = make_sign_in_case(key, made, third)
+    other_rp = make_sign_in_case(key, made, second, "evil.example")
     return [
         ("a registration", True, made),
-        ("a registration with a repeated challenge", False, changed(made, challenge=text(second))),
+        ("a registration with a repeated challenge", False, iter_changed_cases(made, challenge=text(second))),
         ("a registration at another origin", False, other_origin),
         ("a registration for another RP", False, elsewhere),
-        ("a registration with a wrong signature", False, with_attestation_signature(made)),
+        ("a registration with a wrong signature", False, replace_attestation_signature(made)),
         ("a sign-in", True, found),
-        ("a second sign-in", True, changed(again, counter=1)),
-        ("a sign-in with a wrong signature", False, with_last_bit(found, "signature")),
-        ("a sign-in with changed authenticator data", False, with_last_bit(found, "authenticatorData")),
-        ("a sign-in with a repeated challenge", False, changed(found, challenge=text(third))),
-        ("a sign-in whose counter fell", False, changed(again, counter=7)),
-        ("a sign-in whose counter did not rise", False, changed(again, counter=2)),
-        ("a sign-in at another origin", False, changed(found, origin="https://www.example.com")),
+        ("a second sign-in", True, iter_changed_cases(again, counter=1)),
+        ("a sign-in with a wrong signature", False, flip_last_bit(found, "signature")),
+        ("a sign-in with changed authenticator data", False, flip_last_bit(found, "authenticatorData")),
+        ("a sign-in with a repeated challenge", False, iter_changed_cases(found, challenge=text(third))),
+        ("a sign-in whose counter fell", False, iter_changed_cases(again, counter=7)),
+        ("a sign-in whose counter did not rise", False, iter_changed_cases(again, counter=2)),
+        ("a sign-in at another origin", False, iter_changed_cases(found, origin="https://www.example.com")),
         ("a sign-in for another RP", False, other_rp),
     ]
 
 
-def judged(name: str, cases: list[tuple[str, bool, Case]]) -> list[str]:
-    """Returns what a library says of each case: "yes", "no: " and why, or "none: " and why it judges nothing."""
-    given = json.dumps([case for _, _, case in cases])
+def get_verdicts(name: str, cases: list[tuple[str, bool, Case]]) -> list[str]:
+    """Returns a library's verdict on each case: "yes", "no: REASON", or "none: REASON" if it fails."""
+    cases_json = json.dumps([case for _, _, case in cases])
     with tempfile.TemporaryDirectory() as cache:
         # Debian's Go packages stand in a GOPATH, and nothing is fetched.
         more = {"GOPATH": "/usr/share/gocode", "GO111MODULE": "off", "GOFLAGS": "", "GOCACHE": cache}
         ran = subprocess.run(
             LIBRARIES[name].command,
-            input=given,
+            input=cases_json,
             capture_output=True,
             text=True,
             env={**os.environ, **more},
             timeout=300,
         )
-    said = ran.stdout.splitlines()
-    if ran.returncode or len(said) != len(cases):
-        raise SystemExit(f"{name}: status {ran.returncode}, {len(said)} answers: {ran.stderr[-900:]}")
-    return said
+    verdicts = ran.stdout.splitlines()
+    if ran.returncode or len(verdicts) != len(cases):
+        raise SystemExit(f"{name}: status {ran.returncode}, {len(verdicts)} verdicts: {ran.stderr[-900:]}")
+    return verdicts
 
 
 def main() -> int:
     names = sys.argv[1:] or list(LIBRARIES)
     for name in names:
         if name not in LIBRARIES:
-            print(f"run.py: there is no library {name}; there are {', '.join(LIBRARIES)}", file=sys.stderr)
+            print(f"run.py: no library {name}; available: {', '.join(LIBRARIES)}", file=sys.stderr)
             return 2
     with SecurityKey() as key:
-        cases = cases_of(key) + verified_cases()
+        cases = make_cases(key) + make_verified_cases()
     passed = failed = skipped = 0
     for name in names:
         if not LIBRARIES[name].is_there():
             print(f"skipped  {name}: apt-get install {LIBRARIES[name].package}")
             skipped += len(cases)
             continue
-        for (title, is_right, _), said in zip(cases, judged(name, cases)):
-            if said.startswith("none: ") and NO_VERDICT.get(name, "\n") in said:
-                print(f"skipped  {name}: {title}: no verdict: {said[6:]}")
+        for (title, is_right, _), verdict in zip(cases, get_verdicts(name, cases)):
+            if verdict.startswith("none: ") and KNOWN_WITHOUT_VERDICT.get(name, "\n") in verdict:
+                print(f"skipped  {name}: {title}: no verdict: {verdict[6:]}")
                 skipped += 1
-            elif said.startswith("yes" if is_right else "no: "):
-                print(f"ok       {name}: {title}: {said[:100]}")
+            elif verdict.startswith("yes" if is_right else "no: "):
+                print(f"ok       {name}: {title}: {verdict[:100]}")
                 passed += 1
             else:
-                print(f"FAILED   {name}: {title}: {said}")
+                print(f"FAILED   {name}: {title}: {verdict}")
                 failed += 1
     print(f"{passed} passed, {failed} failed, {skipped} skipped")
     return 1 if failed else 0 if passed else 3

@@ -1,4 +1,4 @@
-"""Chromium, driven by chromedriver over HTTP: pages, scripts, and commands of DevTools."""
+"""Drives Chromium through chromedriver's HTTP API: opens pages, runs scripts, and sends DevTools commands."""
 
 import json
 import shutil
@@ -8,70 +8,70 @@ import time
 import urllib.error
 import urllib.request
 
-# Only what hangs takes so long.
-SECONDS = 600
+# Generous: only a page that hangs takes this long.
+TIMEOUT_SECONDS = 600
 START_SECONDS = 600
 
 
-def free_port():
-    """Returns a port that nothing listens on."""
+def find_free_port():
+    """Returns a TCP port that is free."""
     with socket.socket() as listener:
         listener.bind(("127.0.0.1", 0))
         return listener.getsockname()[1]
 
 
-def is_there():
+def is_installed():
     """Returns whether chromedriver is installed."""
     return shutil.which("chromedriver") is not None
 
 
 class Driver:
-    """A browser with one window. It ends with the block that it is used in."""
+    """A browser with one window. It is a context manager, which closes the browser at its end."""
 
     def __init__(self):
-        port = free_port()
-        words = ["chromedriver", f"--port={port}"]
-        self._process = subprocess.Popen(words, stdout=subprocess.DEVNULL, stderr=subprocess.DEVNULL)
+        port = find_free_port()
+        command = ["chromedriver", f"--port={port}"]
+        self._process = subprocess.Popen(command, stdout=subprocess.DEVNULL, stderr=subprocess.DEVNULL)
         self._address = f"http://127.0.0.1:{port}"
         self._session = ""
 
     def __enter__(self):
         options = {"args": ["--headless=new", "--no-sandbox", "--disable-dev-shm-usage"]}
-        wanted = {"capabilities": {"alwaysMatch": {"goog:chromeOptions": options}}}
+        capabilities = {"capabilities": {"alwaysMatch": {"goog:chromeOptions": options}}}
         end = time.monotonic() + START_SECONDS
         while not self._session:
             try:
-                self._session = f"/session/{self.call('/session', wanted)['sessionId']}"
+                self._session = f"/session/{self.call('/session', capabilities)['sessionId']}"
             except (urllib.error.URLError, ConnectionError):
                 if time.monotonic() > end:
                     self._process.kill()
                     raise
                 time.sleep(0.05)
-        self.call("/timeouts", {"script": 1000 * SECONDS})
+        self.call("/timeouts", {"script": 1000 * TIMEOUT_SECONDS})
         return self
 
     def __exit__(self, *_):
         try:
             request = urllib.request.Request(f"{self._address}{self._session}", method="DELETE")
-            urllib.request.urlopen(request, timeout=SECONDS).close()
+            urllib.request.urlopen(request, timeout=TIMEOUT_SECONDS).close()
         finally:
             self._process.terminate()
             self._process.wait()
 
-    def call(self, path, given):
-        """Calls a command of WebDriver, and returns its value. Without members it is asked, and with some told."""
-        kind = {"Content-Type": "application/json"}
-        body = None if given is None else json.dumps(given).encode()
-        request = urllib.request.Request(f"{self._address}{self._session}{path}", body, kind)
-        with urllib.request.urlopen(request, timeout=SECONDS) as answer:
-            return json.load(answer)["value"]
+    def call(self, path, parameters):
+        """Sends a WebDriver command and returns its value: a GET where parameters is None, otherwise a POST."""
+        headers = {"Content-Type": "application/json"}
+        body = None if parameters is None else json.dumps(parameters).encode()
+        request = urllib.request.Request(f"{self._address}{self._session}{path}", body, headers)
+        with urllib.request.urlopen(request, timeout=TIMEOUT_SECONDS) as response:
+            return json.load(response)["value"]
 
     def wait_for(self, condition):
-        """Waits until a condition holds in the page."""
-        end = time.monotonic() + SECONDS
+        """Waits until a JavaScript expression is true in the page."""
+        end = time.monotonic() + TIMEOUT_SECONDS
         while not self.run(f"arguments[arguments.length - 1](Boolean({condition}))"):
             if time.monotonic() > end:
-                raise SystemExit(f"the page never had: {condition}")
+                raise SystemExit(f"the page timed out waiting for: {condition}")
             time.sleep(0.05)
 
     def open(self, url):
@@ -79,23 +79,23 @@ class Driver:
         self.call("/url", {"url": url})
 
     def window(self):
-        """Returns the handle of the tab that is driven."""
+        """Returns the handle of the current tab."""
         return self.call("/window", None)
 
     def open_tab(self):
-        """Opens a tab, and drives it from now on. Returns its handle."""
+        """Opens a tab and makes it the current one. Returns its handle."""
         handle = self.call("/window/new", {"type": "tab"})["handle"]
         self.switch(handle)
         return handle
 
     def switch(self, handle):
-        """Drives another tab."""
+        """Makes another tab the current one."""
         self.call("/window", {"handle": handle})
 
     def devtools(self, command, **parameters):
-        """Calls a command of DevTools."""
+        """Sends a DevTools command and returns its result."""
         return self.call("/goog/cdp/execute", {"cmd": command, "params": parameters})
 
-    def run(self, script, *given):
-        """Runs a script in the page, whose last argument is called with what it returns."""
-        return self.call("/execute/async", {"script": script, "args": given})
+    def run(self, script, *args):
+        """Runs a script in the page and returns the value that it passes to its last argument, a callback."""
+        return self.call("/execute/async", {"script": script, "args": args})

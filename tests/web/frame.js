@@ -1,21 +1,20 @@
-// A page in a frame, which a test drives: a key with the options of the address, and what came of a first
-// registration.
+// A page in a frame, driven by a test: a key with the options of the address, and the result of a first registration.
 "use strict";
 
 const words = new URLSearchParams(location.search);
-const stores = { session: () => sessionStorage, local: () => localStorage };
-const store = stores[words.get("store")]?.();
-globalThis.key = hidlogKey.install(store ? { store } : {});
-// What the page's own first script sees.
-globalThis.atFirst = { isKey: hidlogKey.current() === key };
+const storages = { session: () => sessionStorage, local: () => localStorage };
+const storage = storages[words.get("store")]?.();
+globalThis.key = hidlogKey.install(storage ? { storage } : {});
+// What the first script of the page sees.
+globalThis.atFirst = { isKey: hidlogKey.installedKey() === key };
 
-const publicKey = (name = "ann") => ({
+const makePublicKeyOptions = (name = "ann") => ({
     challenge: new Uint8Array(32), rp: { name: "A service" },
     user: { id: new TextEncoder().encode(name), name, displayName: name },
     pubKeyCredParams: [{ type: "public-key", alg: -7 }], authenticatorSelection: { residentKey: "required" },
 });
 
-globalThis.register = (name) => navigator.credentials.create({ publicKey: publicKey(name) });
+globalThis.register = (name) => navigator.credentials.create({ publicKey: makePublicKeyOptions(name) });
 
 globalThis.signIn = async () => {
     const used = await navigator.credentials.get({ publicKey: { challenge: new Uint8Array(32) } });

@@ -1,7 +1,7 @@
-// Frames of a test, each a page with a key of its own.
+// Frames of a test, each a page with its own key.
 
 /** Loads a page in a frame, and returns its window. */
-export const framed = async (address, allow = "") => {
+export const loadFrame = async (address, allow = "") => {
     const frame = document.createElement("iframe");
     frame.allow = allow;
     frame.src = address;
@@ -11,20 +11,20 @@ export const framed = async (address, allow = "") => {
     return frame;
 };
 
-/** Loads a frame's page anew. */
+/** Reloads a frame's page. */
 export const reload = async (frame) => {
     const loaded = new Promise((done) => frame.addEventListener("load", done, { once: true }));
     frame.contentWindow.location.reload();
     await loaded;
 };
 
-/** What a frame that tells its outcome says. */
-export const toldBy = async (address, allow) => {
-    const told = new Promise((done) => {
+/** Loads a page that posts its result, and returns it. */
+export const loadResult = async (address, allow) => {
+    const posted = new Promise((done) => {
         addEventListener("message", ({ data }) => done(data), { once: true });
     });
-    const frame = await framed(address, allow);
-    const outcome = await told;
+    const frame = await loadFrame(address, allow);
+    const result = await posted;
     frame.remove();
-    return outcome;
+    return result;
 };

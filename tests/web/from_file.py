@@ -1,18 +1,18 @@
 #!/usr/bin/env python3
-"""Opens web/index.html from its file, with no server: it shows the example, and a long log, which a worker looks at."""
+"""Opens web/index.html as a file, without a server: it shows the example, and then a long log that a worker reads."""
 
 import sys
 from pathlib import Path
 
-from driver import Driver, is_there
+from driver import Driver, is_installed
 
 PAGE = Path(__file__).resolve().parents[2] / "web" / "index.html"
 
-# Drops 5 MB of sessions, and notes whether a worker answers.
-DROP = """
+# Drops 5 MB of sessions, and notes whether a worker answered.
+CAPTURE_MESSAGES = """
     globalThis.Worker = class extends Worker {
-        constructor(...given) {
-            super(...given);
+        constructor(...args) {
+            super(...args);
             this.addEventListener("message", () => { document.documentElement.dataset.answered = "yes"; });
         }
     };
@@ -23,10 +23,10 @@ DROP = """
     arguments[0]();
 """
 
-# What a screen reader is told, by role and name.
+# What a screen reader must find, by role and name.
 ROLES = [
     ("listbox", "The lines of the log"),
-    ("status", "not compared yet"),
+    ("status", "Press Check"),
     ("region", "What happened"),
     ("button", "Open"),
     ("button", "Check"),
@@ -36,12 +36,12 @@ ROLES = [
     ("checkbox", "Fold transactions"),
     ("tab", "Drawing"),
     ("option", "Registration: done at example.com"),
-    ("complementary", "The line that is chosen"),
+    ("complementary", "The selected line"),
 ]
 
 
-def missing_roles(driver):
-    """Returns what Chromium's accessibility tree lacks of the roles, and whether a row that is chosen is told."""
+def find_missing_roles(driver):
+    """Returns the ROLES missing from Chromium's accessibility tree, and the selected row if that is missing."""
     driver.run("document.getElementById('scroller').focus(); arguments[0]()")
     nodes = [node for node in driver.devtools("Accessibility.getFullAXTree")["nodes"] if not node.get("ignored")]
     found = [
@@ -50,27 +50,27 @@ def missing_roles(driver):
     texts = " ".join(name for _, name, _ in found)
 
     def is_there(role, name):
-        return any(kind == role and (name in said or (role == "status" and name in texts)) for kind, said, _ in found)
+        return any(kind == role and (name in label or (role == "status" and name in texts)) for kind, label, _ in found)
 
     wrong = [role for role in ROLES if not is_there(*role)]
     listed = next(properties for kind, _, properties in found if kind == "listbox")
     if not any(property_["name"] == "activedescendant" for property_ in listed):
-        wrong.append("the row that is chosen")
+        wrong.append("the selected row")
     return wrong
 
 
 def main():
-    if not is_there():
+    if not is_installed():
         print("tests/web: chromedriver is missing (apt-get install chromium-driver)", file=sys.stderr)
         return 3
     with Driver() as driver:
         driver.open(f"{PAGE.as_uri()}#registration")
         driver.wait_for("document.body.textContent.includes('authenticatorMakeCredential → CTAP2_OK')")
-        wrong = missing_roles(driver)
-        driver.run(DROP)
+        wrong = find_missing_roles(driver)
+        driver.run(CAPTURE_MESSAGES)
         driver.wait_for("/^[\\d,]+ registrations: done\\./.test(document.getElementById('story').textContent)")
         driver.wait_for("document.documentElement.dataset.answered === 'yes'")
-    print("ok  the page from a file, and a worker that it makes")
+    print("ok  the page from a file, and its worker")
     print(f"FAILED  a screen reader's view lacks {wrong}" if wrong else "ok  a screen reader's view of it")
     return 1 if wrong else 0
 

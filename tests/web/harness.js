@@ -1,60 +1,58 @@
-// What the pages of tests share: a list of tests, run in turn, whose results are posted to the server that
-// started the browser.
+// Runs the tests of a page one after another, and posts the results to the server that started the browser.
 
 export const results = { tests: [], figures: [], logs: {} };
 
-/** Fails a test where a condition doesn't hold. */
-export const expect = (holds, text) => {
-    if (!holds) {
+/** Fails a test if a condition is false. */
+export const expect = (condition, text) => {
+    if (!condition) {
         throw new Error(text);
     }
 };
 
-/** The error with which a promise is rejected. */
-export const rejection = async (promise) => {
+/** Returns the error that a promise is rejected with. */
+export const getRejection = async (promise) => {
     try {
         await promise;
     } catch (error) {
         return error;
     }
-    throw new Error("nothing was refused");
+    throw new Error("the promise was not rejected");
 };
 
-export const wait = (milliseconds) => new Promise((done) => setTimeout(done, milliseconds));
+export const sleep = (milliseconds) => new Promise((done) => setTimeout(done, milliseconds));
 
-// So often a condition is looked at until it is held to be never true: five minutes of a page that has nothing else to
-// do. A page that works, or gets little of the processor, looks less often.
-const MOST_LOOKS = 30_000;
+// Polls before a condition fails: five minutes in an idle page. A busy page polls less often.
+const MAX_POLLS = 30_000;
 const BEAT_MS = 5000;
 
-/** Waits until a condition holds, for as long as a busy machine takes. */
-export const until = async (holds, text) => {
-    for (let looks = 0; looks < MOST_LOOKS; looks += 1) {
-        if (holds()) {
+/** Waits until a condition is true, even on a busy machine. */
+export const waitUntil = async (condition, text) => {
+    for (let polls = 0; polls < MAX_POLLS; polls += 1) {
+        if (condition()) {
             return;
         }
-        await wait(10);
+        await sleep(10);
     }
-    throw new Error(`waited in vain: ${text}`);
+    throw new Error(`timed out waiting for: ${text}`);
 };
 
-export const post = async (path, given) => {
-    const answer = await fetch(path, { method: "POST", body: JSON.stringify(given) });
-    const said = await answer.json();
-    if (!answer.ok) {
-        throw new Error(said.error);
+export const post = async (path, body) => {
+    const response = await fetch(path, { method: "POST", body: JSON.stringify(body) });
+    const reply = await response.json();
+    if (!response.ok) {
+        throw new Error(reply.error);
     }
-    return said;
+    return reply;
 };
 
-/** Has a thread of its own say that the page's process lives, however long a test takes. */
-const beat = () => {
+/** Starts a worker that reports that the page is alive, however long a test takes. */
+const startHeartbeat = () => {
     const text = `setInterval(() => fetch("${location.origin}/lives", { method: "POST", body: "{}" }), ${BEAT_MS})`;
     return new Worker(URL.createObjectURL(new Blob([text], { type: "text/javascript" })));
 };
 
-/** What came of a test: an empty error where it passed. */
-const outcomeOf = async (name, test) => {
+/** Runs a test. The error of the result is empty if it passed. */
+const runTest = async (name, test) => {
     const begun = performance.now();
     let error = "";
     try {
@@ -65,16 +63,16 @@ const outcomeOf = async (name, test) => {
     return { name, error, seconds: (performance.now() - begun) / 1000 };
 };
 
-/** Runs tests by their names, or those that the page's address has as `only`, and posts what came of them. */
+/** Runs tests by name, or those named by `only` in the page's address, and posts the results. */
 export const run = async (tests) => {
     const only = new URLSearchParams(location.search).getAll("only");
-    const heart = beat();
+    const heartbeat = startHeartbeat();
     for (const [name, test] of Object.entries(tests).filter(([name]) => !only.length || only.includes(name))) {
         await post("/begun", { page: location.pathname.split("/").at(-1), test: name });
-        results.tests.push(await outcomeOf(name, test));
+        results.tests.push(await runTest(name, test));
     }
     document.body.textContent = JSON.stringify(results.tests, null, 1);
-    heart.terminate();
+    heartbeat.terminate();
     const { next } = await post("/done", results);
     if (next) {
         location.href = next;

@@ -1,5 +1,5 @@
-// The npm package as it is installed: npm_package.mjs FOLDER, whose node_modules has it. Its command beside the program
-// over logs, byte for byte, and the lines of its README.
+// Tests the installed npm package: npm_package.mjs FOLDER, where FOLDER/node_modules has it. Compares the output of its
+// command with the program's, byte for byte, and runs the README's lines.
 import assert from "node:assert/strict";
 import { spawnSync } from "node:child_process";
 import { readdirSync, readFileSync, writeFileSync } from "node:fs";
@@ -9,54 +9,54 @@ import { fileURLToPath } from "node:url";
 const TOP = fileURLToPath(new URL("../..", import.meta.url));
 const folder = process.argv[2];
 const command = join(folder, "node_modules/hidlog/cli.mjs");
-const program = process.env.HIDLOG ?? join(TOP, "release/hidlog");
+const program = process.env.HIDLOG_PROGRAM ?? join(TOP, "release/hidlog");
 
-/** How a command ends. */
-const ran = (file, words, input = "", variables = { HIDLOG_CLI: "wasm" }) => {
+/** Runs a command. */
+const runCommand = (file, words, input = "", variables = { HIDLOG_CLI: "wasm" }) => {
     const env = { ...process.env, ...variables };
     const { status, stdout, stderr } = spawnSync(file, words, { input, env, cwd: folder, maxBuffer: 2 ** 28 });
     return { status, stdout: stdout.toString("latin1"), stderr: stderr.toString() };
 };
 
-const logsIn = (path) =>
+const listLogs = (path) =>
     readdirSync(join(TOP, path)).filter((name) => name.endsWith(".log")).map((name) => join(TOP, path, name));
-const logs = [join(TOP, "examples/registration.log"), ...logsIn("examples/failing"),
-    ...logsIn("crates/hidlog/data/capacity_64").filter((_, place) => place % 3 === 0)];
+const logs = [join(TOP, "examples/registration.log"), ...listLogs("examples/failing"),
+    ...listLogs("crates/hidlog/data/capacity_64").filter((_, place) => place % 3 === 0)];
 const calls = logs.flatMap((log) => [["check", log], ["replay", log], ["quiet", log], ["show", log],
     ["show", "--explain", log]]);
-const failing = (name) => join(TOP, "examples/failing", name);
-calls.push(["check", "--load", failing("alice.snapshot"), failing("wrong_snapshot.log")],
-    ["check", "--load", failing("bob.snapshot"), failing("wrong_snapshot.log")], ["check", ...logs.slice(0, 4)]);
-/** Without the reason of a fault, which the program alone explains. */
-const withoutReason = ({ stderr, ...rest }) => ({ ...rest, stderr: stderr.split("\n")[0] });
+const listFailingLog = (name) => join(TOP, "examples/failing", name);
+calls.push(["check", "--load", listFailingLog("alice.snapshot"), listFailingLog("wrong_snapshot.log")],
+    ["check", "--load", listFailingLog("bob.snapshot"), listFailingLog("wrong_snapshot.log")], ["check", ...logs.slice(0, 4)]);
+/** The result without the reason of an error, which only the program explains. */
+const dropReason = ({ stderr, ...rest }) => ({ ...rest, stderr: stderr.split("\n")[0] });
 for (const words of calls) {
-    const ends = [ran("node", [command, ...words]), ran(program, words)];
-    const [own, theirs] = words.includes("--explain") ? ends.map(withoutReason) : ends;
+    const ends = [runCommand("node", [command, ...words]), runCommand(program, words)];
+    const [own, theirs] = words.includes("--explain") ? ends.map(dropReason) : ends;
     assert.deepEqual(own, theirs, words.join(" "));
 }
 const log = readFileSync(logs[0]);
 for (const words of [["check"], ["check", "-"], ["replay"]]) {
-    assert.deepEqual(ran("node", [command, ...words], log), ran(program, words, log), words.join(" "));
+    assert.deepEqual(runCommand("node", [command, ...words], log), runCommand(program, words, log), words.join(" "));
 }
 console.log(`ok  npx hidlog writes the program's bytes in ${calls.length + 3} calls`);
 
-// Mistakes: a status and a text of one line that says what is right.
-for (const [words, status, said] of [
-    [["chek", "a.log"], 2, "there are check"], [["check", "nothing.log"], 1, "nothing.log"],
+// Invalid arguments: a status, and an error message of one line that says what is valid.
+for (const [words, status, expected] of [
+    [["chek", "a.log"], 2, "expected one of check"], [["check", "nothing.log"], 1, "nothing.log"],
     [["check", "--lod", "x"], 2, "--help"], [["check", "--load"], 2, "snapshot"], [["browser"], 2, "--origin"],
     [["browser", "--origin", "example.com"], 2, "https://example.com"], [["replay", "a", "b"], 2, "one log"],
     [["judge", "a.log"], 2, "Python package"], [["check", "--signatures"], 2, "check --signatures is a command of"],
 ]) {
-    const end = ran("node", [command, ...words]);
+    const end = runCommand("node", [command, ...words]);
     assert.equal(end.status, status, words.join(" "));
-    assert.ok(end.stderr.includes(said) && end.stderr.trim().split("\n").length === 1, end.stderr);
+    assert.ok(end.stderr.includes(expected) && end.stderr.trim().split("\n").length === 1, end.stderr);
 }
 for (const words of [["--help"], ["-h"], ["help"]]) {
-    assert.deepEqual(ran("node", [command, ...words]), ran(program, words));
+    assert.deepEqual(runCommand("node", [command, ...words]), runCommand(program, words));
 }
-assert.match(ran("node", [command, "help", "browser"]).stdout, /^usage: hidlog browser .*--origin/);
-assert.equal(ran("node", [command]).status, 2);
-console.log("ok  mistakes at npx hidlog");
+assert.match(runCommand("node", [command, "help", "browser"]).stdout, /^usage: hidlog browser .*--origin/);
+assert.equal(runCommand("node", [command]).status, 2);
+console.log("ok  invalid arguments of npx hidlog");
 
 const readme = readFileSync(join(folder, "node_modules/hidlog/README.md"), "utf8");
 const blocks = [...readme.matchAll(/^```js\n([\s\S]*?)^```$/gm)].map(([, text]) => text);
@@ -65,14 +65,14 @@ const lines = blocks.join("\n").split("\n");
 const imports = lines.filter((line) => line.startsWith("import "));
 const rest = lines.filter((line) => !line.startsWith("import "));
 writeFileSync(join(folder, "readme.mjs"), [...imports, ...rest].join("\n"));
-const first = ran("node", ["readme.mjs"]);
+const first = runCommand("node", ["readme.mjs"]);
 assert.equal(first.stdout, "true YW5u\n", first.stderr);
 const named = [...readme.matchAll(/hidlog\/([\w./]+)/g)].map(([, name]) => name);
 const have = readdirSync(join(folder, "node_modules/hidlog"));
 named.forEach((name) => assert.ok(have.includes(name), `README names ${name}`));
 const commands = [...readme.matchAll(/^ {4}npx hidlog ((?:check|show) .*)$/gm)].map(([, words]) => words.split(" "));
 assert.equal(commands.length, 2);
-const [checked, shown] = commands.map((words) => ran("node", [command, ...words]));
+const [checked, shown] = commands.map((words) => runCommand("node", [command, ...words]));
 assert.match(checked.stdout, /^same \d+ inputs \d+ packets\n$/, checked.stderr);
 assert.ok(shown.stdout.includes("GetAssertion"));
 console.log("ok  the lines of the npm README");

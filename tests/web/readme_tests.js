@@ -1,81 +1,81 @@
-// The snippets of web/README.md, each of them run as it stands there.
+// Runs the snippets of web/README.md unchanged.
 import "../../web/dist/security_key.mjs";
 import { expect, results } from "./harness.js";
-import { create, get, named } from "./options.js";
+import { createCredential, getAssertion, makeOptionsForUser } from "./options.js";
 
-const BLOCK = /^```(\w+)(?: (\w+))?\n([\s\S]*?)^```$/gm;
+const CODE_BLOCK = /^```(\w+)(?: (\w+))?\n([\s\S]*?)^```$/gm;
 const AsyncFunction = (async () => {}).constructor;
 
-const fetched = async (path) => (await fetch(`../../${path}`)).text();
+const fetchText = async (path) => (await fetch(`../../${path}`)).text();
 
-const blocksOf = async () =>
-    Array.from((await fetched("web/README.md")).matchAll(BLOCK), ([, kind, tool, text]) => ({ kind, tool, text }));
+const readBlocks = async () =>
+    Array.from((await fetchText("web/README.md")).matchAll(CODE_BLOCK), ([, kind, tool, text]) => ({ kind, tool, text }));
 
 /** The functions of "your page". */
 const page = {
     register: (name, { userVerification } = {}) => {
-        const options = named(name);
-        return create({ ...options, authenticatorSelection: { ...options.authenticatorSelection, userVerification } });
+        const options = makeOptionsForUser(name);
+        return createCredential({ ...options, authenticatorSelection: { ...options.authenticatorSelection, userVerification } });
     },
-    signIn: (more = {}) => get({}, more),
+    signIn: (more = {}) => getAssertion({}, more),
 };
 
-const runsItsSnippets = async () => {
-    const texts = (await blocksOf()).filter(({ kind, tool }) => kind === "js" && !tool).map(({ text }) => text);
+const testSnippets = async () => {
+    const texts = (await readBlocks()).filter(({ kind, tool }) => kind === "js" && !tool).map(({ text }) => text);
     expect(texts.length === 6, `${texts.length} snippets`);
     await new AsyncFunction(...Object.keys(page), texts.join("\n"))(...Object.values(page));
-    expect(hidlogKey.current() === null, "the last one puts back");
+    expect(hidlogKey.installedKey() === null, "the last one uninstalls");
     results.figures.push(`${texts.length} snippets of web/README.md run in turn`);
 };
 
 /** A document in a frame, whose scripts are those of the README, and what it has then. */
-const framedWith = async (html) => {
+const loadDocument = async (html) => {
     const frame = document.createElement("iframe");
     const loaded = new Promise((done) => frame.addEventListener("load", done, { once: true }));
     frame.srcdoc = `<!doctype html><base href="${new URL("../../web/", location.href)}">${html}`;
     document.body.append(frame);
     await loaded;
-    const isThere = frame.contentWindow.hidlogKey.current() !== null;
+    const isThere = frame.contentWindow.hidlogKey.installedKey() !== null;
     frame.remove();
     return isThere;
 };
 
-const runsItsTags = async () => {
-    const [{ text }] = (await blocksOf()).filter(({ kind }) => kind === "html");
-    expect(await framedWith(text), "the key is in place");
+const testScriptTags = async () => {
+    const [{ text }] = (await readBlocks()).filter(({ kind }) => kind === "html");
+    expect(await loadDocument(text), "the key is in place");
 };
 
 /**
- * What Playwright's and Puppeteer's pages do with what they are handed: they run it in the page before its scripts.
+ * Stands in for a page of Playwright or Puppeteer, which runs the scripts that it is given before the page's own.
  */
-const standIn = () => ({
-    addInitScript: async (given) => {
-        const source = typeof given === "function" ? `(${given})()` : await fetched(given.path);
+const makePageStub = () => ({
+    addInitScript: async (script) => {
+        const source = typeof script === "function" ? `(${script})()` : await fetchText(script.path);
         (0, eval)(source);
     },
     evaluateOnNewDocument: async (source) => (0, eval)(source),
     goto: async () => {},
-    evaluate: async (given, words) => given(words),
+    evaluate: async (script, argument) => script(argument),
 });
 
-const runsItsInjections = async () => {
-    const script = await fetched("web/dist/security_key.js");
+const testInjections = async () => {
+    const script = await fetchText("web/dist/security_key.js");
     const fs = { readFileSync: () => script };
-    for (const { tool, text } of (await blocksOf()).filter((block) => block.tool)) {
-        await new AsyncFunction("page", "fs", text)(standIn(), fs);
-        expect(hidlogKey.current() !== null, `${tool}: the key is in place`);
-        hidlogKey.current().uninstall();
+    for (const { tool, text } of (await readBlocks()).filter((block) => block.tool)) {
+        await new AsyncFunction("page", "fs", text)(makePageStub(), fs);
+        expect(hidlogKey.installedKey() !== null, `${tool}: the key is in place`);
+        hidlogKey.installedKey().uninstall();
     }
 };
 
-const namesItsExample = async () => {
-    const [{ text }] = (await blocksOf()).filter(({ kind }) => kind === "python");
-    expect((await fetched("examples/web/selenium_sign_in.py")).includes(text), "the example has the lines");
+const testExampleLink = async () => {
+    const [{ text }] = (await readBlocks()).filter(({ kind }) => kind === "python");
+    expect((await fetchText("examples/web/selenium_sign_in.py")).includes(text), "the example has the lines");
 };
 
 export const readmeTests = {
-    "the snippets of web/README.md": runsItsSnippets,
-    "its script tags": runsItsTags,
-    "its injections, by a stand-in of the tools": runsItsInjections,
-    "its lines of the example": namesItsExample,
+    "the snippets of web/README.md": testSnippets,
+    "its script tags": testScriptTags,
+    "its injections, by a stand-in of the tools": testInjections,
+    "its lines of the example": testExampleLink,
 };

@@ -1,9 +1,9 @@
-// The authenticators that are compared, and why a call of the key may end otherwise than one of Chromium's own virtual
-// authenticator that is alike.
+// The authenticators that are compared, and why a call of the key may have a different result than with Chromium's
+// virtual authenticator.
 const usb = { transport: "usb", hasResidentKey: true };
 
-/** Abilities by the kind's name. */
-export const KINDS = {
+/** Authenticator options by kind. */
+export const AUTHENTICATOR_KINDS = {
     "not verifying": { ...usb, hasUserVerification: false },
     "verifying": { ...usb, hasUserVerification: true, isUserVerified: true },
     "the user fails": { ...usb, hasUserVerification: true, isUserVerified: false },
@@ -14,21 +14,21 @@ export const KINDS = {
     "backed up": { ...usb, defaultBackupEligibility: true, defaultBackupState: true },
 };
 
-/** By the kind, the call's name, and the part of its outcome that differs. */
+/** Reasons by kind, call name, and path of the difference. */
 const REASONS = [
     [/./, /./, /counter$/, "a new credential's counter is 0 (docs/use/PROFILE.md)"],
-    [/./, /./, /fmt$/, "a self attestation with no AAGUID is handed on, as WebAuthn says; Chromium's has a certificate"],
+    [/./, /./, /fmt$/, "a self attestation without AAGUID is passed on, as in WebAuthn; Chromium's has a certificate"],
     [/not verifying|backed up/, /residentKey (required|preferred)|requireResidentKey|discoverable/, /./,
-        "Chromium's makes discoverable credentials only where it verifies users; this key, as CTAP2, always"],
-    [/./, /RS256/, /./, "the key makes ES256 keys alone"],
-    [/./, /create, mediation conditional/, /./, "the key makes no credential without asking"],
-    [/./, /conditional/, /./, "the sign-in waits until the test picks an account; Chromium's signs in by itself"],
+        "Chromium's makes discoverable credentials only with user verification; this key always, as in CTAP2"],
+    [/./, /RS256/, /./, "the key supports only ES256"],
+    [/./, /create, mediation conditional/, /./, "the key does not support conditional registration"],
+    [/./, /conditional/, /./, "the sign-in waits until the test selects an account; Chromium's signs in immediately"],
     [/./, /attachment platform|attachment cross-platform|of another kind/, /./,
-        "no such authenticator: refused at once, where Chromium waits"],
-    [/./, /in the same turn/, /./, "an aborted request is over at once; Chromium's answer may come before"],
-    [/./, /isConditionalMediationAvailable|getClientCapabilities/, /./, "they say what this key does"],
+        "no such authenticator: rejected immediately; Chromium waits"],
+    [/./, /in the same turn/, /./, "an aborted request ends immediately; Chromium's response may come first"],
+    [/./, /isConditionalMediationAvailable|getClientCapabilities/, /./, "they describe this key"],
 ];
 
-/** Why this part of a call's outcome may differ, or undefined where it may not. */
-export const reasonOf = (kind, name, path) =>
+/** The reason why this part of a result may differ, or undefined. */
+export const findReason = (kind, name, path) =>
     REASONS.find(([of, call, part]) => of.test(kind) && call.test(name) && part.test(path))?.[3];

@@ -1,4 +1,4 @@
-"""A relying party that isn't ours: python-fido2's server, over JSON with byte strings in base64url."""
+"""A relying party independent of this project: python-fido2's server, over JSON with byte strings in base64url."""
 
 from collections.abc import Mapping
 from types import SimpleNamespace
@@ -20,24 +20,24 @@ except ImportError:
 
 
 def verify_packed(attestation, client_data_hash):
-    """Verifies a packed self attestation, which names no chain."""
+    """Verifies a packed self attestation, which has no certificate chain."""
     statement = attestation.att_statement if RESIDENT_KEY == "resident_key" else attestation.att_stmt
     PackedAttestation().verify(statement, attestation.auth_data, client_data_hash)
 
 
-def plain(value):
-    """What JSON takes of an options object."""
+def to_plain_json(value):
+    """Returns an options object as JSON can hold it."""
     if isinstance(value, bytes):
         return websafe_encode(value)
     if isinstance(value, Mapping):
-        return {key: plain(inner) for key, inner in value.items() if inner is not None}
+        return {key: to_plain_json(inner) for key, inner in value.items() if inner is not None}
     if isinstance(value, (list, tuple)):
-        return [plain(inner) for inner in value]
+        return [to_plain_json(inner) for inner in value]
     return str.__str__(value) if isinstance(value, str) else value
 
 
 class RelyingParty:
-    """Registers users and signs them in. It keeps the credentials of each user, and each credential's last counter."""
+    """Registers users and signs them in. It keeps each user's credentials, and each credential's last counter."""
 
     def __init__(self, origin):
         entity = PublicKeyCredentialRpEntity(id="localhost", name="A service under test")
@@ -51,30 +51,30 @@ class RelyingParty:
         return self._credentials.setdefault(user, [])
 
     def register_begin(self, user, exclude=False, resident=False, verification=None):
-        """The options of a registration."""
+        """Returns the options of a registration."""
         entity = {"id": user.encode(), "name": user, "displayName": f"User {user}"}
         known = [credential.data for credential in self._of(user)] if exclude else None
-        asked = {
+        parameters = {
             RESIDENT_KEY: resident if RESIDENT_KEY == "resident_key" else "required" if resident else "discouraged"
         }
-        options, self._state = self._server.register_begin(entity, known, user_verification=verification, **asked)
-        return plain(options)
+        options, self._state = self._server.register_begin(entity, known, user_verification=verification, **parameters)
+        return to_plain_json(options)
 
     def register_complete(self, user, clientDataJSON, attestationObject, **_):
-        """Verifies a registration, its attestation too."""
+        """Verifies a registration, including its attestation."""
         attestation = AttestationObject(websafe_decode(attestationObject))
         data = self._server.register_complete(self._state, ClientData(websafe_decode(clientDataJSON)), attestation)
         self._of(user).append(SimpleNamespace(data=data.credential_data, counter=data.counter))
         return {"id": websafe_encode(data.credential_data.credential_id), "format": attestation.fmt}
 
     def sign_in_begin(self, user=None, verification=None):
-        """The options of a sign-in: of a user by an allow list, or of whoever comes."""
+        """Returns the options of a sign-in: with the allow list of a user, or without one."""
         known = [credential.data for credential in self._of(user)] if user else None
         options, self._state = self._server.authenticate_begin(known, user_verification=verification)
-        return plain(options)
+        return to_plain_json(options)
 
     def sign_in_complete(self, id, clientDataJSON, authenticatorData, signature, userHandle=None, **_):
-        """Verifies a sign-in: the signature, and a counter that rose."""
+        """Verifies a sign-in: the signature, and that the counter rose."""
         known = [credential for kept in self._credentials.values() for credential in kept]
         data = AuthenticatorData(websafe_decode(authenticatorData))
         used = self._server.authenticate_complete(

@@ -1,15 +1,15 @@
 #!/usr/bin/env bash
-# Runs the tests of web/ in each browser that is there: the page that shows sessions, and the key in a page,
-# whose recordings then pass `hidlog check`, of the program that the variable HIDLOG names or of ./hidlog. Says
-# what is missing. With the words `chromium` or `firefox` that browser alone is run.
+# Runs the tests of web/ in each installed browser: the page that shows sessions, and the key in a page, whose
+# recordings must pass `hidlog check`. HIDLOG_PROGRAM names the program `hidlog` (default ./hidlog). Reports what is
+# missing. The argument `chromium` or `firefox` runs only that browser.
 set -euo pipefail
 top=$(cd "$(dirname "${BASH_SOURCE[0]}")/../.." && pwd)
 here=$top/tests/web
-program=${HIDLOG:-$top/hidlog}
+program=${HIDLOG_PROGRAM:-$top/hidlog}
 with_fido2=$top/tests/with_fido2.sh
 "$with_fido2" -c '' || exit 3
-room=$(mktemp -d)
-trap 'rm -rf "$room"' EXIT
+work=$(mktemp -d)
+trap 'rm -rf "$work"' EXIT
 failed=0
 ran=0
 
@@ -18,8 +18,8 @@ run_pages() {
     shift
     echo "== $("$1" --version 2>/dev/null)"
     ran=1
-    mkdir -p "$room/$browser"
-    "$with_fido2" "$here/serve.py" "$room/$browser" viewer.html,transactions.html,key.html,long.html "$@" || failed=1
+    mkdir -p "$work/$browser"
+    "$with_fido2" "$here/serve.py" "$work/$browser" viewer.html,transactions.html,key.html,long.html "$@" || failed=1
     if [ "$browser" = chromium ]; then
         "$with_fido2" "$here/from_file.py" || [ $? = 3 ] || failed=1
         "$with_fido2" "$here/virtual_authenticator.py" || [ $? = 3 ] || failed=1
@@ -27,10 +27,10 @@ run_pages() {
         "$here/walks_fuzzed.py" --program "$program" || [ $? = 3 ] || failed=1
         run_examples
     fi
-    check_logs "$room/$browser"
+    check_logs "$work/$browser"
 }
 
-# The examples, with Debian's Selenium, and with node.
+# The examples, with Debian's Selenium and with node.
 run_examples() {
     local example
     if /usr/bin/python3 -c 'import selenium' 2>/dev/null && command -v chromedriver >/dev/null; then
@@ -41,10 +41,10 @@ run_examples() {
         echo "tests/web: selenium is missing (apt-get install python3-selenium chromium-driver)" >&2
     fi
     if command -v node >/dev/null; then
-        if node --test "$top/examples/web/" "$here" >"$room/said"; then
-            echo "ok  the key in node, and the example: $(grep '^# pass' "$room/said")"
+        if node --test "$top/examples/web/" "$here" >"$work/output"; then
+            echo "ok  the key in node, and the example: $(grep '^# pass' "$work/output")"
         else
-            cat "$room/said"
+            cat "$work/output"
             failed=1
         fi
     else
@@ -52,17 +52,17 @@ run_examples() {
     fi
 }
 
-# The recordings are logs that replay exactly.
+# The recordings must be logs that replay exactly.
 check_logs() {
     local log snapshot
     for log in "$1"/*.log; do
         [ -e "$log" ] || continue
         snapshot=()
         [ ! -e "$log.snapshot" ] || snapshot=(--load "$log.snapshot")
-        if "$program" check "${snapshot[@]}" <"$log" >"$room/said" 2>&1; then
-            echo "ok  hidlog check ${log##*/}: $(cat "$room/said")"
+        if "$program" check "${snapshot[@]}" <"$log" >"$work/output" 2>&1; then
+            echo "ok  hidlog check ${log##*/}: $(cat "$work/output")"
         else
-            echo "FAILED  hidlog check ${log##*/}: $(cat "$room/said")"
+            echo "FAILED  hidlog check ${log##*/}: $(cat "$work/output")"
             failed=1
         fi
     done

@@ -1,6 +1,6 @@
 #!/usr/bin/env python3
-"""Two tabs of one browser on one store: signing in at the same time loses no rise of the counter, and what is recorded
-over five navigations of each is one log, which the program that HIDLOG names checks."""
+"""Two tabs of one browser share one key in localStorage. Sign-ins at the same time never lose or repeat a counter, and
+five navigations in each tab are recorded as one log, which `hidlog check` (the program in HIDLOG_PROGRAM) accepts."""
 
 import os
 import subprocess
@@ -8,11 +8,11 @@ import sys
 import threading
 from http.server import ThreadingHTTPServer
 
-from driver import Driver, is_there
+from driver import Driver, is_installed
 from serve import TOP, Handler
 
 ROUNDS = 30
-BEGIN = """window.found = (async () => {
+START_SIGN_INS = """window.found = (async () => {
     const counters = [];
     while (counters.length < arguments[0]) {
         counters.push(await signIn());
@@ -22,14 +22,14 @@ BEGIN = """window.found = (async () => {
 
 
 def sign_in_twice(driver, page):
-    """Registers in one tab, and signs in from both. Returns what each saw of the counter."""
+    """Registers in one tab and signs in from both. Returns the counters that each tab saw."""
     driver.open(page)
     tabs = [driver.window(), driver.open_tab()]
     driver.open(page)
     driver.run("register('ann').then(arguments[0])")
     for tab in tabs:
         driver.switch(tab)
-        driver.run(BEGIN, ROUNDS)
+        driver.run(START_SIGN_INS, ROUNDS)
     found = []
     for tab in tabs:
         driver.switch(tab)
@@ -37,34 +37,35 @@ def sign_in_twice(driver, page):
     return found
 
 
-NAVIGATIONS = 5
-RECORDINGS = "arguments[0](key.recordings().map(({ part, snapshot, log }) => [part, snapshot.length, log]))"
+NAVIGATION_COUNT = 5
+READ_RECORDINGS = "arguments[0](key.recordings().map(({ index, snapshot, log }) => [index, snapshot.length, log]))"
 
 
-def recorded_over_navigations(driver, page):
-    """Registers, and signs in after each navigation, in turn in two tabs. Returns what is wrong with the recording."""
+def check_recordings_over_navigations(driver, page):
+    """Registers, then navigates and signs in, alternately in two tabs. Returns what is wrong with the recording."""
     driver.open(page)
     driver.run("localStorage.clear(); arguments[0]()")
     tabs = [driver.window(), driver.open_tab()]
     driver.switch(tabs[0])
     driver.open(page)
     driver.run("register('ann').then(arguments[0])")
-    for number in range(2 * NAVIGATIONS):
+    for number in range(2 * NAVIGATION_COUNT):
         driver.switch(tabs[number % 2])
         driver.open(f"{page}&at={number}")
         counter = driver.run("signIn().then(arguments[0], (error) => arguments[0](String(error)))")
         if counter != number + 1:
             return f"sign-in {number + 1} has the counter {counter}"
-    ((part, snapshot, log),) = driver.run(RECORDINGS)
-    if (part, snapshot) != (1, 0) or log.count("\ns ") != 2 * NAVIGATIONS + 1:
-        return f"part {part} begins with {snapshot} bytes of snapshot, and has {log.count(chr(10) + 's ')} signatures"
-    program = os.environ.get("HIDLOG", os.path.join(TOP, "hidlog"))
+    ((index, snapshot, log),) = driver.run(READ_RECORDINGS)
+    if (index, snapshot) != (1, 0) or log.count("\ns ") != 2 * NAVIGATION_COUNT + 1:
+        signatures = log.count("\ns ")
+        return f"recording {index} begins with {snapshot} bytes of snapshot, and has {signatures} signatures"
+    program = os.environ.get("HIDLOG_PROGRAM", os.path.join(TOP, "hidlog"))
     checked = subprocess.run([program, "check"], input=log.encode(), capture_output=True, check=False)
     return "" if checked.returncode == 0 else checked.stderr.decode()
 
 
 def main():
-    if not is_there():
+    if not is_installed():
         print("tests/web: chromedriver is missing (apt-get install chromium-driver)", file=sys.stderr)
         return 3
     server = ThreadingHTTPServer(("127.0.0.1", 0), Handler)
@@ -72,14 +73,16 @@ def main():
     with Driver() as driver:
         page = f"http://localhost:{server.server_address[1]}/tests/web/frame.html?store=local"
         one, other = sign_in_twice(driver, page)
-        wrong = recorded_over_navigations(driver, page)
-    print(f"FAILED  one log of two tabs: {wrong}" if wrong else f"ok  one log of {2 * NAVIGATIONS} pages in two tabs")
+        wrong = check_recordings_over_navigations(driver, page)
+    print(
+        f"FAILED  one log of two tabs: {wrong}" if wrong else f"ok  one log of {2 * NAVIGATION_COUNT} pages in two tabs"
+    )
     if not isinstance(one, list) or not isinstance(other, list):
-        print(f"FAILED  two tabs on one store: {one}, {other}")
+        print(f"FAILED  two tabs with one key: {one}, {other}")
         return 1
     good = sorted(one + other) == list(range(1, 2 * ROUNDS + 1)) and one == sorted(one) and other == sorted(other)
     turns = sum(left + 1 != right for left, right in zip(one, one[1:]))
-    print(f"{'ok' if good else 'FAILED'}  two tabs on one store: {2 * ROUNDS} sign-ins, in turn {turns} times")
+    print(f"{'ok' if good else 'FAILED'}  two tabs with one key: {2 * ROUNDS} sign-ins, the tab changed {turns} times")
     return 0 if good and not wrong else 1
 
 

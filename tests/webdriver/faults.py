@@ -1,12 +1,14 @@
 #!/usr/bin/python3
-"""Faults of the system at each call of `hidlog webdriver` once it serves: each fails in turn, and kills. No outcome is
-wrong: what is said is a line, never a traceback; each response is one of WebDriver; the driver and what it started end;
-a recording is whole, and one that isn't written is told of. Where each read and write moves half of its bytes, all is as
-without that.
+"""Failing system calls of `hidlog webdriver`: each call after startup fails or kills the process, one per run.
 
-    tests/webdriver/faults.py [--all] [--count 40] [--seed 1] [--jobs 2]        --all: each place, not some
+In each run, errors must be one line without a traceback, each response must be a valid WebDriver response, the driver
+and its child processes must end, and a recording must be complete or reported as not written. Reads and writes of half
+their size must change nothing.
 
-Needs strace. Exit status: 1 where an outcome is wrong, 3 where strace is missing.
+    tests/webdriver/faults.py [--all] [--count 40] [--seed 1] [--jobs 2]
+
+By default, tests a random sample of the calls; --all tests each. Needs strace. Exit status: 1 on a failure, 3 if strace
+is missing.
 """
 
 from __future__ import annotations
@@ -34,15 +36,25 @@ sys.path.insert(0, str(HERE.parent / "program"))
 
 import injection
 from injection import Place
-from processes import Run, descendants, is_running, wait_until
+from processes import Run, is_running, list_descendants, wait_until
 
 DRIVER = f"{sys.executable} {HERE / 'processes.py'} --drive"
 OPTIONS = {"protocol": "ctap2", "transport": "usb"}
 LOG = "> 0 00\n"
-SECONDS = 600
-# Calls that reach outside of the process: the others fail where memory is short, of which Python ends.
-CALLS = ["socket", "connect", "accept4", "bind", "setsockopt", "getsockopt", "getsockname", "getpeername", "shutdown"]
-CALLS += [
+TIMEOUT_SECONDS = 600
+# System calls other than those that fail only if memory is short, which ends Python.
+TRACED_CALLS = [
+    "socket",
+    "connect",
+    "accept4",
+    "bind",
+    "setsockopt",
+    "getsockopt",
+    "getsockname",
+    "getpeername",
+    "shutdown",
+]
+TRACED_CALLS += [
     "sendto",
     "recvfrom",
     "poll",
@@ -56,20 +68,20 @@ CALLS += [
     "fsync",
     "rename",
 ]
-CALLS += ["mkdir", "unlink", "newfstatat", "fstat", "lseek", "readlink", "fchmod", "pipe2", "wait4"]
+TRACED_CALLS += ["mkdir", "unlink", "newfstatat", "fstat", "lseek", "readlink", "fchmod", "pipe2", "wait4"]
 FAULTS = {"accept4": ("EMFILE", "EINTR", "ECONNABORTED"), "socket": ("EMFILE", "ENOBUFS"), "mkdir": ("ENOSPC", "EIO")}
 
 
 def call(run: Run, method: str, path: str, given: Any = None) -> tuple[int, Any]:
-    """Calls a command. A connection that ends without a response has the status 0."""
+    """Sends a command. The status is 0 if the connection ends without a response."""
     try:
         return run.call(method, path, given)
     except (URLError, OSError, http.client.HTTPException) as error:
         return 0, str(error)
 
 
-def scenario(run: Run) -> list[tuple[int, Any]]:
-    """Runs a session with an authenticator and a recording, in which any command may fail."""
+def run_scenario(run: Run) -> list[tuple[int, Any]]:
+    """Runs a session with an authenticator and a recording. Any command may fail."""
     results = [call(run, "POST", "/session", {})]
     name = results[0][1].get("sessionId", "a") if isinstance(results[0][1], dict) else "a"
     at = f"/session/{name}"
@@ -82,8 +94,8 @@ def scenario(run: Run) -> list[tuple[int, Any]]:
     return results
 
 
-def attached(pid: int, words: list[str]) -> subprocess.Popen[bytes]:
-    """Starts strace on a process, and waits until it is there."""
+def attach_strace(pid: int, words: list[str]) -> subprocess.Popen[bytes]:
+    """Attaches strace to a process."""
     tracer = subprocess.Popen([*words, "-p", str(pid)], stdout=subprocess.DEVNULL, stderr=subprocess.PIPE)
     assert tracer.stderr
     line = tracer.stderr.readline()
@@ -91,19 +103,19 @@ def attached(pid: int, words: list[str]) -> subprocess.Popen[bytes]:
     return tracer
 
 
-def traced(place: Place, log: Path) -> list[str]:
-    """Returns the words of strace for a place. It says when it is attached, and can't filter a process that runs."""
-    return [word for word in place.words(log) if word not in ("--seccomp-bpf", "-qq")]
+def strace_arguments(place: Place, log: Path) -> list[str]:
+    """Returns strace's arguments for a fault. It reports when it is attached, and can't filter a running process."""
+    return [word for word in place.strace_prefix(log) if word not in ("--seccomp-bpf", "-qq")]
 
 
-def wrong_result(results: list[tuple[int, Any]]) -> Optional[str]:
+def find_result_error(results: list[tuple[int, Any]]) -> Optional[str]:
     for status, value in results:
         if status not in (0, 200) and set(value or ()) != {"error", "message", "stacktrace"}:
             return f"no error of WebDriver: {status} {value}"
     return None
 
 
-def wrong_files(folder: Path, is_killed: bool, is_told: bool) -> Optional[str]:
+def find_file_error(folder: Path, is_killed: bool, is_told: bool) -> Optional[str]:
     """Returns what is wrong with the recordings."""
     files = [path for path in folder.rglob("*") if path.is_file()]
     logs = [path for path in files if path.suffix == ".log"]
@@ -114,15 +126,15 @@ def wrong_files(folder: Path, is_killed: bool, is_told: bool) -> Optional[str]:
     return None if logs or is_killed or is_told else "no recording, and nothing is said of it"
 
 
-def judged(place: Place, folder: Path) -> Optional[str]:
-    """Runs with a fault, and returns what is wrong with what came of it."""
+def find_error(place: Place, folder: Path) -> Optional[str]:
+    """Runs with a fault, and returns what is wrong with the result."""
     run = Run(DRIVER, "--recordings", str(folder / "logs"))
-    tracer = attached(run.process.pid, traced(place, folder / "strace"))
-    below = descendants(run.process.pid)
+    tracer = attach_strace(run.process.pid, strace_arguments(place, folder / "strace"))
+    below = list_descendants(run.process.pid)
     try:
-        results = scenario(run)
+        results = run_scenario(run)
         run.process.send_signal(signal.SIGTERM)
-        _, text = run.process.communicate(timeout=SECONDS)
+        _, text = run.process.communicate(timeout=TIMEOUT_SECONDS)
     finally:
         run.process.kill()
         tracer.wait()
@@ -134,39 +146,39 @@ def judged(place: Place, folder: Path) -> Optional[str]:
         return f"it ended with {run.process.returncode}"
     if not wait_until(lambda: not any(map(is_running, below))):
         return "the driver or what it started runs still"
-    return wrong_result(results) or wrong_files(folder / "logs", is_killed, is_told)
+    return find_result_error(results) or find_file_error(folder / "logs", is_killed, is_told)
 
 
-def places(folder: Path) -> list[Place]:
-    """Returns the places of a run without faults, which has to be right."""
+def list_places(folder: Path) -> list[Place]:
+    """Returns the system calls of a run without faults, which must succeed."""
     run = Run(DRIVER, "--recordings", str(folder / "logs"))
-    tracer = attached(run.process.pid, ["strace", "-f", "-o", str(folder / "calls")])
-    results = scenario(run)
+    tracer = attach_strace(run.process.pid, ["strace", "-f", "-o", str(folder / "calls")])
+    results = run_scenario(run)
     run.process.terminate()
-    _, text = run.process.communicate(timeout=SECONDS)
+    _, text = run.process.communicate(timeout=TIMEOUT_SECONDS)
     tracer.wait()
     assert [status for status, _ in results] == [200] * 6 and run.process.returncode == 0 and not text, (results, text)
-    assert wrong_files(folder / "logs", False, False) is None
+    assert find_file_error(folder / "logs", False, False) is None
     # strace counts the calls of each thread.
     found = Counter(re.findall(r"^(\d+) +([a-z_0-9]+)\(", (folder / "calls").read_text(errors="replace"), re.MULTILINE))
-    counts = {name: max((found[place] for place in found if place[1] == name), default=0) for name in CALLS}
+    counts = {name: max((found[place] for place in found if place[1] == name), default=0) for name in TRACED_CALLS}
     counts = {name: count for name, count in counts.items() if count}
     injection.FAULTS.update(FAULTS)
-    return list(injection.places_of(counts))
+    return list(injection.list_places(counts))
 
 
-def short() -> Optional[str]:
-    """Runs with reads and writes of half their size, and returns what is wrong."""
+def find_short_call_error() -> Optional[str]:
+    """Runs with reads and writes of half their size, and returns what is wrong with the result."""
     with TemporaryDirectory() as folder:
-        _, library = injection.short_calls(Path(folder))
+        _, library = injection.short_calls_prefix(Path(folder))
         name, _, value = library.partition("=")
         run = Run(DRIVER, "--recordings", f"{folder}/logs", env={name: value})
-        results = scenario(run)
+        results = run_scenario(run)
         run.process.terminate()
-        _, text = run.process.communicate(timeout=SECONDS)
+        _, text = run.process.communicate(timeout=TIMEOUT_SECONDS)
         if [status for status, _ in results] != [200] * 6 or run.process.returncode != 0 or text:
             return f"{results} {run.process.returncode} {text}"
-        return wrong_files(Path(folder, "logs"), False, False)
+        return find_file_error(Path(folder, "logs"), False, False)
 
 
 def main() -> int:
@@ -180,16 +192,16 @@ def main() -> int:
     if not shutil.which("strace"):
         print("tests/webdriver: strace is missing", file=sys.stderr)
         return 3
-    room = Path(os.environ.get("TMPDIR", "/tmp")) / f"faults-{os.getpid()}"
-    room.mkdir()
+    work_dir = Path(os.environ.get("TMPDIR", "/tmp")) / f"faults-{os.getpid()}"
+    work_dir.mkdir()
     try:
-        found = [place for place in places(room) if not given.only or given.only in str(place)]
+        found = [place for place in list_places(work_dir) if not given.only or given.only in str(place)]
     finally:
-        shutil.rmtree(room)
+        shutil.rmtree(work_dir)
     some = found if given.all else random.Random(given.seed).sample(found, min(given.count, len(found)))
     begun = time.monotonic()
-    wrong = injection.each(some, judged, given.jobs)
-    if shutil.which("gcc") and (text := short()) is not None:
+    wrong = injection.check_places(some, find_error, given.jobs)
+    if shutil.which("gcc") and (text := find_short_call_error()) is not None:
         wrong.append((Place("each call", 0, "half of the bytes"), text))
     for place, text in wrong:
         print(f"FAILED  {place}: {text}")

@@ -1,6 +1,6 @@
 #!/usr/bin/python3
-"""The request gate of `hidlog webdriver`: tables of heads and what they get, and random heads beside a second statement
-of the rules, which is written as a list of what is refused.
+"""The request gate of `hidlog webdriver`: tables of request heads with expected results, and random heads compared with
+a second implementation of the rules, written as a list of rejected heads.
 
     tests/webdriver/gate.py [--count 20000] [--seed 1]
 """
@@ -15,38 +15,38 @@ from pathlib import Path
 sys.path.insert(0, str(Path(__file__).resolve().parents[2] / "python" / "src"))
 
 from hidlog.webdriver.errors import DriverError
-from hidlog.webdriver.gate import BODY_MAX, Head, Policy, admit
+from hidlog.webdriver.gate import MAX_BODY, Head, Policy, admit
 
 PORT = 4444
-OWN = f"127.0.0.1:{PORT}"
+OWN_HOST = f"127.0.0.1:{PORT}"
 JSON = ["application/json"]
 POLICY = Policy(PORT, "127.0.0.1", ("chrome", "ci.example:8080"))
-GOOD_POST = Head("POST", "/session", [OWN], [], [], JSON, ["2"])
-GOOD_GET = Head("GET", "/status", [OWN])
+GOOD_POST = Head("POST", "/session", [OWN_HOST], [], [], JSON, ["2"])
+GOOD_GET = Head("GET", "/status", [OWN_HOST])
 
 ACCEPTED = [
     GOOD_GET,
     GOOD_POST,
     GOOD_GET._replace(method="DELETE", path="/session/a1b2-c3"),
     GOOD_GET._replace(lengths=["0"]),
-    # What clients of WebDriver send.
+    # Requests of WebDriver clients.
     GOOD_POST._replace(types=["application/json;charset=UTF-8"]),
     GOOD_POST._replace(types=["Application/JSON ; charset=utf-8"]),
-    GOOD_POST._replace(lengths=[str(BODY_MAX)]),
+    GOOD_POST._replace(lengths=[str(MAX_BODY)]),
     GOOD_GET._replace(path="/session/x/element/f.A1.d.B2.e.3/attribute/data-x"),
     GOOD_GET._replace(path="/session/x/cookie/__Host-id"),
     # Java's encoded padding of a credential's ID.
     GOOD_GET._replace(method="DELETE", path="/session/x/webauthn/authenticator/y/credentials/AQ%3D%3d"),
-    # This server by its names, and a client that names no port of 80.
+    # This server by its names, and a client that omits port 80.
     GOOD_GET._replace(hosts=[f"LocalHost:{PORT}"]),
     GOOD_GET._replace(hosts=[f"[::1]:{PORT}"]),
-    # Hosts that the option allows: on any port, or on one.
+    # Hosts allowed by the option, with any port or with one.
     GOOD_GET._replace(hosts=["chrome"]),
     GOOD_GET._replace(hosts=["Chrome:5555"]),
     GOOD_GET._replace(hosts=["ci.example:8080"]),
     # A page of this server.
-    GOOD_GET._replace(origins=[f"http://{OWN}"], sites=["same-origin"]),
-    # An address that a person types.
+    GOOD_GET._replace(origins=[f"http://{OWN_HOST}"], sites=["same-origin"]),
+    # A URL typed by a user.
     GOOD_GET._replace(sites=["none"]),
 ]
 
@@ -56,7 +56,7 @@ REFUSED = {
         for method in ("PUT", "OPTIONS", "HEAD", "PATCH", "CONNECT", "TRACE", "get", "", "G T")
     ],
     403: [
-        # DNS rebinding, and names that only look like this server's.
+        # DNS rebinding, and names similar to this server's.
         *[
             GOOD_POST._replace(hosts=[host])
             for host in (
@@ -77,23 +77,23 @@ REFUSED = {
                 "a.chrome",
             )
         ],
-        # Pages.
+        # Requests from pages.
         *[
             GOOD_POST._replace(origins=origins)
             for origins in (
                 ["http://evil.example"],
                 ["null"],
                 [""],
-                [f"https://{OWN}"],
+                [f"https://{OWN_HOST}"],
                 [f"http://localhost:{PORT}"],
                 ["http://127.0.0.1"],
-                [f"http://{OWN}.evil.example"],
-                [f"http://{OWN}/"],
-                [f"http://{OWN}", "http://evil.example"],
-                [f"http://{OWN}", f"http://{OWN}"],
+                [f"http://{OWN_HOST}.evil.example"],
+                [f"http://{OWN_HOST}/"],
+                [f"http://{OWN_HOST}", "http://evil.example"],
+                [f"http://{OWN_HOST}", f"http://{OWN_HOST}"],
             )
         ],
-        # What a page gets without an Origin: an image, a frame, a link.
+        # Requests from pages without an Origin: images, frames, links.
         *[GOOD_GET._replace(sites=sites) for sites in (["cross-site"], ["same-site"], [""], ["none", "cross-site"])],
     ],
     415: [
@@ -113,7 +113,7 @@ REFUSED = {
     ]
     + [GOOD_GET._replace(lengths=["5"])],
     411: [GOOD_POST._replace(lengths=[])],
-    413: [GOOD_POST._replace(lengths=[length]) for length in (str(BODY_MAX + 1), "107374182400", "9" * 18)],
+    413: [GOOD_POST._replace(lengths=[length]) for length in (str(MAX_BODY + 1), "107374182400", "9" * 18)],
     414: [GOOD_GET._replace(path="/session/" + "a" * 5000)],
     400: [
         *[
@@ -142,12 +142,15 @@ REFUSED = {
             for encodings in (["chunked"], ["identity"], ["gzip, chunked"], [""])
         ],
         GOOD_POST._replace(encodings=["chunked"], lengths=[]),
-        *[GOOD_GET._replace(hosts=hosts) for hosts in ([], [OWN, OWN], [""], ["a b"], [f"{OWN}/"], [f"x@{OWN}"])],
+        *[
+            GOOD_GET._replace(hosts=hosts)
+            for hosts in ([], [OWN_HOST, OWN_HOST], [""], ["a b"], [f"{OWN_HOST}/"], [f"x@{OWN_HOST}"])
+        ],
         *[
             GOOD_GET._replace(hosts=[host])
             for host in ("127.0.0.1:", "127.0.0.1:0", "127.0.0.1:99999", "[::1", "\u24db\u24de")
         ],
-        # Paths that have another reading, or none.
+        # Ambiguous or invalid paths.
         *[
             GOOD_GET._replace(path=path)
             for path in (
@@ -185,15 +188,15 @@ REFUSED = {
                 "/session/x y",
                 "/session?x",
                 "/session#x",
-                f"http://{OWN}/session",
+                f"http://{OWN_HOST}/session",
                 "http://evil.example/session",
                 "evil.example:443",
             )
         ],
     ],
 }
-LISTENING = {
-    # Container: a request to the address itself is no rebinding, and a name has to be allowed.
+HOST_CASES = {
+    # Container: a request to the address itself is not rebinding, and a name must be allowed.
     ("172.17.0.2", "172.17.0.2:4444"): True,
     ("172.17.0.2", "172.17.0.3:4444"): False,
     ("172.17.0.2", "proxy:4444"): False,
@@ -202,8 +205,8 @@ LISTENING = {
 }
 
 
-def status_of(head: Head, policy: Policy = POLICY) -> int:
-    """Returns 200 or the status of the error."""
+def get_status(head: Head, policy: Policy = POLICY) -> int:
+    """Returns 200, or the status of the error."""
     try:
         admit(head, policy)
         return 200
@@ -213,22 +216,22 @@ def status_of(head: Head, policy: Policy = POLICY) -> int:
         return int(error.status)
 
 
-def table() -> list[str]:
-    """Returns what a row of the tables gets otherwise."""
-    wrong = [f"{head} gets {status_of(head)}" for head in ACCEPTED if status_of(head) != 200]
+def check_table() -> list[str]:
+    """Returns the unexpected result of a row, if any."""
+    wrong = [f"{head} gets {get_status(head)}" for head in ACCEPTED if get_status(head) != 200]
     for status, heads in REFUSED.items():
-        wrong += [f"{head} gets {status_of(head)}, not {status}" for head in heads if status_of(head) != status]
-    for (address, host), is_right in LISTENING.items():
-        if (status_of(GOOD_GET._replace(hosts=[host]), Policy(PORT, address)) == 200) != is_right:
+        wrong += [f"{head} gets {get_status(head)}, not {status}" for head in heads if get_status(head) != status]
+    for (address, host), is_right in HOST_CASES.items():
+        if (get_status(GOOD_GET._replace(hosts=[host]), Policy(PORT, address)) == 200) != is_right:
             wrong.append(f"{host} at {address}")
-    if status_of(GOOD_GET._replace(hosts=["127.0.0.1"]), Policy(80)) != 200:
+    if get_status(GOOD_GET._replace(hosts=["127.0.0.1"]), Policy(80)) != 200:
         wrong.append("a host without a port is at port 80")
     return wrong
 
 
-# Random heads: each member good or made of parts that attacks are made of.
-PARTS = [
-    OWN,
+# Random heads: each member is valid, or made from parts of attacks.
+HEADER_PARTS = [
+    OWN_HOST,
     "localhost",
     ":4444",
     "evil.example",
@@ -243,7 +246,7 @@ PARTS = [
     "%",
     "\\",
 ]
-PARTS += [
+HEADER_PARTS += [
     "\r\n",
     "\x00",
     " ",
@@ -257,7 +260,7 @@ PARTS += [
     "text/plain",
     ";",
 ]
-PARTS += [
+HEADER_PARTS += [
     ",",
     "chunked",
     "session",
@@ -276,11 +279,11 @@ PARTS += [
 
 
 def random_head(rng: random.Random) -> Head:
-    """Returns a head that is good but for some members."""
+    """Returns a head that is valid except for some members."""
     head = rng.choice([GOOD_GET, GOOD_POST])
 
     def text() -> str:
-        return "".join(rng.choices(PARTS, k=rng.randint(0, 4)))
+        return "".join(rng.choices(HEADER_PARTS, k=rng.randint(0, 4)))
 
     for name in rng.sample(Head._fields, rng.randint(1, 3)):
         if name in ("method", "path"):
@@ -291,8 +294,9 @@ def random_head(rng: random.Random) -> Head:
     return head
 
 
-def faults_of(head: Head) -> list[str]:
-    """Returns what is wrong with a head: the rules again, from RFC 9110 and 9112, Fetch and WebDriver."""
+def find_faults(head: Head) -> list[str]:
+    """Returns what is wrong with a head: the rules, written independently from RFC 9110 and 9112, Fetch and
+    WebDriver."""
     found = []
     host = head.hosts[0].lower() if len(head.hosts) == 1 else None
     if head.method not in ("GET", "POST", "DELETE"):
@@ -307,7 +311,7 @@ def faults_of(head: Head) -> list[str]:
     if head.encodings:
         found.append("encoding")
     digits = "".join(head.lengths)
-    is_length = len(head.lengths) == 1 and digits.isascii() and digits.isdecimal() and int(digits) <= BODY_MAX
+    is_length = len(head.lengths) == 1 and digits.isascii() and digits.isdecimal() and int(digits) <= MAX_BODY
     if not is_length and (head.lengths or head.method == "POST"):
         found.append("length")
     if head.method == "POST" or (is_length and int(digits)):
@@ -325,20 +329,20 @@ def main() -> int:
     parser.add_argument("--count", type=int, default=20_000)
     parser.add_argument("--seed", type=int, default=1)
     given = parser.parse_args()
-    wrong = table()
+    wrong = check_table()
     rng = random.Random(given.seed)
     accepted = 0
     for _ in range(given.count):
         head = random_head(rng)
-        is_accepted = status_of(head) == 200
+        is_accepted = get_status(head) == 200
         accepted += is_accepted
-        if is_accepted == bool(faults_of(head)):
+        if is_accepted == bool(find_faults(head)):
             wrong.append(
-                f"{head} is {'accepted' if is_accepted else 'refused'}, and has {faults_of(head) or 'no fault'}"
+                f"{head} is {'accepted' if is_accepted else 'refused'}, and has {find_faults(head) or 'no fault'}"
             )
     for text in wrong[:20]:
         print(f"FAILED  {text}")
-    rows = len(ACCEPTED) + sum(map(len, REFUSED.values())) + len(LISTENING)
+    rows = len(ACCEPTED) + sum(map(len, REFUSED.values())) + len(HOST_CASES)
     if not wrong:
         print(f"ok  {rows} heads of the tables, and {given.count} random heads of which {accepted} are accepted")
     return 1 if wrong else 0

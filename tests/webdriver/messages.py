@@ -1,6 +1,8 @@
 #!/usr/bin/python3
-"""Messages of hostile pages to the proxy: tables, and random ones. Whatever a page of one origin sends, the credentials
-of the others stay as they are, none of their keys signs for it, and no file is outside of its folder.
+"""Hostile messages from pages to the proxy, from tables and random.
+
+Whatever a page of one origin sends, credentials of other origins must not change, their keys must not sign for it, and
+no file may be written outside the recordings' directory.
 
     tests/webdriver/messages.py [--count 3000] [--seed 1]
 """
@@ -34,16 +36,16 @@ BANK, EVIL = "https://bank.example", "https://evil.example"
 LOG = "> 0 " + "00" * 64 + "\n"
 
 
-def url_text(data: bytes) -> str:
+def to_base64url(data: bytes) -> str:
     return base64.urlsafe_b64encode(data).decode().rstrip("=")
 
 
-def text(data: bytes) -> str:
+def to_base64(data: bytes) -> str:
     return base64.b64encode(data).decode()
 
 
 class Browser:
-    """In the place of DevTools: it keeps what is evaluated in documents."""
+    """Replaces DevTools, and stores the expressions evaluated in documents."""
 
     def __init__(self) -> None:
         self.replies: list[list[Any]] = []
@@ -57,8 +59,8 @@ class Browser:
         return []
 
 
-class Rig:
-    """An authenticator with a credential of the bank, and documents of both origins."""
+class Fixture:
+    """An authenticator with a credential for the bank, and documents of both origins."""
 
     def __init__(self, folder: Path):
         self.key = Authenticator(read_options(OPTIONS))
@@ -73,7 +75,7 @@ class Rig:
         self.pkcs8 = self.private.private_bytes(
             serialization.Encoding.DER, serialization.PrivateFormat.PKCS8, serialization.NoEncryption()
         )
-        self.key.add(credential("bank.example", self.pkcs8))
+        self.key.add(make_credential("bank.example", self.pkcs8))
         self.bank, self.evil = Document("t", 1, "1", BANK), Document("t", 2, "2", EVIL)
         self.held = json.dumps(self.key.credentials)
 
@@ -85,24 +87,24 @@ class Rig:
         assert len(self.browser.replies) <= 1
         return self.browser.replies[0] if self.browser.replies else []
 
-    def refused(self, document: Document, message: Any) -> None:
-        """Expects an error, with the credentials as they were."""
+    def expect_error(self, document: Document, message: Any) -> None:
+        """Expects an error, with unchanged credentials."""
         reply = self.send(document, message)
         assert not reply or (reply[1] is None and reply[2]), (message, reply)
         assert json.dumps(self.key.credentials) == self.held, message
 
 
-def credential(rp_id: str, pkcs8: bytes, **more: Any) -> dict[str, Any]:
-    made = {"credentialId": url_text(b"the bank's credential"), "isResidentCredential": True, "rpId": rp_id}
-    return {**made, "userHandle": url_text(b"ann"), "signCount": 7, "privateKey": url_text(pkcs8), **more}
+def make_credential(rp_id: str, pkcs8: bytes, **more: Any) -> dict[str, Any]:
+    made = {"credentialId": to_base64url(b"the bank's credential"), "isResidentCredential": True, "rpId": rp_id}
+    return {**made, "userHandle": to_base64url(b"ann"), "signCount": 7, "privateKey": to_base64url(pkcs8), **more}
 
 
-def signed_for(rp_id: str) -> bytes:
-    """Returns authenticator data of a relying party and a hash."""
+def make_authenticator_data(rp_id: str) -> bytes:
+    """Returns authenticator data for a relying party, with a hash."""
     return sha256(rp_id.encode()).digest() + b"\x01" + bytes(4) + bytes(32)
 
 
-def no_foreign_keys(rig: Rig) -> None:
+def test_no_foreign_keys(rig: Fixture) -> None:
     """A page gets neither credentials nor signatures of another origin, and no private key of its own."""
     point = rig.pkcs8[-64:]
     begun = rig.send(rig.evil, {"id": 1, "name": "begin"})
@@ -112,18 +114,23 @@ def no_foreign_keys(rig: Rig) -> None:
     number = rig.private.private_numbers().private_value.to_bytes(32, "big")
     held = base64.urlsafe_b64decode(own[1]["credentials"][0]["privateKey"] + "==")
     assert number not in held and held.endswith(point) and len(held) == len(rig.pkcs8)
-    sign = {"id": 3, "name": "sign", "point": text(point), "data": text(signed_for("bank.example"))}
-    rig.refused(rig.evil, sign)
-    rig.refused(rig.evil, {**sign, "data": text(signed_for("evil.example"))})
-    rig.refused(rig.bank, {**sign, "data": text(signed_for("evil.example"))})
-    rig.refused(
-        rig.bank, {**sign, "data": text(b"anything else that has to be signed, such as another protocol's text")}
+    sign = {
+        "id": 3,
+        "name": "sign",
+        "point": to_base64(point),
+        "data": to_base64(make_authenticator_data("bank.example")),
+    }
+    rig.expect_error(rig.evil, sign)
+    rig.expect_error(rig.evil, {**sign, "data": to_base64(make_authenticator_data("evil.example"))})
+    rig.expect_error(rig.bank, {**sign, "data": to_base64(make_authenticator_data("evil.example"))})
+    rig.expect_error(
+        rig.bank, {**sign, "data": to_base64(b"anything else that must be signed, such as another protocol's text")}
     )
-    rig.refused(rig.bank, {**sign, "data": text(signed_for("bank.example")[:40])})
+    rig.expect_error(rig.bank, {**sign, "data": to_base64(make_authenticator_data("bank.example")[:40])})
     reply = rig.send(rig.bank, sign)
     raw = base64.b64decode(reply[1]["signature"])
     signature = encode_dss_signature(int.from_bytes(raw[:32], "big"), int.from_bytes(raw[32:], "big"))
-    rig.private.public_key().verify(signature, signed_for("bank.example"), ec.ECDSA(hashes.SHA256()))
+    rig.private.public_key().verify(signature, make_authenticator_data("bank.example"), ec.ECDSA(hashes.SHA256()))
     sub = Document("t", 3, "3", "https://login.bank.example:8443")
     assert len(rig.send(sub, {"id": 4, "name": "begin"})[1]["credentials"]) == 1, "a host below the RP ID's"
     for origin in (
@@ -135,18 +142,18 @@ def no_foreign_keys(rig: Rig) -> None:
         assert rig.send(Document("t", 4, "4", origin), {"id": 4, "name": "begin"})[1]["credentials"] == [], origin
 
 
-def no_foreign_changes(rig: Rig) -> None:
+def test_no_foreign_changes(rig: Fixture) -> None:
     """A page neither takes over, replaces nor removes credentials of another origin."""
     made = base64.b64decode(rig.send(rig.evil, {"id": 1, "name": "make"})[1]["point"])
     head = rig.pkcs8[:-64]
     end: dict[str, Any] = {"id": 2, "name": "end", "gone": [], "document": "d", "recordings": []}
-    mine: dict[str, Any] = credential("evil.example", head + made, credentialId=url_text(b"evil"))
-    bank_id = credential("", b"")["credentialId"]
+    mine: dict[str, Any] = make_credential("evil.example", head + made, credentialId=to_base64url(b"evil"))
+    bank_id = make_credential("", b"")["credentialId"]
     for credentials in (
         [{**mine, "rpId": "bank.example"}],
         [{**mine, "credentialId": bank_id}],
-        [{**mine, "privateKey": url_text(rig.pkcs8)}],
-        [credential("bank.example", rig.pkcs8)],
+        [{**mine, "privateKey": to_base64url(rig.pkcs8)}],
+        [make_credential("bank.example", rig.pkcs8)],
         [mine, mine],
         [{**mine, "rpId": "example"}],
         [{**mine, "rpId": "\ud800.evil.example"}],
@@ -157,34 +164,39 @@ def no_foreign_changes(rig: Rig) -> None:
         [[]],
         {},
     ):
-        rig.refused(rig.evil, {**end, "credentials": credentials})
-    rig.refused(rig.evil, {**end, "credentials": [], "gone": [bank_id], "id": 2**60})
+        rig.expect_error(rig.evil, {**end, "credentials": credentials})
+    rig.expect_error(rig.evil, {**end, "credentials": [], "gone": [bank_id], "id": 2**60})
     assert not rig.send(rig.evil, {**end, "credentials": [], "gone": [bank_id, 1, None, "x"]})[2]
     assert json.dumps(rig.key.credentials) == rig.held
-    # A key pair that was made for one origin is no other's.
-    rig.refused(rig.bank, {**end, "credentials": [{**mine, "rpId": "bank.example"}]})
-    sign = {"id": 3, "name": "sign", "point": text(made), "data": text(signed_for("evil.example"))}
-    rig.refused(rig.bank, sign)
-    rig.refused(rig.evil, {**sign, "data": text(signed_for("bank.example"))})
+    # A key pair created for one origin can't be used by another.
+    rig.expect_error(rig.bank, {**end, "credentials": [{**mine, "rpId": "bank.example"}]})
+    sign = {
+        "id": 3,
+        "name": "sign",
+        "point": to_base64(made),
+        "data": to_base64(make_authenticator_data("evil.example")),
+    }
+    rig.expect_error(rig.bank, sign)
+    rig.expect_error(rig.evil, {**sign, "data": to_base64(make_authenticator_data("bank.example"))})
     assert rig.send(rig.evil, sign)[1]["signature"]
     assert not rig.send(rig.evil, {**end, "credentials": [mine]})[2]
     assert [credential["rpId"] for credential in rig.key.credentials] == ["bank.example", "evil.example"]
-    # A counter only rises.
+    # Signature counters only rise.
     assert not rig.send(rig.evil, {**end, "credentials": [{**mine, "signCount": 3}]})[2]
     assert [credential["signCount"] for credential in rig.key.credentials] == [7, 7]
 
 
-def bounded_recordings(rig: Rig) -> None:
-    """A page names no file, and what it records is bounded."""
+def test_bounded_recordings(rig: Fixture) -> None:
+    """A page can't choose file names, and its recordings are bounded."""
     outside = rig.folder / "outside.log"
-    good: dict[str, Any] = {"part": 1, "from": 0, "text": LOG, "snapshot": ""}
+    good: dict[str, Any] = {"index": 1, "from": 0, "text": LOG, "snapshot": ""}
     end: dict[str, Any] = {"id": 2, "name": "end", "gone": [], "credentials": [], "document": "d"}
     for recordings in (
-        [{**good, "part": "../../outside"}],
-        [{**good, "part": -1}],
-        [{**good, "part": 1.5}],
-        [{**good, "part": True}],
-        [{**good, "part": 2**64}],
+        [{**good, "index": "../../outside"}],
+        [{**good, "index": -1}],
+        [{**good, "index": 1.5}],
+        [{**good, "index": True}],
+        [{**good, "index": 2**64}],
         [{**good, "from": 1}],
         [{**good, "from": -1}],
         [{**good, "text": "\x00"}],
@@ -197,10 +209,10 @@ def bounded_recordings(rig: Rig) -> None:
         {},
         None,
     ):
-        rig.refused(rig.evil, {**end, "recordings": recordings})
-    rig.refused(rig.evil, {**end, "recordings": [good], "document": "x" * 10_000})
-    rig.refused(rig.evil, {**end, "recordings": [good], "document": ["x"]})
-    assert not rig.send(rig.evil, {**end, "recordings": [{**good, "part": 77, "snapshot": "a0"}]})[2]
+        rig.expect_error(rig.evil, {**end, "recordings": recordings})
+    rig.expect_error(rig.evil, {**end, "recordings": [good], "document": "x" * 10_000})
+    rig.expect_error(rig.evil, {**end, "recordings": [good], "document": ["x"]})
+    assert not rig.send(rig.evil, {**end, "recordings": [{**good, "index": 77, "snapshot": "a0"}]})[2]
     rig.recorder.flush()
     files = sorted(str(path.relative_to(rig.folder)) for path in rig.folder.rglob("*") if path.is_file())
     own = "session/name/https_evil.example"
@@ -210,20 +222,20 @@ def bounded_recordings(rig: Rig) -> None:
         assert "/" not in name and not name.startswith(".") and len(name) < 120, name
 
 
-def no_message(rig: Rig) -> None:
-    """What is no message has an error at most."""
+def test_invalid_messages(rig: Fixture) -> None:
+    """Invalid messages only cause errors."""
     deep = "[" * 100_000
     for payload in ("", "{", deep, "{}", "[]", "1", '{"id":1}', '{"id":1,"name":"x"}', '{"id":"1","name":"begin"}'):
-        rig.refused(rig.evil, payload)
-    rig.refused(rig.evil, '{"id":1,"name":' + '{"a":' * 900 + "1" + "}" * 900 + "}")
-    rig.refused(rig.evil, {"id": -1, "name": "begin"})
-    rig.refused(rig.evil, {"id": 1, "name": "sign"})
-    rig.refused(rig.evil, {"id": 1, "name": ["begin"]})
+        rig.expect_error(rig.evil, payload)
+    rig.expect_error(rig.evil, '{"id":1,"name":' + '{"a":' * 900 + "1" + "}" * 900 + "}")
+    rig.expect_error(rig.evil, {"id": -1, "name": "begin"})
+    rig.expect_error(rig.evil, {"id": 1, "name": "sign"})
+    rig.expect_error(rig.evil, {"id": 1, "name": ["begin"]})
     rig.channel._authenticator = None
-    rig.refused(rig.evil, {"id": 1, "name": "begin"})
+    rig.expect_error(rig.evil, {"id": 1, "name": "begin"})
 
 
-VALUES: list[Any] = [
+MEMBER_VALUES: list[Any] = [
     None,
     True,
     0,
@@ -243,39 +255,56 @@ VALUES: list[Any] = [
     [[]],
     LOG,
 ]
-VALUES += [text(bytes(64)), text(signed_for("bank.example")), text(signed_for("evil.example")), "bank.example"]
-VALUES += [url_text(b"the bank's credential"), "https://bank.example", "evil.example", "d"]
-NAMES = ["begin", "presence", "make", "sign", "end", "x"]
-MEMBERS = ["point", "data", "credentials", "gone", "recordings", "document"]
-INNER = [
+MEMBER_VALUES += [
+    to_base64(bytes(64)),
+    to_base64(make_authenticator_data("bank.example")),
+    to_base64(make_authenticator_data("evil.example")),
+    "bank.example",
+]
+MEMBER_VALUES += [to_base64url(b"the bank's credential"), "https://bank.example", "evil.example", "d"]
+CALL_NAMES = ["begin", "presence", "make", "sign", "end", "x"]
+MESSAGE_MEMBERS = ["point", "data", "credentials", "gone", "recordings", "document"]
+CREDENTIAL_MEMBERS = [
     "credentialId",
     "isResidentCredential",
     "rpId",
     "privateKey",
     "userHandle",
     "signCount",
-    "part",
+    "index",
     "from",
     "text",
 ]
-INNER += ["snapshot", "userName", "backupState"]
+CREDENTIAL_MEMBERS += ["snapshot", "userName", "backupState"]
 
 
-def random_message(rng: random.Random, rig: Rig) -> dict[str, Any]:
-    """Returns a message of random members, some of them good."""
-    values = [*VALUES, text(rig.pkcs8[-64:]), url_text(rig.pkcs8)]
+def random_message(rng: random.Random, rig: Fixture) -> dict[str, Any]:
+    """Returns a message with random members, some of them valid."""
+    values = [*MEMBER_VALUES, to_base64(rig.pkcs8[-64:]), to_base64url(rig.pkcs8)]
 
     def value(depth: int = 0) -> Any:
         if depth < 2 and rng.random() < 0.4:
-            return [{name: value(depth + 1) for name in rng.sample(INNER, rng.randint(0, len(INNER)))}]
+            return [
+                {
+                    name: value(depth + 1)
+                    for name in rng.sample(CREDENTIAL_MEMBERS, rng.randint(0, len(CREDENTIAL_MEMBERS)))
+                }
+            ]
         return rng.choice(values)
 
-    message = {"id": 1, "name": rng.choice(NAMES), "gone": [], "recordings": [], "document": "d", "credentials": []}
-    return {**message, **{name: value() for name in rng.sample(MEMBERS, rng.randint(0, len(MEMBERS)))}}
+    message = {
+        "id": 1,
+        "name": rng.choice(CALL_NAMES),
+        "gone": [],
+        "recordings": [],
+        "document": "d",
+        "credentials": [],
+    }
+    return {**message, **{name: value() for name in rng.sample(MESSAGE_MEMBERS, rng.randint(0, len(MESSAGE_MEMBERS)))}}
 
 
-def fuzz(rig: Rig, count: int, seed: int) -> int:
-    """Sends random messages of the evil page, and returns how many had a value."""
+def fuzz_messages(rig: Fixture, count: int, seed: int) -> int:
+    """Sends random messages from the evil page, and returns how many succeeded."""
     rng = random.Random(seed)
     taken = 0
     for _ in range(count):
@@ -300,16 +329,16 @@ def main() -> int:
     parser.add_argument("--seed", type=int, default=1)
     given = parser.parse_args()
     failed = False
-    for test in (no_foreign_keys, no_foreign_changes, bounded_recordings, no_message):
-        with TemporaryDirectory() as room:
+    for test in (test_no_foreign_keys, test_no_foreign_changes, test_bounded_recordings, test_invalid_messages):
+        with TemporaryDirectory() as work_dir:
             try:
-                test(Rig(Path(room)))
+                test(Fixture(Path(work_dir)))
                 print(f"ok  {test.__doc__}")
             except AssertionError as error:
                 print(f"FAILED  {test.__doc__} {error}"[:2000])
                 failed = True
-    with TemporaryDirectory() as room:
-        taken = fuzz(Rig(Path(room)), given.count, given.seed)
+    with TemporaryDirectory() as work_dir:
+        taken = fuzz_messages(Fixture(Path(work_dir)), given.count, given.seed)
         print(f"ok  {given.count} random messages, of which {taken} have a value")
     return 1 if failed else 0
 

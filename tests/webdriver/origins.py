@@ -1,8 +1,10 @@
 #!/usr/bin/python3
-"""What pages of one origin see of the credentials of another, in Chromium: nothing, whatever functions of the language
-they replace, and with DevTools no private key of their own either. And what a page can't lose: its credentials.
+"""Isolation of credentials between origins, in Chromium.
 
-    tests/webdriver/origins.py        ends with 3 where chromedriver is missing
+A page must learn nothing about the credentials of another origin, whatever built-in functions it replaces; with
+DevTools, it must not learn its own private keys either. A page must not be able to lose its credentials.
+
+    tests/webdriver/origins.py        exits with 3 if chromedriver is missing
 """
 
 from __future__ import annotations
@@ -25,28 +27,29 @@ import run
 from cryptography.hazmat.primitives import serialization
 from cryptography.hazmat.primitives.asymmetric import ec
 
-SECONDS = 600
+TIMEOUT_SECONDS = 600
 
 
-def encoded(data: bytes) -> str:
+def to_base64url(data: bytes) -> str:
     return base64.urlsafe_b64encode(data).decode().rstrip("=")
 
 
-def credential(rp_id: str, name: str) -> dict[str, Any]:
+def make_credential(rp_id: str, name: str) -> dict[str, Any]:
     private = ec.generate_private_key(ec.SECP256R1()).private_bytes(
         serialization.Encoding.DER, serialization.PrivateFormat.PKCS8, serialization.NoEncryption()
     )
-    made = {"credentialId": encoded(name.encode()), "isResidentCredential": True, "rpId": rp_id}
-    made["privateKey"] = encoded(private)
-    return {**made, "userHandle": encoded(name.encode()), "signCount": 7}
+    made = {"credentialId": to_base64url(name.encode()), "isResidentCredential": True, "rpId": rp_id}
+    made["privateKey"] = to_base64url(private)
+    return {**made, "userHandle": to_base64url(name.encode()), "signCount": 7}
 
 
-def traces(held: dict[str, Any]) -> set[str]:
-    """Returns the texts that a credential leaves: its ID and its private key, in each way that a script may write it."""
+def credential_texts(held: dict[str, Any]) -> set[str]:
+    """Returns the texts in which a credential would show: its ID and its private key, in each encoding a script may
+    use."""
     found = set()
     for text in (held["credentialId"], held["privateKey"]):
         data = base64.urlsafe_b64decode(text + "==")
-        # The number is in the middle of PKCS #8. Its base64 depends on what stands before it.
+        # The private key is in the middle of PKCS #8, so its base64 depends on the offset.
         part = data[36:68] if len(data) > 100 else data
         found |= {json.dumps(list(part), separators=(",", ":"))[1:-1], part.hex()}
         found |= {base64.b64encode(bytes(shift) + part).decode()[4 + shift : -4] for shift in range(3)}
@@ -61,7 +64,7 @@ class Suite(run.Commands):
         super().__init__(url, page, has_devtools)
         self.hostile = page.replace("page.html", "hostile.html")
         self.other = self.hostile.replace("localhost", "a.localhost")
-        self.key = self.add(hasUserVerification=True, isUserVerified=True)
+        self.key = self.add_authenticator(hasUserVerification=True, isUserVerified=True)
 
     def open(self, url: str) -> None:
         assert self.post("/url", {"url": url})[0] == 200
@@ -76,63 +79,63 @@ class Suite(run.Commands):
         assert status == 200, value
         return value
 
-    def held(self) -> list[dict[str, Any]]:
+    def list_credentials(self) -> list[dict[str, Any]]:
         status, listed = run.call("GET", f"{self.url}{self.key}/credentials")
         assert status == 200, listed
         return list(listed)
 
-    def loot(self) -> str:
+    def read_attacker_data(self) -> str:
         return str(self.wait("everything"))
 
     def close(self) -> None:
         self.end()
 
 
-def sees(loot: str, held: dict[str, Any]) -> set[str]:
-    return {text for text in traces(held) if text in loot}
+def find_leak(loot: str, held: dict[str, Any]) -> set[str]:
+    return {text for text in credential_texts(held) if text in loot}
 
 
-def other_origin(suite: Suite) -> None:
-    """A page that replaces the language's functions sees nothing of another origin's credentials."""
-    suite.page_call("register", residentKey="required")
-    assert suite.post(f"{suite.key}/credential", credential("localhost", "the bank's"))[0] == 200
+def test_other_origin(suite: Suite) -> None:
+    """A page that replaces built-in functions sees nothing of another origin's credentials."""
+    suite.call_page("register", residentKey="required")
+    assert suite.post(f"{suite.key}/credential", make_credential("localhost", "the bank's"))[0] == 200
     suite.run("localStorage.clear(); sessionStorage.clear()")
-    secret = suite.held()
+    secret = suite.list_credentials()
     assert len(secret) == 2
     suite.open(suite.other)
-    suite.held()
-    own = suite.page_call("register", residentKey="required", name="bob")
+    suite.list_credentials()
+    own = suite.call_page("register", residentKey="required", name="bob")
     assert isinstance(own, dict), own
-    assert suite.post(f"{suite.key}/credential", credential("a.localhost", "carol"))[0] == 200
+    assert suite.post(f"{suite.key}/credential", make_credential("a.localhost", "carol"))[0] == 200
     assert suite.post(f"{suite.key}/uv", {"isUserVerified": True})[0] == 200
-    assert isinstance(suite.page_call("signIn", allow=[own["id"]]), dict)
-    suite.held()
-    loot = suite.loot()
+    assert isinstance(suite.call_page("signIn", allow=[own["id"]]), dict)
+    suite.list_credentials()
+    loot = suite.read_attacker_data()
     assert len(loot) > 10_000 and own["id"] in loot, "the page keeps what comes by"
     for held in secret:
-        assert not sees(loot, held), (held["credentialId"], sees(loot, held))
-    mine = [credential for credential in suite.held() if credential["rpId"] == "a.localhost"]
+        assert not find_leak(loot, held), (held["credentialId"], find_leak(loot, held))
+    mine = [credential for credential in suite.list_credentials() if credential["rpId"] == "a.localhost"]
     assert len(mine) == 2
     numbers = [{**credential, "credentialId": credential["privateKey"]} for credential in mine]
     if suite.has_devtools:
-        assert not any(sees(loot, number) for number in numbers), "no private key is in a page"
-        assert suite.page_call("signIn", allow=[secret[0]["credentialId"]]) == "NotAllowedError"
+        assert not any(find_leak(loot, number) for number in numbers), "no private key is in a page"
+        assert suite.call_page("signIn", allow=[secret[0]["credentialId"]]) == "NotAllowedError"
     suite.open(suite.page)
-    assert suite.page_call("signIn", allow=[secret[0]["credentialId"]])["id"] == secret[0]["credentialId"]
+    assert suite.call_page("signIn", allow=[secret[0]["credentialId"]])["id"] == secret[0]["credentialId"]
 
 
-def own_storage(suite: Suite) -> None:
-    """No private key of a page's own is in its storage, in clear text."""
-    suite.page_call("register", residentKey="required")
+def test_own_storage(suite: Suite) -> None:
+    """A page's storage has no private key in clear text."""
+    suite.call_page("register", residentKey="required")
     storage = "return JSON.stringify([{ ...localStorage }, { ...sessionStorage }])"
     before = suite.run(storage)
     suite.run("localStorage.setItem('x', 1)")
-    for held in suite.held():
+    for held in suite.list_credentials():
         for text in (before, suite.run(storage)):
-            assert not sees(text, {**held, "credentialId": held["privateKey"]}), text
+            assert not find_leak(text, {**held, "credentialId": held["privateKey"]}), text
 
 
-def cleared(suite: Suite) -> None:
+def test_cleared_storage(suite: Suite) -> None:
     """A page that clears its storage after each call loses nothing."""
     clear = "localStorage.clear(); sessionStorage.clear(); indexedDB.databases()"
     suite.run(
@@ -140,66 +143,66 @@ def cleared(suite: Suite) -> None:
         f"navigator.credentials.create = async (...given) => {{ const it = await create(...given); await {clear};"
         "return it; }"
     )
-    made = suite.page_call("register", residentKey="required")
+    made = suite.call_page("register", residentKey="required")
     suite.run(clear)
     suite.post("/refresh", {})
-    assert suite.page_call("signIn")["id"] == made["id"]
-    assert [credential["credentialId"] for credential in suite.held()] == [made["id"]]
+    assert suite.call_page("signIn")["id"] == made["id"]
+    assert [credential["credentialId"] for credential in suite.list_credentials()] == [made["id"]]
 
 
-def leaves(suite: Suite) -> None:
-    """A page that goes elsewhere by itself, right after a call, loses nothing."""
-    suite.run("register({ residentKey: 'required' }).then((it) => { location.href = `?made=${it.id}`; })")
-    end = time.monotonic() + SECONDS
+def test_navigation(suite: Suite) -> None:
+    """A page that navigates away by itself, right after a call, loses nothing."""
+    suite.run("register({ residentKey: 'required' }).then((made) => { location.href = `?made=${made.id}`; })")
+    end = time.monotonic() + TIMEOUT_SECONDS
     while "made=" not in (url := str(run.call("GET", f"{suite.url}/url")[1])) and time.monotonic() < end:
         time.sleep(0.05)
     made = url.partition("made=")[2]
-    assert suite.page_call("signIn")["id"] == made
-    assert [credential["credentialId"] for credential in suite.held()] == [made]
+    assert suite.call_page("signIn")["id"] == made
+    assert [credential["credentialId"] for credential in suite.list_credentials()] == [made]
 
 
-FRAME = """const frame = document.createElement("iframe"); frame.src = arguments[0];
+ADD_FRAME = """const frame = document.createElement("iframe"); frame.src = arguments[0];
 frame.allow = "publickey-credentials-create *; publickey-credentials-get *";
 frame.onload = arguments[1]; document.body.append(frame);"""
 
 
-def frames(suite: Suite) -> None:
+def test_frames(suite: Suite) -> None:
     """A frame of another origin sees nothing of the page's credentials, and one of the same origin shares them."""
-    made = suite.page_call("register", residentKey="required")
+    made = suite.call_page("register", residentKey="required")
     for url, is_same in ((suite.other, False), (suite.hostile, True)):
         suite.open(suite.page)
-        assert suite.post("/execute/async", {"script": FRAME, "args": [url]})[0] == 200
+        assert suite.post("/execute/async", {"script": ADD_FRAME, "args": [url]})[0] == 200
         assert suite.post("/frame", {"id": 0})[0] == 200
-        suite.held()
+        suite.list_credentials()
         if is_same:
-            assert suite.page_call("signIn")["id"] == made["id"]
+            assert suite.call_page("signIn")["id"] == made["id"]
         else:
             if suite.has_devtools:
-                assert suite.page_call("signIn") == "NotAllowedError"
-            assert not any(sees(suite.loot(), held) for held in suite.held())
+                assert suite.call_page("signIn") == "NotAllowedError"
+            assert not any(find_leak(suite.read_attacker_data(), held) for held in suite.list_credentials())
         assert suite.post("/frame", {"id": None})[0] == 200
 
 
-def frames_before(suite: Suite) -> None:
-    """An authenticator that is added while a frame of another origin is driven is none of that frame's."""
-    held = credential("localhost", "the bank's")
+def test_frame_is_current(suite: Suite) -> None:
+    """An authenticator added while a frame of another origin is current is not installed in that frame."""
+    held = make_credential("localhost", "the bank's")
     assert run.call("DELETE", suite.url + suite.key) == (200, None)
     suite.open(suite.page)
-    assert suite.post("/execute/async", {"script": FRAME, "args": [suite.other]})[0] == 200
+    assert suite.post("/execute/async", {"script": ADD_FRAME, "args": [suite.other]})[0] == 200
     assert suite.post("/frame", {"id": 0})[0] == 200
-    suite.key = suite.add(hasUserVerification=True, isUserVerified=True)
+    suite.key = suite.add_authenticator(hasUserVerification=True, isUserVerified=True)
     assert suite.post(f"{suite.key}/credential", held)[0] == 200
-    suite.held()
-    assert not sees(suite.loot(), held)
+    suite.list_credentials()
+    assert not find_leak(suite.read_attacker_data(), held)
     suite.open(suite.page)
-    assert suite.page_call("signIn")["id"] == held["credentialId"]
+    assert suite.call_page("signIn")["id"] == held["credentialId"]
 
 
-def windows(suite: Suite) -> None:
-    """A window that a page opens has the key, and what it registers is there in the other."""
+def test_windows(suite: Suite) -> None:
+    """A window opened by a page has the key, and its registrations are available in the other window."""
     first = run.call("GET", f"{suite.url}/window")[1]
     suite.run("window.open('page.html?second')")
-    end = time.monotonic() + SECONDS
+    end = time.monotonic() + TIMEOUT_SECONDS
     while len(handles := run.call("GET", f"{suite.url}/window/handles")[1]) < 2 and time.monotonic() < end:
         time.sleep(0.05)
     (second,) = set(handles) - {first}
@@ -209,17 +212,17 @@ def windows(suite: Suite) -> None:
     if suite.has_devtools:
         at_first = suite.run("return document.getElementById('at-first').textContent")
         assert at_first == "false", "the key is there before the first script of a window"
-    made = suite.page_call("register", residentKey="required")
+    made = suite.call_page("register", residentKey="required")
     assert run.call("DELETE", f"{suite.url}/window")[0] == 200
     assert suite.post("/window", {"handle": first})[0] == 200
-    assert suite.page_call("signIn")["id"] == made["id"]
+    assert suite.call_page("signIn")["id"] == made["id"]
 
 
-def removed(suite: Suite) -> None:
+def test_removal(suite: Suite) -> None:
     """Once the authenticator is removed, nothing of it is left in pages."""
-    suite.page_call("register")
+    suite.call_page("register")
     assert run.call("DELETE", suite.url + suite.key) == (200, None)
-    names = "return Object.getOwnPropertyNames(globalThis).filter((it) => /hidlog/i.test(it))"
+    names = "return Object.getOwnPropertyNames(globalThis).filter((name) => /hidlog/i.test(name))"
     assert suite.run(names) == [], suite.run(names)
     assert suite.run("return /native code/.test(navigator.credentials.create)")
     stored = suite.run("return Object.keys({ ...localStorage, ...sessionStorage })")
@@ -229,14 +232,14 @@ def removed(suite: Suite) -> None:
 
 
 TESTS: list[Callable[[Suite], None]] = [
-    other_origin,
-    own_storage,
-    cleared,
-    leaves,
-    frames,
-    frames_before,
-    windows,
-    removed,
+    test_other_origin,
+    test_own_storage,
+    test_cleared_storage,
+    test_navigation,
+    test_frames,
+    test_frame_is_current,
+    test_windows,
+    test_removal,
 ]
 
 
@@ -260,14 +263,14 @@ def main() -> int:
     if not shutil.which("chromedriver"):
         print("tests/webdriver: chromedriver is missing", file=sys.stderr)
         return 3
-    with TemporaryDirectory() as room, run.served(partial(run.Files, directory=str(HERE))) as port:
+    with TemporaryDirectory() as work_dir, run.start_server(partial(run.Files, directory=str(HERE))) as port:
         page = f"http://localhost:{port}/page.html"
-        with run.process(["chromedriver", "--log-level=OFF"], run.free_port()) as driver:
-            with run.process(run.proxy_words(driver, Path(room)), run.free_port()) as proxy:
+        with run.start_process(["chromedriver", "--log-level=OFF"], run.find_free_port()) as driver:
+            with run.start_process(run.proxy_command(driver, Path(work_dir)), run.find_free_port()) as proxy:
                 passed = [run_tests(proxy, page, True)]
-            with run.served(partial(run.WithoutDevTools, driver)) as bare:
-                words = run.proxy_words(f"http://127.0.0.1:{bare}", Path(room))
-                with run.process(words, run.free_port()) as proxy:
+            with run.start_server(partial(run.WithoutDevTools, driver)) as bare:
+                words = run.proxy_command(f"http://127.0.0.1:{bare}", Path(work_dir))
+                with run.start_process(words, run.find_free_port()) as proxy:
                     passed.append(run_tests(proxy, page, False))
     return 0 if all(passed) else 1
 

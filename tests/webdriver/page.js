@@ -1,39 +1,44 @@
 // The functions of the pages under test.
 "use strict";
-const bytes = (text) => new TextEncoder().encode(text);
-const base = { challenge: bytes("a challenge"), rp: { name: "A service" },
-    user: { id: bytes("ann"), name: "ann", displayName: "Ann" }, pubKeyCredParams: [{ type: "public-key", alg: -7 }] };
-// No test waits for its end.
-const LONG = 600_000;
-const flags = (data) => new Uint8Array(data)[32];
-const codeOf = (letter) => letter.charCodeAt(0);
-const idOf = (text) => Uint8Array.from(atob(text.replace(/-/g, "+").replace(/_/g, "/")), codeOf);
-const withIds = (list) => list.map((id) => ({ type: "public-key", id: idOf(id) }));
+const toBytes = (text) => new TextEncoder().encode(text);
+const base = { challenge: toBytes("a challenge"), rp: { name: "A service" },
+    user: { id: toBytes("ann"), name: "ann", displayName: "Ann" }, pubKeyCredParams: [{ type: "public-key", alg: -7 }] };
+// Long enough that it never expires during a test.
+const TIMEOUT_MS = 600_000;
+const formatFlags = (data) => new Uint8Array(data)[32];
+const toCharCode = (letter) => letter.charCodeAt(0);
+const encodeId = (text) => Uint8Array.from(atob(text.replace(/-/g, "+").replace(/_/g, "/")), toCharCode);
+const toDescriptors = (list) => list.map((id) => ({ type: "public-key", id: encodeId(id) }));
+
+/** The message of the last error. */
+let lastMessage = "";
 
 /** Registers: what a page sees of it, or the error's name. */
 const register = async ({ exclude, name = "ann", ...selection } = {}) => {
-    const user = { id: bytes(name), name, displayName: name };
-    const excludeCredentials = withIds(exclude ?? []);
-    const publicKey = { ...base, user, excludeCredentials, authenticatorSelection: selection, timeout: LONG };
+    const user = { id: toBytes(name), name, displayName: name };
+    const excludeCredentials = toDescriptors(exclude ?? []);
+    const publicKey = { ...base, user, excludeCredentials, authenticatorSelection: selection, timeout: TIMEOUT_MS };
     try {
         const made = await navigator.credentials.create({ publicKey });
         window.keyOf = { ...window.keyOf, [made.id]: made.response.getPublicKey() };
-        return { id: made.id, attachment: made.authenticatorAttachment, flags: flags(made.response.getAuthenticatorData()),
+        return { id: made.id, attachment: made.authenticatorAttachment, flags: formatFlags(made.response.getAuthenticatorData()),
             transports: made.response.getTransports() };
     } catch (error) {
+        lastMessage = error.message;
         return error.name;
     }
 };
 
 /** Signs in. */
 const signIn = async ({ allow, ...more } = {}) => {
-    const allowCredentials = withIds(allow ?? []);
+    const allowCredentials = toDescriptors(allow ?? []);
     try {
         const used = await navigator.credentials.get({ publicKey: {
-            challenge: base.challenge, allowCredentials, timeout: LONG, ...more } });
-        return { id: used.id, flags: flags(used.response.authenticatorData), attachment: used.authenticatorAttachment,
+            challenge: base.challenge, allowCredentials, timeout: TIMEOUT_MS, ...more } });
+        return { id: used.id, flags: formatFlags(used.response.authenticatorData), attachment: used.authenticatorAttachment,
             user: used.response.userHandle && new TextDecoder().decode(used.response.userHandle) };
     } catch (error) {
+        lastMessage = error.message;
         return error.name;
     }
 };

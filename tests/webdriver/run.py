@@ -1,8 +1,9 @@
 #!/usr/bin/python3
-"""Runs suites of Selenium, written for Chromium's virtual authenticator, at chromedriver and at the proxy, and compares
-what each test saw; then what the proxy alone has. The recordings are checked by the program that HIDLOG names.
+"""Runs Selenium suites, written for Chromium's virtual authenticator, with chromedriver and with the proxy, and
+compares the results of each test; then tests features that only the proxy has. Checks the recordings with
+HIDLOG_PROGRAM.
 
-    tests/webdriver/run.py        ends with 3 where chromedriver or python3-selenium is missing
+    tests/webdriver/run.py        exits with 3 if chromedriver or python3-selenium is missing
 """
 
 from __future__ import annotations
@@ -27,32 +28,42 @@ from typing import Any
 
 HERE = Path(__file__).resolve().parent
 TOP = HERE.parents[1]
-PROGRAM = os.environ.get("HIDLOG", str(TOP / "hidlog"))
+PROGRAM = os.environ.get("HIDLOG_PROGRAM", str(TOP / "hidlog"))
 SUITES = {"Python": ["/usr/bin/python3", str(HERE / "suite.py")], "Ruby": ["ruby", str(HERE / "suite.rb")]}
-# What ends otherwise at chromedriver, and why.
-DIFFERS = {
-    "test_broken_private_key": "chromedriver answers unknown error, and the standard says invalid argument",
+# Expected differences with chromedriver, with the reasons.
+KNOWN_DIFFERENCES = {
+    "test_broken_private_key": "chromedriver returns unknown error; the standard says invalid argument",
     "test_two_windows": "Chromium's authenticator is of one window, and the standard's of all in a session",
 }
 ENVIRONMENT = {**os.environ, "PYTHONPATH": str(TOP / "python" / "src"), "PYTHONDONTWRITEBYTECODE": "1"}
-KEY = "MIGHAgEAMBMGByqGSM49AgEGCCqGSM49AwEHBG0wawIBAQQg8_zMDQDYAxlU-Qhk1Dwkf0v18GZca1DMF3SaJ9HPdmShRANCAASNYX5lyVCOZLzF"
-KEY += "ZzrIKmeZ2jwURmgsJYxGP__fWN_S-j5sN4tT15XEpN_7QZnt14YvI6uvAgO0uJEboFaZlOEB"
-# Only what hangs takes so many seconds.
-HANGS = 300
-LEAST = {"Python": 27, "Ruby": 22}
-# Tests of their own. Each runs what it can without chromedriver.
-PARTS = ["gate.py", "sockets.py", "../fuzz/webdriver.py", "messages.py", "websockets.py", "processes.py", "faults.py"]
-PARTS += ["browsers.py", "origins.py"]
+PRIVATE_KEY = (
+    "MIGHAgEAMBMGByqGSM49AgEGCCqGSM49AwEHBG0wawIBAQQg8_zMDQDYAxlU-Qhk1Dwkf0v18GZca1DMF3SaJ9HPdmShRANCAASNYX5lyVCOZLzF"
+)
+PRIVATE_KEY += "ZzrIKmeZ2jwURmgsJYxGP__fWN_S-j5sN4tT15XEpN_7QZnt14YvI6uvAgO0uJEboFaZlOEB"
+# Timeout in seconds: only a hanging call takes this long.
+TIMEOUT_SECONDS = 300
+MIN_TESTS = {"Python": 27, "Ruby": 22}
+# Separate tests. Each runs what it can without chromedriver.
+SEPARATE_TESTS = [
+    "gate.py",
+    "sockets.py",
+    "../fuzz/webdriver.py",
+    "messages.py",
+    "websockets.py",
+    "processes.py",
+    "faults.py",
+]
+SEPARATE_TESTS += ["browsers.py", "origins.py"]
 
 
 class Files(SimpleHTTPRequestHandler):
     """The page under test."""
 
     def log_message(self, *_: Any) -> None:
-        """Says nothing of each request."""
+        """Does not log requests."""
 
 
-def free_port() -> int:
+def find_free_port() -> int:
     with socket.socket() as listener:
         listener.bind(("127.0.0.1", 0))
         port: int = listener.getsockname()[1]
@@ -60,7 +71,7 @@ def free_port() -> int:
 
 
 @contextmanager
-def served(handler: Any) -> Iterator[int]:
+def start_server(handler: Any) -> Iterator[int]:
     """Returns the port of a server."""
     server = ThreadingHTTPServer(("127.0.0.1", 0), handler)
     server.daemon_threads = True
@@ -73,8 +84,8 @@ def served(handler: Any) -> Iterator[int]:
 
 
 def wait_for_port(port: int, started: subprocess.Popen[bytes]) -> None:
-    """Waits until a process that was started listens."""
-    end = time.monotonic() + HANGS
+    """Waits until a started process is listening."""
+    end = time.monotonic() + TIMEOUT_SECONDS
     while time.monotonic() < end:
         with socket.socket() as client:
             if client.connect_ex(("127.0.0.1", port)) == 0:
@@ -82,12 +93,12 @@ def wait_for_port(port: int, started: subprocess.Popen[bytes]) -> None:
         if started.poll() is not None:
             raise SystemExit(f"FAILED  {started.args!r} ended with status {started.returncode} before it listened")
         time.sleep(0.1)
-    raise SystemExit(f"FAILED  {started.args!r} doesn't listen after {HANGS} seconds")
+    raise SystemExit(f"FAILED  {started.args!r} doesn't listen after {TIMEOUT_SECONDS} seconds")
 
 
 @contextmanager
-def process(words: list[str], port: int) -> Iterator[str]:
-    """Returns the address of a driver or proxy that is started."""
+def start_process(words: list[str], port: int) -> Iterator[str]:
+    """Starts a driver or proxy, and returns its address."""
     started = subprocess.Popen([*words, f"--port={port}"], stdout=subprocess.DEVNULL, env=ENVIRONMENT)
     try:
         wait_for_port(port, started)
@@ -97,12 +108,12 @@ def process(words: list[str], port: int) -> Iterator[str]:
         started.wait()
 
 
-def proxy_words(driver: str, folder: Path) -> list[str]:
+def proxy_command(driver: str, folder: Path) -> list[str]:
     return [sys.executable, "-m", "hidlog.webdriver", "--driver", driver, "--recordings", str(folder)]
 
 
 def call(method: str, url: str, given: Any = None) -> tuple[int, Any]:
-    """Calls a command of WebDriver, and returns the status and the value."""
+    """Sends a WebDriver command, and returns the status and the value."""
     body = None if method in ("GET", "DELETE") else json.dumps(given).encode()
     request = urllib.request.Request(url, body, {"Content-Type": "application/json"}, method=method)
     try:
@@ -112,20 +123,20 @@ def call(method: str, url: str, given: Any = None) -> tuple[int, Any]:
         return error.code, json.load(error)["value"]
 
 
-def saw(language: str, url: str, page: str) -> dict[str, Any]:
-    """Runs a suite, and returns what each of its tests saw."""
+def run_suite(language: str, url: str, page: str) -> dict[str, Any]:
+    """Runs a suite, and returns the results of its tests."""
     ran = subprocess.run([*SUITES[language], url, page], capture_output=True, text=True, timeout=1500, check=False)
     if ran.returncode:
         raise SystemExit(f"FAILED  the suite in {language} at {url}: {ran.stderr[-2000:]}")
     return dict(json.loads(line) for line in ran.stdout.splitlines())
 
 
-def compare(language: str, at_driver: dict[str, Any], at_proxy: dict[str, Any], kind: str) -> bool:
-    """Says where both aren't the same."""
-    assert len(at_driver) >= LEAST[language], at_driver
+def print_differences(language: str, at_driver: dict[str, Any], at_proxy: dict[str, Any], kind: str) -> bool:
+    """Prints the differences."""
+    assert len(at_driver) >= MIN_TESTS[language], at_driver
     wrong = {name: (at_driver[name], at_proxy.get(name)) for name in at_driver if at_proxy.get(name) != at_driver[name]}
-    for name in set(wrong) & set(DIFFERS):
-        print(f"    {name}: {DIFFERS[name]}")
+    for name in set(wrong) & set(KNOWN_DIFFERENCES):
+        print(f"    {name}: {KNOWN_DIFFERENCES[name]}")
         del wrong[name]
     unforeseen = [outcome for outcome in at_driver.values() if isinstance(outcome, str) and "NoMethodError" in outcome]
     ok = not wrong and not unforeseen
@@ -136,7 +147,7 @@ def compare(language: str, at_driver: dict[str, Any], at_proxy: dict[str, Any], 
 
 
 class WithoutDevTools(BaseHTTPRequestHandler):
-    """A driver that has no commands of DevTools and none on virtual authenticators, in front of chromedriver."""
+    """A driver without commands for DevTools and virtual authenticators, in front of chromedriver."""
 
     protocol_version = "HTTP/1.1"
 
@@ -162,136 +173,140 @@ class WithoutDevTools(BaseHTTPRequestHandler):
     do_GET = do_POST = do_DELETE = serve
 
     def log_message(self, *_: Any) -> None:
-        """Says nothing of each request."""
+        """Does not log requests."""
 
 
 class Commands:
-    """What the proxy alone has, command by command."""
+    """Tests the commands that only the proxy has."""
 
     def __init__(self, url: str, page: str, has_devtools: bool = True):
         self.page, self.has_devtools = page, has_devtools
         options = {"args": ["--headless=new", "--no-sandbox", "--disable-dev-shm-usage"]}
         wanted = {"capabilities": {"alwaysMatch": {"goog:chromeOptions": options}}}
         self.url = f"{url}/session/{call('POST', f'{url}/session', wanted)[1]['sessionId']}"
-        self.post("/timeouts", {"script": 1000 * HANGS})
+        self.post("/timeouts", {"script": 1000 * TIMEOUT_SECONDS})
         self.post("/url", {"url": page})
 
     def post(self, path: str, given: Any) -> tuple[int, Any]:
         return call("POST", self.url + path, given)
 
-    def page_call(self, function: str, **words: Any) -> Any:
+    def call_page(self, function: str, **words: Any) -> Any:
         script = f"{function}(arguments[0]).then(arguments[1])"
         return self.post("/execute/async", {"script": script, "args": [words]})[1]
 
-    def add(self, **more: Any) -> str:
+    def add_authenticator(self, **more: Any) -> str:
         given = {"protocol": "ctap2", "transport": "usb", "hasResidentKey": True, **more}
         status, name = self.post("/webauthn/authenticator", given)
         assert status == 200, name
         return f"/webauthn/authenticator/{name}"
 
-    def refused(self, code: str, said: str, path: str, given: Any) -> None:
-        """Expects an error as WebDriver has it, with a text that says what is right."""
-        status, value = self.post(path, given)
-        assert status >= 400 and value["error"] == code and said in value["message"], (path, given, status, value)
+    def expect_error(self, code: str, expected: str, path: str, body: Any) -> None:
+        """Expects a WebDriver error, with a message that says what is expected."""
+        status, value = self.post(path, body)
+        assert status >= 400 and value["error"] == code and expected in value["message"], (path, body, status, value)
         assert set(value) == {"error", "message", "stacktrace"}
 
-    def options_are_checked(self) -> None:
-        """Options that the key hasn't are refused by name."""
+    def test_options(self) -> None:
+        """Unsupported options are refused by name."""
         good = {"protocol": "ctap2", "transport": "usb"}
         at = "/webauthn/authenticator"
-        self.refused("invalid argument", "ctap1/u2f, ctap2, ctap2_1", at, {**good, "protocol": "ctap3"})
-        self.refused("invalid argument", "internal", at, {**good, "transport": "pigeon"})
-        self.refused("invalid argument", "transport", at, {"protocol": "ctap2"})
-        self.refused("invalid argument", "hasUserVerification", at, {**good, "hasUserVerification": 1})
-        self.refused("invalid argument", "ctap1/u2f", at, {**good, "protocol": "ctap1/u2f", "hasResidentKey": True})
-        self.refused("unsupported operation", "prf", at, {**good, "extensions": ["prf", "largeBlob"]})
-        self.refused("invalid argument", "no authenticator", f"{at}/nobody/uv", {"isUserVerified": True})
-        key = self.add()
-        self.refused("unsupported operation", "one", at, good)
-        self.refused("invalid argument", "rpId", f"{key}/credential", {"isResidentCredential": False})
-        self.refused("invalid argument", "isUserVerified", f"{key}/uv", {})
-        self.refused("unknown method", "POST", f"{key}/credentials", {})
+        self.expect_error("invalid argument", "ctap1/u2f, ctap2, ctap2_1", at, {**good, "protocol": "ctap3"})
+        self.expect_error("invalid argument", "internal", at, {**good, "transport": "pigeon"})
+        self.expect_error("invalid argument", "transport", at, {"protocol": "ctap2"})
+        self.expect_error("invalid argument", "hasUserVerification", at, {**good, "hasUserVerification": 1})
+        self.expect_error(
+            "invalid argument", "ctap1/u2f", at, {**good, "protocol": "ctap1/u2f", "hasResidentKey": True}
+        )
+        self.expect_error("unsupported operation", "prf", at, {**good, "extensions": ["prf", "largeBlob"]})
+        self.expect_error("invalid argument", "no authenticator", f"{at}/nobody/uv", {"isUserVerified": True})
+        key = self.add_authenticator()
+        self.expect_error("unsupported operation", "already has an authenticator", at, good)
+        self.expect_error("invalid argument", "rpId", f"{key}/credential", {"isResidentCredential": False})
+        self.expect_error("invalid argument", "isUserVerified", f"{key}/uv", {})
+        self.expect_error("unknown method", "POST", f"{key}/credentials", {})
         assert call("DELETE", self.url + key) == (200, None)
 
-    def presence_and_faults(self) -> None:
-        """What a virtual authenticator hasn't: a script of presence, faults, the recording."""
-        key = self.add()
-        made = self.page_call("register", residentKey="required")
+    def test_presence_and_faults(self) -> None:
+        """Additions to virtual authenticators: a presence script, faults, the recording."""
+        key = self.add_authenticator()
+        made = self.call_page("register", residentKey="required")
         assert self.post(f"{key}/presence", {"presence": ["denied", "timeout", "granted"]}) == (200, None)
-        assert self.page_call("signIn") == "NotAllowedError"
+        assert self.call_page("signIn") == "NotAllowedError"
+        message = self.post("/execute/sync", {"script": "return lastMessage", "args": []})[1]
+        assert ": the user refused)" in message, message
         self.post("/refresh", {})
-        assert [self.page_call("signIn"), self.page_call("signIn")["id"]] == ["NotAllowedError", made["id"]]
-        self.refused("invalid argument", "granted, denied", f"{key}/presence", {"presence": "yes"})
+        assert [self.call_page("signIn"), self.call_page("signIn")["id"]] == ["NotAllowedError", made["id"]]
+        self.expect_error("invalid argument", "granted, denied", f"{key}/presence", {"presence": "yes"})
         assert self.post(f"{key}/faults", {"status": "KEY_STORE_FULL"}) == (200, None)
-        assert self.page_call("register") == "NotAllowedError"
+        assert self.call_page("register") == "NotAllowedError"
         assert self.post(f"{key}/faults", {}) == (200, None)
-        assert self.page_call("register", name="bob")["flags"] == 0x41
-        self.refused("invalid argument", "cutShort", f"{key}/faults", {"wrong": 1})
+        assert self.call_page("register", name="bob")["flags"] == 0x41
+        self.expect_error("invalid argument", "truncateBy", f"{key}/faults", {"wrong": 1})
         ((origin, parts),) = call("GET", f"{self.url}{key}/log")[1].items()
         assert self.page.startswith(origin) and "# fault: the answer is status 0x28" in parts[-1]["log"]
         assert sum(part["log"].count(" denied\n") for part in parts) == 1, parts
-        assert [part["part"] for part in parts] == list(range(1, len(parts) + 1)), parts
+        assert [recording["index"] for recording in parts] == list(range(1, len(parts) + 1)), parts
         assert call("DELETE", self.url + key) == (200, None)
 
-    def waiting_requests(self) -> None:
-        """What a command changes reaches a request of the page that waits."""
-        key = self.add(isUserConsenting=False)
+    def test_pending_requests(self) -> None:
+        """A change by a command reaches a page's pending request."""
+        key = self.add_authenticator(isUserConsenting=False)
         self.post("/execute/sync", {"script": "window.made = register({ residentKey: 'required' })", "args": []})
         assert self.post(f"{key}/presence", {"presence": "granted"}) == (200, None)
         status, made = self.post("/execute/async", {"script": "made.then(arguments[0])", "args": []})
         assert status == 200 and made["id"], made
         assert call("DELETE", f"{self.url}{key}/credentials") == (200, None)
         options = "{ mediation: 'conditional', publicKey: { challenge: new Uint8Array(9) } }"
-        begin = f"window.used = navigator.credentials.get({options}).then((it) => it.id, String)"
+        begin = f"window.used = navigator.credentials.get({options}).then((credential) => credential.id, String)"
         self.post("/execute/sync", {"script": begin, "args": []})
         credential: dict[str, Any] = {
             "isResidentCredential": True,
             "rpId": "localhost",
-            "privateKey": KEY,
+            "privateKey": PRIVATE_KEY,
             "signCount": 0,
         }
         added = {**credential, "credentialId": "AQID", "userHandle": "AQ"}
         assert self.post(f"{key}/credential", added) == (200, None)
-        choose = "hidlogKey.current().choose().then(() => used).then(arguments[0], (error) => arguments[0](`${error}`))"
+        choose = "hidlogKey.installedKey().selectAccount().then(() => used).then(arguments[0], (error) => arguments[0](`${error}`))"
         assert self.post("/execute/async", {"script": choose, "args": []}) == (200, "AQID")
         assert call("DELETE", self.url + key) == (200, None)
 
-    def other_origins(self) -> None:
+    def test_other_origins(self) -> None:
         """The credentials are those of the session on each origin."""
-        key = self.add()
-        self.page_call("register", residentKey="required")
+        key = self.add_authenticator()
+        self.call_page("register", residentKey="required")
         self.post("/url", {"url": self.page.replace("localhost", "a.localhost")})
-        self.page_call("register", residentKey="required", name="bob")
+        self.call_page("register", residentKey="required", name="bob")
         status, listed = call("GET", f"{self.url}{key}/credentials")
         assert status == 200 and sorted(credential["rpId"] for credential in listed) == [
             "a.localhost",
             "localhost",
         ], listed
         self.post("/url", {"url": self.page})
-        assert self.page_call("signIn")["user"] == "ann"
+        assert self.call_page("signIn")["user"] == "ann"
         self.post("/execute/sync", {"script": "localStorage.clear()", "args": []})
         self.post("/refresh", {})
-        assert self.page_call("signIn")["user"] == "ann", "a page that clears its storage"
+        assert self.call_page("signIn")["user"] == "ann", "a page that clears its storage"
         assert call("DELETE", self.url + key) == (200, None)
 
-    def other_commands(self) -> None:
-        """All else goes to the driver as it is, with and without an authenticator."""
+    def test_other_commands(self) -> None:
+        """All other commands go to the driver unchanged, with and without an authenticator."""
         assert self.post("/nothing", {})[1]["error"] == "unknown command"
-        key = self.add()
+        key = self.add_authenticator()
         self.post("/execute/sync", {"script": "setTimeout(() => alert('stop'), 0)", "args": []})
-        end = time.monotonic() + HANGS
+        end = time.monotonic() + TIMEOUT_SECONDS
         while (alert := call("GET", f"{self.url}/alert/text")) != (200, "stop") and time.monotonic() < end:
             time.sleep(0.1)
         assert alert == (200, "stop"), alert
         assert self.post("/alert/accept", {}) == (200, None)
         assert call("DELETE", self.url + key) == (200, None)
         text = {
-            "script": "return document.getElementById('at-first').textContent + (hidlogKey.current() ?? '')",
+            "script": "return document.getElementById('at-first').textContent + (hidlogKey.installedKey() ?? '')",
             "args": [],
         }
         self.post("/url", {"url": self.page})
         assert self.post("/execute/sync", {**text, "script": "return typeof hidlogKey"}) == (200, "undefined")
-        key = self.add()
+        key = self.add_authenticator()
         self.post("/url", {"url": self.page})
         first = {"script": "return document.getElementById('at-first').textContent", "args": []}
         is_native = str(not self.has_devtools).lower()
@@ -306,11 +321,11 @@ def run_commands(url: str, page: str, has_devtools: bool = True) -> bool:
     commands = Commands(url, page, has_devtools)
     failed = False
     for test in (
-        commands.options_are_checked,
-        commands.presence_and_faults,
-        commands.waiting_requests,
-        commands.other_origins,
-        commands.other_commands,
+        commands.test_options,
+        commands.test_presence_and_faults,
+        commands.test_pending_requests,
+        commands.test_other_origins,
+        commands.test_other_commands,
     ):
         try:
             test()
@@ -323,7 +338,7 @@ def run_commands(url: str, page: str, has_devtools: bool = True) -> bool:
 
 
 def check_recordings(folder: Path) -> bool:
-    """Checks the logs that were kept, each with its snapshot: by the program, and by check-many, which finds them."""
+    """Checks the saved logs, each with its snapshot, with the program and with check-many."""
     logs = sorted(folder.rglob("*.log"))
     wrong = []
     for log in logs:
@@ -340,7 +355,7 @@ def check_recordings(folder: Path) -> bool:
     )
     others = [str(path) for path in folder.rglob("*") if path.is_file() and path.stat().st_mode & 0o777 != 0o600]
     has_snapshot = sum(log.with_name(f"{log.name}.snapshot").exists() for log in logs)
-    is_same = many.returncode == 0 and many.stderr.strip() == f"{len(logs)} same"
+    is_same = many.returncode == 0 and many.stderr.strip() == f"{len(logs)} match"
     ok = len(logs) > 20 and has_snapshot > 10 and not wrong and is_same and not others
     text = (
         f"hidlog check of {len(logs)} recordings, {has_snapshot} with a snapshot, and check-many: {many.stderr.strip()}"
@@ -350,26 +365,28 @@ def check_recordings(folder: Path) -> bool:
 
 
 def run_suites(driver: str, page: str, folder: Path) -> list[bool]:
-    """Runs each suite at the driver, at the proxy, and at a proxy before a driver without DevTools."""
+    """Runs each suite with the driver, the proxy, and a proxy in front of a driver without DevTools."""
     results = []
-    with process(proxy_words(driver, folder), free_port()) as proxy, served(partial(WithoutDevTools, driver)) as bare:
-        with process(proxy_words(f"http://127.0.0.1:{bare}", folder), free_port()) as late:
+    with start_process(proxy_command(driver, folder), find_free_port()) as proxy, start_server(
+        partial(WithoutDevTools, driver)
+    ) as bare:
+        with start_process(proxy_command(f"http://127.0.0.1:{bare}", folder), find_free_port()) as late:
             for language, words in SUITES.items():
                 if not shutil.which(words[0]):
                     print(f"    {words[0]} is missing, and its suite wasn't run")
                     continue
-                at_driver = saw(language, driver, page)
-                results.append(compare(language, at_driver, saw(language, proxy, page), "the proxy"))
+                at_driver = run_suite(language, driver, page)
+                results.append(print_differences(language, at_driver, run_suite(language, proxy, page), "the proxy"))
                 without = "the proxy before a driver without DevTools"
-                results.append(compare(language, at_driver, saw(language, late, page), without))
+                results.append(print_differences(language, at_driver, run_suite(language, late, page), without))
             results.append(run_commands(late, page, False))
         results.append(run_commands(proxy, page))
     return results
 
 
 def run_parts() -> bool:
-    """Runs the tests of their own. Returns whether all passed."""
-    statuses = [subprocess.run([sys.executable, str(HERE / part)], check=False).returncode for part in PARTS]
+    """Runs the separate tests. Returns whether all passed."""
+    statuses = [subprocess.run([sys.executable, str(HERE / part)], check=False).returncode for part in SEPARATE_TESTS]
     return all(status in (0, 3) for status in statuses)
 
 
@@ -381,9 +398,9 @@ def main() -> int:
     if not shutil.which("chromedriver") or has_selenium.returncode:
         print("tests/webdriver: chromedriver or python3-selenium is missing", file=sys.stderr)
         return 3 if passed else 1
-    with tempfile.TemporaryDirectory() as room, served(partial(Files, directory=str(HERE))) as port:
-        folder = Path(room)
-        with process(["chromedriver", "--log-level=OFF"], free_port()) as driver:
+    with tempfile.TemporaryDirectory() as work_dir, start_server(partial(Files, directory=str(HERE))) as port:
+        folder = Path(work_dir)
+        with start_process(["chromedriver", "--log-level=OFF"], find_free_port()) as driver:
             results = run_suites(driver, f"http://localhost:{port}/page.html", folder)
         results.append(check_recordings(folder))
     return 0 if passed and all(results) else 1

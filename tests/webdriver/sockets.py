@@ -1,6 +1,6 @@
 #!/usr/bin/python3
-"""What comes over sockets to the proxy: requests with several readings, floods, and clients that say nothing, against
-the proxy in front of a driver that only notes what it is asked.
+"""Hostile connections to the proxy: ambiguous requests, floods, and idle clients. The driver is a stub that records
+requests.
 
     tests/webdriver/sockets.py
 """
@@ -24,11 +24,11 @@ from hidlog.webdriver.driver import Driver
 from hidlog.webdriver.proxy import Proxy
 from hidlog.webdriver.server import Server
 
-SECONDS = 600
+TIMEOUT_SECONDS = 600
 
 
-class Notes(BaseHTTPRequestHandler):
-    """A driver that answers everything with null, but unknown sessions, and notes what it is asked."""
+class RecordingDriver(BaseHTTPRequestHandler):
+    """A driver that responds with null, except to unknown sessions, and records its requests."""
 
     protocol_version = "HTTP/1.1"
     disable_nagle_algorithm = True
@@ -56,36 +56,36 @@ class Notes(BaseHTTPRequestHandler):
     do_GET = do_POST = do_DELETE = serve
 
     def log_message(self, *_: Any) -> None:
-        """Says nothing of each request."""
+        """Does not log requests."""
 
 
-class Rig:
-    """A proxy in this process, in front of a driver that notes."""
+class ProxyFixture:
+    """A proxy in this process, in front of a recording driver."""
 
     def __init__(self, driver: Any, proxy: Proxy, server: Server):
         self.handler, self.proxy, self.server = driver, proxy, server
         self.port = server.port
 
-    def connect(self) -> socket.socket:
-        return socket.create_connection(("127.0.0.1", self.port), timeout=SECONDS)
+    def open_connection(self) -> socket.socket:
+        return socket.create_connection(("127.0.0.1", self.port), timeout=TIMEOUT_SECONDS)
 
-    def raw(self, data: bytes) -> bytes:
-        """Sends bytes and no more, and returns all that comes until the server closes."""
-        with self.connect() as connection:
+    def exchange_bytes(self, data: bytes) -> bytes:
+        """Sends bytes, and returns the data received until the server closes the connection."""
+        with self.open_connection() as connection:
             connection.sendall(data)
             connection.shutdown(socket.SHUT_WR)
             return read_all(connection)
 
-    def head(self, line: str, *headers: str) -> bytes:
+    def make_head(self, line: str, *headers: str) -> bytes:
         return "\r\n".join([line, f"Host: 127.0.0.1:{self.port}", *headers, "", ""]).encode("latin-1")
 
     def post(self, path: str, body: bytes) -> bytes:
-        """Posts JSON on a connection of its own."""
-        head = self.head(f"POST {path} HTTP/1.1", "Content-Type: application/json", f"Content-Length: {len(body)}")
-        return self.raw(head + body)
+        """Posts JSON on a new connection."""
+        head = self.make_head(f"POST {path} HTTP/1.1", "Content-Type: application/json", f"Content-Length: {len(body)}")
+        return self.exchange_bytes(head + body)
 
-    def taken(self) -> list[tuple[str, str, bytes]]:
-        """Returns what the driver was asked since the last call."""
+    def take_requests(self) -> list[tuple[str, str, bytes]]:
+        """Returns the driver's requests since the last call."""
         asked = list(self.handler.asked)
         self.handler.asked.clear()
         return asked
@@ -101,8 +101,8 @@ def read_all(connection: socket.socket) -> bytes:
     return data
 
 
-def status_of(response: bytes) -> int:
-    """Returns the status of a response, which has to be one of WebDriver."""
+def parse_status(response: bytes) -> int:
+    """Returns the status of a response, which must be WebDriver's."""
     head, _, body = response.partition(b"\r\n\r\n")
     status = int(head.split()[1])
     value = json.loads(body)["value"]
@@ -112,12 +112,12 @@ def status_of(response: bytes) -> int:
 
 
 @contextmanager
-def bench(**limits: float) -> Iterator[Rig]:
-    """Returns a proxy whose limits of server.py are others."""
+def make_proxy(**limits: float) -> Iterator[ProxyFixture]:
+    """Returns a proxy with other limits in server.py."""
     before = {name: getattr(server_module, name) for name in limits}
     for name, value in limits.items():
         setattr(server_module, name, value)
-    handler = type("Driver", (Notes,), {"asked": [], "connections": []})
+    handler = type("Driver", (RecordingDriver,), {"asked": [], "connections": []})
     driver = ThreadingHTTPServer(("127.0.0.1", 0), handler)
     driver.daemon_threads = True
     proxy = Proxy(Driver(f"http://127.0.0.1:{driver.server_address[1]}"))
@@ -126,7 +126,7 @@ def bench(**limits: float) -> Iterator[Rig]:
     for thread in threads:
         thread.start()
     try:
-        yield Rig(handler, proxy, server)
+        yield ProxyFixture(handler, proxy, server)
     finally:
         for one in (server, driver):
             one.shutdown()
@@ -136,9 +136,9 @@ def bench(**limits: float) -> Iterator[Rig]:
             setattr(server_module, name, value)
 
 
-def reproduction() -> None:
-    """A page's POST of text/plain starts nothing, and neither does a name that was led here."""
-    with bench() as rig:
+def test_plain_text_post() -> None:
+    """A page's POST of text/plain starts nothing, and neither does a rebound name."""
+    with make_proxy() as rig:
         body = b'{"capabilities":{"alwaysMatch":{"goog:chromeOptions":{"args":["--renderer-cmd-prefix=bash -c id>PWNED"]}}}}'
         for headers in (
             ("Origin: http://evil.example", "Content-Type: text/plain"),
@@ -146,69 +146,81 @@ def reproduction() -> None:
             ("Origin: null", "Content-Type: application/json"),
             ("Content-Type: text/plain",),
         ):
-            response = rig.raw(rig.head("POST /session HTTP/1.1", *headers, f"Content-Length: {len(body)}") + body)
-            assert status_of(response) in (403, 415), response
+            response = rig.exchange_bytes(
+                rig.make_head("POST /session HTTP/1.1", *headers, f"Content-Length: {len(body)}") + body
+            )
+            assert parse_status(response) in (403, 415), response
         head = f"POST /session HTTP/1.1\r\nHost: evil.example\r\nContent-Length: {len(body)}\r\n"
-        assert status_of(rig.raw(head.encode() + b"Content-Type: application/json\r\n\r\n" + body)) == 403
-        preflight = rig.raw(rig.head("OPTIONS /session HTTP/1.1", "Origin: http://evil.example"))
-        assert status_of(preflight) == 405 and b"access-control" not in preflight.lower(), preflight
-        assert rig.taken() == [], rig.taken()
-        assert status_of(rig.post("/session", body)) == 200 and rig.taken() == [("POST", "/session", body)]
+        assert parse_status(rig.exchange_bytes(head.encode() + b"Content-Type: application/json\r\n\r\n" + body)) == 403
+        preflight = rig.exchange_bytes(rig.make_head("OPTIONS /session HTTP/1.1", "Origin: http://evil.example"))
+        assert parse_status(preflight) == 405 and b"access-control" not in preflight.lower(), preflight
+        assert rig.take_requests() == [], rig.take_requests()
+        assert parse_status(rig.post("/session", body)) == 200 and rig.take_requests() == [("POST", "/session", body)]
 
 
-def one_reading() -> None:
-    """A request with two readings is refused, and what follows it is never a request."""
-    with bench() as rig:
-        hidden = rig.head("DELETE /session/known HTTP/1.1")
-        good = rig.head("GET /status HTTP/1.1")
+def test_ambiguous_requests() -> None:
+    """An ambiguous request is refused, and what follows it is never a request."""
+    with make_proxy() as rig:
+        hidden = rig.make_head("DELETE /session/known HTTP/1.1")
+        good = rig.make_head("GET /status HTTP/1.1")
         typed = "Content-Type: application/json"
         for first in (
-            rig.head("POST /session/known/url HTTP/1.1", typed, "Content-Length: 0", "Transfer-Encoding: chunked"),
-            rig.head("POST /session/known/url HTTP/1.1", typed, "Transfer-Encoding: chunked"),
-            rig.head("POST /session/known/url HTTP/1.1", typed, "Transfer-Encoding : chunked", "Content-Length: 0"),
-            rig.head("POST /session/known/url HTTP/1.1", typed, "Content-Length: 0", " Transfer-Encoding: chunked"),
-            rig.head("POST /session/known/url HTTP/1.1", typed, "Content-Length: 0", f"Content-Length: {len(hidden)}"),
-            rig.head("POST /session/known/url HTTP/1.1", typed, "Content-Length: -1"),
-            rig.head("POST /session/known/url HTTP/1.1", typed, f"Content-Length: {10**11}"),
-            rig.head("POST /session/known/url HTTP/1.1", typed, f"Content-Length: {'9' * 5000}"),
-            rig.head("GET /session/known/url HTTP/1.1", f"Host: 127.0.0.1:{rig.port}"),
-            rig.head("GET http://evil.example/status HTTP/1.1"),
-            rig.head("GET /session/\u00e4 HTTP/1.1"),
-            rig.head("GET /session/x\x00 HTTP/1.1"),
-            rig.head("GET /../status HTTP/1.1"),
-            rig.head("GET /shutdown HTTP/1.1"),
-            rig.head("GET /status HTTP/1.1", "A:" + "a" * 70000),
-            rig.head("GET /status HTTP/1.1", *[f"A{number}: b" for number in range(200)]),
-            rig.head("GET /" + "a" * 70000 + " HTTP/1.1"),
-            rig.head("GET /status"),
-            rig.head("GET /status HTTP/9.9"),
-            rig.head("GET /status HTTP/1.1 x"),
-            rig.head("GET /status HTTP/1.0").replace(b"Host", b"Hose"),
+            rig.make_head("POST /session/known/url HTTP/1.1", typed, "Content-Length: 0", "Transfer-Encoding: chunked"),
+            rig.make_head("POST /session/known/url HTTP/1.1", typed, "Transfer-Encoding: chunked"),
+            rig.make_head(
+                "POST /session/known/url HTTP/1.1", typed, "Transfer-Encoding : chunked", "Content-Length: 0"
+            ),
+            rig.make_head(
+                "POST /session/known/url HTTP/1.1", typed, "Content-Length: 0", " Transfer-Encoding: chunked"
+            ),
+            rig.make_head(
+                "POST /session/known/url HTTP/1.1", typed, "Content-Length: 0", f"Content-Length: {len(hidden)}"
+            ),
+            rig.make_head("POST /session/known/url HTTP/1.1", typed, "Content-Length: -1"),
+            rig.make_head("POST /session/known/url HTTP/1.1", typed, f"Content-Length: {10**11}"),
+            rig.make_head("POST /session/known/url HTTP/1.1", typed, f"Content-Length: {'9' * 5000}"),
+            rig.make_head("GET /session/known/url HTTP/1.1", f"Host: 127.0.0.1:{rig.port}"),
+            rig.make_head("GET http://evil.example/status HTTP/1.1"),
+            rig.make_head("GET /session/\u00e4 HTTP/1.1"),
+            rig.make_head("GET /session/x\x00 HTTP/1.1"),
+            rig.make_head("GET /../status HTTP/1.1"),
+            rig.make_head("GET /shutdown HTTP/1.1"),
+            rig.make_head("GET /status HTTP/1.1", "A:" + "a" * 70000),
+            rig.make_head("GET /status HTTP/1.1", *[f"A{number}: b" for number in range(200)]),
+            rig.make_head("GET /" + "a" * 70000 + " HTTP/1.1"),
+            rig.make_head("GET /status"),
+            rig.make_head("GET /status HTTP/9.9"),
+            rig.make_head("GET /status HTTP/1.1 x"),
+            rig.make_head("GET /status HTTP/1.0").replace(b"Host", b"Hose"),
             b"\x16\x03\x01\x02\x00\x01\x00\x01\xfc\x03\x03\r\n\r\n",
         ):
-            response = rig.raw(first + hidden)
+            response = rig.exchange_bytes(first + hidden)
             statuses = response.count(b"HTTP/1.1 ")
             if b"shutdown" in first:
-                assert response.startswith(b"HTTP/1.1 404") and rig.taken() == [("DELETE", "/session/known", b"")]
+                assert response.startswith(b"HTTP/1.1 404") and rig.take_requests() == [
+                    ("DELETE", "/session/known", b"")
+                ]
             else:
-                assert status_of(response) >= 400 and statuses == 1 and rig.taken() == [], (first, response)
-        assert rig.raw(good + good).count(b"HTTP/1.1 200") == 2, "two requests in one write"
+                assert parse_status(response) >= 400 and statuses == 1 and rig.take_requests() == [], (first, response)
+        assert rig.exchange_bytes(good + good).count(b"HTTP/1.1 200") == 2, "two requests in one write"
 
 
-def hostile_json() -> None:
-    """Deep JSON, no JSON, and JSON that is no object are WebDriver's errors."""
-    with bench() as rig:
+def test_invalid_json() -> None:
+    """Deeply nested JSON, invalid JSON, and JSON other than objects cause WebDriver errors."""
+    with make_proxy() as rig:
         path = "/session/known/webauthn/authenticator"
         for body in (b"[" * 100_000, b'{"a":' * 100_000, b"[]", b"1", b"null", b"{", b"\xff", b'"x"', b"{}", b"NaN"):
-            assert status_of(rig.post(path, body)) == 400, body[:20]
+            assert parse_status(rig.post(path, body)) == 400, body[:20]
         deep = b'{"a":' * 150_000 + b"1" + b"}" * 150_000
-        assert status_of(rig.post(path, deep)) == 400
-        assert status_of(rig.post("/session/known/url", deep)) == 200, "the driver's own commands are as they were sent"
+        assert parse_status(rig.post(path, deep)) == 400
+        assert (
+            parse_status(rig.post("/session/known/url", deep)) == 200
+        ), "the driver's own commands are as they were sent"
 
 
-def unknown_sessions() -> None:
-    """Sessions that the driver hasn't are never remembered."""
-    with bench() as rig:
+def test_unknown_sessions() -> None:
+    """Sessions unknown to the driver are never stored."""
+    with make_proxy() as rig:
         for number in range(200):
             rig.post(f"/session/unknown{number}/url", b"{}")
             rig.post(f"/session/unknown{number}/webauthn/authenticator", b'{"protocol":"ctap2","transport":"usb"}')
@@ -216,32 +228,32 @@ def unknown_sessions() -> None:
         assert len(rig.handler.connections) < 20, "the connection to the driver stays open"
 
 
-def closes(connection: socket.socket) -> bytes:
-    """Returns what comes before the server closes a connection. It hangs, and fails, where it doesn't."""
+def read_until_closed(connection: socket.socket) -> bytes:
+    """Returns the data received until the server closes the connection. If it does not, this hangs and fails."""
     with connection:
         return read_all(connection)
 
 
-def silent_clients() -> None:
-    """A connection that says nothing, half a head or half a body is closed."""
-    with bench(IDLE_SECONDS=0.2, HEAD_SECONDS=0.2, BODY_SECONDS=0.2) as rig:
+def test_silent_clients() -> None:
+    """A connection with no data, half a head or half a body is closed."""
+    with make_proxy(IDLE_SECONDS=0.2, HEAD_SECONDS=0.2, BODY_SECONDS=0.2) as rig:
         typed = ("Content-Type: application/json", "Content-Length: 10")
         for data in (
             b"",
             b"G",
-            rig.head("GET /status HTTP/1.1")[:-2],
-            rig.head("POST /session HTTP/1.1", *typed) + b"{",
+            rig.make_head("GET /status HTTP/1.1")[:-2],
+            rig.make_head("POST /session HTTP/1.1", *typed) + b"{",
         ):
-            connection = rig.connect()
+            connection = rig.open_connection()
             connection.sendall(data)
-            assert closes(connection) == b"", data
-        assert rig.taken() == []
+            assert read_until_closed(connection) == b"", data
+        assert rig.take_requests() == []
 
 
-def trickle() -> None:
-    """A head of which a byte comes now and then is closed."""
-    with bench(HEAD_SECONDS=0.5) as rig:
-        connection = rig.connect()
+def test_slow_head() -> None:
+    """A connection whose head arrives byte by byte is closed."""
+    with make_proxy(HEAD_SECONDS=0.5) as rig:
+        connection = rig.open_connection()
         connection.sendall(b"G")
         is_over = threading.Event()
 
@@ -261,46 +273,46 @@ def trickle() -> None:
         assert data == b""
 
 
-def many_connections() -> None:
-    """Connections are bounded: one that waits makes place for a new one."""
-    with bench(CONNECTIONS_MAX=8) as rig:
-        held = [rig.connect() for _ in range(100)]
+def test_many_connections() -> None:
+    """Connections are bounded: an idle one is replaced by a new one."""
+    with make_proxy(MAX_CONNECTIONS=8) as rig:
+        held = [rig.open_connection() for _ in range(100)]
         response = b""
-        for _ in range(SECONDS):
-            response = rig.raw(rig.head("GET /status HTTP/1.1"))
+        for _ in range(TIMEOUT_SECONDS):
+            response = rig.exchange_bytes(rig.make_head("GET /status HTTP/1.1"))
             if response:
                 break
-        assert status_of(response) == 200
+        assert parse_status(response) == 200
         with rig.server._lock:
             assert len(rig.server._open) <= 9, len(rig.server._open)
         for connection in held:
             connection.close()
 
 
-def asks_before_a_body() -> None:
-    """A client that asks whether to send its body is told after the gate, and not before."""
-    with bench() as rig:
-        head = rig.head(
+def test_expect_continue() -> None:
+    """A client with Expect: 100-continue gets a response only after the gate."""
+    with make_proxy() as rig:
+        head = rig.make_head(
             "POST /session HTTP/1.1", "Content-Type: application/json", "Content-Length: 2", "Expect: 100-continue"
         )
-        with rig.connect() as connection:
+        with rig.open_connection() as connection:
             connection.sendall(head)
             assert connection.recv(65536).startswith(b"HTTP/1.1 100 ")
             connection.sendall(b"{}")
             assert connection.recv(65536).startswith(b"HTTP/1.1 200 ")
-        refused = rig.raw(head.replace(b"/json", b"/text"))
-        assert status_of(refused) == 415 and refused.count(b"HTTP/1.1") == 1
+        refused = rig.exchange_bytes(head.replace(b"/json", b"/text"))
+        assert parse_status(refused) == 415 and refused.count(b"HTTP/1.1") == 1
 
 
 TESTS: list[Callable[[], None]] = [
-    reproduction,
-    one_reading,
-    hostile_json,
-    unknown_sessions,
-    silent_clients,
-    trickle,
-    many_connections,
-    asks_before_a_body,
+    test_plain_text_post,
+    test_ambiguous_requests,
+    test_invalid_json,
+    test_unknown_sessions,
+    test_silent_clients,
+    test_slow_head,
+    test_many_connections,
+    test_expect_continue,
 ]
 
 

@@ -1,7 +1,7 @@
 #!/usr/bin/python3
-"""A suite of Selenium for Chromium's virtual authenticator: suite.py URL PAGE.
+"""A Selenium suite for Chromium's virtual authenticator: suite.py URL PAGE.
 
-It drives the WebDriver at URL, chromedriver or the proxy, and prints for each test what it saw, as a line of JSON.
+It uses the WebDriver at URL, chromedriver or the proxy, and prints the result of each test as a line of JSON.
 """
 
 from __future__ import annotations
@@ -17,37 +17,37 @@ from selenium.common.exceptions import WebDriverException
 from selenium.webdriver.common.virtual_authenticator import Credential, VirtualAuthenticatorOptions
 
 # A key on P-256, in PKCS #8.
-KEY = (
+PRIVATE_KEY = (
     "MIGHAgEAMBMGByqGSM49AgEGCCqGSM49AwEHBG0wawIBAQQg8_zMDQDYAxlU-Qhk1Dwkf0v18GZca1DMF3SaJ9HPdmShRANCAASNYX5lyVCOZLzFZzrIKm"
     "eZ2jwURmgsJYxGP__fWN_S-j5sN4tT15XEpN_7QZnt14YvI6uvAgO0uJEboFaZlOEB"
 )
 OPTIONS = VirtualAuthenticatorOptions
 
 
-def decoded(text: str) -> bytes:
+def decode_base64url(text: str) -> bytes:
     """Returns the bytes of base64url."""
     return urlsafe_b64decode(text + "=" * (-len(text) % 4))
 
 
-def encoded(data: bytes) -> str:
+def encode_base64url(data: bytes) -> str:
     """Returns base64url without padding."""
     return urlsafe_b64encode(bytes(data)).decode().rstrip("=")
 
 
 class Suite:
-    """The tests, each with an authenticator of its own. What they return is compared."""
+    """The tests, each with its own authenticator. Their results are compared."""
 
     def __init__(self, driver: Any, page: str):
         self.driver, self.page = driver, page
 
-    # What a page does.
+    # Actions of a page.
 
     def call(self, name: str, **words: Any) -> Any:
         """Calls a function of the page."""
         return self.driver.execute_async_script(f"{name}(arguments[0]).then(arguments[1])", words)
 
-    def add(self, **words: Any) -> None:
-        """Adds an authenticator with these options, and by default one that verifies and has resident keys."""
+    def add_authenticator(self, **words: Any) -> None:
+        """Adds an authenticator, by default with user verification and resident keys."""
         options = OPTIONS()
         given = {"has_resident_key": True, "has_user_verification": True, "is_user_verified": True, **words}
         for name, value in given.items():
@@ -55,7 +55,7 @@ class Suite:
         self.driver.add_virtual_authenticator(options)
 
     def credentials(self) -> Any:
-        """Returns the credentials without what is drawn anew, by their user handles."""
+        """Returns the credentials by user handle, without random members."""
         listed = [credential.to_dict() for credential in self.driver.get_credentials()]
         return sorted(
             (credential.get("userHandle") or "", credential["isResidentCredential"], credential["rpId"])
@@ -65,18 +65,18 @@ class Suite:
     def credential(self, resident: bool = True, name: bytes = b"\x01\x02\x03\x04", rp: str = "localhost") -> Any:
         """Returns a credential to add."""
         if resident:
-            return Credential.create_resident_credential(name, rp, b"bob", decoded(KEY), 3)
-        return Credential.create_non_resident_credential(name, rp, decoded(KEY), 3)
+            return Credential.create_resident_credential(name, rp, b"bob", decode_base64url(PRIVATE_KEY), 3)
+        return Credential.create_non_resident_credential(name, rp, decode_base64url(PRIVATE_KEY), 3)
 
-    def ended(self, call: Callable[..., Any], *words: Any) -> str:
-        """Returns the name of the error with which a call ends."""
+    def get_error_name(self, call: Callable[..., Any], *words: Any) -> str:
+        """Returns the name of the error that a call raises."""
         try:
             call(*words)
         except WebDriverException as error:
             return type(error).__name__
         return "done"
 
-    # As Selenium's documentation teaches it.
+    # As in Selenium's documentation.
 
     def test_options(self) -> Any:
         options = OPTIONS()
@@ -85,62 +85,67 @@ class Suite:
         return self.credentials()
 
     def test_remove_authenticator(self) -> Any:
-        self.add()
+        self.add_authenticator()
         self.driver.remove_virtual_authenticator()
         return self.driver.virtual_authenticator_id
 
     def test_add_resident_credential(self) -> Any:
-        self.add(protocol=OPTIONS.Protocol.CTAP2)
+        self.add_authenticator(protocol=OPTIONS.Protocol.CTAP2)
         self.driver.add_credential(self.credential())
         return self.credentials()
 
     def test_add_non_resident_credential(self) -> Any:
-        self.add(
+        self.add_authenticator(
             protocol=OPTIONS.Protocol.U2F, has_resident_key=False, has_user_verification=False, is_user_verified=False
         )
         self.driver.add_credential(self.credential(False))
         return self.credentials()
 
     def test_resident_credential_with_u2f(self) -> Any:
-        self.add(
+        self.add_authenticator(
             protocol=OPTIONS.Protocol.U2F, has_resident_key=False, has_user_verification=False, is_user_verified=False
         )
-        return self.ended(self.driver.add_credential, self.credential())
+        return self.get_error_name(self.driver.add_credential, self.credential())
 
     def test_remove_credential(self) -> Any:
-        self.add()
+        self.add_authenticator()
         self.driver.add_credential(self.credential(False))
         self.driver.add_credential(self.credential(False, b"\x05"))
-        self.driver.remove_credential(encoded(b"\x05"))
-        return [encoded(decoded(credential.id)) for credential in self.driver.get_credentials()]
+        self.driver.remove_credential(encode_base64url(b"\x05"))
+        return [encode_base64url(decode_base64url(credential.id)) for credential in self.driver.get_credentials()]
 
     def test_remove_all_credentials(self) -> Any:
-        self.add()
+        self.add_authenticator()
         self.driver.add_credential(self.credential())
         self.driver.remove_all_credentials()
         return self.credentials()
 
     def test_set_user_verified(self) -> Any:
-        self.add(is_user_verified=False)
+        self.add_authenticator(is_user_verified=False)
         before = self.call("register", userVerification="required")
         self.driver.set_user_verified(True)
         return before, self.call("register", userVerification="required")["flags"]
 
-    # What suites do.
+    # As in test suites.
 
     def test_register(self) -> Any:
-        self.add()
+        self.add_authenticator()
         made = self.call("register")
         (held,) = self.driver.get_credentials()
-        return self.credentials(), encoded(decoded(held.id)) == made["id"], made["flags"], made["transports"]
+        return (
+            self.credentials(),
+            encode_base64url(decode_base64url(held.id)) == made["id"],
+            made["flags"],
+            made["transports"],
+        )
 
     def test_register_resident(self) -> Any:
-        self.add()
+        self.add_authenticator()
         self.call("register", residentKey="required")
         return self.credentials()
 
     def test_sign_in(self) -> Any:
-        self.add()
+        self.add_authenticator()
         made = self.call("register")
         counts = []
         for _ in range(2):
@@ -149,42 +154,42 @@ class Suite:
         return used["id"] == made["id"], used["flags"], used["user"], counts[1] - counts[0]
 
     def test_sign_in_discoverable(self) -> Any:
-        self.add()
+        self.add_authenticator()
         made = self.call("register", residentKey="required")
         used = self.call("signIn")
         return used["id"] == made["id"], used["user"], used["flags"]
 
     def test_sign_in_with_an_added_credential(self) -> Any:
-        self.add()
+        self.add_authenticator()
         self.driver.add_credential(self.credential())
         used = self.call("signIn")
         return used["user"], used["id"], self.driver.get_credentials()[0].sign_count
 
     def test_sign_in_after_removal(self) -> Any:
-        self.add()
+        self.add_authenticator()
         made = self.call("register")
         self.driver.remove_credential(made["id"])
         return self.call("signIn", allow=[made["id"]])
 
     def test_user_fails(self) -> Any:
-        self.add()
+        self.add_authenticator()
         made = self.call("register", userVerification="required")
         self.driver.set_user_verified(False)
         required = self.call("signIn", allow=[made["id"]], userVerification="required")
         return required, self.call("signIn", allow=[made["id"]], userVerification="discouraged")["flags"]
 
     def test_no_verification(self) -> Any:
-        self.add(has_user_verification=False, is_user_verified=False)
+        self.add_authenticator(has_user_verification=False, is_user_verified=False)
         return self.call("register", userVerification="required"), self.call("register")["flags"]
 
     def test_platform(self) -> Any:
-        self.add(transport=OPTIONS.Transport.INTERNAL)
+        self.add_authenticator(transport=OPTIONS.Transport.INTERNAL)
         made = self.call("register", authenticatorAttachment="platform")
         return self.call("isPlatform"), made["attachment"], made["transports"], made["flags"]
 
     def test_no_resident_keys(self) -> Any:
-        self.add(has_resident_key=False)
-        resident = self.ended(self.driver.add_credential, self.credential())
+        self.add_authenticator(has_resident_key=False)
+        resident = self.get_error_name(self.driver.add_credential, self.credential())
         return (
             resident,
             self.call("register", residentKey="required"),
@@ -192,12 +197,12 @@ class Suite:
         )
 
     def test_exclude(self) -> Any:
-        self.add()
+        self.add_authenticator()
         made = self.call("register")
         return self.call("register", exclude=[made["id"]]), self.call("register", exclude=["AQ"])["flags"]
 
     def test_reload(self) -> Any:
-        self.add()
+        self.add_authenticator()
         made = self.call("register", residentKey="required")
         self.driver.refresh()
         self.driver.get(self.page + "?other")
@@ -205,7 +210,7 @@ class Suite:
         return used["id"] == made["id"], self.credentials()
 
     def test_two_windows(self) -> Any:
-        self.add()
+        self.add_authenticator()
         made = self.call("register", residentKey="required")
         first = self.driver.current_window_handle
         self.driver.switch_to.new_window("tab")
@@ -217,7 +222,7 @@ class Suite:
             self.driver.switch_to.window(first)
 
     def test_frame(self) -> Any:
-        self.add()
+        self.add_authenticator()
         self.driver.execute_async_script(
             "const frame = document.createElement('iframe'); frame.src = location.pathname; frame.onload = arguments[0];"
             "document.body.append(frame)"
@@ -228,27 +233,33 @@ class Suite:
         return self.call("signIn", allow=[made["id"]])["id"] == made["id"], self.credentials()
 
     def test_unknown_credential(self) -> Any:
-        self.add()
-        return self.ended(self.driver.remove_credential, encoded(b"nothing"))
+        self.add_authenticator()
+        return self.get_error_name(self.driver.remove_credential, encode_base64url(b"nothing"))
 
     def test_broken_private_key(self) -> Any:
-        self.add()
+        self.add_authenticator()
         credential = Credential.create_non_resident_credential(b"\x01", "localhost", b"no key", 0)
-        return self.ended(self.driver.add_credential, credential)
+        return self.get_error_name(self.driver.add_credential, credential)
 
     def test_moves_a_credential(self) -> Any:
-        self.add()
+        self.add_authenticator()
         made = self.call("register", residentKey="required")
         (held,) = self.driver.get_credentials()
         self.driver.remove_virtual_authenticator()
-        self.add()
-        words = (decoded(held.id), held.rp_id, decoded(held.user_handle), decoded(held.private_key), 9)
+        self.add_authenticator()
+        words = (
+            decode_base64url(held.id),
+            held.rp_id,
+            decode_base64url(held.user_handle),
+            decode_base64url(held.private_key),
+            9,
+        )
         self.driver.add_credential(Credential.create_resident_credential(*words))
         return self.call("signIn")["id"] == made["id"]
 
     def test_before_a_page(self) -> Any:
         self.driver.get("about:blank")
-        self.add()
+        self.add_authenticator()
         self.driver.add_credential(self.credential())
         held = self.credentials()
         self.driver.get(self.page)

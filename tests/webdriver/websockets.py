@@ -1,5 +1,5 @@
 #!/usr/bin/python3
-"""The client of WebSocket: the examples of RFC 6455, sections 1.3 and 5.7, and servers that break the protocol.
+"""The WebSocket client: the examples of RFC 6455, sections 1.3 and 5.7, and servers that violate the protocol.
 
     tests/webdriver/websockets.py
 """
@@ -17,23 +17,24 @@ from pathlib import Path
 
 sys.path.insert(0, str(Path(__file__).resolve().parents[2] / "python" / "src"))
 
-from hidlog.webdriver.websocket import WebSocket, WebSocketError, frame
+from hidlog.webdriver.websocket import WebSocket, WebSocketError, make_frame
 
-SECONDS = 600
+TIMEOUT_SECONDS = 600
 GUID = "258EAFA5-E914-47DA-95CA-C5AB0DC85B11"
 HELLO = bytes.fromhex("810548656c6c6f")
-PARTS = bytes.fromhex("010348656c80026c6f")
+FRAGMENTED_HELLO = bytes.fromhex("010348656c80026c6f")
 PING, MASKED_PONG = bytes.fromhex("890548656c6c6f"), bytes.fromhex("8a8537fa213d7f9f4d5158")
 MASKED_HELLO = bytes.fromhex("818537fa213d7f9f4d5158")
 
 
-def accept_of(key: str) -> str:
+def compute_accept(key: str) -> str:
     return base64.b64encode(sha1((key + GUID).encode()).digest()).decode()
 
 
 @contextmanager
-def server(after: bytes, head: str = "") -> Iterator[tuple[str, list[bytes]]]:
-    """Returns the address of a server that sends some bytes after its head, and what it got after the client's."""
+def start_server(after: bytes, head: str = "") -> Iterator[tuple[str, list[bytes]]]:
+    """Returns the URL of a server that sends some bytes after its handshake, and the bytes it received after the
+    client's."""
     listening = socket.create_server(("127.0.0.1", 0))
     got: list[bytes] = []
 
@@ -44,7 +45,7 @@ def server(after: bytes, head: str = "") -> Iterator[tuple[str, list[bytes]]]:
             while b"\r\n\r\n" not in request:
                 request += connection.recv(65536)
             lines = dict(line.split(": ", 1) for line in request.decode().split("\r\n")[1:-2])
-            accept = accept_of(lines["Sec-WebSocket-Key"])
+            accept = compute_accept(lines["Sec-WebSocket-Key"])
             switching = "HTTP/1.1 101 Switching Protocols\r\nUpgrade: websocket\r\nConnection: Upgrade\r\n"
             connection.sendall((head or f"{switching}Sec-WebSocket-Accept: {accept}\r\n\r\n").encode() + after)
             with suppress(ConnectionResetError):
@@ -54,15 +55,15 @@ def server(after: bytes, head: str = "") -> Iterator[tuple[str, list[bytes]]]:
     thread = threading.Thread(target=serve, daemon=True)
     thread.start()
     yield f"ws://127.0.0.1:{listening.getsockname()[1]}/devtools/browser/x", got
-    thread.join(SECONDS)
+    thread.join(TIMEOUT_SECONDS)
     listening.close()
 
 
-def received(after: bytes) -> list[str]:
-    """Returns the texts that a client receives until the connection ends."""
+def receive_messages(after: bytes) -> list[str]:
+    """Returns the messages that a client receives until the connection ends."""
     texts = []
-    with server(after) as (url, _):
-        client = WebSocket(url, SECONDS)
+    with start_server(after) as (url, _):
+        client = WebSocket(url, TIMEOUT_SECONDS)
         try:
             while True:
                 texts.append(client.receive())
@@ -75,10 +76,10 @@ def received(after: bytes) -> list[str]:
     return texts
 
 
-def fails(after: bytes) -> bool:
-    """Returns whether a client refuses what a server sends, and doesn't wait for more."""
-    with server(after) as (url, _):
-        client = WebSocket(url, SECONDS)
+def is_refused(after: bytes) -> bool:
+    """Returns whether a client refuses a server's data, without waiting for more."""
+    with start_server(after) as (url, _):
+        client = WebSocket(url, TIMEOUT_SECONDS)
         try:
             client.receive()
             return False
@@ -88,22 +89,22 @@ def fails(after: bytes) -> bool:
             client.close()
 
 
-def examples() -> None:
+def test_examples() -> None:
     """The RFC's examples."""
-    assert accept_of("dGhlIHNhbXBsZSBub25jZQ==") == "s3pPLMBiTxaQ9kYGzzhZRbK+xOo="
-    assert frame(1, b"Hello", bytes.fromhex("37fa213d")) == MASKED_HELLO
-    assert received(HELLO + PARTS) == ["Hello", "Hello"]
-    assert frame(1, bytes(256), bytes(4))[:8] == bytes.fromhex("81fe010000000000")
-    assert frame(1, bytes(65536), bytes(4))[:10] == bytes.fromhex("81ff0000000000010000")
-    assert received(bytes.fromhex("817e0100") + b"a" * 256 + HELLO) == ["a" * 256, "Hello"]
-    assert received(bytes.fromhex("817f0000000000010000") + b"b" * 65536 + HELLO) == ["b" * 65536, "Hello"]
+    assert compute_accept("dGhlIHNhbXBsZSBub25jZQ==") == "s3pPLMBiTxaQ9kYGzzhZRbK+xOo="
+    assert make_frame(1, b"Hello", bytes.fromhex("37fa213d")) == MASKED_HELLO
+    assert receive_messages(HELLO + FRAGMENTED_HELLO) == ["Hello", "Hello"]
+    assert make_frame(1, bytes(256), bytes(4))[:8] == bytes.fromhex("81fe010000000000")
+    assert make_frame(1, bytes(65536), bytes(4))[:10] == bytes.fromhex("81ff0000000000010000")
+    assert receive_messages(bytes.fromhex("817e0100") + b"a" * 256 + HELLO) == ["a" * 256, "Hello"]
+    assert receive_messages(bytes.fromhex("817f0000000000010000") + b"b" * 65536 + HELLO) == ["b" * 65536, "Hello"]
 
 
-def pings() -> None:
-    """A ping between two parts is answered, masked."""
-    after = PARTS[:5] + PING + PARTS[5:] + bytes.fromhex("8a00") + HELLO
-    with server(after) as (url, got):
-        client = WebSocket(url, SECONDS)
+def test_pings() -> None:
+    """A ping between two fragments gets a masked pong."""
+    after = FRAGMENTED_HELLO[:5] + PING + FRAGMENTED_HELLO[5:] + bytes.fromhex("8a00") + HELLO
+    with start_server(after) as (url, got):
+        client = WebSocket(url, TIMEOUT_SECONDS)
         assert [client.receive(), client.receive()] == ["Hello", "Hello"]
         client.close()
     data = b"".join(got)
@@ -111,8 +112,8 @@ def pings() -> None:
     assert data[:2] == MASKED_PONG[:2] and bytes(byte ^ mask[at % 4] for at, byte in enumerate(text)) == b"Hello", data
 
 
-def broken() -> None:
-    """What breaks the protocol ends the connection."""
+def test_violations() -> None:
+    """Violations of the protocol end the connection."""
     for after in (
         MASKED_HELLO,
         b"\xc1" + HELLO[1:],
@@ -122,28 +123,28 @@ def broken() -> None:
         bytes.fromhex("817f7fffffffffffffff"),
         bytes.fromhex("8800"),
     ):
-        assert fails(after), after
+        assert is_refused(after), after
     for head in (
         "HTTP/1.1 200 OK\r\n\r\n",
         "HTTP/1.1 101 x\r\n\r\n",
         "x\r\n\r\n",
         "HTTP/1.1 101 x\r\n" + "a: b\r\n" * 9999 + "\r\n",
     ):
-        with server(b"", head) as (url, _):
+        with start_server(b"", head) as (url, _):
             try:
-                WebSocket(url, SECONDS)
+                WebSocket(url, TIMEOUT_SECONDS)
                 raise AssertionError(head)
             except WebSocketError:
                 pass
     for url in ("http://127.0.0.1:1/", "ws://127.0.0.1/", "ws:///x", "x"):
         try:
-            WebSocket(url, SECONDS)
+            WebSocket(url, TIMEOUT_SECONDS)
             raise AssertionError(url)
         except WebSocketError:
             pass
 
 
-TESTS: list[Callable[[], None]] = [examples, pings, broken]
+TESTS: list[Callable[[], None]] = [test_examples, test_pings, test_violations]
 
 
 def main() -> int:

@@ -1,0 +1,198 @@
+"""The implementations compared on browser_cases.json, with what each returns."""
+
+from __future__ import annotations
+
+import json
+from collections.abc import Callable
+from hashlib import sha256
+from pathlib import Path
+from typing import Any
+
+from chromium import Driver
+
+import hidlog
+from hidlog.webauthn_json import b64url_decode, b64url_encode
+
+Case = dict[str, Any]
+Json = dict[str, Any]
+# Calls create or get with options as JSON, and returns the page's response, or an object with the DOM's error name.
+Call = Callable[[str, Any, Json], Json]
+TABLE = json.loads(Path(__file__).with_name("browser_cases.json").read_text(encoding="utf-8"))
+CASES: dict[str, Case] = {item["name"]: item for item in TABLE["cases"]}
+# Milliseconds after which Chromium is considered to wait forever.
+WAIT_MS = 1500
+UV = 0x04
+
+RUN_SCRIPT = """
+const [done, call, publicKey, more, waits] = [arguments[arguments.length - 1], ...arguments];
+const names = { create: "parseCreationOptionsFromJSON", get: "parseRequestOptionsFromJSON" };
+const run = async () => {
+    const controller = new AbortController();
+    setTimeout(() => controller.abort(new DOMException("it waits", "Waits")), waits);
+    const options = { publicKey: PublicKeyCredential[names[call]](publicKey), signal: controller.signal, ...more };
+    return (await navigator.credentials[call](options)).toJSON();
+};
+run().then((json) => done({ json }), (error) => done({ error: error.name, text: error.message }));
+"""
+INSTALL_SCRIPT = """
+const [done, options, presence] = [arguments[arguments.length - 1], ...arguments];
+hidlogKey.current()?.uninstall();
+hidlogKey.send("WebAuthn.addVirtualAuthenticator", { options }).then(() => {
+    hidlogKey.current().presence = presence;
+    done(null);
+}, (error) => done(String(error)));
+"""
+FAIL_SCRIPT = """
+const done = arguments[arguments.length - 1];
+hidlogKey.send("WebAuthn.setUserVerified", { isUserVerified: false }).then(done, done);
+"""
+REMOVE_SCRIPT = "hidlogKey.current()?.uninstall();"
+
+
+class ServiceError(Exception):
+    """An error of a page, with the DOM's name."""
+
+    def __init__(self, name: str, text: str = ""):
+        super().__init__(f"{name}: {text}")
+        self.name = name
+
+
+def _fill_options(value: Any, ids: list[str]) -> Any:
+    """Returns options with the IDs of earlier registrations, and with long values expanded."""
+    if isinstance(value, dict) and "$bytes" in value:
+        return b64url_encode(bytes(value["$bytes"]))
+    if isinstance(value, dict) and "$repeat" in value:
+        return [{"type": "public-key", "id": b64url_encode(bytes([index, 255]))} for index in range(value["$repeat"])]
+    if isinstance(value, dict):
+        return {name: _fill_options(member, ids) for name, member in value.items()}
+    if isinstance(value, list):
+        return [_fill_options(item, ids) for item in value]
+    return ids[int(value[1:])] if isinstance(value, str) and value.startswith("$") else value
+
+
+def _make_options(case: Case, ids: list[str]) -> Any:
+    if "raw" in case:
+        return case["raw"]["publicKey"]
+    base = TABLE["creation" if case["call"] == "create" else "request"]
+    made = json.loads(json.dumps({**base, **_fill_options(case.get("options", {}), ids)}))
+    *path, last = case.get("without", [""])
+    inner = made
+    for name in path:
+        inner = inner[name]
+    inner.pop(last, None)
+    return made
+
+
+def run_calls(call: Call, case: Case, fail: Callable[[], Any] = lambda: None) -> Json:
+    """Makes the calls of a case, and returns the result of the last one. The user may fail from then on."""
+    before = [{**TABLE["creation"], **element} for element in case.get("before", [])]
+    try:
+        ids = [call("create", item, {})["id"] for item in before]
+    except (hidlog.WebAuthnError, ServiceError) as error:
+        raise AssertionError(f"{case['name']}: what comes before it is refused: {error}") from error
+    more = {"mediation": case["mediation"]} if "mediation" in case else {}
+    if "then" in case:
+        fail()
+    try:
+        answer = call(case["call"], _make_options(case, ids), more)
+    except (hidlog.WebAuthnError, ServiceError) as error:
+        return {"error": error.name}
+    return {"seen": select_members(answer, ids)}
+
+
+def select_members(answer: Json, ids: list[str]) -> Json:
+    """Returns the compared members of a response: all except random ones and Chromium's additional ones."""
+    response = dict(answer["response"])
+    auth_data = b64url_decode(response.pop("authenticatorData"))
+    client_data = json.loads(b64url_decode(response.pop("clientDataJSON")))
+    client_data.pop("other_keys_can_be_added_here", None)
+    assert client_data.pop("origin").split("://")[1].startswith("localhost")
+    for name in ("signature", "attestationObject", "publicKey"):
+        if name in response:
+            response[name] = "bytes"
+    if auth_data[32] & 0x40:
+        response["idBytes"] = int.from_bytes(auth_data[53:55], "big")
+    shown = {**answer, "response": response, "id": ids.index(answer["id"]) if answer["id"] in ids else "new"}
+    shown["rawId"] = shown["id"] if answer["rawId"] == answer["id"] else "another"
+    is_own = auth_data[:32] == sha256(b"localhost").digest()
+    return {**shown, "clientData": client_data, "flags": auth_data[32], "isForLocalhost": is_own}
+
+
+def run_with_package(case: Case) -> Json:
+    """Runs a case with the browser of the package."""
+    with hidlog.SecurityKey(**case.get("key", {})) as key:
+        browser = key.browser("http://localhost:5000")
+
+        def call(name: str, options: Any, more: Json) -> Json:
+            key.presence = case.get("presence", "granted") if name == case["call"] else "granted"
+            wrapped = {"publicKey": options} if "raw" in case or case.get("wrapped") else options
+            return json.loads(json.dumps(getattr(browser, name)(wrapped, **more)))  # type: ignore[no-any-return]
+
+        result = run_calls(call, case, lambda: setattr(key, "verification", "failed"))
+    for snapshot, log in key.recordings:
+        hidlog.check(log, snapshot).raise_for_fault()
+    return result
+
+
+def _make_page_call(driver: Driver) -> Call:
+    def call(name: str, options: Any, more: Json) -> Json:
+        answer = driver.run(RUN_SCRIPT, name, options, more, WAIT_MS, waits=True)
+        if "error" in answer:
+            raise ServiceError(answer["error"], answer["text"])
+        made: Json = answer["json"]
+        return made
+
+    return call
+
+
+def to_devtools_options(key: Json) -> Json:
+    """Returns the options of a virtual authenticator that corresponds to a key."""
+    verification = key.get("verification", "none")
+    return {
+        "protocol": "ctap2",
+        "transport": "internal" if key.get("attachment") == "platform" else "usb",
+        "hasResidentKey": key.get("has_resident_key", True),
+        "hasUserVerification": verification != "none",
+        "isUserVerified": verification == "verified",
+        "automaticPresenceSimulation": True,
+        "defaultBackupEligibility": key.get("default_backup_eligibility", False),
+        "defaultBackupState": key.get("default_backup_state", False),
+    }
+
+
+def run_with_chromium(case: Case, driver: Driver) -> Json:
+    """Runs a case with Chromium's own virtual authenticator.
+
+    Chromium makes discoverable credentials only where users are verified. So where a case has them and no verification,
+    its authenticator verifies, and the flag UV isn't compared.
+    """
+    key = case.get("key", {})
+    is_masked = "esidentKey" in json.dumps(case) and "verification" not in key
+    driver.run(REMOVE_SCRIPT)
+    driver.devtools("WebAuthn.enable")
+    options = to_devtools_options({"verification": "verified", **key} if is_masked else key)
+    made = driver.devtools("WebAuthn.addVirtualAuthenticator", options=options)
+    try:
+        result = _to_result(case, driver, made)
+    finally:
+        driver.devtools("WebAuthn.removeVirtualAuthenticator", **made)
+    if is_masked and "seen" in result:
+        result["seen"]["flags"] &= ~UV
+    return result
+
+
+def _to_result(case: Case, driver: Driver, made: Json) -> Json:
+    fail = {"isUserVerified": False, **made}
+    return run_calls(_make_page_call(driver), case, lambda: driver.devtools("WebAuthn.setUserVerified", **fail))
+
+
+def run_with_page_key(case: Case, driver: Driver) -> Json | str:
+    """Runs a case with the key in a page. Returns the reason if the page's key can't run it."""
+    refused = driver.run(
+        INSTALL_SCRIPT, to_devtools_options(case.get("key", {})), case.get("presence", "granted"), waits=True
+    )
+    if refused:
+        return str(refused)
+    if case.get("before") and "presence" in case:
+        return "the key in a page would refuse what comes before, too"
+    return run_calls(_make_page_call(driver), case, lambda: driver.run(FAIL_SCRIPT, waits=True))

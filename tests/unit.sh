@@ -1,0 +1,37 @@
+#!/usr/bin/env bash
+# Tests the libraries: results that no clause specifies, and calls at their limits. The tests in tests/unit/ run as a
+# separate crate in a copy of the libraries, without proofs (rt try), so that they do not slow down the gate. Each test may
+# take fifteen minutes, since other programs may be running. Exits with 3 if rt is missing.
+#
+#     tests/unit.sh                   runs all tests
+#     tests/unit.sh --fail-alloc N    fails the Nth allocation of each test, and prints the results
+set -euo pipefail
+top=$(cd "$(dirname "${BASH_SOURCE[0]}")/.." && pwd)
+command -v rt >/dev/null || { echo "rt is missing; nothing was run" && exit 3; }
+work=$(mktemp -d)
+trap 'rm -rf "$work"' EXIT
+
+libraries=(hid_packet hid_assemble ctap_cbor ctap_message fido_authdata cred_table authn_core token_session session_log
+    session_walk session_show)
+mkdir -p "$work/crates/row_tests/src"
+cp "$top/HANDLES" "$work/"
+for library in "${libraries[@]}"; do
+    mkdir "$work/crates/$library"
+    for part in src specs proofs; do
+        [ ! -d "$top/crates/$library/$part" ] || cp -r "$top/crates/$library/$part" "$work/crates/$library/"
+    done
+    grep "^$library:" "$top/crates.txt"
+done >"$work/crates.txt"
+echo "row_tests: ${libraries[*]} arrayvec" >>"$work/crates.txt"
+cp -r "$top/tests/unit/." "$work/crates/row_tests/src/"
+find "$work/crates/row_tests/src" -name '*.in' -exec sh -c 'for file; do mv "$file" "${file%.in}"; done' sh {} +
+cd "$work/crates/row_tests"
+if [ $# -gt 0 ]; then
+    rt try --test --seconds 900 "$@"
+    exit
+fi
+rt try --test --seconds 900 >"$work/said" 2>&1 || { cat "$work/said" && exit 1; }
+cat "$work/said"
+# All tests in the sources must have run.
+count=$(grep -rhc '#\[test\]' src | awk '{ sum += $1 } END { print sum }')
+grep -q "ok. $count passed; 0 failed" "$work/said" || { echo "not every test ran" && exit 1; }

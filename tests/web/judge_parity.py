@@ -1,0 +1,133 @@
+#!/usr/bin/env python3
+"""Checks that the page and the Python package judge each log alike, in Chromium, under the page's own CSP.
+
+    tests/web/judge_parity.py             the examples, captures and clients' logs, and recordings of wrong and
+                                          conforming authenticators
+    tests/web/judge_parity.py FOLDER      also the logs of a folder
+
+It also drops a capture on the page and presses Judge.
+"""
+
+from __future__ import annotations
+
+import base64
+import itertools
+import json
+import sys
+from pathlib import Path
+from typing import Any, Dict, Iterator, List, Tuple
+
+TOP = Path(__file__).resolve().parents[2]
+sys.path[:0] = [str(TOP / "conformance"), str(TOP / "python" / "src"), str(TOP / "tests" / "web")]
+
+import judged  # noqa: E402
+from driver import Driver, is_installed  # noqa: E402
+from hidlog.errors import LogError  # noqa: E402
+from hidlog_conformance import judged_report  # noqa: E402
+from proved_walk import judge  # noqa: E402
+
+PAGE = TOP / "web" / "index.html"
+FOLDERS = ("examples", "tests/captures/data", "conformance/clients/logs", "conformance/recorded", "conformance/fuzzed")
+# Every EACH-th wrong authenticator is recorded, and these conforming ones in every SESSIONS-th session.
+EACH, CONFORMING, SESSIONS = 7, ("plain", "fingerprint_and_pin", "attestation_x5c_eddsa"), 45
+CAPTURE = TOP / "tests" / "captures" / "data" / "killed.pcapng"
+
+JUDGE_SCRIPT = """
+const [text, done] = arguments;
+hidlogJudge.judge(hidlogBytes.fromBase64(text))
+    .then(done, (error) => done({ refused: error.args ? hidlogPython.format(error, "") : error.message }));
+"""
+DROP_SCRIPT = """
+const [name, text, done] = arguments;
+const files = new DataTransfer();
+files.items.add(new File([hidlogBytes.fromBase64(text)], name));
+document.dispatchEvent(new DragEvent("drop", { dataTransfer: files, cancelable: true }));
+done();
+"""
+
+
+def judge_in_python(log: bytes) -> Dict[str, Any]:
+    """Returns the Python package's judgement of a log."""
+    try:
+        found = judge(log)
+    except LogError as error:
+        return {"refused": str(error)}
+    findings = [judged_report.object_of(finding) for finding in found.findings]
+    return {"findings": findings, "notes": judged_report.notes_of(found), "total": judged_report.total(found)}
+
+
+def iter_recordings() -> Iterator[Tuple[str, bytes]]:
+    """Yields recordings of wrong authenticators and of conforming ones, with their names."""
+    for name in list(judged.MUTANTS)[::EACH]:
+        try:
+            for session, log, _ in itertools.islice(judged.recordings(name), 1):
+                yield f"{name} at {session}", log
+        except OSError:
+            continue
+    for name in CONFORMING:
+        device = judged.ReferenceDevice(judged.VARIANTS[name].traits)
+        options = judged.parse_options(["--device", "reference", "--touch", "--reset"])
+        device_info = judged.DeviceInfo.ask(device, True)
+        recorder = judged.Recorder(device)
+        first = judged.asked_first(device, recorder)
+        for session in judged.all_sessions()[::SESSIONS]:
+            if judged.play_one(device, session, options, device_info).status != "skip":
+                yield f"{name} at {session.name}", recorder.log(first)
+
+
+def iter_logs(folders: List[str]) -> Iterator[Tuple[str, bytes]]:
+    """Yields all logs with their names."""
+    for folder in (*FOLDERS, *folders):
+        for path in sorted((TOP / folder).rglob("*.log")):
+            yield str(path), path.read_bytes()
+    yield "no log", b"> 1 zz\n"
+    yield from iter_recordings()
+
+
+def check_drop(driver: Any) -> List[str]:
+    """Drops a capture on the page and presses Judge. Returns what is wrong."""
+    driver.run(DROP_SCRIPT, CAPTURE.name, base64.b64encode(CAPTURE.read_bytes()).decode())
+    driver.wait_for("document.getElementById('notice').textContent.startsWith('killed.pcapng: ')")
+    driver.run("document.getElementById('judge').click(); arguments[0]()")
+    driver.wait_for("document.getElementById('judged') !== null")
+    shown = driver.run("arguments[0](document.getElementById('judged').textContent)")
+    log = bytes(driver.run("arguments[0](Array.from(hidlogViewer.state.bytes))"))
+    wrong = [] if judge_in_python(log)["total"] in shown else [f"the page shows for {CAPTURE.name}: {shown}"]
+    findings = judge_in_python(log)["findings"]
+    wrong += [
+        f"the page doesn't show line {finding['line']}"
+        for finding in findings
+        if f"Line {finding['line']} " not in shown
+    ]
+    driver.run("document.querySelector('#judged li button').click(); arguments[0]()")
+    line = findings[0]["line"]
+    driver.wait_for(f"document.querySelector('[aria-selected=true].row')?.firstChild.textContent === '{line}'")
+    return wrong
+
+
+def main(folders: List[str]) -> int:
+    """Compares the page's judgements with the package's."""
+    if not is_installed():
+        print("tests/web: chromedriver is missing (apt-get install chromium-driver)", file=sys.stderr)
+        return 3
+    count = findings = 0
+    wrong: List[str] = []
+    with Driver() as driver:
+        driver.open(PAGE.as_uri())
+        driver.wait_for("document.documentElement.dataset.ready")
+        for name, log in iter_logs(folders):
+            actual = driver.run(JUDGE_SCRIPT, base64.b64encode(log).decode())
+            expected = judge_in_python(log)
+            count, findings = count + 1, findings + len(expected.get("findings", []))
+            if actual != expected:
+                wrong.append(
+                    f"{name}:\n    Python: {json.dumps(expected)[:700]}\n    page:   {json.dumps(actual)[:700]}"
+                )
+        wrong += check_drop(driver)
+    print("\n".join(wrong[:10]))
+    print(f"{count} logs with {findings} findings compared between the page and Python; differences: {len(wrong)}")
+    return 1 if wrong else 0
+
+
+if __name__ == "__main__":
+    sys.exit(main(sys.argv[1:]))

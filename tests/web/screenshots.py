@@ -1,0 +1,74 @@
+#!/usr/bin/env python3
+"""Takes the screenshots docs/use/web_light.png and docs/use/web_phone.png of the current page.
+
+    tests/web/screenshots.py
+
+They show the check of a recorded session whose second sign-in doesn't raise the counter. The exit status is 3 if
+chromium or chromedriver is missing.
+"""
+
+import base64
+import sys
+import tempfile
+from pathlib import Path
+
+from driver import Driver, is_installed
+
+TOP = Path(__file__).resolve().parents[2]
+WIDTH, HEIGHT = 1200, 720
+PHONE_METRICS = {"width": 390, "height": 780, "deviceScaleFactor": 1, "mobile": True}
+COUNTER_LINE, RAISED, SAME = 35, "470100000002", "470100000001"
+
+
+def make_broken_log():
+    """Returns a recorded session with the counter of its second sign-in set back."""
+    lines = (TOP / "examples" / "sign_in.log").read_text(encoding="ascii").splitlines(keepends=True)
+    if RAISED not in lines[COUNTER_LINE - 1]:
+        raise SystemExit(f"screenshots.py: line {COUNTER_LINE} of examples/sign_in.log has no counter 2")
+    lines[COUNTER_LINE - 1] = lines[COUNTER_LINE - 1].replace(RAISED, SAME)
+    return "".join(lines)
+
+
+def open_log(driver, path):
+    """Opens a log in the page as the Open button does."""
+    document = driver.devtools("DOM.getDocument")["root"]["nodeId"]
+    node = driver.devtools("DOM.querySelector", nodeId=document, selector="#file")["nodeId"]
+    driver.devtools("DOM.setFileInputFiles", nodeId=node, files=[str(path)])
+    driver.wait_for("!document.getElementById('check').disabled")
+
+
+def write_screenshot(driver, scheme, path):
+    """Writes a screenshot in the light or dark color scheme."""
+    features = [{"name": "prefers-color-scheme", "value": scheme}]
+    driver.devtools("Emulation.setEmulatedMedia", features=features)
+    driver.run("requestAnimationFrame(() => requestAnimationFrame(arguments[0]))")
+    result = driver.devtools("Page.captureScreenshot", format="png")
+    path.write_bytes(base64.b64decode(result["data"]))
+    print(path.relative_to(TOP))
+
+
+def main():
+    if not is_installed():
+        print("screenshots.py: chromedriver is missing (apt-get install chromium-driver)", file=sys.stderr)
+        return 3
+    with tempfile.TemporaryDirectory() as folder, Driver() as driver:
+        log = Path(folder, "counter_that_stays.log")
+        log.write_text(make_broken_log(), encoding="ascii")
+        size = {"width": WIDTH, "height": HEIGHT, "deviceScaleFactor": 1, "mobile": False}
+        driver.devtools("Emulation.setDeviceMetricsOverride", **size)
+        driver.open(f"file://{TOP}/web/index.html")
+        open_log(driver, log)
+        driver.run("document.getElementById('check').click(); arguments[arguments.length - 1]()")
+        driver.wait_for("/differs/.test(document.getElementById('notice').textContent)")
+        write_screenshot(driver, "light", TOP / "docs" / "use" / "web_light.png")
+        driver.devtools("Emulation.setDeviceMetricsOverride", **PHONE_METRICS)
+        driver.open(f"file://{TOP}/web/index.html")
+        open_log(driver, log)
+        driver.run("document.getElementById('check').click(); arguments[arguments.length - 1]()")
+        driver.wait_for("/differs/.test(document.getElementById('notice').textContent)")
+        write_screenshot(driver, "dark", TOP / "docs" / "use" / "web_phone.png")
+    return 0
+
+
+if __name__ == "__main__":
+    sys.exit(main())
