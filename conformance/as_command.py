@@ -1,7 +1,7 @@
 #!/usr/bin/env python3
-"""Plays hidlog live as a command of packets in real time: an example of what `run.py --device COMMAND` speaks to.
+"""hidlog live as a real-time command: an example for `run.py --device COMMAND`.
 
-It reads a packet a line, 128 hexadecimal digits, and writes such lines. The line `touch` stands for the user's consent.
+Reads and writes packets as lines of 128 hexadecimal digits. The line `touch` is a touch.
 """
 
 from __future__ import annotations
@@ -17,12 +17,12 @@ START = time.monotonic()
 
 
 def now() -> int:
-    """Returns the moment in milliseconds."""
+    """Returns the time in milliseconds."""
     return int((time.monotonic() - START) * 1000)
 
 
 def serve(device: LiveDevice) -> None:
-    """Makes keys and signatures as they are needed, and writes the packets."""
+    """Provides key pairs and signatures as needed, and writes the packets."""
     while device.need != "nothing" and device.need != "presence":
         if device.need == "key":
             device.key(now(), ["yes"])
@@ -35,7 +35,7 @@ def serve(device: LiveDevice) -> None:
 
 
 def take(device: LiveDevice, line: bytes) -> None:
-    """Hands on a line of the input."""
+    """Processes a line of the input."""
     if line == b"touch":
         device.presence(now(), "granted")
     else:
@@ -44,7 +44,7 @@ def take(device: LiveDevice, line: bytes) -> None:
 
 
 def main() -> int:
-    """Serves until the input ends."""
+    """Runs until the end of input."""
     device = LiveDevice()
     device.start()
     rest = b""

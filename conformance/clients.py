@@ -1,9 +1,9 @@
 #!/usr/bin/env python3
-"""Plays the sessions of conformance/clients to python-fido2 and libfido2, and compares what they get wrong.
+"""Runs the client tests against python-fido2 and libfido2, and compares their failures with the lists.
 
-    conformance/clients.py    fails where another session fails than clients/NAME.failed names
+    conformance/clients.py    fail if other sessions fail than listed in clients/NAME.failed
 
-What is only a should counts here too.
+SHOULD violations count as failures here.
 """
 
 from __future__ import annotations
@@ -15,12 +15,12 @@ import sys
 import tempfile
 
 from hidlog_conformance.client_runner import client_sessions, play_clients
-from hidlog_conformance.known import compare
-from hidlog_conformance.places import CLIENTS
+from hidlog_conformance.expected_failures import compare
+from hidlog_conformance.paths import CLIENTS
 
 
-def plays(name: str, command: str) -> bool:
-    """Plays all sessions to a client; says whether just the known ones fail."""
+def check_client(name: str, command: str) -> bool:
+    """Runs all sessions with a client; returns whether exactly the listed ones fail."""
     print(f"{name}: ", end="")
     return compare(
         f"clients/{name}.failed", [outcome for outcome, _ in play_clients(command, client_sessions(), False)]
@@ -28,7 +28,7 @@ def plays(name: str, command: str) -> bool:
 
 
 def compiled(room: str) -> str:
-    """Compiles the client in C; empty where the compiler or libfido2's header is missing."""
+    """Compiles the C client; returns an empty path if gcc or libfido2's header is missing."""
     program = os.path.join(room, "libfido2")
     source = os.path.join(CLIENTS, "libfido2.c")
     if not shutil.which("gcc") or not os.path.exists("/usr/include/fido.h"):
@@ -38,12 +38,12 @@ def compiled(room: str) -> str:
 
 
 def main() -> int:
-    """Plays both clients."""
-    good = plays("python_fido2", f"{sys.executable} {os.path.join(CLIENTS, 'python_fido2.py')}")
+    """Checks both clients."""
+    good = check_client("python_fido2", f"{sys.executable} {os.path.join(CLIENTS, 'python_fido2.py')}")
     with tempfile.TemporaryDirectory() as room:
         program = compiled(room)
         if program:
-            good = plays("libfido2", program) and good
+            good = check_client("libfido2", program) and good
         else:
             print("libfido2: skipped, gcc or libfido2-dev is missing")
     return 0 if good else 1

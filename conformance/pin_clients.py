@@ -1,6 +1,6 @@
 #!/usr/bin/env python3
-"""Lets python-fido2 and libfido2 set a PIN at the reference authenticator, sign in with it, manage credentials, write large
-blobs, and be verified by the device: they judge it."""
+"""Checks the reference authenticator with python-fido2 and libfido2: PINs, sign-ins, credential management, large blobs
+and built-in user verification."""
 
 from __future__ import annotations
 
@@ -13,14 +13,14 @@ import time
 from typing import Dict, List, Tuple
 
 from hidlog_conformance.reference.authenticator import Authenticator
-from hidlog_conformance.reference.traits import Traits
+from hidlog_conformance.reference.traits import DeviceTraits
 
 HERE = os.path.dirname(os.path.abspath(__file__))
 KEEPALIVE = 0xBB
 
 
-def bridged(words: List[str], traits: Traits) -> str:
-    """Plays a client's command to the authenticator, touches as soon as it asks, and returns the client's last line."""
+def bridged(words: List[str], traits: DeviceTraits) -> str:
+    """Connects a client's command to the authenticator, touches on request, and returns the client's last line."""
     authenticator = Authenticator(traits)
     pipe, start = subprocess.PIPE, time.monotonic()
     client = subprocess.Popen(words, stdin=pipe, stdout=pipe, text=True)
@@ -43,7 +43,7 @@ def bridged(words: List[str], traits: Traits) -> str:
 
 
 def compiled(folder: str, name: str) -> str:
-    """Compiles a client in C; empty where the compiler or libfido2's header is missing."""
+    """Compiles a C client; returns an empty path if gcc or libfido2's header is missing."""
     if not shutil.which("gcc") or not os.path.exists("/usr/include/fido.h"):
         return ""
     program, source = os.path.join(folder, name), os.path.join(HERE, "pin", f"{name}.c")
@@ -52,39 +52,41 @@ def compiled(folder: str, name: str) -> str:
     return program
 
 
-def runs_in(folder: str) -> Dict[str, Tuple[List[str], Traits]]:
-    """Returns the clients' commands, by their names, each with the authenticator that it is played to."""
-    found: Dict[str, Tuple[List[str], Traits]] = {}
+def runs_in(folder: str) -> Dict[str, Tuple[List[str], DeviceTraits]]:
+    """Returns the command and the authenticator of each client, by name."""
+    found: Dict[str, Tuple[List[str], DeviceTraits]] = {}
     python, pin, stored = [sys.executable], compiled(folder, "libfido2"), compiled(folder, "libfido2_stored")
     for number in (1, 2):
         words = [str(number)]
         commands = {
             "python-fido2": [*python, f"{HERE}/pin/python_client.py", *words],
             "libfido2": [pin],
-            "python-fido2, what is stored": [*python, f"{HERE}/pin/python_stored.py", *words],
-            "libfido2, what is stored": [stored],
-            "python-fido2, by the user": [*python, f"{HERE}/pin/python_stored.py", *words, "uv"],
-            "libfido2, by the user": [stored, "uv"],
+            "python-fido2, management": [*python, f"{HERE}/pin/python_stored.py", *words],
+            "libfido2, management": [stored],
+            "python-fido2, user verification": [*python, f"{HERE}/pin/python_stored.py", *words, "uv"],
+            "libfido2, user verification": [stored, "uv"],
         }
         for name, command in commands.items():
-            # libfido2 1.12 manages by the command that was there before CTAP 2.1.
-            traits = Traits(protocols=(number,), built_in_uv=name.endswith("user"), management_preview=True)
+            # libfido2 1.12 uses authenticatorCredentialManagementPreview.
+            traits = DeviceTraits(
+                protocols=(number,), built_in_uv=name.endswith("user verification"), management_preview=True
+            )
             traits.more_options["credentialMgmtPreview"] = True
             found[f"{name}, protocol {number}"] = (command, traits)
     return found
 
 
 def main() -> int:
-    """Plays the clients by each protocol."""
+    """Runs the clients with each protocol."""
     good = failed = 0
     with tempfile.TemporaryDirectory() as folder:
         for name, (words, traits) in runs_in(folder).items():
             if not words[0]:
                 print(f"{name}: skipped, gcc or libfido2-dev is missing")
                 continue
-            said = bridged(words, traits)
-            good, failed = good + (said == "ok"), failed + (said != "ok")
-            print(f"{name}: {said}")
+            result = bridged(words, traits)
+            good, failed = good + (result == "ok"), failed + (result != "ok")
+            print(f"{name}: {result}")
     print(f"{good} passed, {failed} failed")
     return 1 if failed else 0
 

@@ -1,4 +1,4 @@
-"""Judges logs for the scripts of this folder, by the walk of the C library (release/libhidlog.so.0)."""
+"""Checks logs for the scripts of this folder, with `hidlog_transactions` of the C library (release/libhidlog.so.1)."""
 
 from __future__ import annotations
 
@@ -12,10 +12,10 @@ from hidlog_conformance import judged_log  # noqa: E402
 
 
 def walk(log: bytes) -> bytes:
-    """Returns which transaction each line of a log belongs to, as `hidlog_transactions` writes it."""
+    """Returns the output of `hidlog_transactions` for a log."""
     return bytes(logs.transactions(log).raise_for_fault().text)
 
 
 def judge(log: bytes) -> judged_log.Recording:
-    """Judges a log."""
+    """Checks a log."""
     return judged_log.judge(log, walk)

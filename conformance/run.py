@@ -1,5 +1,5 @@
 #!/usr/bin/env python3
-"""Plays the corpus from this repository, without an installation; docs/use/CONFORMANCE.md has the words."""
+"""Runs the conformance tests from this repository, without an installation; see docs/use/CONFORMANCE.md."""
 
 from __future__ import annotations
 

@@ -1,10 +1,10 @@
 #!/usr/bin/env python3
-"""Tries the ways to a device, the reports, and what the runner does where a device or a client is out of order.
+"""Tests the ways to a device, the reports, and how the runner handles broken devices and clients.
 
-    conformance/self_test.py          all of it, in processes beside each other, since most of the time is waiting
-    conformance/self_test.py WORD ..  the tests whose names have a word, in this process
+    conformance/self_test.py          all tests, in parallel processes, since they mostly wait
+    conformance/self_test.py WORD ..  the tests whose names contain a word, in this process
 
-Each test of a wrong device or client is played a second time with what it tests taken away, and has to fail then.
+Each test of a broken device or client is run again with the tested code disabled, and must then fail.
 """
 
 from __future__ import annotations
@@ -19,31 +19,41 @@ HERE = os.path.dirname(os.path.abspath(__file__))
 for folder in ("self_tests", "others"):
     sys.path.insert(0, os.path.join(HERE, folder))
 
+import generated  # noqa: E402
+import interrupted  # noqa: E402
 import kept_device  # noqa: E402
 import odd_clients  # noqa: E402
 import odd_devices  # noqa: E402
 import walks  # noqa: E402
 import ways  # noqa: E402
 
-TESTS = {**ways.TESTS, **kept_device.TESTS, **odd_devices.TESTS, **odd_clients.TESTS, **walks.TESTS}
+TESTS = {
+    **ways.TESTS,
+    **kept_device.TESTS,
+    **odd_devices.TESTS,
+    **odd_clients.TESTS,
+    **walks.TESTS,
+    **generated.TESTS,
+    **interrupted.TESTS,
+}
 
 
-# So many processes wait beside each other. What is played in real time, the ways to a device, is one of them.
+# The number of parallel processes; the ways to a device, in real time, are one of them.
 AT_ONCE = 6
 REAL_TIME = "ways/"
 
 
 def by_itself(name: str) -> "subprocess.CompletedProcess[str]":
-    """Runs the tests whose names have a word in a process of their own."""
+    """Runs the tests whose names contain a word in a separate process."""
     return subprocess.run([sys.executable, __file__, name], capture_output=True, text=True)
 
 
 def run_all() -> int:
-    """Runs all tests beside each other, and says in their order what each wrote."""
-    failed, names = 0, [REAL_TIME, *(it for it in TESTS if not it.startswith(REAL_TIME))]
+    """Runs all tests in parallel, and prints their output in order."""
+    failed, names = 0, [REAL_TIME, *(test for test in TESTS if not test.startswith(REAL_TIME))]
     with ThreadPoolExecutor(AT_ONCE) as pool:
         for ran in pool.map(by_itself, names):
-            print("\n".join(it for it in (ran.stdout + ran.stderr).splitlines() if it != "passed"), flush=True)
+            print("\n".join(line for line in (ran.stdout + ran.stderr).splitlines() if line != "passed"), flush=True)
             failed += ran.returncode != 0
     print(f"{failed} of {len(names)} failed" if failed else "passed")
     return 1 if failed else 0
@@ -58,7 +68,7 @@ def main(words: "list[str]") -> int:
         began = time.monotonic()
         test()
         print(f"ok  {name} ({time.monotonic() - began:.1f} s)", flush=True)
-    print("passed" if chosen else f"self_test.py: no test is called {' '.join(words)}")
+    print("passed" if chosen else f"self_test.py: no test matches {' '.join(words)}")
     return 0 if chosen else 2
 
 

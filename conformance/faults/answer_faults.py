@@ -1,4 +1,4 @@
-"""Faults of requests and answers: lists, flags, counters, maps and statuses."""
+"""Faults of requests and responses: lists, flags, counters, maps and statuses."""
 
 from __future__ import annotations
 
@@ -15,7 +15,7 @@ MAKE, GET, NEXT, RESET, SELECTION = 0x01, 0x02, 0x08, 0x07, 0x0B
 
 
 def asserted(change: Callable[[Faulty, Dict[Any, Any]], None], sign: bool = True) -> Hook:
-    """Returns what changes the map of an assertion, and signs it anew."""
+    """Returns a hook that changes the map of an assertion, and signs it again."""
 
     def hook(device: Faulty, message: Message) -> Optional[Sent]:
         item = answered(message)
@@ -31,7 +31,7 @@ def asserted(change: Callable[[Faulty, Dict[Any, Any]], None], sign: bool = True
 
 
 def made(change: Callable[[Faulty, Dict[Any, Any]], None], sign: bool = True) -> Hook:
-    """Returns what changes the map of a registration, and signs it anew."""
+    """Returns a hook that changes the map of a registration, and signs it again."""
 
     def hook(device: Faulty, message: Message) -> Optional[Sent]:
         item = answered(message)
@@ -47,7 +47,7 @@ def made(change: Callable[[Faulty, Dict[Any, Any]], None], sign: bool = True) ->
 
 
 def data_changed(place: int, change: Callable[[int], int]) -> Callable[[Faulty, Dict[Any, Any]], None]:
-    """Returns what changes a byte of the authenticator data."""
+    """Returns a hook that changes a byte of the authenticator data."""
 
     def changed(device: Faulty, item: Dict[Any, Any]) -> None:
         auth = bytearray(item[2])
@@ -58,7 +58,7 @@ def data_changed(place: int, change: Callable[[int], int]) -> Callable[[Faulty, 
 
 
 def without(key: int) -> Callable[[Faulty, Dict[Any, Any]], None]:
-    """Returns what leaves a member out."""
+    """Returns a change that removes a member."""
 
     def changed(device: Faulty, item: Dict[Any, Any]) -> None:
         item.pop(key, None)
@@ -67,7 +67,7 @@ def without(key: int) -> Callable[[Faulty, Dict[Any, Any]], None]:
 
 
 def member(key: int, value: Any) -> Callable[[Faulty, Dict[Any, Any]], None]:
-    """Returns what puts a member in."""
+    """Returns a change that adds a member."""
 
     def changed(device: Faulty, item: Dict[Any, Any]) -> None:
         item[key] = value
@@ -76,25 +76,25 @@ def member(key: int, value: Any) -> Callable[[Faulty, Dict[Any, Any]], None]:
 
 
 def user_named(device: Faulty, item: Dict[Any, Any]) -> None:
-    """Names the user, who wasn't verified."""
+    """Sends the user's name without user verification."""
     if 4 in item:
         item[4] = {**item[4], "name": "alice"}
 
 
 def counter_repeated(device: Faulty, item: Dict[Any, Any]) -> None:
-    """Answers the counter 1 for ever."""
+    """Always returns the counter 1."""
     item[2] = item[2][:33] + b"\0\0\0\1"
 
 
 def counter_lost(device: Faulty, item: Dict[Any, Any]) -> None:
-    """Counts anew after a power cycle."""
+    """Restarts the counter after a power cycle."""
     if device.cycles:
         device.last["count"] = device.last.get("count", 0) + 1
         item[2] = item[2][:33] + device.last["count"].to_bytes(4, "big")
 
 
 def counter_falls(device: Faulty, item: Dict[Any, Any]) -> None:
-    """Lets the counter fall."""
+    """Makes the counter decrease."""
     item[2] = item[2][:33] + (1000 - int.from_bytes(item[2][33:37], "big")).to_bytes(4, "big")
 
 
@@ -105,7 +105,7 @@ def key_unsorted(device: Faulty, item: Dict[Any, Any]) -> None:
 
 
 def unsorted(test: Callable[[Dict[Any, Any]], bool]) -> Hook:
-    """Returns what writes a map's last member first."""
+    """Returns a hook that writes a map's last member first."""
 
     def hook(device: Faulty, message: Message) -> Optional[Sent]:
         item = answered(message)
@@ -123,7 +123,7 @@ def status_lost(device: Faulty, message: Message) -> Optional[Sent]:
 
 
 def status(old: int, new: int, command: int) -> Hook:
-    """Returns what answers another status to a command."""
+    """Returns a hook that changes the status of the response to a command."""
 
     def hook(device: Faulty, message: Message) -> Optional[Sent]:
         changed = message.command == hid.CBOR and message.data == bytes([old]) and device.command == command
@@ -133,7 +133,7 @@ def status(old: int, new: int, command: int) -> Hook:
 
 
 def info(change: Callable[[Faulty, Dict[Any, Any]], None]) -> Hook:
-    """Returns what changes the map of authenticatorGetInfo."""
+    """Returns a hook that changes the map of authenticatorGetInfo."""
 
     def hook(device: Faulty, message: Message) -> Optional[Sent]:
         item = answered(message)
@@ -146,7 +146,7 @@ def info(change: Callable[[Faulty, Dict[Any, Any]], None]) -> Hook:
 
 
 def stripped(command: int, key: int) -> RequestHook:
-    """Returns what takes a parameter out of a request."""
+    """Returns a hook that removes a parameter from a request."""
 
     def hook(device: Faulty, request: bytes) -> Optional[bytes]:
         asked = parts_of(request)
@@ -159,8 +159,8 @@ def stripped(command: int, key: int) -> RequestHook:
     return hook
 
 
-def replaced(command: int, other: int) -> RequestHook:
-    """Returns what takes one command for another."""
+def replace_command(command: int, other: int) -> RequestHook:
+    """Returns a hook that replaces one command by another."""
 
     def hook(device: Faulty, request: bytes) -> Optional[bytes]:
         return bytes([other]) if request == bytes([command]) else request
@@ -169,7 +169,7 @@ def replaced(command: int, other: int) -> RequestHook:
 
 
 def answered_by(test: Callable[[bytes], bool], code: int) -> RequestHook:
-    """Returns what answers some requests by a status at once."""
+    """Returns a hook that answers some requests with a status at once."""
 
     def hook(device: Faulty, request: bytes) -> Optional[bytes]:
         if not test(request):
@@ -181,34 +181,34 @@ def answered_by(test: Callable[[bytes], bool], code: int) -> RequestHook:
 
 
 def trailing_cut(device: Faulty, request: bytes) -> Optional[bytes]:
-    """Takes a request with bytes behind its map."""
+    """Processes a request with trailing bytes after its map."""
     reader = ctap_cbor.Reader(request[1:])
     try:
         reader.read()
-    except ctap_cbor.CborFault:
+    except ctap_cbor.CborError:
         return request
     return request[: 1 + reader.place]
 
 
 def unsorted_taken(device: Faulty, request: bytes) -> Optional[bytes]:
-    """Takes a map whose keys fall."""
+    """Processes a map whose keys are not in ascending order."""
     return request.replace(b"\xa2\x02\x00\x01\x00", b"\xa2\x01\x00\x02\x00")
 
 
 def names_excluded(request: bytes) -> bool:
-    """Says whether a registration has an exclude list."""
+    """Returns whether a registration has an exclude list."""
     return request[0] == MAKE and bool(parts_of(request).get(5))
 
 
 def uv_and_algorithm(request: bytes) -> bool:
-    """Says whether a registration wants verification and an algorithm that isn't there."""
+    """Returns whether a registration wants user verification and an unsupported algorithm."""
     asked = parts_of(request)
     wants_user = isinstance(asked.get(7), dict) and asked[7].get("uv") is True
     return request[0] == MAKE and wants_user and asked.get(4, [{}])[0].get("alg") == -65535
 
 
 def next_again(device: Faulty, message: Message) -> Optional[Sent]:
-    """Answers the last assertion where nothing is pending."""
+    """Returns the last assertion again if none is pending."""
     if is_assertion(answered(message)):
         device.last["assertion"] = message.data
     if message.command == hid.CBOR and message.data == b"\x30" and "assertion" in device.last:
@@ -217,7 +217,7 @@ def next_again(device: Faulty, message: Message) -> Optional[Sent]:
 
 
 def pending_kept(device: Faulty, message: Message) -> Optional[Sent]:
-    """Answers an assertion from before a power cycle."""
+    """Returns a pending assertion from before a power cycle."""
     if is_assertion(answered(message)) and not device.cycles:
         device.kept = message.data
     if message.command == hid.CBOR and message.data == b"\x30" and device.cycles and device.kept:
@@ -239,24 +239,24 @@ def stopped_after(device: Faulty, at: int) -> int:
 
 
 def denied_too(device: Faulty, word: str) -> str:
-    """Takes a denial of a registration for consent."""
+    """Treats a denied registration as granted."""
     return "granted" if device.command == MAKE else word
 
 
 def number_again(device: Faulty, item: Dict[Any, Any]) -> None:
-    """Puts the number into later assertions too."""
+    """Adds numberOfCredentials to later assertions too."""
     if device.command == NEXT:
         item[5] = 3
 
 
 def number_of_one(device: Faulty, item: Dict[Any, Any]) -> None:
-    """Says that one credential is one."""
+    """Adds numberOfCredentials for a single credential."""
     if device.command == GET:
         item.setdefault(5, 1)
 
 
 def option_lost(command: int, option: str, key: int) -> RequestHook:
-    """Returns what takes an option out of a request."""
+    """Returns a hook that removes an option from a request."""
 
     def hook(device: Faulty, request: bytes) -> Optional[bytes]:
         asked = parts_of(request)
@@ -299,7 +299,7 @@ ANSWERS: List[Fault] = [
     Fault("up_without_touch", G, "Flag UP is set without a touch.", asserted(data_changed(32, lambda b: b | UP))),
     Fault("counter_repeated", G, "The counter stays.", asserted(counter_repeated)),
     Fault("counter_falls", G, "The counter falls.", asserted(counter_falls)),
-    Fault("counter_lost", G, "The counter begins anew when the power was off.", asserted(counter_lost)),
+    Fault("counter_lost", G, "The counter starts over when the power was off.", asserted(counter_lost)),
     Fault("credentials_lost", G, "Credentials are lost when the power is off.", power=POWER_LOSS, implies=(M,)),
     Fault(
         "nothing_forgotten",
@@ -311,7 +311,7 @@ ANSWERS: List[Fault] = [
     Fault("pending_kept", N, "Assertions are pending after a power cycle.", pending_kept),
     Fault("sign_in_wrong_rp", G, "The RP's hash is another one.", asserted(data_changed(31, lambda b: b ^ 1))),
     Fault("wrong_signature", G, "The counter isn't signed.", asserted(data_changed(33, lambda b: 1), False)),
-    Fault("wrong_id", G, "The id is another one.", asserted(member(1, {"id": b"x" * 32, "type": "public-key"}), False)),
+    Fault("wrong_id", G, "the ID is another one.", asserted(member(1, {"id": b"x" * 32, "type": "public-key"}), False)),
     Fault("user_missing", G, "The user of a discoverable credential is missing.", asserted(without(4))),
     Fault("user_named", G, "A user who wasn't verified is named.", asserted(user_named)),
     Fault("number_missing", G, "The number of credentials is missing.", asserted(without(5))),
@@ -331,9 +331,11 @@ ANSWERS: List[Fault] = [
     Fault("not_stored", G, "No credential is discoverable.", request=option_lost(MAKE, "rk", 7), implies=(M,)),
     Fault("nothing_found", G, "No credential has another status.", status(0x2E, 0x27, GET)),
     Fault("next_for_ever", N, "The last assertion comes again and again.", next_again),
-    Fault("next_at_any_time", N, "Pending assertions wait for ever.", clock=stopped_after),
-    Fault("reset_at_any_time", "6.6", "A reset is taken at any time.", clock=stopped_before),
-    Fault("reset_keeps", "6.6", "A reset forgets nothing.", request=replaced(RESET, SELECTION), by="reset/forgets"),
+    Fault("next_at_any_time", N, "Pending assertions wait forever.", clock=stopped_after),
+    Fault("reset_at_any_time", "6.6", "A reset is accepted at any time.", clock=stopped_before),
+    Fault(
+        "reset_keeps", "6.6", "A reset forgets nothing.", request=replace_command(RESET, SELECTION), by="reset/forgets"
+    ),
     Fault("reset_at_once", "6.6", "A reset asks nobody.", request=answered_by(lambda r: r == bytes([RESET]), 0)),
     Fault(
         "selection_at_once",
@@ -346,17 +348,17 @@ ANSWERS: List[Fault] = [
     Fault("info_short_aaguid", "6.4", "The AAGUID has 15 bytes.", info(member(3, bytes(15)))),
     Fault("info_options", "6.4", "An option is a number.", info(member(4, {"rk": 1}))),
     Fault("trailing_taken", "8", "Bytes behind the parameters are ignored.", request=trailing_cut),
-    Fault("unsorted_taken", "8", "A map whose keys fall is taken.", request=unsorted_taken),
+    Fault("unsorted_taken", "8", "A map whose keys fall is accepted.", request=unsorted_taken),
     Fault(
         "unknown_refused",
         "8",
-        "A parameter that isn't known is refused.",
+        "An unknown parameter is refused.",
         request=answered_by(lambda r: 64 in parts_of(r), 0x12),
     ),
     Fault(
         "command_taken",
         "8.1",
-        "A command that isn't known is answered by 00.",
+        "An unknown command returns 00.",
         request=answered_by(lambda r: r[0] > 0x0D, 0),
     ),
 ]

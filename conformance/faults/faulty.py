@@ -1,4 +1,4 @@
-"""Makes authenticators wrong: a filter between the runner and hidlog live, one small fault each."""
+"""Faulty authenticators: filters between the runner and hidlog live, each with one fault."""
 
 from __future__ import annotations
 
@@ -8,7 +8,7 @@ from hidlog_conformance import ctap_cbor
 from hidlog_conformance import hid_packets as hid
 from hidlog_conformance.devices import POWER_CYCLE
 from hidlog_conformance.hid_packets import Message
-from remembering import Remembering
+from cached_device import CachedDevice
 
 Sent = List[Message]
 Hook = Callable[["Faulty", Message], Optional[Sent]]
@@ -17,51 +17,51 @@ RequestHook = Callable[["Faulty", bytes], Optional[bytes]]
 
 
 class Fault(NamedTuple):
-    """Names a fault, the section that it breaks, and what makes it."""
+    """A fault: its name, the section it violates, and the hooks that make it."""
 
     name: str
     section: str
     says: str
-    # Changes what the authenticator sends: the messages in the place of one, or None for that one as it is.
+    # Returns the messages to send instead of a message of the authenticator, or None to send it unchanged.
     answer: Optional[Hook] = None
-    # Changes what it gets: the packet in the place of one, or None where it gets nothing.
+    # Returns the packet to pass to the authenticator instead of the host's, or None to drop it.
     packet: Optional[HostHook] = None
-    # Changes a CBOR request that came whole: the request in its place, or None where the hook answered.
+    # Returns the CBOR request to pass to the authenticator, or None if the hook responded.
     request: Optional[RequestHook] = None
-    # Changes packets as they are cut.
+    # Changes the packets of a message.
     cut: Optional[Callable[[List[bytes]], List[bytes]]] = None
     # Changes the user's reply.
     reply: Optional[Callable[["Faulty", str], str]] = None
-    # Changes the moment of an input.
+    # Changes the time of an input.
     clock: Optional[Callable[["Faulty", int], int]] = None
-    # What happens in place of a power cycle, as a line to the program.
+    # The line to the program instead of a power cycle.
     power: str = POWER_CYCLE
-    # The case that has to name it, where not any case of the section will do.
+    # The case that must detect it; empty for any case of the section.
     by: str = ""
-    # The other sections whose rules it breaks too.
+    # Other sections that it violates, too.
     implies: Tuple[str, ...] = ()
 
 
-class Faulty(Remembering):
-    """Plays hidlog live with a fault."""
+class Faulty(CachedDevice):
+    """hidlog live with a fault."""
 
     def __init__(self, fault: Fault) -> None:
         super().__init__()
         self.fault = fault
-        # How often the power was off, and what a fault keeps over it.
+        # The number of power cycles, and what a fault keeps across them.
         self.cycles = 0
         self.kept = b""
         self.restart()
 
     def restart(self) -> None:
-        """Forgets what a session left."""
+        """Resets the state of the last session."""
         self.host = hid.Collector(of_host=True)
         self.guest = hid.Collector()
         self.held: List[Tuple[int, bytes]] = []
         # The last request of each command, and the command of the last one.
         self.asked: Dict[int, bytes] = {}
         self.command = 0
-        # Whether the packet that came last belongs to no message.
+        # Whether the last packet belongs to no message.
         self.stray = False
         self.last: Dict[str, Any] = {}
 
@@ -73,7 +73,7 @@ class Faulty(Remembering):
         self.kept = b""
 
     def power_cycle(self, at: int) -> None:
-        """Switches off and on again, or does what the fault does in its place."""
+        """Power cycles, or does what the fault does instead."""
         self.cycles += 1
         if not self.fault.power:
             super().tick(at)
@@ -82,7 +82,7 @@ class Faulty(Remembering):
         super().power_cycle(at)
 
     def play(self, line: str) -> None:
-        """Hands the line on, and makes the fault in what comes."""
+        """Passes a line to the program, and applies the fault to its packets."""
         line = self.fault.power if line == POWER_CYCLE else line
         super().play(line)
         packets = list(self.packets)
@@ -96,13 +96,13 @@ class Faulty(Remembering):
         self.last["kept"] = len(self.packets)
 
     def put(self, message: Message) -> None:
-        """Sends a message, changed by the fault."""
+        """Sends a message, as the fault changes it."""
         changed = self.fault.answer(self, message) if self.fault.answer else None
         for each in [message] if changed is None else changed:
             self.emit(each.channel, each.command, each.data)
 
     def emit(self, channel: int, command: int, data: bytes) -> None:
-        """Sends a message as it is."""
+        """Sends a message unchanged."""
         packets = hid.packets_of(channel, command, data)
         self.packets.extend(self.fault.cut(packets) if self.fault.cut else packets)
         self.last["kept"] = len(self.packets)
@@ -114,7 +114,7 @@ class Faulty(Remembering):
         return packet
 
     def send(self, at: int, packet: bytes) -> None:
-        """Hands a packet on, changed by the fault; of a request to be changed only once it is whole."""
+        """Passes a packet on, as the fault changes it; a request is changed once it is complete."""
         at = self.fault.clock(self, at) if self.fault.clock else at
         message = self.host.feed(packet)
         self.stray = message is not None and bool(message.problem)
@@ -126,12 +126,12 @@ class Faulty(Remembering):
             if changed is not None:
                 super().send(at, changed)
         elif self.fault.request is not None:
-            self.hold(at, packet, message)
+            self.collect(at, packet, message)
         else:
             super().send(at, packet)
 
-    def hold(self, at: int, packet: bytes, message: Optional[Message]) -> None:
-        """Keeps the packets of a CBOR message until it is whole, and then hands on what the fault makes of it."""
+    def collect(self, at: int, packet: bytes, message: Optional[Message]) -> None:
+        """Collects the packets of a CBOR message, and passes on the request as the fault changes it."""
         assert self.fault.request is not None
         begins = packet[4] == 0x80 | hid.CBOR
         if message is None and (begins or self.held):
@@ -145,11 +145,11 @@ class Faulty(Remembering):
                 return
             if changed != message.data:
                 packets = [(at, piece) for piece in hid.packets_of(message.channel, hid.CBOR, changed)]
-        for moment, piece in packets:
-            super().send(moment, piece)
+        for time, piece in packets:
+            super().send(time, piece)
 
     def presence(self, at: int, word: str) -> None:
-        """Lets the user answer, changed by the fault."""
+        """Lets the user reply, as the fault changes it."""
         super().presence(at, self.fault.reply(self, word) if self.fault.reply else word)
 
     def resigned(self, auth: bytes, client_hash: bytes, credential: bytes) -> bytes:
@@ -159,28 +159,28 @@ class Faulty(Remembering):
 
 
 def parts_of(request: bytes) -> Dict[Any, Any]:
-    """Returns the parameters of a request, empty where it has none that can be read."""
+    """Returns the parameters of a request; empty if they are invalid."""
     try:
         item = ctap_cbor.decode(request[1:])
-    except ctap_cbor.CborFault:
+    except ctap_cbor.CborError:
         return {}
     return dict(item) if isinstance(item, dict) else {}
 
 
 def answered(message: Message) -> Dict[Any, Any]:
-    """Returns the map of a successful answer, empty where it is none."""
+    """Returns the map of a successful response; empty for others."""
     if message.command != hid.CBOR or message.problem or message.data[:1] != b"\0" or len(message.data) < 2:
         return {}
     return parts_of(message.data)
 
 
 def is_assertion(item: Dict[Any, Any]) -> bool:
-    """Says whether a map is the answer of a sign-in."""
+    """Returns whether a map is the response of a sign-in."""
     return isinstance(item.get(3), bytes) and isinstance(item.get(2), bytes)
 
 
 def is_made(item: Dict[Any, Any]) -> bool:
-    """Says whether a map is the answer of a registration."""
+    """Returns whether a map is the response of a registration."""
     return item.get(1) == "packed"
 
 

@@ -10,7 +10,7 @@ from hidlog_conformance.hid_packets import Message
 
 
 def init_changed(place: int, new: bytes) -> Hook:
-    """Returns what changes bytes of the INIT answer."""
+    """Returns a hook that changes bytes of the INIT response."""
 
     def hook(device: Faulty, message: Message) -> Optional[Sent]:
         if message.command != hid.INIT or message.channel != hid.BROADCAST:
@@ -21,14 +21,14 @@ def init_changed(place: int, new: bytes) -> Hook:
 
 
 def other_channel(device: Faulty, message: Message) -> Optional[Sent]:
-    """Names another channel in the answer of INIT on a channel."""
+    """Sends another channel in the INIT response on a channel."""
     if message.command == hid.INIT and message.channel != hid.BROADCAST:
         return with_data(message, message.data[:8] + b"\0\0\0\x63" + message.data[12:])
     return None
 
 
 def dropped(command: int, *first: int) -> Hook:
-    """Returns what loses messages of a command, with these first bytes."""
+    """Returns a hook that loses messages of a command, with these first bytes."""
 
     def hook(device: Faulty, message: Message) -> Optional[Sent]:
         return [] if message.command == command and (not first or message.data[:1] in map(single, first)) else None
@@ -37,7 +37,7 @@ def dropped(command: int, *first: int) -> Hook:
 
 
 def renamed(command: int, old: int, new: int) -> Hook:
-    """Returns what puts another byte in the place of a code."""
+    """Returns a hook that puts another byte instead of a code."""
 
     def hook(device: Faulty, message: Message) -> Optional[Sent]:
         return with_data(message, bytes([new])) if message.command == command and message.data == bytes([old]) else None
@@ -51,7 +51,7 @@ def single(number: int) -> bytes:
 
 
 def init_on_new(device: Faulty, message: Message) -> Optional[Sent]:
-    """Sends the INIT answer on the new channel."""
+    """Sends the INIT response on the new channel."""
     if message.command == hid.INIT and message.channel == hid.BROADCAST:
         return [Message(int.from_bytes(message.data[8:12], "big"), hid.INIT, message.data)]
     return None
@@ -63,7 +63,7 @@ def keepalive_elsewhere(device: Faulty, message: Message) -> Optional[Sent]:
 
 
 def keepalive_once(device: Faulty, message: Message) -> Optional[Sent]:
-    """Sends one KEEPALIVE alone."""
+    """Sends only one KEEPALIVE."""
     if message.command != hid.KEEPALIVE:
         return None
     seen = device.last.get("keepalive", False)
@@ -77,7 +77,7 @@ def keepalive_long(device: Faulty, message: Message) -> Optional[Sent]:
 
 
 def keepalive_after(device: Faulty, message: Message) -> Optional[Sent]:
-    """Sends a KEEPALIVE behind each answer."""
+    """Sends a KEEPALIVE behind each response."""
     return [message, Message(message.channel, hid.KEEPALIVE, b"\1")] if message.command == hid.CBOR else None
 
 
@@ -94,14 +94,14 @@ def cancel_ignored(device: Faulty, at: int, packet: bytes) -> Optional[bytes]:
 
 
 def cancel_answered(device: Faulty, at: int, packet: bytes) -> Optional[bytes]:
-    """Answers a CANCEL for which nothing waits."""
+    """Answers a CANCEL without a pending request."""
     if packet[4] == 0x80 | hid.CANCEL and device.need == "nothing":
         device.emit(int.from_bytes(packet[:4], "big"), hid.ERROR, b"\1")
     return packet
 
 
 def cancel_of_all(device: Faulty, at: int, packet: bytes) -> Optional[bytes]:
-    """Takes a CANCEL of any channel for that of the request, which is the first one."""
+    """Accepts a CANCEL of any channel for that of the request, which is the first one."""
     return b"\0\0\0\1" + packet[4:] if packet[4] == 0x80 | hid.CANCEL else packet
 
 
@@ -125,7 +125,7 @@ def stray_answered(device: Faulty, at: int, packet: bytes) -> Optional[bytes]:
 
 
 def any_channel(device: Faulty, at: int, packet: bytes) -> Optional[bytes]:
-    """Takes a continuation packet of any channel for the open message."""
+    """Processes a continuation packet of any channel for the open message."""
     channel = int.from_bytes(packet[:4], "big")
     if packet[4] & 0x80:
         if set(device.host.open) == {channel}:
@@ -135,7 +135,7 @@ def any_channel(device: Faulty, at: int, packet: bytes) -> Optional[bytes]:
 
 
 def init_keeps(device: Faulty, at: int, packet: bytes) -> Optional[bytes]:
-    """Answers INIT on a channel and keeps its message and work."""
+    """Responds to INIT without aborting the channel's transaction."""
     if packet[4:7] == bytes([0x80 | hid.INIT, 0, 8]) and packet[:4] in (b"\0\0\0\1", b"\0\0\0\2"):
         device.emit(int.from_bytes(packet[:4], "big"), hid.INIT, packet[7:15] + packet[:4] + bytes([2, 1, 0, 0, 12]))
         return None
@@ -143,7 +143,7 @@ def init_keeps(device: Faulty, at: int, packet: bytes) -> Optional[bytes]:
 
 
 def any_channel_served(device: Faulty, at: int, packet: bytes) -> Optional[bytes]:
-    """Serves a channel that was never given out as the first one."""
+    """Serves an unallocated channel as the first one."""
     number = int.from_bytes(packet[:4], "big")
     strange = number > 0x1000 and number != hid.BROADCAST and packet[4] != 0x80 | hid.CANCEL
     return b"\0\0\0\1" + packet[4:] if strange else packet
@@ -162,7 +162,7 @@ def ping_last_byte(device: Faulty, message: Message) -> Optional[Sent]:
 
 
 def busy_elsewhere(device: Faulty, message: Message) -> Optional[Sent]:
-    """Says to the wrong host that the key is busy."""
+    """Sends the busy error to the wrong host."""
     if message.command == hid.ERROR and message.data == b"\6":
         return [Message(3 - message.channel if message.channel < 3 else 1, hid.ERROR, b"\6")]
     return None
@@ -179,7 +179,7 @@ def last_lost(packets: List[bytes]) -> List[bytes]:
 
 
 def not_zero(packets: List[bytes]) -> List[bytes]:
-    """Leaves old bytes behind a message."""
+    """Leaves old bytes in the padding."""
     # How many bytes of the last packet are behind the message.
     behind = 57 + 59 * (len(packets) - 1) - int.from_bytes(packets[0][5:7], "big")
     return packets[:-1] + [packets[-1][: 64 - behind] + b"\xde" * behind]
@@ -190,48 +190,48 @@ CHANNELS = "11.2.3"
 ERRORS, BUSY, TIME, ABORT, PACKETS, PING = "11.2.9.1.6", "11.2.5.1", "11.2.5.2", "11.2.5.3", "11.2.4", "11.2.9.1.4"
 
 WIRE: List[Fault] = [
-    Fault("wrong_nonce", INIT, "The INIT answer has another nonce.", init_changed(0, b"\xee")),
+    Fault("wrong_nonce", INIT, "The INIT response has another nonce.", init_changed(0, b"\xee")),
     Fault("channel_reused", INIT, "Each host gets the same channel.", init_changed(8, b"\0\0\0\1")),
     Fault("channel_reserved", INIT, "A host gets the broadcast channel.", init_changed(8, b"\xff" * 4)),
-    Fault("init_too_long", INIT, "The INIT answer has 18 bytes.", init_changed(17, b"\0")),
-    Fault("init_on_new_channel", INIT, "The INIT answer comes on the new channel.", init_on_new),
+    Fault("init_too_long", INIT, "The INIT response has 18 bytes.", init_changed(17, b"\0")),
+    Fault("init_on_new_channel", INIT, "The INIT response comes on the new channel.", init_on_new),
     Fault("wrong_version", INIT, "The protocol version is 1.", init_changed(12, b"\1")),
     Fault("no_capability", INIT, "The capability CBOR isn't named.", init_changed(16, b"\0")),
     Fault("other_channel_kept", INIT, "INIT on a channel names another.", other_channel, by="init/on_its_own_channel"),
-    Fault("init_keeps_message", ABORT, "INIT leaves message and work as they are.", None, init_keeps),
+    Fault("init_keeps_message", ABORT, "INIT does not abort the channel's transaction.", None, init_keeps),
     Fault("sequence_taken", SEQUENCE, "Continuation packets count under any number.", None, sequence_taken),
     Fault("stray_answered", SEQUENCE, "A stray continuation packet is answered.", None, stray_answered),
     Fault(
         "any_channels_packet",
         SEQUENCE,
-        "Another host's continuation packet is taken.",
+        "Another host's continuation packet is accepted.",
         None,
         any_channel,
         implies=(BUSY,),
     ),
-    Fault("sequence_not_named", SEQUENCE, "A wrong number isn't answered.", dropped(hid.ERROR, 4)),
-    Fault("busy_silent", BUSY, "A second host isn't sent away.", dropped(hid.ERROR, 6)),
+    Fault("sequence_not_named", SEQUENCE, "A wrong number gets no response.", dropped(hid.ERROR, 4)),
+    Fault("busy_silent", BUSY, "A second host gets no busy error.", dropped(hid.ERROR, 6)),
     Fault("busy_wrong_code", BUSY, "A second host gets another code.", renamed(hid.ERROR, 6, 0x7F)),
-    Fault("busy_elsewhere", BUSY, "The wrong host is sent away.", busy_elsewhere),
-    Fault("timeout_silent", TIME, "A message that is given up isn't answered.", dropped(hid.ERROR, 5)),
-    Fault("timeout_wrong_code", TIME, "A message that is given up has another code.", renamed(hid.ERROR, 5, 4)),
+    Fault("busy_elsewhere", BUSY, "The wrong host gets the busy error.", busy_elsewhere),
+    Fault("timeout_silent", TIME, "A message that times out gets no response.", dropped(hid.ERROR, 5)),
+    Fault("timeout_wrong_code", TIME, "A message that times out has another code.", renamed(hid.ERROR, 5, 4)),
     Fault("no_keepalive", KEEP, "KEEPALIVEs don't come.", dropped(hid.KEEPALIVE)),
-    Fault("keepalive_once", KEEP, "One KEEPALIVE comes alone.", keepalive_once),
-    Fault("keepalive_status", KEEP, "KEEPALIVEs don't say that the user is needed.", renamed(hid.KEEPALIVE, 2, 1)),
+    Fault("keepalive_once", KEEP, "Only one KEEPALIVE comes.", keepalive_once),
+    Fault("keepalive_status", KEEP, "KEEPALIVEs don't say that a touch is requested.", renamed(hid.KEEPALIVE, 2, 1)),
     Fault("keepalive_elsewhere", KEEP, "KEEPALIVEs go to all channels.", keepalive_elsewhere),
     Fault("keepalive_long", KEEP, "KEEPALIVEs have two bytes.", keepalive_long),
-    Fault("keepalive_after", KEEP, "A KEEPALIVE comes behind the answer.", keepalive_after),
+    Fault("keepalive_after", KEEP, "A KEEPALIVE comes behind the response.", keepalive_after),
     Fault("cancel_answered", CANCEL, "CANCEL is answered where nothing waits.", None, cancel_answered),
     Fault("cancel_ignored", CANCEL, "CANCEL is ignored.", None, cancel_ignored),
     Fault("cancel_by_error", CANCEL, "A cancelled request gets an ERROR.", cancel_by_error),
     Fault("cancel_of_all", CANCEL, "CANCEL ends another host's request.", None, cancel_of_all),
-    Fault("cancel_success", CANCEL, "A cancelled request is answered by 00.", renamed(hid.CBOR, 0x2D, 0)),
-    Fault("ping_cut", PING, "A PING comes back cut.", ping_cut),
+    Fault("cancel_success", CANCEL, "A cancelled request returns 00.", renamed(hid.CBOR, 0x2D, 0)),
+    Fault("ping_cut", PING, "A PING is returned cut.", ping_cut),
     Fault("ping_last_byte", PING, "A full packet's last byte is lost.", ping_last_byte),
     Fault("from_one", PACKETS, "Continuation packets count from 1.", cut=from_one),
     Fault("last_lost", PACKETS, "The last packet of a message is lost.", cut=last_lost),
-    Fault("not_zero", PACKETS, "Old bytes are left behind a message.", cut=not_zero),
-    Fault("unknown_silent", ERRORS, "An unknown command isn't answered.", dropped(hid.ERROR, 1)),
+    Fault("not_zero", PACKETS, "Padding has old bytes.", cut=not_zero),
+    Fault("unknown_silent", ERRORS, "An unknown command gets no response.", dropped(hid.ERROR, 1)),
     Fault(
         "length_wrong_code",
         PACKETS,
@@ -239,6 +239,6 @@ WIRE: List[Fault] = [
         renamed(hid.ERROR, 3, 4),
         implies=("11.2.9.1.2",),
     ),
-    Fault("channel_silent", CHANNELS, "A strange channel isn't answered.", dropped(hid.ERROR, 0x0B)),
-    Fault("channel_served", CHANNELS, "A strange channel is served.", None, any_channel_served),
+    Fault("channel_silent", CHANNELS, "An unallocated channel gets no response.", dropped(hid.ERROR, 0x0B)),
+    Fault("channel_served", CHANNELS, "An unallocated channel is accepted.", None, any_channel_served),
 ]

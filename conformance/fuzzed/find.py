@@ -1,11 +1,11 @@
 #!/usr/bin/env python3
-"""Lets the fuzzer of tests/fuzz find wrong authenticators, and cuts each finding down.
+"""Lets the fuzzer of tests/fuzz detect faulty authenticators, and minimizes each finding.
 
-    conformance/fuzzed/find.py FOLDER [--count N] [WORD ..]    writes FOLDER/FAULT.log for the faults of these words
+    conformance/fuzzed/find.py FOLDER [--count N] [WORD ..]    write FOLDER/FAULT.log for the faults that match
 
-A finding is a hostile log to which a wrong authenticator sends other packets than the same one without its fault. It is
-cut down as `hidlog shrink` does for as long as the first difference is of the same kind. What is in conformance/fuzzed
-was found by it, and read against the standard before it became a case.
+A finding is a malformed log for which the packets with and without the fault differ. It is minimized as by `hidlog
+shrink`, while the first difference is of the same kind. The logs in conformance/fuzzed were found by it, and compared
+with the standard before they became cases.
 """
 
 from __future__ import annotations
@@ -23,7 +23,7 @@ for place in ("conformance", "conformance/faults", "tests/fuzz", "python/src"):
 from faults import FAULTS  # noqa: E402
 from faulty import Fault, Faulty  # noqa: E402
 from hidlog import shrink  # noqa: E402
-from hostile import hostile_log  # noqa: E402
+from malformed_requests import hostile_log  # noqa: E402
 from judge import is_line  # noqa: E402
 
 PLAIN = Fault("none", "", "", lambda device, message: None)
@@ -37,7 +37,7 @@ def inputs_of(log: bytes) -> List[bytes]:
 
 
 def sent(device: Faulty, lines: List[bytes]) -> List[Sent]:
-    """Plays input lines; returns what is sent, each packet with the number of its input."""
+    """Plays input lines; returns the packets, each with the index of its input."""
     device.start()
     found: List[Sent] = []
     try:
@@ -61,16 +61,16 @@ def sent(device: Faulty, lines: List[bytes]) -> List[Sent]:
 
 
 def head(packets: List[Sent], place: int) -> bytes:
-    """Returns what a packet is: its command and first byte; nothing where there is none."""
+    """Returns a packet's command and first byte; empty if there is no packet."""
     return packets[place][1][4:8] if place < len(packets) else b""
 
 
 def difference(fault: Fault, lines: List[bytes]) -> Optional[Tuple[bytes, bytes]]:
-    """Returns what the first packet that differs is, with the fault and without it."""
+    """Returns the heads of the first packets that differ, with and without the fault, or None."""
     try:
         right, wrong = sent(Faulty(WHOLE if fault.request else PLAIN), lines), sent(Faulty(fault), lines)
     except (OSError, KeyError, IndexError, ValueError, AttributeError, TypeError):
-        # Faults are written for the corpus; a hostile log may end one by an exception of Python.
+        # A malformed log may raise an exception in a fault, which is written for the conformance tests.
         return None
     for place in range(max(len(right), len(wrong))):
         if right[place : place + 1] != wrong[place : place + 1]:
@@ -78,40 +78,40 @@ def difference(fault: Fault, lines: List[bytes]) -> Optional[Tuple[bytes, bytes]
     return None
 
 
-class Differs(shrink.Command):
-    """Fails on a log on which a fault differs in the same way."""
+class SameDifference(shrink.Command):
+    """Fails on logs for which a fault makes the same difference."""
 
     def __init__(self, fault: Fault) -> None:
         super().__init__([], None)
         self.fault = fault
 
     def failure(self, blocks: Any) -> Any:
-        """Returns how a fault differs, or None."""
+        """Returns the difference that the fault makes, or None."""
         return difference(self.fault, inputs_of(shrink.joined(blocks)))
 
 
 def found(fault: Fault, count: int) -> Optional[bytes]:
-    """Returns the shortest log on which a fault differs."""
+    """Returns the shortest log for which a fault makes a difference."""
     for number in range(count):
         lines = inputs_of(hostile_log("conformance", number))
         if difference(fault, lines) is None:
             continue
-        command = Differs(fault)
+        command = SameDifference(fault)
         blocks = shrink.blocks_of(b"".join(line + b"\n" for line in lines))
-        wanted: Any = command.failure(blocks)
-        shrinking = shrink.Shrinking(command, blocks, wanted, tell=lambda text: None)
-        shrinking.leave_out_transactions()
-        shrinking.leave_out_blocks()
+        expected: Any = command.failure(blocks)
+        shrinking = shrink.Shrinking(command, blocks, expected, tell=lambda text: None)
+        shrinking.remove_transactions()
+        shrinking.remove_blocks()
         shortest: bytes = shrink.joined(shrinking.blocks)
         return shortest
     return None
 
 
 def main(arguments: List[str]) -> int:
-    """Looks for a finding of each fault."""
-    parser = argparse.ArgumentParser(description="Lets the fuzzer find wrong authenticators.")
+    """Searches a finding for each fault."""
+    parser = argparse.ArgumentParser(description="Let the fuzzer detect faulty authenticators.")
     parser.add_argument("folder", metavar="FOLDER")
-    parser.add_argument("--count", type=int, default=1500, help="how many hostile logs; by default 1500")
+    parser.add_argument("--count", type=int, default=1500, help="number of malformed logs (default: 1500)")
     parser.add_argument("words", nargs="*", metavar="WORD")
     options = parser.parse_intermixed_args(arguments)
     os.makedirs(options.folder, exist_ok=True)
@@ -119,7 +119,7 @@ def main(arguments: List[str]) -> int:
         if options.words and not any(word in name for word in options.words):
             continue
         log = found(fault, options.count)
-        print(f"{name}: {'nothing was found' if log is None else str(log.count(bytes([10]))) + ' lines'}", flush=True)
+        print(f"{name}: {'nothing found' if log is None else str(log.count(bytes([10]))) + ' lines'}", flush=True)
         if log is not None:
             with open(os.path.join(options.folder, name + ".log"), "wb") as file:
                 file.write(log)

@@ -1,4 +1,4 @@
-"""Plays the conformance corpus to the device side or the client side of CTAP 2.1 over USB HID."""
+"""Conformance tests of CTAP 2.1 over USB HID, for authenticators and clients."""
 
-# The version of the corpus: sessions, rules and runner.
+# The version of sessions, rules and runner.
 __version__ = "1.0.0"

@@ -1,4 +1,4 @@
-"""Plays a device to a client: a sound one, changed by the rules of a session of conformance/clients."""
+"""Plays a device to a client: a conforming one, modified by the rules of a session of conformance/clients."""
 
 from __future__ import annotations
 
@@ -21,7 +21,7 @@ Rules = Dict[str, List[List[str]]]
 
 @dataclass
 class Reply:
-    """An answer while it is changed: its map, its bytes, its packets, and what comes before them."""
+    """A response being modified: its map, bytes, packets, and what is sent before them."""
 
     channel: int
     command: int
@@ -32,21 +32,21 @@ class Reply:
 
 
 def pin_side() -> PinSide:
-    """Returns a PIN, which needs the package cryptography, as no other session does."""
+    """Returns the PIN side, which needs the package cryptography."""
     from hidlog_conformance.client_sides import PinSide
 
     return PinSide()
 
 
 def u2f_side() -> U2fSide:
-    """Returns U2F, which needs it too."""
+    """Returns the U2F side, which needs the package cryptography."""
     from hidlog_conformance.client_sides import U2fSide
 
     return U2fSide()
 
 
 class ClientDevice:
-    """Takes a client's packets and returns what the device sends, each with the milliseconds that pass before it."""
+    """Processes a client's packets; returns the device's, each with a delay in milliseconds."""
 
     def __init__(self, rules: Rules) -> None:
         self.rules = rules
@@ -59,26 +59,26 @@ class ClientDevice:
         self.rp = ""
         self.count = 0
         self.seen: Dict[str, int] = {}
-        # What is sent once the client cancels.
+        # Packets to send once the client cancels.
         self.held: List[bytes] = []
         has_pin = any(words[0] == "pin" for words in rules.get("info", []))
         self.pin = pin_side() if has_pin else None
         self.u2f: Optional[U2fSide] = None
 
     def words(self, kind: str, name: str) -> List[str]:
-        """Returns the words of a rule, or none."""
+        """Returns the words of a rule, or an empty list."""
         found = [words[1:] for words in self.rules.get(kind, []) if words[0] == name]
         return found[0] if found else []
 
     def take(self, packet: bytes) -> List[Tuple[int, bytes]]:
-        """Takes a packet."""
+        """Processes a packet."""
         message = self.host.feed(packet)
         if message is None or message.problem:
             return []
         if message.command == hid.CANCEL:
             held, self.held = self.held, []
             return [(0, piece) for piece in held]
-        kind, reply = self.sound(message)
+        kind, reply = self.conforming(message)
         self.seen[kind] = self.seen.get(kind, 0) + 1
         rules = self.rules.get(kind, [])
         for stage in (MAPS, BYTES, PACKETS):
@@ -91,8 +91,8 @@ class ClientDevice:
                     stage[words[0]](self, kind, reply, words[1:])
         return reply.before + [(0, piece) for piece in reply.packets]
 
-    def sound(self, message: hid.Message) -> Tuple[str, Reply]:
-        """Returns what a sound device answers."""
+    def conforming(self, message: hid.Message) -> Tuple[str, Reply]:
+        """Returns the kind of a request and the response of a conforming device."""
         reply = Reply(message.channel, message.command)
         if message.command == hid.INIT:
             self.channel = int("".join(self.words("init", "channel") or ["11223344"]), 16)
@@ -153,7 +153,7 @@ class ClientDevice:
         return {1: "packed", 2: auth, 3: {"alg": -7, "sig": self.keys.sign(self.credential, auth + asked[1])}}
 
     def get(self, asked: Dict[Any, Any]) -> Dict[Any, Any]:
-        """Answers authenticatorGetAssertion: one account where there is an allow list, or as many as the rule says."""
+        """Responds to authenticatorGetAssertion: one account with an allow list, or as many as the rule says."""
         self.rp, self.hash = asked[1], asked[2]
         accounts = int("".join(self.words("get", "accounts") or ["3"]))
         self.pending = 0
@@ -178,7 +178,7 @@ class ClientDevice:
 
 
 def set_member(device: ClientDevice, kind: str, reply: Reply, words: List[str]) -> None:
-    """member KEY HEX: puts an encoded item under a key; without HEX the key is left out."""
+    """member KEY [HEX]: sets a member to an encoded item, or removes it."""
     assert reply.item is not None
     if len(words) > 1:
         reply.item[int(words[0])] = ctap_cbor.Raw(bytes.fromhex(words[1]))
@@ -187,7 +187,7 @@ def set_member(device: ClientDevice, kind: str, reply: Reply, words: List[str]) 
 
 
 def bad_signature(device: ClientDevice, kind: str, reply: Reply, words: List[str]) -> None:
-    """bad-signature: signs something else."""
+    """bad-signature: signs other data."""
     assert reply.item is not None
     signature = device.keys.sign(device.credential, b"something else")
     if kind == "make":
@@ -197,20 +197,20 @@ def bad_signature(device: ClientDevice, kind: str, reply: Reply, words: List[str
 
 
 def cut_auth(device: ClientDevice, kind: str, reply: Reply, words: List[str]) -> None:
-    """cut-auth N: leaves out the last N bytes of the authenticator data."""
+    """cut-auth N: removes the last N bytes of the authenticator data."""
     assert reply.item is not None
     reply.item[2] = reply.item[2][: -int(words[0])]
 
 
 def fill(device: ClientDevice, kind: str, reply: Reply, words: List[str]) -> None:
-    """fill N: adds a member that isn't known, so that the message has N bytes."""
+    """fill N: adds an unknown member so that the message has N bytes."""
     assert reply.item is not None
     room = int(words[0]) - 1 - len(ctap_cbor.encode(reply.item)) - 5
     reply.item[0x60] = bytes(room)
 
 
 def data_is(device: ClientDevice, kind: str, reply: Reply, words: List[str]) -> None:
-    """data HEX: answers these bytes."""
+    """data HEX: sends these bytes as the response."""
     reply.data = bytes.fromhex("".join(words))
 
 
@@ -220,59 +220,60 @@ def append(device: ClientDevice, kind: str, reply: Reply, words: List[str]) -> N
 
 
 def cut(device: ClientDevice, kind: str, reply: Reply, words: List[str]) -> None:
-    """cut N: leaves out the last N bytes."""
+    """cut N: removes the last N bytes."""
     reply.data = reply.data[: -int(words[0])]
 
 
 def swap_bytes(device: ClientDevice, kind: str, reply: Reply, words: List[str]) -> None:
-    """replace HEX HEX: puts bytes in the place of others, once."""
+    """replace OLD NEW: replaces bytes, once."""
     assert bytes.fromhex(words[0]) in reply.data, (kind, words)
     reply.data = reply.data.replace(bytes.fromhex(words[0]), bytes.fromhex(words[1]), 1)
 
 
 def error(device: ClientDevice, kind: str, reply: Reply, words: List[str]) -> None:
-    """error CODE N: answers ERROR to the first N requests."""
+    """error CODE N: responds to the first N requests with ERROR."""
     if device.seen[kind] <= int(words[1]):
         reply.command, reply.data = hid.ERROR, bytes.fromhex(words[0])
 
 
 def command(device: ClientDevice, kind: str, reply: Reply, words: List[str]) -> None:
-    """command HEX: answers under another command."""
+    """command HEX: responds with another command."""
     reply.command = int(words[0], 16)
 
 
 def on_channel(device: ClientDevice, kind: str, reply: Reply, words: List[str]) -> None:
-    """on HEX: answers on another channel."""
+    """on HEX: responds on another channel."""
     reply.channel = int(words[0], 16)
 
 
 def byte(device: ClientDevice, kind: str, reply: Reply, words: List[str]) -> None:
-    """byte PLACE HEX: puts a byte in the place of another."""
+    """byte INDEX HEX: replaces a byte."""
     place = int(words[0])
     reply.data = reply.data[:place] + bytes.fromhex(words[1]) + reply.data[place + 1 :]
 
 
 def first(device: ClientDevice, kind: str, reply: Reply, words: List[str]) -> None:
-    """first HEX: answers these bytes to the first request."""
+    """first HEX: responds to the first request with these bytes."""
     if device.seen[kind] == 1:
         reply.data = bytes.fromhex(words[0])
 
 
 def until_cancel(device: ClientDevice, kind: str, reply: Reply, words: List[str]) -> None:
-    """until-cancel N [HEX]: sends three KEEPALIVEs, and once the client cancels N more and these bytes, or the answer."""
+    """until-cancel N [HEX]: sends three KEEPALIVEs; after CANCEL, N more and these bytes (or the response)."""
     touch = hid.packets_of(reply.channel, hid.KEEPALIVE, b"\2")
     ended = hid.packets_of(reply.channel, reply.command, bytes.fromhex(words[1])) if len(words) > 1 else reply.packets
     device.held, reply.packets = touch * int(words[0]) + ended, touch * 3
 
 
 def keepalive(device: ClientDevice, kind: str, reply: Reply, words: List[str]) -> None:
-    """keepalive STATUS N MS: sends N KEEPALIVEs, a time apart."""
+    """keepalive STATUS N MS: sends N KEEPALIVEs, MS milliseconds apart."""
     packet = hid.packets_of(reply.channel, hid.KEEPALIVE, bytes.fromhex(words[0]))[0]
     reply.before += [(int(words[2]), packet)] * int(words[1])
 
 
 def stranger(device: ClientDevice, kind: str, reply: Reply, words: List[str]) -> None:
-    """stranger PLACE COMMAND HEX: a message for another host before the answer, or after its first packet."""
+    """stranger before|between COMMAND HEX: a message for another host before the response, or after its first
+    packet."""
     channel = hid.BROADCAST if words[1] == "06" else STRANGER
     packets = hid.packets_of(channel, int(words[1], 16), bytes.fromhex(words[2]))
     if words[0] == "before":
@@ -282,24 +283,24 @@ def stranger(device: ClientDevice, kind: str, reply: Reply, words: List[str]) ->
 
 
 def length(device: ClientDevice, kind: str, reply: Reply, words: List[str]) -> None:
-    """length N: names another length."""
+    """length N: sends another length in the header."""
     first = reply.packets[0]
     reply.packets[0] = first[:5] + int(words[0]).to_bytes(2, "big") + first[7:]
 
 
 def sequence(device: ClientDevice, kind: str, reply: Reply, words: List[str]) -> None:
-    """sequence PACKET N: gives a continuation packet another number."""
+    """sequence PACKET N: changes the sequence number of a packet."""
     place = int(words[0])
     reply.packets[place] = reply.packets[place][:4] + bytes([int(words[1])]) + reply.packets[place][5:]
 
 
 def order(device: ClientDevice, kind: str, reply: Reply, words: List[str]) -> None:
-    """order N ..: sends the packets of these places, and no others."""
+    """order N ..: sends only the packets with these indexes, in this order."""
     reply.packets = [reply.packets[int(word)] for word in words]
 
 
 def padding(device: ClientDevice, kind: str, reply: Reply, words: List[str]) -> None:
-    """padding HEX: fills the last packet with a byte in place of zeros."""
+    """padding HEX: pads the last packet with a byte instead of zeros."""
     used = len(reply.data) + 7 if len(reply.packets) == 1 else (len(reply.data) - 57 - 1) % 59 + 1 + 5
     reply.packets[-1] = reply.packets[-1][:used].ljust(64, bytes.fromhex(words[0]))
 
@@ -309,5 +310,5 @@ BYTES = {"data": data_is, "append": append, "cut": cut, "replace": swap_bytes, "
 BYTES.update({"on": on_channel, "byte": byte, "first": first})
 PACKETS = {"keepalive": keepalive, "stranger": stranger, "length": length, "sequence": sequence, "order": order}
 PACKETS.update({"padding": padding, "until-cancel": until_cancel})
-# Rules that the sound device reads itself.
+# Rules that ClientDevice applies itself.
 BUILT = ("channel", "tail", "flags", "rp", "id-length", "accounts", "pin", "counter")

@@ -1,4 +1,4 @@
-"""Plays a device to a client's command, and judges what the client makes of it."""
+"""Tests a client: plays a device to its command, and checks what the client reports."""
 
 from __future__ import annotations
 
@@ -8,29 +8,33 @@ import shlex
 import signal
 import subprocess
 import time
-from concurrent.futures import ThreadPoolExecutor
-from typing import List, Tuple
+from typing import List, Optional, Tuple
 
 from hidlog_conformance.client_device import BUILT, BYTES, MAPS, PACKETS, ClientDevice, Rules
-from hidlog_conformance.devices import LONGEST_LINE, Unread, ended, write_to
-from hidlog_conformance.places import CLIENTS
+from hidlog_conformance.devices import MAX_LINE, InputNotReadError, ended, started, write_to
+from hidlog_conformance.interrupts import wait_for_end
+from hidlog_conformance.paths import CLIENTS
 from hidlog_conformance.outcome import Outcome
-from hidlog_conformance.listener import CASE, FLOOD
-from hidlog_conformance.session_file import BadSession, Session
+from hidlog_conformance.response_reader import CASE_SECONDS, MAX_PACKETS
+from hidlog_conformance.results import Results, collect
+from hidlog_conformance.session_file import SessionSyntaxError, Session
 
-HEADS = ("rule", "shows", "why", "device", "task", "client", "result", "level")
-# Seconds until a client that says nothing waits: while it starts, and afterwards.
+# A session's outcome, and its log.
+Played = Tuple[Outcome, List[str]]
+
+HEADS = ("rule", "requirement", "why", "device", "task", "client", "result", "level")
+# Seconds after which a silent client counts as waiting: at the start, and later.
 STARTING, PATIENCE = 30.0, 3.0
-# The words that a client ends with, and verdicts of the runner that no session wants.
+# The last words of clients, and the runner's own verdicts, which no session expects.
 WORDS = ("ok", "refused", "skipped")
 MADE = {"ok": "takes", "refused": "refuses"}
 
 
 def rule_of(line: str, path: str) -> Tuple[str, List[str]]:
-    """Reads a line of rules: at KIND NAME WORDS."""
+    """Parses a rule: at KIND NAME WORDS."""
     at, kind, *words = line.split(" ")
     if at != "at" or not words or words[0] not in {*BUILT, *MAPS, *BYTES, *PACKETS}:
-        raise BadSession(f"{path}: no rule: {line}")
+        raise SessionSyntaxError(f"{path}: not a rule: {line}")
     return kind, words
 
 
@@ -47,21 +51,18 @@ def read_client_session(path: str) -> Tuple[Session, Rules]:
             elif line and not line.startswith("#"):
                 kind, words = rule_of(line, path)
                 rules.setdefault(kind, []).append(words)
-    lacking = [word for word in ("rule", "shows", "device", "task", "client") if word not in session.head]
-    if lacking or session.head["device"] not in ("lawful", "unlawful"):
-        raise BadSession(f"{path} lacks {lacking or 'device: lawful or unlawful'}")
+    lacking = [word for word in ("rule", "requirement", "device", "task", "client") if word not in session.head]
+    if lacking or session.head["device"] not in ("conforming", "nonconforming"):
+        raise SessionSyntaxError(f"{path}: missing {lacking or 'device: conforming or nonconforming'}")
     return session, rules
 
 
 class Conversation:
-    """Speaks with one run of the client's command."""
+    """One run of the client's command."""
 
-    def __init__(self, command: str, task: str, rules: Rules, slow: bool, seconds: float = CASE) -> None:
+    def __init__(self, command: str, task: str, rules: Rules, slow: bool, seconds: float = CASE_SECONDS) -> None:
         words = shlex.split(command) + task.split(" ")
-        pipe = subprocess.PIPE
-        self.process = subprocess.Popen(
-            words, stdin=pipe, stdout=pipe, stderr=subprocess.DEVNULL, start_new_session=True
-        )
+        self.process = started(words, stderr=subprocess.DEVNULL)
         self.deadline = time.monotonic() + seconds
         self.device = ClientDevice(rules)
         self.slow = slow
@@ -69,7 +70,7 @@ class Conversation:
         self.log: List[str] = []
 
     def line(self) -> str:
-        """Returns the client's next line, or the runner's own verdict: it waits, it ended, or it writes no lines."""
+        """Returns the client's next line, or the runner's verdict: waits, ended, or garbage."""
         assert self.process.stdout is not None
         end = min(self.deadline, time.monotonic() + (PATIENCE if self.log else STARTING))
         while b"\n" not in self.rest:
@@ -80,23 +81,23 @@ class Conversation:
             if not piece:
                 return self.crash()
             self.rest += piece
-            if b"\n" not in self.rest and len(self.rest) > LONGEST_LINE:
-                return f"garbage: a line without an end: {self.rest[:40]!r}"
+            if b"\n" not in self.rest and len(self.rest) > MAX_LINE:
+                return f"garbage: a line without a newline: {self.rest[:40]!r}"
         line, _, self.rest = self.rest.partition(b"\n")
         return line.decode("utf-8", "backslashreplace")
 
     def crash(self) -> str:
-        """Says how a client ended that said nothing of what it made of the device."""
+        """Returns how a client ended without a result."""
         try:
             status = self.process.wait(PATIENCE)
         except subprocess.TimeoutExpired:
-            return "ended: its output is closed, and it said neither ok nor refused"
+            return "ended: closed its output without printing ok or refused"
         if status < 0:
             return f"killed: by {signal.Signals(-status).name}"
-        return f"ended: with status {status}, and said neither ok nor refused"
+        return f"ended: with status {status}, without printing ok or refused"
 
     def waiting(self) -> str:
-        """Says whether a silent client waits for the device, or hangs: one that waits sees the end of its input."""
+        """Returns whether a silent client waits for the device or hangs: one that waits sees the end of its input."""
         if not self.log:
             return "hangs: it sent no packet"
         assert self.process.stdin is not None
@@ -106,11 +107,11 @@ class Conversation:
         except OSError:
             pass
         except subprocess.TimeoutExpired:
-            return "hangs: it neither answers nor sees the end of its input"
+            return "hangs: it does not react to the end of its input"
         return "waits" if self.process.returncode >= 0 else self.crash()
 
     def answer(self, packet: bytes) -> None:
-        """Hands the client what the device sends."""
+        """Sends the device's packets to the client."""
         assert self.process.stdin is not None
         self.log.append("> 0 " + packet.hex())
         for wait, piece in self.device.take(packet):
@@ -120,76 +121,82 @@ class Conversation:
             write_to(self.process, piece.hex().encode() + b"\n", self.deadline)
 
     def run(self) -> str:
-        """Plays until the client says what it made of it."""
+        """Plays until the client prints a result."""
         try:
-            for _ in range(FLOOD):
+            for _ in range(MAX_PACKETS):
                 line = self.line()
                 if line.split(" ")[0] in (*WORDS, "waits", "hangs:", "ended:", "killed:", "garbage:"):
                     return line
                 if time.monotonic() > self.deadline:
-                    return "hangs: it speaks on without an end"
+                    return "hangs: it never stops sending"
                 try:
                     packet = bytes.fromhex(line)
                 except ValueError:
                     packet = b""
                 if len(packet) != 64:
-                    return f"garbage: a line that isn't 128 hexadecimal digits: {line[:80]!r}"
+                    return f"garbage: a line other than 128 hexadecimal digits: {line[:80]!r}"
                 try:
-                    self.hand_over(packet)
-                except Unread:
+                    self.respond(packet)
+                except InputNotReadError:
                     return "hangs: it sends packets and reads none"
-            return f"hangs: a flood of {FLOOD} packets"
+            return f"hangs: more than {MAX_PACKETS} packets"
         finally:
             ended(self.process, 0.0)
 
-    def hand_over(self, packet: bytes) -> None:
-        """Answers a packet; a client that ended doesn't read."""
+    def respond(self, packet: bytes) -> None:
+        """Responds to a packet; ignores a client that exited."""
         try:
             self.answer(packet)
         except BrokenPipeError:
             pass
 
 
-def play_client(
-    command: str, path: str, slow: bool, should: bool = True, seconds: float = CASE
-) -> Tuple[Outcome, List[str]]:
-    """Plays one session; returns how it went and its log. With `slow`, a minute of KEEPALIVEs takes a minute."""
+def play_client(command: str, path: str, slow: bool, should: bool = True, seconds: float = CASE_SECONDS) -> Played:
+    """Plays one session; returns its outcome and log. With `slow`, a minute of KEEPALIVEs takes a minute."""
     session, rules = read_client_session(path)
     talk = Conversation(command, session.head["task"], rules, slow, seconds + (60 if slow else 0))
-    said = talk.run()
-    word, wanted = said.split(" ")[0], session.head["client"].split(" ")
+    verdict = talk.run()
+    if verdict.startswith("killed: "):
+        wait_for_end(talk.process.returncode)
+    word, allowed = verdict.split(" ")[0], session.head["client"].split(" ")
     made = MADE.get(word, word.rstrip(":"))
     result = session.head.get("result", "")
-    log = talk.log + ["# " + said]
+    log = talk.log + ["# " + verdict]
     if word == "skipped":
-        return Outcome(session, "skip", said), log
-    if made not in wanted or (made == "takes" and result and said != "ok " + result):
-        expected = f"a client that {' or '.join(wanted)}" + (f": {result}" if result else "")
+        return Outcome(session, "skip", verdict), log
+    if made not in allowed or (made == "takes" and result and verdict != "ok " + result):
+        expected = f"a client that {' or '.join(allowed)}" + (f": {result}" if result else "")
         lenient = session.lenient and not should and made in ("takes", "refuses", "waits")
-        return Outcome(session, "warn" if lenient else "not ok", "", expected, f"{made}: {said}"), log
+        return Outcome(session, "warn" if lenient else "not ok", "", expected, f"{made}: {verdict}"), log
     return Outcome(session, "ok"), log
 
 
 def client_sessions(only: str = "") -> List[str]:
-    """Returns the paths of the sessions whose names have a word."""
+    """Returns the paths of the sessions whose names contain a word."""
     found = [os.path.join(folder, name) for folder, _, names in os.walk(CLIENTS) for name in names]
     return sorted(path for path in found if path.endswith(".session") and only in path)
 
 
 def play_clients(
-    command: str, paths: List[str], slow: bool, should: bool = True, seconds: float = CASE
-) -> List[Tuple[Outcome, List[str]]]:
-    """Plays sessions, four at a time."""
-    with ThreadPoolExecutor(4) as pool:
-        return list(pool.map(lambda path: play_client(command, path, slow, should, seconds), paths))
+    command: str,
+    paths: List[str],
+    slow: bool,
+    should: bool = True,
+    seconds: float = CASE_SECONDS,
+    results: Optional[Results[Played]] = None,
+) -> List[Played]:
+    """Plays sessions, four at a time; `results` gets each when it ends."""
+    results = results if results is not None else Results()
+    collect(lambda path: play_client(command, path, slow, should, seconds), paths, 4, results)
+    return results.close()
 
 
-def keep_logs(folder: str, played: List[Tuple[Outcome, List[str]]]) -> None:
+def keep_logs(folder: str, played: List[Played]) -> None:
     """Writes the log of each session that failed."""
     for outcome, log in played:
         if outcome.status == "not ok":
             path = os.path.join(folder, outcome.session.name + ".log")
             os.makedirs(os.path.dirname(path), exist_ok=True)
-            head = [f"# {word}: {said}" for word, said in outcome.session.head.items()]
+            head = [f"# {word}: {value}" for word, value in outcome.session.head.items()]
             with open(path, "w", encoding="utf-8") as file:
                 file.write("\n".join(head + log) + "\n")

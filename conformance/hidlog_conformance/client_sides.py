@@ -1,54 +1,54 @@
-"""What the device of a client's session does beyond registrations and sign-ins: a PIN, and U2F."""
+"""PIN and U2F of the device that client sessions play."""
 
 from __future__ import annotations
 
 from typing import Any, Dict, Tuple
 
 from hidlog_conformance.reference.authenticator import Authenticator
-from hidlog_conformance.reference.pin import Pin, Refused
-from hidlog_conformance.reference.traits import Traits
+from hidlog_conformance.reference.pin import Pin, RequestError
+from hidlog_conformance.reference.traits import DeviceTraits
 from hidlog_conformance.reference.u2f import U2f
 
 PIN = "1234"
-# The subcommands of authenticatorClientPIN, and the kinds that rules name them by.
+# The subcommands of authenticatorClientPIN, and their kinds in rules.
 SUBCOMMANDS = {1: "retries", 2: "agree", 5: "token", 9: "token"}
-# Where a request has pinUvAuthParam; its protocol is the member after it.
+# The key of pinUvAuthParam; the protocol has the next key.
 PARAMETERS = {"make": 8, "get": 6}
 APDUS = {1: "u2f-register", 2: "u2f-sign", 3: "u2f-version"}
 AUTH_INVALID, NEEDS_TOKEN = 0x33, 0x36
 
 
 class PinSide:
-    """A PIN that is set, of both protocols."""
+    """A PIN that is set, with both protocols."""
 
     def __init__(self) -> None:
         self.pin = Pin((1, 2), PIN)
 
     def serve(self, asked: Dict[Any, Any]) -> Tuple[str, int, Dict[int, Any]]:
-        """Returns the kind of a subcommand, and the status and the map of its answer."""
+        """Returns the kind of a subcommand, and the status and the map of its response."""
         kind = SUBCOMMANDS.get(asked.get(2, 0), "pin")
         try:
             return kind, 0, self.pin.serve(asked)
-        except Refused as refused:
+        except RequestError as refused:
             return kind, refused.status, {}
 
     def judge(self, kind: str, asked: Dict[Any, Any]) -> int:
-        """Returns the status of a request that has to have the PIN's token."""
+        """Returns the status of a request that needs a token."""
         place = PARAMETERS[kind]
-        given, protocol = asked.get(place), self.pin.protocols.get(asked.get(place + 1, 0))
-        if not given or protocol is None:
+        param, protocol = asked.get(place), self.pin.protocols.get(asked.get(place + 1, 0))
+        if not param or protocol is None:
             return NEEDS_TOKEN
         client_hash = asked[1] if kind == "make" else asked[2]
-        return 0 if self.pin.verified(protocol, client_hash, given) else AUTH_INVALID
+        return 0 if self.pin.verified(protocol, client_hash, param) else AUTH_INVALID
 
 
 class U2fSide:
-    """A device that speaks U2F alone, whose user has touched it."""
+    """A U2F-only device that was touched."""
 
     def __init__(self) -> None:
-        self.u2f = U2f(Authenticator(Traits()))
+        self.u2f = U2f(Authenticator(DeviceTraits()))
 
     def serve(self, apdu: bytes) -> Tuple[str, bytes]:
-        """Returns the kind of an APDU, and its answer."""
+        """Returns the kind of an APDU, and its response."""
         self.u2f.touched = 0
         return APDUS.get(apdu[1] if len(apdu) > 1 else 0, "u2f"), self.u2f.serve(0, apdu)

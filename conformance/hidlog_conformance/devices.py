@@ -1,4 +1,4 @@
-"""Devices that sessions are played against: hidlog live, a command over a pipe, and a device of Linux."""
+"""Devices under test: hidlog live, a command over a pipe, and a Linux hidraw device."""
 
 from __future__ import annotations
 
@@ -11,28 +11,55 @@ import sys
 import tempfile
 import time
 from collections import deque
-from typing import Any, Deque, List, Optional, Tuple
+from typing import Any, Deque, List, Optional, Set, Tuple
 
 from hidlog_conformance.keys import KeyMaker
-from hidlog_conformance.places import PROGRAM
-from hidlog_conformance.unplayable import Unplayable
+from hidlog_conformance.paths import PROGRAM
+from hidlog_conformance.skipped import CaseSkipped
 
-# Lines that no log has: switched off and on again; and so that the credentials are lost, as no device should.
+# Steps that are not log lines: a power cycle, and one that deletes the credentials, as no device should.
 POWER_CYCLE, POWER_LOSS = "power cycle", "power loss"
 
 
-class Unread(OSError):
-    """Says that a command doesn't read."""
+class InputNotReadError(OSError):
+    """A command does not read its input."""
 
 
-# The longest line that a command may write, and for how many packets and seconds what is left over is passed over.
-LONGEST_LINE, LEFT_OVER, CLEARING = 1024, 1000, 2.0
-# For how many seconds a command may leave its input unread.
+# The longest line that a command may write; and how many packets, and for how many seconds, are discarded before a
+# case.
+MAX_LINE, MAX_LEFT_OVER, CLEARING = 1024, 1000, 2.0
+# Seconds that a command may leave its input unread.
 READING = 10.0
 
 
+# Running commands, which an interrupt kills.
+RUNNING: Set["subprocess.Popen[Any]"] = set()
+
+
+def started(words: List[str], **more: Any) -> "subprocess.Popen[Any]":
+    """Starts a command with pipes, in a session of its own: Ctrl-C reaches the runner alone."""
+    pipe = subprocess.PIPE
+    process = subprocess.Popen(words, stdin=pipe, stdout=pipe, start_new_session=True, **more)
+    RUNNING.add(process)
+    return process
+
+
+def kill(process: "subprocess.Popen[Any]") -> None:
+    """Kills a command's process group."""
+    try:
+        os.killpg(process.pid, signal.SIGKILL)
+    except (ProcessLookupError, PermissionError):
+        pass
+
+
+def kill_running() -> None:
+    """Kills all running commands; other threads may be using them."""
+    for process in list(RUNNING):
+        kill(process)
+
+
 def ended(process: "subprocess.Popen[Any]", seconds: float = 2.0) -> None:
-    """Ends a command and what it started: it is asked by the end of its input, then killed with its group."""
+    """Ends a command and its children: closes its input, then kills its process group."""
     try:
         if process.stdin is not None:
             process.stdin.close()
@@ -42,43 +69,43 @@ def ended(process: "subprocess.Popen[Any]", seconds: float = 2.0) -> None:
         process.wait(seconds)
     except subprocess.TimeoutExpired:
         pass
-    try:
-        os.killpg(process.pid, signal.SIGKILL)
-    except (ProcessLookupError, PermissionError):
-        pass
+    kill(process)
     process.wait()
+    RUNNING.discard(process)
     if process.stdout is not None:
         process.stdout.close()
 
 
 def write_to(process: "subprocess.Popen[bytes]", data: bytes, deadline: float) -> None:
-    """Writes to a command's input, which may not read it."""
+    """Writes to a command's input until the deadline."""
     assert process.stdin is not None
     place = process.stdin.fileno()
     os.set_blocking(place, False)
     while data:
         _, ready, _ = select.select([], [place], [], max(0.0, deadline - time.monotonic()))
         if not ready:
-            raise Unread("the command doesn't read its input")
+            raise InputNotReadError("the command does not read its input")
         data = data[os.write(place, data) :]
 
 
 class Device:
-    """Takes packets and moments, and returns packets. Of the user's replies a real device hears nothing."""
+    """A device under test. Real devices ignore the user's replies of the session."""
 
-    # Whether moments are those of the log, so that packets come at once or not at all.
+    # Whether time is that of the log: packets come at once or not at all.
     virtual = False
-    # Whether each session begins with an authenticator that has no credentials.
+    # Whether each session begins without credentials.
     fresh = False
-    # Whether it makes keys and signatures itself, so that it answers before the session's k and s lines.
+    # Whether it makes keys and signatures itself, and so responds before the session's k and s lines.
     makes_keys = True
-    # What a session may need of this kind of device.
-    offers: Tuple[str, ...] = ("touch", "two channels")
-    # Whether it is the same device in the next session, so that nothing may be left waiting.
+    # The `needs` of sessions that this kind of device can meet.
+    features: Tuple[str, ...] = ("touch", "two channels")
+    # Whether it is the same device in the next session.
     lasting = False
-    # Whether the session that comes needs what is kept without power.
+    # Whether the next session needs state to survive a power cycle.
     saves = False
-    # How many seconds the runner was late at worst with an input of the session: the device may have timed out.
+    # The exit status of the session's command, once it ended.
+    status: Optional[int] = None
+    # The runner's worst delay of an input in this session, in seconds: the device may have timed out.
     late = 0.0
 
     def start(self) -> None:
@@ -88,37 +115,37 @@ class Device:
         """Ends a session."""
 
     def send(self, at: int, packet: bytes) -> None:
-        """Hands the device a packet."""
+        """Sends a packet to the device."""
         raise NotImplementedError
 
     def tick(self, at: int) -> None:
         """Lets time pass."""
 
     def power_cycle(self, at: int) -> None:
-        """Switches the device off and on again."""
+        """Power cycles the device."""
         raise NotImplementedError
 
     def presence(self, at: int, word: str) -> None:
-        """Lets the user answer."""
+        """Lets the user reply."""
 
     def key(self, at: int, words: List[str]) -> None:
-        """Hands in a key, or refuses one."""
+        """Provides a key pair, or refuses one."""
 
     def signature(self, at: int, words: List[str]) -> None:
-        """Hands in a signature, or refuses one."""
+        """Provides a signature, or refuses one."""
 
     def read(self, seconds: float) -> Optional[bytes]:
-        """Returns the next packet, or None where none comes in time."""
+        """Returns the next packet, or None after `seconds`."""
         raise NotImplementedError
 
 
 class LiveDevice(Device):
-    """Plays `hidlog live`: moments are those of the log, keys and signatures are made here."""
+    """`hidlog live`: time is that of the log, and this class makes keys and signatures."""
 
     virtual = True
     fresh = True
     makes_keys = False
-    offers: Tuple[str, ...] = (
+    features: Tuple[str, ...] = (
         "touch",
         "reset",
         "denial",
@@ -131,7 +158,7 @@ class LiveDevice(Device):
 
     def __init__(self, program: str = PROGRAM) -> None:
         self.program = program
-        # Where the credentials are while the program doesn't run, and the moment at which it began.
+        # The snapshot file between two runs of the program, and the time at which it started.
         self.room: Optional[tempfile.TemporaryDirectory[str]] = None
         self.base = 0
         self.process: Optional[subprocess.Popen[str]] = None
@@ -141,24 +168,23 @@ class LiveDevice(Device):
         self.signed = b""
 
     def begin(self) -> None:
-        """Forgets the session before."""
+        """Resets the state of the last session."""
         self.packets.clear()
         self.need = "nothing"
         self.signed = b""
         self.base = 0
 
     def run(self, load: bool = False) -> None:
-        """Starts the program, with the credentials that it saved before or with none."""
+        """Starts the program, with the saved credentials or none."""
         words = [self.program, "live"]
         if self.saves:
             self.room = self.room or tempfile.TemporaryDirectory()
             state = os.path.join(self.room.name, "state")
             words += ["--save", state] + (["--load", state] if load else [])
-        pipe = subprocess.PIPE
-        self.process = subprocess.Popen(words, stdin=pipe, stdout=pipe, text=True, bufsize=-1)
+        self.process = started(words, text=True, bufsize=-1)
 
     def power_cycle(self, at: int) -> None:
-        """Ends the program, which saves its credentials, and starts it again; its clock begins anew."""
+        """Restarts the program with its credentials; its clock starts at 0."""
         self.play(POWER_CYCLE)
         self.packets.clear()
         self.need = "nothing"
@@ -173,10 +199,11 @@ class LiveDevice(Device):
         """Ends the authenticator."""
         if self.process is not None:
             self.process.communicate()
+            RUNNING.discard(self.process)
             self.process = None
 
     def exchange(self, line: str) -> List[str]:
-        """Writes an input line and returns the answer's lines, the last of which says what is needed."""
+        """Writes an input line and returns the output lines; the last names what the key needs."""
         if line in (POWER_CYCLE, POWER_LOSS):
             self.close()
             self.run(load=line == POWER_CYCLE)
@@ -193,11 +220,11 @@ class LiveDevice(Device):
         return answers
 
     def answers(self, line: str) -> List[str]:
-        """Returns the answer's lines after an input line."""
+        """Returns the output lines for an input line."""
         return self.exchange(line)
 
     def play(self, line: str) -> None:
-        """Takes what is answered to an input line."""
+        """Plays an input line."""
         self.signed = b""
         for answer in self.answers(line):
             if answer.startswith("< "):
@@ -207,48 +234,48 @@ class LiveDevice(Device):
             elif answer.startswith("# need "):
                 self.need = answer[7:]
 
-    def moment(self, at: int) -> int:
-        """Returns a moment of the session by the program's clock."""
+    def program_time(self, at: int) -> int:
+        """Converts a time of the session to the program's clock."""
         return max(0, at - self.base)
 
     def send(self, at: int, packet: bytes) -> None:
         """Hands the authenticator a packet."""
-        self.play(f"> {self.moment(at)} {packet.hex()}")
+        self.play(f"> {self.program_time(at)} {packet.hex()}")
 
     def tick(self, at: int) -> None:
         """Lets time pass."""
-        self.play(f"t {self.moment(at)}")
+        self.play(f"t {self.program_time(at)}")
 
     def presence(self, at: int, word: str) -> None:
-        """Lets the user answer."""
-        self.play(f"p {self.moment(at)} {word}")
+        """Lets the user reply."""
+        self.play(f"p {self.program_time(at)} {word}")
 
     def key(self, at: int, words: List[str]) -> None:
-        """Hands in a new key under an id of its own, not the session's."""
+        """Provides a new key pair, with a credential ID other than the session's."""
         new = ["no"] if words == ["no"] else [part.hex() for part in self.keys.make()]
-        self.play(f"k {self.moment(at)} {' '.join(new)}")
+        self.play(f"k {self.program_time(at)} {' '.join(new)}")
 
     def signature(self, at: int, words: List[str]) -> None:
-        """Signs what the authenticator wants signed."""
+        """Provides the signature that the authenticator asks for."""
         if words == ["no"] or not self.need.startswith("signature "):
-            self.play(f"s {self.moment(at)} {words[0]}")
+            self.play(f"s {self.program_time(at)} {words[0]}")
         else:
-            self.play(f"s {self.moment(at)} {self.keys.sign(bytes.fromhex(self.need[10:]), self.signed).hex()}")
+            self.play(f"s {self.program_time(at)} {self.keys.sign(bytes.fromhex(self.need[10:]), self.signed).hex()}")
 
     def read(self, seconds: float) -> Optional[bytes]:
-        """Returns the next packet that is there."""
+        """Returns the next packet, if any."""
         return self.packets.popleft() if self.packets else None
 
 
 class RealTimeDevice(Device):
     """Sleeps between inputs for as long as the log says."""
 
-    def __init__(self, say_touch: bool) -> None:
-        self.say_touch = say_touch
-        # The line that stands for a touch in the input of a command.
+    def __init__(self, prompt_touch: bool) -> None:
+        self.prompt_touch = prompt_touch
+        # The line that is a touch in a command's input.
         self.touch_line = b""
         self.latest: Optional[int] = None
-        # When the input before was handed in.
+        # The time of the last input.
         self.before = 0.0
 
     def start(self) -> None:
@@ -257,7 +284,7 @@ class RealTimeDevice(Device):
         self.late = 0.0
 
     def wait_until(self, at: int) -> None:
-        """Sleeps from the moment of the input before to this one's."""
+        """Sleeps until the time of this input."""
         pause = max(0, at - self.latest) / 1000 if self.latest is not None else 0.0
         if pause:
             time.sleep(pause)
@@ -275,11 +302,11 @@ class RealTimeDevice(Device):
         self.wait_until(at)
         if self.touch_line:
             self.write_line(self.touch_line)
-        elif self.say_touch:
+        elif self.prompt_touch:
             print("touch the key now", file=sys.stderr, flush=True)
 
     def send(self, at: int, packet: bytes) -> None:
-        """Hands the device a packet."""
+        """Sends a packet to the device."""
         self.wait_until(at)
         self.write(packet)
 
@@ -293,24 +320,24 @@ class RealTimeDevice(Device):
 
 
 class HidrawDevice(RealTimeDevice):
-    """Plays a device of Linux, /dev/hidrawN."""
+    """A Linux device, /dev/hidrawN."""
 
     lasting = True
 
-    def __init__(self, path: str, say_touch: bool) -> None:
-        super().__init__(say_touch)
+    def __init__(self, path: str, prompt_touch: bool) -> None:
+        super().__init__(prompt_touch)
         self.path = path
         self.file = self.opened()
         self.packets: Deque[bytes] = deque()
-        if say_touch:
-            self.offers += ("power cycle",)
+        if prompt_touch:
+            self.features += ("power cycle",)
 
     def opened(self) -> int:
         """Opens the device."""
         return os.open(self.path, os.O_RDWR | os.O_NONBLOCK)
 
     def power_cycle(self, at: int) -> None:
-        """Asks a person to unplug the device and to plug it in again; waits a minute for each."""
+        """Asks a person to unplug the device and plug it in again; waits up to one minute for each."""
         self.wait_until(at)
         os.close(self.file)
         print("unplug the key now", file=sys.stderr, flush=True)
@@ -325,46 +352,46 @@ class HidrawDevice(RealTimeDevice):
         self.packets.clear()
         self.file = self.opened()
         if not unplugged:
-            raise Unplayable("nobody unplugged the device within a minute")
+            raise CaseSkipped("nobody unplugged the device within a minute")
 
     def start(self) -> None:
-        """Begins a session: what came for other hosts, or too late, is passed over."""
+        """Begins a session; discards packets of earlier ones."""
         super().start()
         end = time.monotonic() + CLEARING
-        for _ in range(LEFT_OVER):
+        for _ in range(MAX_LEFT_OVER):
             if self.read(0) is None or time.monotonic() > end:
                 return
-        raise OSError(f"{self.path} is no device: it never stops sending")
+        raise OSError(f"{self.path} never stops sending")
 
     def write(self, packet: bytes) -> None:
-        """Writes a packet behind the report's number, which is 0."""
+        """Writes a packet as report number 0."""
         if not packet[4] & 0x80:
-            # The kernel keeps 32 packets for a device of uhid, and loses what comes faster than it takes them.
+            # The kernel queues 32 packets for a uhid device and drops what comes faster.
             time.sleep(0.005)
         os.write(self.file, b"\0" + packet)
 
     def read(self, seconds: float) -> Optional[bytes]:
-        """Returns the next packet, or None where none comes in time. All that are there are taken at once, since the
-        kernel keeps 64 of them."""
+        """Returns the next packet, or None after `seconds`. Reads all available packets at once, since the kernel
+        queues only 64."""
         if not self.packets:
             select.select([self.file], [], [], seconds)
             try:
                 while len(self.packets) < 200:
                     self.packets.append(os.read(self.file, 64))
                     if not self.packets[-1]:
-                        raise OSError(f"{self.path} is no device: nothing can be read")
+                        raise OSError(f"{self.path} cannot be read")
             except BlockingIOError:
                 pass
         return self.packets.popleft() if self.packets else None
 
 
 class PipeDevice(RealTimeDevice):
-    """Plays a command that reads packets as lines of 128 hexadecimal digits and writes such lines."""
+    """A command that reads and writes packets as lines of 128 hexadecimal digits."""
 
-    def __init__(self, command: str, say_touch: bool, touch_line: str = "", keeps: bool = False) -> None:
-        super().__init__(say_touch)
+    def __init__(self, command: str, prompt_touch: bool, touch_line: str = "", keeps: bool = False) -> None:
+        super().__init__(prompt_touch)
         if keeps:
-            self.offers += ("power cycle",)
+            self.features += ("power cycle",)
         self.touch_line = touch_line.encode()
         self.command = shlex.split(command)
         self.process: Optional[subprocess.Popen[bytes]] = None
@@ -373,18 +400,18 @@ class PipeDevice(RealTimeDevice):
     def start(self) -> None:
         """Starts the command."""
         super().start()
-        pipe = subprocess.PIPE
-        self.process = subprocess.Popen(self.command, stdin=pipe, stdout=pipe, start_new_session=True)
+        self.process = started(self.command)
         self.rest = b""
 
     def close(self) -> None:
-        """Closes the command's input and waits for its end."""
+        """Closes the command's input and waits until it exits."""
         if self.process is not None:
             ended(self.process)
+            self.status = self.process.returncode
             self.process = None
 
     def power_cycle(self, at: int) -> None:
-        """Starts the command anew."""
+        """Restarts the command."""
         self.wait_until(at)
         self.close()
         self.start()
@@ -400,10 +427,10 @@ class PipeDevice(RealTimeDevice):
         try:
             write_to(self.process, line + b"\n", time.monotonic() + READING)
         except BrokenPipeError:
-            raise OSError("the command ended") from None
+            raise OSError("the command exited") from None
 
     def read(self, seconds: float) -> Optional[bytes]:
-        """Returns the next packet, or None where none comes in time."""
+        """Returns the next packet, or None after `seconds`."""
         assert self.process is not None and self.process.stdout is not None
         end = time.monotonic() + seconds
         while b"\n" not in self.rest:
@@ -412,15 +439,15 @@ class PipeDevice(RealTimeDevice):
                 return None
             piece = os.read(self.process.stdout.fileno(), 4096)
             if not piece:
-                raise OSError("the command ended")
+                raise OSError("the command exited")
             self.rest += piece
-            if b"\n" not in self.rest and len(self.rest) > LONGEST_LINE:
-                raise OSError(f"the command writes a line without an end: {self.rest[:40]!r}..")
+            if b"\n" not in self.rest and len(self.rest) > MAX_LINE:
+                raise OSError(f"the command writes a line without a newline: {self.rest[:40]!r}..")
         line, _, self.rest = self.rest.partition(b"\n")
         try:
             packet = bytes.fromhex(line.decode())
         except ValueError:
             packet = b""
         if len(packet) != 64:
-            raise OSError(f"the command wrote a line that isn't 128 hexadecimal digits: {line[:80]!r}")
+            raise OSError(f"the command wrote {line[:80]!r}, expected 128 hexadecimal digits")
         return packet

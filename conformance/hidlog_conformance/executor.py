@@ -1,8 +1,7 @@
-"""Work on many machines: the workers of a Dask scheduler, which `dask://HOST:PORT` names.
+"""Runs tasks on the workers of a Dask scheduler, `dask://HOST:PORT`.
 
-Debian: apt-get install python3-distributed. The workers have to have what the work uses at the same paths, such as a
-folder that the machines share: this repository, and the program of the device. A worker that dies costs its work another
-try, as Dask has it.
+Debian: apt-get install python3-distributed. The workers need this repository and the device's program at the same
+paths, for example in a shared folder. Dask retries the tasks of a worker that dies.
 """
 
 from __future__ import annotations
@@ -16,15 +15,15 @@ SECONDS = 10
 
 
 def address_of(executor: str) -> str:
-    """Returns the address that the word names."""
+    """Returns HOST:PORT of the option's value."""
     address = executor[len(SCHEME) :]
     if not executor.startswith(SCHEME) or ":" not in address:
-        raise ValueError(f"--executor is {executor!r}; it has to be {SCHEME}HOST:PORT")
+        raise ValueError(f"--executor is {executor!r}; it must be {SCHEME}HOST:PORT")
     return address
 
 
 def client_of(executor: str, folders: Sequence[str]) -> Any:
-    """Returns a client of the scheduler. Its workers import modules from the folders, too."""
+    """Returns a client of the scheduler whose workers also import modules from `folders`."""
     address = address_of(executor)
     try:
         from distributed import Client
@@ -33,19 +32,19 @@ def client_of(executor: str, folders: Sequence[str]) -> Any:
     try:
         client = Client(address, timeout=SECONDS)
     except OSError as fault:
-        raise ValueError(f"--executor: no scheduler of Dask answers at {address}: {fault}") from None
-    # It runs in workers that come later, too.
+        raise ValueError(f"--executor: no Dask scheduler at {address}: {fault}") from None
+    # Runs in workers that connect later, too.
     client.register_worker_callbacks(partial(exec, f"import sys; sys.path[:0] = {list(folders)!r}"))
     return client
 
 
 def play_block(play: Callable[[Any], Any], block: List[Any]) -> List[Any]:
-    """Does some work, in a worker."""
-    return [play(it) for it in block]
+    """Runs some tasks, in a worker."""
+    return [play(item) for item in block]
 
 
 def results(executor: str, folders: Sequence[str], play: Callable[[Any], Any], tasks: Iterable[Any]) -> Iterator[Any]:
-    """Yields what the workers make of each task, in the order of the tasks."""
+    """Yields the result of each task, in order."""
     listed = list(tasks)
     with client_of(executor, folders) as client:
         blocks = [listed[at : at + BLOCK] for at in range(0, len(listed), BLOCK)]

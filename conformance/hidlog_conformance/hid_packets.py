@@ -1,9 +1,11 @@
-"""Cuts messages into packets of CTAPHID and joins them again (CTAP 2.1, 11.2.4)."""
+"""Splits messages into CTAPHID packets and reassembles them (CTAP 2.1, 11.2.4)."""
 
 from __future__ import annotations
 
 from dataclasses import dataclass
 from typing import Dict, List, Optional
+
+from hidlog_conformance.quantity import quantity
 
 BROADCAST = 0xFFFFFFFF
 PING, MSG, LOCK, INIT, WINK, CBOR, CANCEL, KEEPALIVE, ERROR = 0x01, 0x03, 0x04, 0x06, 0x08, 0x10, 0x11, 0x3B, 0x3F
@@ -13,7 +15,7 @@ LONGEST = 7609
 
 
 def packets_of(channel: int, command: int, data: bytes, length: Optional[int] = None) -> List[bytes]:
-    """Writes the packets of a message; its length is as it is, unless another one is named."""
+    """Returns the packets of a message; `length` replaces the length in its header."""
     front = channel.to_bytes(4, "big")
     named = len(data) if length is None else length
     pieces = [front + bytes([0x80 | command]) + named.to_bytes(2, "big") + data[:57]]
@@ -25,7 +27,7 @@ def packets_of(channel: int, command: int, data: bytes, length: Optional[int] = 
 
 @dataclass
 class Message:
-    """A whole message, or what is wrong with a packet (`problem`)."""
+    """A complete message, or what is wrong with a packet (`problem`)."""
 
     channel: int
     command: int
@@ -34,17 +36,17 @@ class Message:
     padding: bytes = b""
 
     def shown(self) -> str:
-        """Says for people what came."""
+        """Returns a description."""
         if self.problem:
             return self.problem
         name = NAMES.get(self.command, f"command {self.command:02x}")
         data = self.data.hex() if len(self.data) <= 40 else self.data[:40].hex() + ".."
-        return f"{name} of {len(self.data)} bytes on {self.channel:08x}: {data}"
+        return f"{name} of {quantity(len(self.data), 'byte')} on {self.channel:08x}: {data}"
 
 
 @dataclass
 class Part:
-    """A message of which packets are missing."""
+    """An incomplete message."""
 
     command: int
     length: int
@@ -53,46 +55,46 @@ class Part:
 
 
 class Collector:
-    """Joins packets to messages, a channel at a time. A host may begin anew inside of a message, a device may not."""
+    """Reassembles messages by channel. A host may start over within a message, a device may not."""
 
     def __init__(self, of_host: bool = False) -> None:
         self.open: Dict[int, Part] = {}
         self.of_host = of_host
 
     def feed(self, packet: bytes) -> Optional[Message]:
-        """Takes a packet; returns the message that it ends, or says what is wrong with it."""
+        """Processes a packet; returns the message that it completes, or what is wrong with the packet."""
         if len(packet) != 64:
-            return Message(0, 0, b"", f"a packet of {len(packet)} bytes")
+            return Message(0, 0, b"", f"a packet of {quantity(len(packet), 'byte')}")
         channel = int.from_bytes(packet[:4], "big")
         if packet[4] & 0x80:
             return self.begin(channel, packet)
         part = self.open.get(channel)
         if part is None:
-            return Message(channel, 0, b"", f"a continuation packet on {channel:08x}, where no message is open")
+            return Message(channel, 0, b"", f"a continuation packet on {channel:08x} without a message")
         if packet[4] != part.due:
             del self.open[channel]
             return Message(
-                channel, 0, b"", f"sequence number {packet[4]:02x} on {channel:08x} in place of {part.due:02x}"
+                channel, 0, b"", f"sequence number {packet[4]:02x} on {channel:08x} instead of {part.due:02x}"
             )
         part.due += 1
         part.data += packet[5:]
         return self.ended(channel, part)
 
     def begin(self, channel: int, packet: bytes) -> Optional[Message]:
-        """Takes an initialization packet; CANCEL leaves an open message as it is."""
+        """Processes an initialization packet; CANCEL does not affect an incomplete message."""
         if packet[4] & 0x7F == CANCEL:
             return Message(channel, CANCEL, packet[7 : 7 + int.from_bytes(packet[5:7], "big")])
         broken = self.open.pop(channel, None)
         part = Part(packet[4] & 0x7F, int.from_bytes(packet[5:7], "big"), packet[7:])
         if broken and not self.of_host:
-            return Message(channel, part.command, b"", f"a message begins on {channel:08x} inside of another one")
+            return Message(channel, part.command, b"", f"a message begins on {channel:08x} within another one")
         if part.length > LONGEST:
             return Message(channel, part.command, b"", f"a length of {part.length} on {channel:08x}")
         self.open[channel] = part
         return self.ended(channel, part)
 
     def ended(self, channel: int, part: Part) -> Optional[Message]:
-        """Returns the message where it is whole."""
+        """Returns the message if it is complete."""
         if len(part.data) < part.length:
             return None
         del self.open[channel]

@@ -1,4 +1,4 @@
-"""Judges the ERRORs of the key's side of a recorded log: what each is for, and its code."""
+"""Checks the key's ERRORs in a recorded log: which message each belongs to, and its code."""
 
 from __future__ import annotations
 
@@ -6,8 +6,9 @@ from typing import TYPE_CHECKING, Optional, Tuple
 
 from hidlog_conformance import hid_packets as hid
 from hidlog_conformance import rules
-from hidlog_conformance.greeting import NMSG, WINK
+from hidlog_conformance.init_response import NMSG, WINK
 from hidlog_conformance.judged_log import seen
+from hidlog_conformance.quantity import quantity
 from hidlog_conformance.transactions import BUSY, INVALID_COMMAND, NO_TIME_OUT, TIMED_OUT, Entry, Transaction
 
 if TYPE_CHECKING:
@@ -15,60 +16,60 @@ if TYPE_CHECKING:
 
 OTHER_ERROR = 0x7F
 SERVED = (hid.PING, hid.MSG, hid.LOCK, hid.INIT, hid.WINK, hid.CBOR)
-# Commands that a device needn't have.
+# Optional commands.
 OPTIONAL = (hid.MSG, hid.LOCK, hid.WINK)
 
 
 class ErrorJudge:
-    """Judges ERRORs of a key, by what its judge knows of it."""
+    """Checks a key's ERRORs."""
 
     def __init__(self, key: "KeyJudge") -> None:
         self.key = key
 
-    def judge_error(self, entry: Entry, message: Optional[hid.Message]) -> None:
-        """Judges an ERROR: for what it is, and its code."""
+    def check_error(self, entry: Entry, message: Optional[hid.Message]) -> None:
+        """Checks an ERROR."""
         code, transaction = entry.packet[7], entry.transaction
         if message is not None and not message.problem and len(message.data) != 1:
-            self.key.find(entry.line, rules.ERROR, "an ERROR of one byte", f"{len(message.data)} bytes")
+            self.key.find(entry.line, rules.ERROR, "an ERROR of one byte", quantity(len(message.data), "byte"))
         if transaction is None:
-            self.judge_stray_error(entry)
+            self.check_stray_error(entry)
             return
         if transaction.cancelled is not None and transaction.whole and transaction.command == hid.CBOR:
-            self.key.find(entry.line, rules.CANCEL, "the answer 2d of a cancelled request", f"ERROR {code:02x}")
+            self.key.find(entry.line, rules.CANCEL, "status 2d, since the request was cancelled", f"ERROR {code:02x}")
             return
-        due = self.due_codes(transaction, entry)
-        if due and code not in due:
-            words = "|".join(f"{it:02x}" for it in due)
-            section = rules.CODES.get(f"{due[0]:02x}", rules.ERROR)
-            if due == (0x03,) and transaction.command == hid.CBOR and transaction.length == 0:
+        expected = self.expected_codes(transaction, entry)
+        if expected and code not in expected:
+            words = "|".join(f"{item:02x}" for item in expected)
+            section = rules.CODES.get(f"{expected[0]:02x}", rules.ERROR)
+            if expected == (0x03,) and transaction.command == hid.CBOR and transaction.length == 0:
                 section = rules.CBOR
             self.key.find(entry.line, section, f"error {words}", f"ERROR {code:02x}")
-        elif not due:
-            self.judge_refusal(entry, transaction)
+        elif not expected:
+            self.check_refusal(entry, transaction)
 
-    def judge_stray_error(self, entry: Entry) -> None:
-        """Judges an ERROR that nothing of its channel is for."""
+    def check_stray_error(self, entry: Entry) -> None:
+        """Checks an ERROR that belongs to no message of its channel."""
         last = self.key.last.get(entry.packet[:4])
-        if (last is None and self.key.recording.is_of_one_client) or entry.packet[:4] in self.key.unsure:
+        if (last is None and self.key.recording.is_single_client) or entry.packet[:4] in self.key.unsure:
             return
-        came = f"ERROR {entry.packet[7]:02x}"
+        actual = f"ERROR {entry.packet[7]:02x}"
         if last is None:
             if not self.key.is_first and not self.key.is_late_start(entry):
-                self.key.find_gap(entry.line, rules.ERROR, "an ERROR for something", came)
+                self.key.find_gap(entry.line, rules.ERROR, "an ERROR for a message of the host", actual)
             elif self.key.open and not self.key.is_first:
-                self.key.find_gap(
-                    entry.line, rules.BUSY, "an ERROR on the channel of the message that is refused", came
-                )
+                self.key.find_gap(entry.line, rules.BUSY, "an ERROR on the channel of the refused message", actual)
         elif last.packet[4] == 0x80 | hid.CANCEL:
-            self.key.find_gap(entry.line, rules.CANCEL, "no answer to CANCEL", came)
+            self.key.find_gap(entry.line, rules.CANCEL, "no response to CANCEL", actual)
         elif last.part == "stray":
-            self.key.find_gap(entry.line, rules.SEQUENCE, "no answer to a continuation packet of no message", came)
+            self.key.find_gap(
+                entry.line, rules.SEQUENCE, "no response to a continuation packet outside any transaction", actual
+            )
         else:
             section = rules.ABORT if self.key.was_aborted(entry) else rules.ERROR
-            self.key.find_gap(entry.line, section, "an ERROR for something", came)
+            self.key.find_gap(entry.line, section, "an ERROR for a message of the host", actual)
 
-    def due_codes(self, owner: Transaction, entry: Entry) -> Tuple[int, ...]:
-        """Returns which codes fit a message that is refused; none where nothing in the log calls for an ERROR."""
+    def expected_codes(self, owner: Transaction, entry: Entry) -> Tuple[int, ...]:
+        """Returns the possible codes for a refused message; empty if the log shows no reason for an ERROR."""
         if owner.channel == 0 or (owner.channel == hid.BROADCAST and owner.command != hid.INIT):
             return (0x0B,)
         before = [one for one in self.key.open if one is not owner and one.line < owner.line]
@@ -76,7 +77,7 @@ class ErrorJudge:
         others = [one for one in before if one.channel != owner.channel]
         busy: Tuple[int, ...] = (BUSY,) if others or own or self.is_locked_out(owner) else ()
         busy = (*busy, 0x04) if own else busy
-        strange = (0x0B,) if owner.channel not in self.key.given and owner.channel != hid.BROADCAST else ()
+        strange = (0x0B,) if owner.channel not in self.key.allocated and owner.channel != hid.BROADCAST else ()
         wrong_length = owner.length > hid.LONGEST or (owner.command == hid.INIT and owner.length != 8)
         if wrong_length or (owner.command == hid.CBOR and owner.length == 0):
             first = (0x03, INVALID_COMMAND) if owner.command not in SERVED else (0x03,)
@@ -85,51 +86,59 @@ class ErrorJudge:
             return (INVALID_COMMAND, *strange, *busy)
         if busy and owner.command != hid.INIT:
             optional = (INVALID_COMMAND,) if owner.command in OPTIONAL else ()
-            return (*busy, *strange, *optional, *self.due_of_open(owner, entry))
+            return (*busy, *strange, *optional, *self.codes_of_unfinished(owner, entry))
         if strange and owner.command in OPTIONAL:
             return (*strange, INVALID_COMMAND)
-        return strange or self.due_of_open(owner, entry)
+        return strange or self.codes_of_unfinished(owner, entry)
 
     def is_locked_out(self, transaction: Transaction) -> bool:
-        """Says whether another channel may have the lock (11.2.9.2.2)."""
+        """Returns whether another channel may have the lock (11.2.9.2.2)."""
         channel, until = self.key.locked
-        has_time = self.key.recording.is_timeless or transaction.began <= until
+        has_time = self.key.recording.has_no_timestamps or transaction.began <= until
         return channel != 0 and channel != transaction.channel and has_time
 
-    def due_of_open(self, it: Transaction, entry: Entry) -> Tuple[int, ...]:
-        """Returns which codes fit an unfinished message: after a packet of another number, or after a while."""
+    def codes_of_unfinished(self, transaction: Transaction, entry: Entry) -> Tuple[int, ...]:
+        """Returns the possible codes for an incomplete message: after a wrong sequence number, or a timeout."""
         last = self.key.last.get(entry.packet[:4])
-        if it.whole:
+        if transaction.whole:
             return ()
-        if last is not None and last.part == "wrong number" and last.transaction is it:
+        if last is not None and last.part == "wrong number" and last.transaction is transaction:
             return (0x04, TIMED_OUT)
-        if entry.at - it.last >= NO_TIME_OUT or self.key.input is None or self.key.input is not last:
+        if entry.at - transaction.last >= NO_TIME_OUT or self.key.input is None or self.key.input is not last:
             return (TIMED_OUT,)
         return ()
 
-    def judge_refusal(self, entry: Entry, it: Transaction) -> None:
-        """Judges an ERROR of a message that nothing in the log speaks against."""
+    def check_refusal(self, entry: Entry, transaction: Transaction) -> None:
+        """Checks an ERROR for which the log shows no reason."""
         code = entry.packet[7]
-        if code == OTHER_ERROR or (code == BUSY and (self.key.recording.is_of_one_client or self.is_locked_out(it))):
+        if code == OTHER_ERROR or (
+            code == BUSY and (self.key.recording.is_single_client or self.is_locked_out(transaction))
+        ):
             return
-        if it.command in (hid.MSG, hid.WINK, hid.LOCK):
-            self.judge_capability(it, code)
+        if transaction.command in (hid.MSG, hid.WINK, hid.LOCK):
+            self.check_capability(transaction, code)
             return
-        if it.command in (hid.PING, hid.INIT, hid.CBOR) and not (self.key.is_first and code == BUSY):
-            expected = {hid.PING: "echo", hid.INIT: "init", hid.CBOR: "status"}[it.command]
-            came = hid.Message(it.channel, hid.ERROR, bytes([code]))
-            section = rules.broken(seen(it, expected, came))
-            self.key.find(entry.line, section, "an answer", f"ERROR {code:02x}")
+        if transaction.command in (hid.PING, hid.INIT, hid.CBOR) and not (self.key.is_first and code == BUSY):
+            expected = {hid.PING: "echo", hid.INIT: "init", hid.CBOR: "status"}[transaction.command]
+            actual = hid.Message(transaction.channel, hid.ERROR, bytes([code]))
+            section = rules.broken(seen(transaction, expected, actual))
+            self.key.find(entry.line, section, "a response", f"ERROR {code:02x}")
 
-    def judge_capability(self, it: Transaction, code: Optional[int]) -> None:
-        """Judges that MSG and WINK are served as INIT's capabilities say; without a code they were."""
-        said = self.key.capabilities.get(it.channel)
-        if said is None or it.command == hid.LOCK or (code is not None and code != INVALID_COMMAND):
+    def check_capability(self, transaction: Transaction, code: Optional[int]) -> None:
+        """Checks that MSG and WINK are supported as INIT's capabilities say. `code`: of the ERROR, or None if they
+        worked."""
+        capabilities = self.key.capabilities.get(transaction.channel)
+        if capabilities is None or transaction.command == hid.LOCK or (code is not None and code != INVALID_COMMAND):
             return
-        has_it = bool(said & WINK) if it.command == hid.WINK else not said & NMSG
-        name = hid.NAMES[it.command]
+        has_it = bool(capabilities & WINK) if transaction.command == hid.WINK else not capabilities & NMSG
+        name = hid.NAMES[transaction.command]
         if has_it and code is not None:
-            due = f"{name} served, as the capabilities {said:02x} say"
-            self.key.find(it.line, rules.OF_COMMAND[it.command], due, f"ERROR {code:02x}")
+            expected = f"{name} supported, by the capabilities {capabilities:02x}"
+            self.key.find(transaction.line, rules.OF_COMMAND[transaction.command], expected, f"ERROR {code:02x}")
         elif not has_it and code is None:
-            self.key.find(it.line, rules.ERROR, f"ERROR 01, as the capabilities {said:02x} say", f"{name} is served")
+            self.key.find(
+                transaction.line,
+                rules.ERROR,
+                f"ERROR 01, by the capabilities {capabilities:02x}",
+                f"a response to {name}",
+            )

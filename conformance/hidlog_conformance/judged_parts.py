@@ -1,4 +1,4 @@
-"""Judges parts of recorded answers: extensions, and those of authenticatorClientPIN."""
+"""Checks parts of recorded responses: extension outputs, and authenticatorClientPIN."""
 
 from __future__ import annotations
 
@@ -6,28 +6,29 @@ from dataclasses import dataclass, field
 from typing import Any, Dict, List, Optional
 
 from hidlog_conformance import answers, ctap_cbor
-from hidlog_conformance.answers import ED, MAKE, MOST_RETRIES, Credential, Differs, hold
+from hidlog_conformance.answers import ED, MAKE, MAX_RETRIES, Credential, Mismatch, check
+from hidlog_conformance.quantity import quantity
 from hidlog_conformance.requests import parameters_of
 
 PROTECT, BLOB, SECRET = "credProtect", "credBlob", "hmac-secret"
 GET_RETRIES, GET_AGREEMENT, SET_PIN, CHANGE_PIN, GET_TOKEN, TOKENS = 1, 2, 3, 4, 5, (5, 6, 9)
 USER_TOKEN, GET_USER_RETRIES = 6, 7
-# After so many wrong PINs in a row the power has to be switched off (6.5.5.7).
+# The number of consecutive wrong PINs after which a power cycle is needed (6.5.5.7).
 WRONG_IN_A_ROW = 3
 USER_INVALID = 0x3F
-# Why what isn't found may be gone.
+# Why a credential may be missing.
 OTHERWISE = "unless it was deleted on the key"
 
 
 @dataclass
 class Pending:
-    """What authenticatorGetNextAssertion may answer: how many assertions are left, and since when."""
+    """The pending assertions of authenticatorGetNextAssertion: how many are left, and since when."""
 
     request: bytes
     left: int
     at: int
     channel: int = 0
-    # Whether nothing came in between that may end it, and which credentials signed.
+    # Whether they are certainly still pending, and which credentials signed.
     is_sure: bool = True
     signed: List[bytes] = field(default_factory=list)
     flags: int = 0
@@ -35,26 +36,26 @@ class Pending:
 
 @dataclass
 class Kept:
-    """What the log knows of a credential beside its key."""
+    """What the log shows about a credential."""
 
     credential: Credential
     discoverable: bool
     extensions: Dict[str, Any] = field(default_factory=dict)
-    # The user's name, where it was changed.
+    # The user name, if it was changed.
     name: Optional[str] = None
-    # The moment at which the key showed last that it has the credential.
+    # The last time at which the key showed that it has the credential.
     shown: int = 0
 
 
 class KeptCredentials:
-    """The credentials that a log knows of: by id, and so that none has to be compared with all others."""
+    """The credentials in a log, with indexes by ID, RP and public key."""
 
     def __init__(self) -> None:
         self.by_id: Dict[bytes, Kept] = {}
-        # By RP and id those that are discoverable, and those with extensions.
+        # By RP and ID: discoverable credentials, and those with extensions.
         self.discoverable: Dict[str, Dict[bytes, Kept]] = {}
         self.extended: Dict[str, Dict[bytes, Kept]] = {}
-        # By the number that an id is but for its last eight bytes, and by public key.
+        # By the ID without its last eight bytes, as a number; and by public key.
         self.by_front: Dict[int, Dict[bytes, Kept]] = {}
         self.by_key: Dict[bytes, Kept] = {}
 
@@ -70,7 +71,7 @@ class KeptCredentials:
             self.extended.setdefault(credential.rp, {})[credential.id] = kept
 
     def remove(self, identity: bytes) -> None:
-        """Removes a credential, if it is there."""
+        """Removes a credential, if present."""
         kept = self.by_id.pop(identity, None)
         if kept is None:
             return
@@ -80,48 +81,53 @@ class KeptCredentials:
         self.extended.get(kept.credential.rp, {}).pop(identity, None)
 
     def get(self, identity: Any) -> Optional[Kept]:
-        """Returns the credential with an id."""
+        """Returns the credential with an ID, or None."""
         return self.by_id.get(identity)
 
     def near(self, identity: bytes) -> Dict[bytes, Credential]:
-        """Returns the credentials that an id may follow from, or be that of, by their ids."""
+        """Returns the credentials whose ID equals this one or is numerically close, by ID."""
         front = front_of(identity)
         found = [*self.by_front.get(front - 1, {}).values(), *self.by_front.get(front, {}).values()]
         found += self.by_front.get(front + 1, {}).values()
         return {one.credential.id: one.credential for one in found}
 
     def stored(self) -> List[Credential]:
-        """Returns those that are discoverable."""
+        """Returns the discoverable credentials."""
         return [one.credential for of_rp in self.discoverable.values() for one in of_rp.values()]
 
 
 def front_of(identity: bytes) -> int:
-    """Returns the number that an id is, but for its last eight bytes."""
+    """Returns an ID without its last eight bytes as a number."""
     return int.from_bytes(identity[: max(0, len(identity) - 8)], "big")
 
 
 def made_id(data: bytes) -> bytes:
-    """Returns the id of the credential that an answer to a registration has; nothing if it can't be read."""
+    """Returns the credential ID in a registration's response; empty if it is invalid."""
     auth = (parameters_of(data) or {}).get(2)
     if not isinstance(auth, bytes) or len(auth) <= 55:
         return b""
     return auth[55 : 55 + int.from_bytes(auth[53:55], "big")]
 
 
-class ExtensionDiffers(Differs):
-    """Says which section of an extension is broken."""
+class ExtensionMismatch(Mismatch):
+    """A violation of an extension's section."""
 
-    def __init__(self, section: str, wanted: str, came: str) -> None:
-        super().__init__(wanted, came)
+    def __init__(self, section: str, expected: str, actual: str) -> None:
+        super().__init__(expected, actual)
         self.section = section
 
 
-class UnsureDiffers(Differs):
-    """Says what differs, unless something happened that packets don't show: it counts as a should."""
+class UncertainMismatch(Mismatch):
+    """A difference that something outside the log may explain: a SHOULD violation."""
+
+
+def retries(count: Optional[int]) -> str:
+    """Describes a number of retries; unknown counts as none."""
+    return quantity(count or 0, "retry", "retries")
 
 
 def outputs_of(auth: bytes) -> Dict[Any, Any]:
-    """Returns the extensions' answers that are in authenticator data, none where they can't be read."""
+    """Returns the extension outputs in authenticator data; empty if they are invalid."""
     if len(auth) < 37 or not auth[32] & ED:
         return {}
     rest = auth[37:]
@@ -129,74 +135,74 @@ def outputs_of(auth: bytes) -> Dict[Any, Any]:
         _, rest = answers.cose_key(auth[55 + int.from_bytes(auth[53:55], "big") :])
     try:
         found = ctap_cbor.decode(rest)
-    except ctap_cbor.CborFault:
+    except ctap_cbor.CborError:
         return {}
     return found if isinstance(found, dict) else {}
 
 
-def judge_extension_answers(
+def check_extension_outputs(
     command: int, data: bytes, asked: Dict[Any, Any], info: Dict[Any, Any], made: Dict[str, Any]
 ) -> None:
-    """Judges that the extensions that getInfo names are answered; `made` has what the registration asked."""
+    """Checks the outputs of the extensions in getInfo; `made` has the extension inputs of the registration."""
     requested = asked.get(6 if command == MAKE else 4, {})
     named = [name for name in info.get(2, []) if name in requested]
-    outputs = outputs_of(answers.map_of(data)[2])
+    outputs = outputs_of(answers.decode_map(data)[2])
     for name in named:
         value = requested[name]
         if name == PROTECT and command == MAKE:
-            said = f"credProtect: {value}"
-            hold_extension("12.1", outputs.get(PROTECT) == value, said, outputs)
+            expected = f"credProtect: {value}"
+            check_extension("12.1", outputs.get(PROTECT) == value, expected, outputs)
         elif name == SECRET and command == MAKE and value is True:
-            hold_extension("12.5", isinstance(outputs.get(SECRET), bool), "hmac-secret: true or false", outputs)
+            check_extension("12.5", isinstance(outputs.get(SECRET), bool), "hmac-secret: true or false", outputs)
         elif name == SECRET and isinstance(value, dict) and isinstance(value.get(2), bytes):
-            judge_secret(value, outputs, made)
+            check_secret(value, outputs, made)
         elif name == BLOB:
-            judge_blob(command, value, outputs, info, made)
+            check_blob(command, value, outputs, info, made)
 
 
-def judge_secret(value: Dict[Any, Any], outputs: Dict[Any, Any], made: Dict[str, Any]) -> None:
-    """Judges that encrypted secrets are as long as the salts."""
+def check_secret(value: Dict[Any, Any], outputs: Dict[Any, Any], made: Dict[str, Any]) -> None:
+    """Checks that encrypted secrets have the length of the salts."""
     found = outputs.get(SECRET)
     if not made.get(SECRET):
         return
-    hold_extension("12.5", isinstance(found, bytes), "an answer of the extension hmac-secret", outputs)
-    wanted = len(value[2])
-    hold_extension("12.5", len(found or b"") == wanted, f"secrets of {wanted} bytes, as the salts", outputs)
+    check_extension("12.5", isinstance(found, bytes), "an output of the extension hmac-secret", outputs)
+    expected = len(value[2])
+    check_extension("12.5", len(found or b"") == expected, f"secrets of {expected} bytes, as the salts", outputs)
 
 
-def judge_blob(command: int, value: Any, outputs: Dict[Any, Any], info: Dict[Any, Any], made: Dict[str, Any]) -> None:
-    """Judges a blob: that it is kept where it isn't too long, and comes back as it was."""
+def check_blob(command: int, value: Any, outputs: Dict[Any, Any], info: Dict[Any, Any], made: Dict[str, Any]) -> None:
+    """Checks credBlob: that a blob is stored unless it is too long, and returned unchanged."""
     if command == MAKE and isinstance(value, bytes):
         fits = len(value) <= info.get(15, 32)
-        hold_extension("12.2", outputs.get(BLOB) is True or not fits, "credBlob: true", outputs)
+        check_extension("12.2", outputs.get(BLOB) is True or not fits, "credBlob: true", outputs)
     elif value is True and isinstance(made.get(BLOB), bytes):
-        hold_extension("12.2", outputs.get(BLOB) == made[BLOB], f"the blob {made[BLOB].hex()}", outputs)
+        check_extension("12.2", outputs.get(BLOB) == made[BLOB], f"the blob {made[BLOB].hex()}", outputs)
 
 
-def hold_extension(section: str, holds: bool, wanted: str, came: Any) -> None:
-    """Raises a difference of an extension's section where something doesn't hold."""
-    if not holds:
-        raise ExtensionDiffers(section, wanted, ctap_cbor.shown(came))
+def check_extension(section: str, condition: bool, expected: str, actual: Any) -> None:
+    """Raises `ExtensionMismatch` unless the condition is true."""
+    if not condition:
+        raise ExtensionMismatch(section, expected, ctap_cbor.shown(actual))
 
 
 @dataclass
 class Pins:
-    """What a log knows of a PIN: whether one is set, how many wrong ones are left, what the last token permits."""
+    """What the log shows about the PIN: whether it is set, its retries, and what the last token permits."""
 
     is_set: Optional[bool] = None
     retries: Optional[int] = None
-    # How often a user may still fail to be verified by the key.
+    # The user verification retries left.
     user_retries: Optional[int] = None
-    # Wrong PINs in a row, the key for key agreement, and whether a wrong PIN came since it was answered.
+    # Consecutive wrong PINs, the key agreement key, and whether a wrong PIN made that key invalid.
     wrong: int = 0
     agreement: Any = None
     is_stale: bool = False
-    # What the last token permits, and at which RP; None where the log doesn't know.
+    # The permissions of the last token, and its RP ID; None if unknown.
     permissions: Optional[int] = None
     rp: Optional[str] = None
 
     def judge(self, request: bytes, data: bytes) -> None:
-        """Judges an answer of authenticatorClientPIN."""
+        """Checks a response to authenticatorClientPIN."""
         asked = parameters_of(request)
         if asked is None or not isinstance(asked.get(2), int):
             return
@@ -205,7 +211,7 @@ class Pins:
             self.wrong += 1
             self.is_stale = True
             self.retries = None if self.retries is None else self.retries - 1
-            hold(self.wrong < WRONG_IN_A_ROW, f"status 34 after {WRONG_IN_A_ROW} wrong PINs", "status 31")
+            check(self.wrong < WRONG_IN_A_ROW, f"status 34 after {WRONG_IN_A_ROW} wrong PINs", "status 31")
         elif status == USER_INVALID and self.user_retries is not None:
             self.user_retries -= 1
         elif status in (0x32, 0x33, 0x34):
@@ -214,65 +220,65 @@ class Pins:
             self.take(kind, asked, data)
 
     def take(self, kind: int, asked: Dict[Any, Any], data: bytes) -> None:
-        """Judges an answer with status 00."""
+        """Checks a response with status 00."""
         if kind == GET_RETRIES:
-            left = answers.member(answers.map_of(data), 3, int, "the retries")
-            hold(0 <= left <= MOST_RETRIES, f"0 to {MOST_RETRIES} retries", str(left))
-            hold(self.retries is None or left == self.retries, f"{self.retries} retries", f"{left} retries")
+            left = answers.member(answers.decode_map(data), 3, int, "the retries")
+            check(0 <= left <= MAX_RETRIES, f"0 to {MAX_RETRIES} retries", str(left))
+            check(self.retries is None or left == self.retries, retries(self.retries), retries(left))
             self.retries = left
         elif kind == GET_USER_RETRIES:
-            left = answers.member(answers.map_of(data), 5, int, "the retries")
-            hold(self.user_retries in (None, left), f"{self.user_retries} retries", f"{left} retries")
+            left = answers.member(answers.decode_map(data), 5, int, "the retries")
+            check(self.user_retries in (None, left), retries(self.user_retries), retries(left))
             self.user_retries = left
         elif kind == GET_AGREEMENT:
             self.take_agreement(asked, data)
         elif kind == SET_PIN:
-            hold(not self.is_set, "a refusal, since a PIN is set", "status 00")
+            check(not self.is_set, "an error, since a PIN is set", "status 00")
             self.is_set, self.retries, self.wrong = True, None, 0
         elif kind == CHANGE_PIN:
             self.retries, self.wrong = None, 0
         elif kind in TOKENS:
-            hold(kind == GET_TOKEN or asked.get(9) != 0, "status 02, since nothing is permitted", "status 00")
+            check(kind == GET_TOKEN or asked.get(9) != 0, "status 02, since no permission is requested", "status 00")
             self.user_retries = None if kind == USER_TOKEN else self.user_retries
-            token = answers.member(answers.map_of(data), 2, bytes, "the token")
+            token = answers.member(answers.decode_map(data), 2, bytes, "the token")
             lengths = (16, 32) if asked.get(1) == 1 else (48,)
-            hold(len(token) in lengths, f"an encrypted token of {' or '.join(map(str, lengths))} bytes", token)
+            check(len(token) in lengths, f"an encrypted token of {' or '.join(map(str, lengths))} bytes", token)
             self.retries, self.wrong = None, 0
             self.permissions, self.rp = asked.get(9) if kind != GET_TOKEN else None, asked.get(10)
 
     def take_agreement(self, asked: Dict[Any, Any], data: bytes) -> None:
-        """Judges a key for key agreement: its form, and that it is a new one after a wrong PIN."""
-        found = answers.map_of(data)
+        """Checks a key agreement key: its format, and that it is new after a wrong PIN."""
+        found = answers.decode_map(data)
         answers.agreement_key(found)
-        hold(not self.is_stale or found.get(1) != self.agreement, "a new key after a wrong PIN", found)
+        check(not self.is_stale or found.get(1) != self.agreement, "a new key after a wrong PIN", found)
         self.agreement, self.is_stale = found.get(1), False
 
     def restart(self) -> None:
-        """Takes that the key may have lost its power: wrong PINs are counted anew."""
+        """Resets the count of consecutive wrong PINs: the key may have lost power."""
         self.wrong = 0
 
-    def judge_info(self, item: Dict[Any, Any]) -> None:
-        """Judges what authenticatorGetInfo says of a PIN."""
-        said = item.get(4, {}).get("clientPin")
-        if said is not None and self.is_set is not None and said != self.is_set:
-            raise ExtensionDiffers("6.5", f"clientPin: {str(self.is_set).lower()}", str(said).lower())
-        self.is_set = said if said is not None else self.is_set
+    def check_info(self, item: Dict[Any, Any]) -> None:
+        """Checks clientPin in authenticatorGetInfo."""
+        option = item.get(4, {}).get("clientPin")
+        if option is not None and self.is_set is not None and option != self.is_set:
+            raise ExtensionMismatch("6.5", f"clientPin: {str(self.is_set).lower()}", str(option).lower())
+        self.is_set = option if option is not None else self.is_set
 
-    def judge_use(self, needed: int, rp: str) -> None:
-        """Judges that a token was used for what it permits."""
+    def check_use(self, needed: int, rp: str) -> None:
+        """Checks that a token was used only as it permits."""
         if self.permissions is None:
             return
-        hold(bool(self.permissions & needed), "status 33, since the token doesn't permit this", "status 00")
-        hold(self.rp is None or self.rp == rp, f"status 33, since the token is for {self.rp}", "status 00")
+        check(bool(self.permissions & needed), "status 33, since the token does not permit this", "status 00")
+        check(self.rp is None or self.rp == rp, f"status 33, since the token is for {self.rp}", "status 00")
 
 
-def judge_u2f(request: bytes, data: bytes) -> None:
-    """Judges U2F's version, and the refusals of classes and instructions that U2F doesn't have."""
+def check_u2f(request: bytes, data: bytes) -> None:
+    """Checks the U2F version, and the errors for unknown classes and instructions."""
     if len(request) < 4:
         return
     if request[0] != 0:
-        hold(data[-2:] == b"\x6e\x00", "6e00, since U2F's class is 00", data)
+        check(data[-2:] == b"\x6e\x00", "6e00, since the U2F class is 00", data)
     elif request[1] == 3 and request[2:4] == b"\0\0" and data[-2:] == b"\x90\x00":
-        hold(data == b"U2F_V2\x90\x00", "U2F_V2 and 9000", data)
+        check(data == b"U2F_V2\x90\x00", "U2F_V2 and 9000", data)
     elif request[1] not in (1, 2, 3) and request[1] < 0xC0:
-        hold(data[-2:] != b"\x90\x00", "a refusal, since U2F has no such instruction", data)
+        check(data[-2:] != b"\x90\x00", "an error, since U2F has no such instruction", data)

@@ -1,4 +1,4 @@
-"""Makes keys, signs and verifies, where Debian's python3-cryptography is there."""
+"""Key pairs, signatures and their verification, if the package cryptography is installed."""
 
 from __future__ import annotations
 
@@ -12,26 +12,26 @@ try:
     from cryptography.hazmat.primitives import hashes
     from cryptography.hazmat.primitives.asymmetric import ec, ed25519, padding, rsa
 
-    THERE = True
+    AVAILABLE = True
 except ImportError:
-    THERE = False
+    AVAILABLE = False
 
 ORDER = 0xFFFFFFFF00000000FFFFFFFFFFFFFFFFBCE6FAADA7179E84F3B9CAC2FC632550
 
 
 class KeyMaker:
-    """Makes keys from a count, so that a run is like the one before; holds the private ones."""
+    """Makes key pairs from a counter, so that runs repeat; keeps the private keys."""
 
     def __init__(self) -> None:
         self.count = 0
         self.private: Dict[bytes, Any] = {}
 
     def make(self) -> Tuple[bytes, bytes, bytes]:
-        """Returns a new credential id and the coordinates of its public key."""
+        """Returns a new credential ID and the coordinates of its public key."""
         self.count += 1
         credential = hashlib.sha256(b"id %d" % self.count).digest()
         secret = hashlib.sha256(b"key %d" % self.count).digest()
-        if not THERE:
+        if not AVAILABLE:
             return credential, secret, secret
         private = ec.derive_private_key(int.from_bytes(secret, "big") % ORDER + 1, ec.SECP256R1())
         self.private[credential] = private
@@ -48,7 +48,7 @@ class KeyMaker:
 
 @lru_cache(maxsize=64)
 def point(x: bytes, y: bytes) -> Any:
-    """Returns the public key on P-256 of two coordinates."""
+    """Returns the P-256 public key with two coordinates."""
     numbers = int.from_bytes(x, "big"), int.from_bytes(y, "big")
     return ec.EllipticCurvePublicNumbers(*numbers, ec.SECP256R1()).public_key()
 
@@ -65,7 +65,7 @@ def public_of(cose: Any) -> Any:
 
 
 def verified(public: Any, signed: bytes, signature: bytes) -> None:
-    """Verifies a signature by the algorithm of the key; raises InvalidSignature."""
+    """Verifies a signature by the key's algorithm; raises InvalidSignature."""
     if isinstance(public, ec.EllipticCurvePublicKey):
         public.verify(signature, signed, ec.ECDSA(hashes.SHA256()))
     elif isinstance(public, rsa.RSAPublicKey):
@@ -75,8 +75,8 @@ def verified(public: Any, signed: bytes, signature: bytes) -> None:
 
 
 def verifies(cose: Any, signed: bytes, signature: bytes) -> bool:
-    """Says whether a signature verifies under a COSE key; true where that can't be checked."""
-    if not THERE:
+    """Returns whether a signature verifies under a COSE key; true without the package cryptography."""
+    if not AVAILABLE:
         return True
     try:
         verified(public_of(cose), signed, signature)
@@ -86,8 +86,8 @@ def verifies(cose: Any, signed: bytes, signature: bytes) -> bool:
 
 
 def verified_by(certificate: bytes, alg: int, signed: bytes, signature: bytes) -> bool:
-    """Says whether a signature verifies under a certificate's key, which has to be one of the algorithm."""
-    if not THERE:
+    """Returns whether a signature verifies under a certificate's key, which must be for algorithm `alg`."""
+    if not AVAILABLE:
         return True
     kinds: Dict[int, Any] = {-7: ec.EllipticCurvePublicKey, -8: ed25519.Ed25519PublicKey, -257: rsa.RSAPublicKey}
     try:

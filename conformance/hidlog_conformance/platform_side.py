@@ -1,8 +1,8 @@
-"""Plays the platform's side of PINs, tokens and secrets (CTAP 2.1, 6.5 and 12.5): puts into requests what only keys make.
+"""The platform's side of PINs, tokens and hmac-secret (CTAP 2.1, 6.5 and 12.5): fills in what depends on keys.
 
-A session's request has byte strings in these places: `=agreement`, the platform's key; `=encrypt:BYTES`; `=hash:PIN`, the
-PIN's hash, encrypted; `=auth:5+6`, the authentication of members; `=token:1`, that of a member by the token; `=manage`,
-that of a subcommand with its parameters; `=blob`, that of a piece of large blobs.
+Byte strings in a session's request are placeholders: `=agreement`, the platform's key; `=encrypt:BYTES`; `=hash:PIN`,
+the encrypted PIN hash; `=auth:5+6`, pinUvAuthParam of members by the shared secret; `=token:1`, of a member by the
+token; `=manage`, of a subcommand with its parameters; `=blob`, of a large-blob fragment.
 """
 
 from __future__ import annotations
@@ -13,13 +13,26 @@ import os
 from typing import Any, Dict
 
 from hidlog_conformance import ctap_cbor
-from hidlog_conformance.answers import agreement_key, hold, member
+from hidlog_conformance.answers import agreement_key, check, member
+from hidlog_conformance.quantity import quantity
 
 try:
     from cryptography.hazmat.primitives.asymmetric import ec
     from cryptography.hazmat.primitives.ciphers import Cipher, algorithms, modes
 except ImportError:
     pass
+
+
+# The lowest minimum length of a PIN in characters, and the length of a padded one in bytes (6.5.1).
+MIN_PIN_LENGTH, PADDED_PIN = 4, 64
+
+
+def suited_pin(pin: bytes, minimum: int) -> bytes:
+    """Returns a session's PIN for a device with this minimum length: of the minimum, or as much below it as before."""
+    length = len(pin.decode())
+    if not length or length >= minimum:
+        return pin
+    return pin + b"0" * (minimum - max(length, MIN_PIN_LENGTH))
 
 
 def extracted(secret: bytes, info: bytes) -> bytes:
@@ -29,9 +42,10 @@ def extracted(secret: bytes, info: bytes) -> bytes:
 
 
 class Platform:
-    """Holds a platform's key, the secret that it shares with a device, and its token."""
+    """A platform's key pair, the secret shared with a device, and the token."""
 
-    def __init__(self) -> None:
+    def __init__(self, min_pin_length: int = MIN_PIN_LENGTH) -> None:
+        self.min_pin_length = min_pin_length
         self.private: Any = None
         self.protocol = 0
         self.for_auth = b""
@@ -40,7 +54,7 @@ class Platform:
         self.secrets: Dict[str, bytes] = {}
 
     def agree(self, item: Dict[Any, Any], asked: Dict[Any, Any]) -> None:
-        """Takes the device's key for key agreement."""
+        """Derives the shared secret from the device's key agreement key."""
         key = agreement_key(item)
         self.protocol = asked[1]
         self.private = ec.generate_private_key(ec.SECP256R1())
@@ -64,47 +78,49 @@ class Platform:
         return done if self.protocol == 1 else vector + done
 
     def decrypt(self, data: bytes) -> bytes:
-        """Decrypts what the device encrypted."""
+        """Decrypts data from the device."""
         vector, rest = (bytes(16), data) if self.protocol == 1 else (data[:16], data[16:])
-        hold(bool(rest) and len(rest) % 16 == 0, "whole blocks of AES", data)
+        check(bool(rest) and len(rest) % 16 == 0, "whole AES blocks", data)
         done: bytes = Cipher(algorithms.AES(self.for_encryption), modes.CBC(vector)).decryptor().update(rest)
         return done
 
     def authenticate(self, key: bytes, data: bytes) -> bytes:
-        """Returns the authentication of bytes."""
+        """Returns the pinUvAuthParam of `data`."""
         whole = hmac.new(key, data, hashlib.sha256).digest()
         return whole[:16] if self.protocol == 1 else whole
 
     def take_token(self, item: Dict[Any, Any]) -> None:
-        """Takes a token."""
+        """Processes a token."""
         self.token = self.decrypt(member(item, 2, bytes, "the token"))
         lengths = (16, 32) if self.protocol == 1 else (32,)
-        hold(
-            len(self.token) in lengths, f"a token of {' or '.join(map(str, lengths))} bytes", f"{len(self.token)} bytes"
+        check(
+            len(self.token) in lengths,
+            f"a token of {' or '.join(map(str, lengths))} bytes",
+            quantity(len(self.token), "byte"),
         )
 
     def take_secret(self, name: str, encrypted: Any) -> None:
-        """Compares a secret with that of the same name, and with others."""
-        hold(isinstance(encrypted, bytes), "an encrypted secret", encrypted)
+        """Checks hmac-secret outputs: the same under the same name, different from others."""
+        check(isinstance(encrypted, bytes), "an encrypted secret", encrypted)
         found = self.decrypt(encrypted)
-        hold(len(found) in (32, 64), "one secret or two of 32 bytes", f"{len(found)} bytes")
-        hold(self.secrets.setdefault(name, found) == found, f"the secret {name} again", found)
+        check(len(found) in (32, 64), "one or two secrets of 32 bytes", quantity(len(found), "byte"))
+        check(self.secrets.setdefault(name, found) == found, f"the secret {name} again", found)
         others = [other for other, secret in self.secrets.items() if other != name and secret[:32] == found[:32]]
-        hold(not others, f"another secret than {' '.join(others)}", found)
+        check(not others, f"another secret than {' '.join(others)}", found)
 
     def fill(self, request: bytes) -> bytes:
-        """Puts what the platform makes into a request; one without places is as it was."""
+        """Returns a request with its placeholders filled in."""
         if b"=" not in request:
             return request
         try:
             item = ctap_cbor.decode(request[1:])
-        except ctap_cbor.CborFault:
+        except ctap_cbor.CborError:
             return request
         filled = self.filled(item)
         return request if filled == item else request[:1] + ctap_cbor.encode(filled)
 
     def filled(self, item: Any) -> Any:
-        """Returns an item with its places filled: what is encrypted first, since others authenticate it."""
+        """Returns an item with its placeholders filled in: encryption first, since authentication covers it."""
         if isinstance(item, list):
             return [self.filled(part) for part in item]
         if not isinstance(item, dict):
@@ -116,17 +132,23 @@ class Platform:
         return found
 
     def made(self, value: Any) -> Any:
-        """Returns what is in the place of a byte string."""
+        """Returns the value of a placeholder."""
         if value == b"=agreement":
             return self.own_key()
         if isinstance(value, bytes) and value.startswith(b"=encrypt:"):
-            return self.encrypt(value[9:])
+            return self.encrypt(self.suited_data(value[9:]))
         if isinstance(value, bytes) and value.startswith(b"=hash:"):
-            return self.encrypt(hashlib.sha256(value[6:]).digest()[:16])
+            return self.encrypt(hashlib.sha256(suited_pin(value[6:], self.min_pin_length)).digest()[:16])
         return value
 
+    def suited_data(self, data: bytes) -> bytes:
+        """Returns data to encrypt: a padded PIN for this device's minimum length, anything else unchanged."""
+        if len(data) != PADDED_PIN or data[-1]:
+            return data
+        return suited_pin(data.rstrip(b"\0"), self.min_pin_length).ljust(PADDED_PIN, b"\0")
+
     def authentic(self, value: bytes, item: Dict[Any, Any]) -> bytes:
-        """Returns the authentication that a placeholder asks for, and any other byte string as it is."""
+        """Returns the pinUvAuthParam of a placeholder, or another byte string unchanged."""
         if value.startswith(b"=auth:"):
             parts = [item[int(part)] for part in value[6:].split(b"+")]
             return self.authenticate(self.for_auth, b"".join(parts))

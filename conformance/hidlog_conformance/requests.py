@@ -1,4 +1,4 @@
-"""Says what is wrong with a host's request by itself: its encoding, its members, their types (CTAP 2.1, 6 and 8)."""
+"""Validates requests: command, encoding, members and their types (CTAP 2.1, 6 and 8)."""
 
 from __future__ import annotations
 
@@ -7,9 +7,10 @@ from functools import lru_cache
 from typing import Any, Callable, Dict, List, Optional, Tuple
 
 from hidlog_conformance import ctap_cbor, rules
+from hidlog_conformance.quantity import quantity
 
 MAKE, GET, INFO, PIN, RESET, NEXT, SELECTION = 0x01, 0x02, 0x04, 0x06, 0x07, 0x08, 0x0B
-# Commands that CTAP 2.1 has beside these, and the vendors' (8.1).
+# Other commands of CTAP 2.1, and vendor commands (8.1).
 OTHERS = (0x09, 0x0A, 0x0C, 0x0D, *range(0x40, 0xC0))
 NAMES = {
     MAKE: "authenticatorMakeCredential",
@@ -25,17 +26,17 @@ MISSING, UNKNOWN, FORM = "missing", "unknown", "form"
 
 @dataclass
 class Fault:
-    """What is wrong with a request: a kind, the section where it isn't the command's, what was due and what came."""
+    """An error in a request: its kind, its section if not the command's, and what was expected and came."""
 
     kind: str
-    due: str
-    came: str
+    expected: str
+    actual: str
     section: str = ""
     should: bool = False
 
 
 def is_descriptor(item: Any) -> bool:
-    """Says whether an item is a credential descriptor."""
+    """Returns whether an item is a credential descriptor."""
     if not isinstance(item, dict) or not isinstance(item.get("id"), bytes) or not isinstance(item.get("type"), str):
         return False
     transports = item.get("transports", [])
@@ -43,62 +44,62 @@ def is_descriptor(item: Any) -> bool:
 
 
 def is_parameter(item: Any) -> bool:
-    """Says whether an item is an algorithm with its type."""
+    """Returns whether an item is an algorithm with its type."""
     return isinstance(item, dict) and isinstance(item.get("alg"), int) and isinstance(item.get("type"), str)
 
 
 def listed(check: Callable[[Any], bool]) -> Callable[[Any], bool]:
-    """Returns a check of lists."""
+    """Returns a check that each element of a list passes `check`."""
     return lambda item: isinstance(item, list) and all(map(check, item))
 
 
 def has_names(item: Dict[Any, Any]) -> bool:
-    """Says whether the names of an RP or a user are texts, where they are there."""
+    """Returns whether the names of an RP or a user, if present, are text strings."""
     return all(isinstance(item.get(name, ""), str) for name in ("name", "displayName", "icon"))
 
 
 def is_text(item: Any) -> bool:
-    """Says whether an item is a text."""
+    """Returns whether an item is a text string."""
     return isinstance(item, str)
 
 
 def is_hash(item: Any) -> bool:
-    """Says whether an item is a SHA-256."""
+    """Returns whether an item is a SHA-256."""
     return isinstance(item, bytes) and len(item) == 32
 
 
 def is_rp(item: Any) -> bool:
-    """Says whether an item is an RP."""
+    """Returns whether an item is an RP."""
     return isinstance(item, dict) and isinstance(item.get("id"), str) and has_names(item)
 
 
 def is_user(item: Any) -> bool:
-    """Says whether an item is a user."""
+    """Returns whether an item is a user."""
     return isinstance(item, dict) and isinstance(item.get("id"), bytes) and len(item["id"]) <= 64 and has_names(item)
 
 
 def is_options(item: Any) -> bool:
-    """Says whether an item is a map of options."""
-    return isinstance(item, dict) and all(isinstance(it, bool) for it in item.values())
+    """Returns whether an item is a map of options."""
+    return isinstance(item, dict) and all(isinstance(element, bool) for element in item.values())
 
 
 def is_map(item: Any) -> bool:
-    """Says whether an item is a map."""
+    """Returns whether an item is a map."""
     return isinstance(item, dict)
 
 
 def is_number(item: Any) -> bool:
-    """Says whether an item is an unsigned integer."""
+    """Returns whether an item is an unsigned integer."""
     return isinstance(item, int) and not isinstance(item, bool) and item >= 0
 
 
 def is_bytes(item: Any) -> bool:
-    """Says whether an item is a byte string."""
+    """Returns whether an item is a byte string."""
     return isinstance(item, bytes)
 
 
 Member = Tuple[str, bool, Callable[[Any], bool]]
-# By command and key: the member's name, whether it has to be there, and its type.
+# By command and key: the member's name, whether it is required, and its type.
 MEMBERS: Dict[int, Dict[int, Member]] = {
     MAKE: {
         1: ("clientDataHash", True, is_hash),
@@ -136,28 +137,30 @@ MEMBERS: Dict[int, Dict[int, Member]] = {
 
 @lru_cache(maxsize=16)
 def parameters_of(request: bytes) -> Optional[Dict[Any, Any]]:
-    """Returns the parameters of a request, which aren't changed; none if they can't be read."""
+    """Returns the parameters of a request, not to be modified; None if they are invalid."""
     try:
         item = ctap_cbor.decoded(request[1:]) if len(request) > 1 else {}
-    except ctap_cbor.CborFault:
+    except ctap_cbor.CborError:
         return None
     return dict(item) if isinstance(item, dict) else None
 
 
 @lru_cache(maxsize=16)
 def fault_of(request: bytes) -> Optional[Fault]:
-    """Returns what is wrong with a request; None where nothing is."""
+    """Returns the first error in a request, or None."""
     command = request[0]
     if command not in NAMES and command not in OTHERS:
-        return Fault(UNKNOWN, "a command that there is", f"command {command:02x}", rules.COMMANDS_OTHER)
+        return Fault(UNKNOWN, "a known command", f"command {command:02x}", rules.COMMANDS_OTHER)
     if len(request) == 1:
         needs = any(has_to_be for _, has_to_be, _ in MEMBERS.get(command, {}).values())
         return Fault(FORM, "parameters", "none") if needs else None
     if command in (INFO, RESET, NEXT, SELECTION):
-        return Fault(FORM, "a command without parameters", f"{len(request) - 1} bytes behind it", should=True)
+        return Fault(
+            FORM, "a command without parameters", f"{quantity(len(request) - 1, 'byte')} of parameters", should=True
+        )
     try:
         item = ctap_cbor.decoded(request[1:])
-    except ctap_cbor.CborFault as fault:
+    except ctap_cbor.CborError as fault:
         return Fault(FORM, "parameters in CTAP2 canonical CBOR", str(fault), "8")
     if not isinstance(item, dict):
         return Fault(FORM, "parameters as a map", ctap_cbor.shown(item), "8")
@@ -165,17 +168,19 @@ def fault_of(request: bytes) -> Optional[Fault]:
 
 
 def members_fault(command: int, item: Dict[Any, Any]) -> Optional[Fault]:
-    """Returns the first member that is missing or has another type."""
+    """Returns an error for the first member that is missing or has a wrong type."""
     members = MEMBERS.get(command, {})
     wrong = [name for key, (name, _, is_right) in members.items() if key in item and not is_right(item[key])]
-    lacking = [f"{name} under the key {key}" for key, (name, due, _) in members.items() if due and key not in item]
+    lacking = [
+        f"{name} under the key {key}" for key, (name, required, _) in members.items() if required and key not in item
+    ]
     if wrong:
-        return Fault(FORM, f"{wrong[0]} of its type", ctap_cbor.shown(item))
+        return Fault(FORM, f"{wrong[0]} with its type", ctap_cbor.shown(item))
     return Fault(MISSING, lacking[0], ctap_cbor.shown(item)) if lacking else None
 
 
 def unknown_parts(command: int, item: Dict[Any, Any]) -> List[str]:
-    """Returns what of a request a key may not know, and has to pass over: members, options, extensions."""
+    """Returns the unknown parts of a request, which a key must ignore: members, options, extensions."""
     found = [f"the member {key!r}" for key in item if key not in MEMBERS.get(command, {})]
     options = item.get(7 if command == MAKE else 5, {})
     found += [f"the option {name}" for name in options if name not in ("rk", "up", "uv")]

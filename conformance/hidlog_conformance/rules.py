@@ -1,4 +1,4 @@
-"""Says which rule a difference breaks: not always the one that the session is about."""
+"""Finds the rule that a difference violates, which may not be the one that the session is about."""
 
 from __future__ import annotations
 
@@ -12,7 +12,7 @@ CHANNELS, PACKETS, BUSY, TIMEOUT, SEQUENCE = "11.2.3", "11.2.4", "11.2.5.1", "11
 ABORT = "11.2.5.3"
 CBOR, INIT, PING, CANCEL = "11.2.9.1.2", "11.2.9.1.3", "11.2.9.1.4", "11.2.9.1.5"
 ERROR, KEEPALIVE = "11.2.9.1.6", "11.2.9.1.7"
-# The rule that an ERROR's code shows, and that of a request's command.
+# The rule by the code of an ERROR, and by the command of a request.
 CODES = {"01": ERROR, "03": PACKETS, "0b": CHANNELS, "04": SEQUENCE, "05": TIMEOUT, "06": BUSY}
 COMMANDS: Dict[int, str] = {
     0x01: "6.1.2",
@@ -25,7 +25,7 @@ COMMANDS: Dict[int, str] = {
     0x0B: "6.9",
     0x0C: "6.10",
 }
-# The rule of a request that no command has, and those of the transport's messages.
+# The rule about unknown commands, and those of the transport's messages.
 COMMANDS_OTHER = "8.1"
 RESET = "6.6"
 MSG, WINK = "11.2.9.1.1", "11.2.9.2.1"
@@ -40,22 +40,22 @@ OF_COMMAND: Dict[int, str] = {
     hid.ERROR: ERROR,
 }
 MAPS = ("made", "asserted", "info", "managed", "piece", "user_retries")
-# What answers a CBOR request, and the commands that may come for one.
+# Expectations of a response to a CBOR request, and the CTAPHID commands that may respond to one.
 ANSWERS = (*MAPS, "status", "refused")
-LAWFUL = (hid.CBOR, hid.ERROR, hid.KEEPALIVE)
+REPLY_COMMANDS = (hid.CBOR, hid.ERROR, hid.KEEPALIVE)
 
 
 @dataclass
 class Seen:
-    """Holds what was expected and what came in its place."""
+    """An expectation, and what came instead."""
 
     # The rule that the session is about.
     own: str
     expected: str
-    came: Optional[Message]
-    # Whether packets of a message are missing.
+    actual: Optional[Message]
+    # Whether the last message is incomplete.
     partial: bool
-    # The request that was sent last, and whether the host cancelled it.
+    # The last request, and whether the host cancelled it.
     request: bytes
     cancelled: bool
 
@@ -66,46 +66,46 @@ class Seen:
 
     @property
     def refusal(self) -> str:
-        """Returns the code of an ERROR that came, empty where something else did."""
-        return self.came.data.hex() if self.came is not None and self.came.command == hid.ERROR else ""
+        """The code of the ERROR that came, or empty."""
+        return self.actual.data.hex() if self.actual is not None and self.actual.command == hid.ERROR else ""
 
     @property
     def answered(self) -> bytes:
-        """Returns the CBOR answer that came, empty where something else did."""
-        return self.came.data if self.came is not None and self.came.command == hid.CBOR else b""
+        """The CBOR response that came, or empty."""
+        return self.actual.data if self.actual is not None and self.actual.command == hid.CBOR else b""
 
 
 def broken(seen: Seen) -> str:
-    """Returns the number of the section whose rule a difference breaks."""
+    """Returns the section whose rule a difference violates."""
     kind = seen.expected.split(" ")[0]
-    if kind == "zeros" or seen.partial or (seen.came is not None and seen.came.problem):
+    if kind == "zeros" or seen.partial or (seen.actual is not None and seen.actual.problem):
         return PACKETS
     if kind == "init":
         return INIT
     if kind == "maybe":
         return TIMEOUT
-    if kind != "silence" and seen.came is not None and seen.came.command == hid.KEEPALIVE:
+    if kind != "silence" and seen.actual is not None and seen.actual.command == hid.KEEPALIVE:
         return KEEPALIVE
     if kind != "error" and seen.refusal in ("04", "05", "06"):
         return CODES[seen.refusal]
     if kind in ("nothing", "silence") and seen.cancelled:
         return CANCEL
     if len(seen.answered) > 1 and seen.answered[0] != 0:
-        # A refusal comes alone.
+        # An error status has no data.
         return CBOR
-    if kind in ANSWERS and seen.came is not None and seen.came.command not in LAWFUL:
+    if kind in ANSWERS and seen.actual is not None and seen.actual.command not in REPLY_COMMANDS:
         return CBOR
     if kind in MAPS and seen.answered == b"\0":
         return CBOR
     if kind in ("echo", "ping"):
-        return PING if seen.came is not None and seen.came.command == hid.PING else seen.own
+        return PING if seen.actual is not None and seen.actual.command == hid.PING else seen.own
     if kind == "error" and seen.own != CBOR:
         return CODES.get(seen.expected.split(" ")[1][:2], seen.own)
     return of_answer(kind, seen)
 
 
 def of_answer(kind: str, seen: Seen) -> str:
-    """Returns the rule that a wrong answer of a request breaks, or one that came too early or not at all."""
+    """Returns the rule that a wrong, early or missing response to a request violates."""
     if kind == "status" and seen.cancelled and "2d" in seen.expected:
         return CANCEL
     if seen.own.startswith("12.") and {"extension", "secret", "blob-key", "no-blob-key"} & set(
@@ -113,16 +113,16 @@ def of_answer(kind: str, seen: Seen) -> str:
     ):
         return seen.own
     if seen.own == RESET and kind in ("managed", "piece"):
-        # What is still there after a reset.
+        # Something survived a reset.
         return seen.own
     if kind == "keepalive":
-        return seen.of_request if seen.answered else KEEPALIVE if seen.came is None else seen.own
+        return seen.of_request if seen.answered else KEEPALIVE if seen.actual is None else seen.own
     success = seen.answered[:1] == b"\0"
     if kind == "rest":
         return seen.of_request if seen.answered and not seen.own.startswith("8") else seen.own
     if kind in MAPS and (success or seen.own.startswith("6.")):
         return seen.of_request
     if kind == "status" and seen.answered and not success and seen.own.startswith("6."):
-        # One status in place of another.
+        # One status instead of another.
         return seen.of_request
     return seen.own

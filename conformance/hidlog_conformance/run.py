@@ -1,11 +1,11 @@
-"""Plays the corpus against an authenticator, and reports which rules of CTAP 2.1 it breaks.
+"""Runs the conformance tests against an authenticator or a client, and reports violations of CTAP 2.1.
 
-    hidlog-conformance --device "COMMAND .." --touch-line touch   against a command that speaks packets as lines
-    hidlog-conformance --device /dev/hidraw3 --touch              against a device of Linux
-    hidlog-conformance --client "COMMAND .."                      plays the device to a client
+    hidlog-conformance --device "COMMAND .." --touch-line touch   a command that reads and writes packets as hex lines
+    hidlog-conformance --device /dev/hidraw3 --touch              a Linux hidraw device
+    hidlog-conformance --client "COMMAND .."                      a client, to which this plays the device
 
-The last line is `N passed, N failed, N warned, N skipped`. The status is 1 where a case failed, and 2 where the words
-are wrong or the device doesn't answer INIT.
+The last line is `N passed, N failed, N warned, N skipped`. The exit status is 1 if a case failed, and 2 if the
+arguments are invalid or the device does not respond to INIT.
 """
 
 from __future__ import annotations
@@ -14,198 +14,255 @@ import argparse
 import os
 import sys
 import threading
-from concurrent.futures import ThreadPoolExecutor
-from typing import Dict, List, Optional, Tuple
+from typing import Dict, List, Optional, Tuple, TypeVar
 
-from hidlog_conformance import __version__, executor, keys, report
-from hidlog_conformance.client_runner import client_sessions, keep_logs, play_clients, read_client_session
-from hidlog_conformance.devices import Device, HidrawDevice, LiveDevice, PipeDevice
-from hidlog_conformance.known import failing
-from hidlog_conformance.offers import Offers, empty_blobs, prepare
-from hidlog_conformance.places import PROGRAM, SESSIONS
-from hidlog_conformance.outcome import Outcome
-from hidlog_conformance.listener import CASE, GOES_ON, IN_TIME
-from hidlog_conformance.plain import clean
+from hidlog_conformance import __version__, executor, interrupts, keys, report
+from hidlog_conformance.client_runner import Played, client_sessions, keep_logs, play_clients, read_client_session
+from hidlog_conformance.devices import Device, HidrawDevice, LiveDevice, PipeDevice, kill_running
+from hidlog_conformance.expected_failures import failing
+from hidlog_conformance.device_info import DeviceInfo, empty_blobs, prepare
+from hidlog_conformance.paths import PROGRAM
+from hidlog_conformance.outcome import FAILED, UNSTABLE, Outcome
+from hidlog_conformance.quantity import quantity
+from hidlog_conformance.response_reader import CASE_SECONDS, GOES_ON, IN_TIME
+from hidlog_conformance.results import Results, collect
+from hidlog_conformance.sanitize import clean
 from hidlog_conformance.player import Player
+from hidlog_conformance.session_cache import session_name, session_path, sessions_folder
 from hidlog_conformance.session_file import Session, read_session, sends_reset
-from hidlog_conformance.sparing import Sparing
+from hidlog_conformance.credential_reuse import CredentialReuse
 
-# After so many cases that end by their deadline nothing more is played.
-HANGS = 3
-# A device may drop a message whose packets come so many seconds late.
-LATE = 0.05
-# What a session uses that sets a PIN.
+Result = TypeVar("Result")
+
+# Number of cases that may reach their deadline before the run stops.
+MAX_HANGS = 3
+# Seconds that a packet may be sent late before a device may drop its message.
+MAX_DELAY = 0.05
+# In `uses`: the session sets a PIN.
 PINS = "pin token"
 
 
 def all_sessions(only: str = "", paths: Tuple[str, ...] = (), skip: Tuple[str, ...] = ()) -> List[Session]:
-    """Reads the sessions, or those of some files, whose names or rules have a word, and none of others."""
-    found = list(paths)
-    for folder, _, files in os.walk(SESSIONS) if not paths else ():
+    """Returns the sessions (of `paths`, or all) whose name or rule contains `only` and none of the words of `skip`."""
+    found = list(map(session_path, paths))
+    for folder, _, files in os.walk(sessions_folder()) if not paths else ():
         found += [os.path.join(folder, name) for name in files if name.endswith(".log")]
-    sessions = [read_session(path, os.path.relpath(path, SESSIONS)[:-4]) for path in sorted(found)]
+    sessions = [read_session(path, session_name(path)) for path in sorted(found)]
 
     def chosen(session: Session) -> bool:
-        said = (session.name + " " + session.head["rule"]).lower()
-        return only.lower() in said and not any(word.lower() in said for word in skip)
+        text = (session.name + " " + session.head["rule"]).lower()
+        return only.lower() in text and not any(word.lower() in text for word in skip)
 
     return [session for session in sessions if chosen(session)]
 
 
 def device_of(options: argparse.Namespace) -> Device:
-    """Returns the device that the words name."""
+    """Returns the device that the options name."""
     if options.device is None:
         if not os.path.exists(PROGRAM):
-            raise ValueError("which device? --device COMMAND or --device /dev/hidrawN")
+            raise ValueError("no device: use --device COMMAND or --device /dev/hidrawN")
         return LiveDevice()
     if not options.device.strip():
-        raise ValueError("--device names no command")
+        raise ValueError("--device is empty")
     if options.device.startswith("/dev/"):
         return HidrawDevice(options.device, options.touch)
-    return PipeDevice(options.device, options.touch, options.touch_line, options.keeps)
+    return PipeDevice(options.device, options.touch, options.touch_line, options.persistent)
 
 
-def judged(outcome: Outcome, options: argparse.Namespace, offers: Offers) -> Outcome:
-    """Returns an outcome as it counts: a should warns, and a choice of this project doesn't bind others."""
+def judged(outcome: Outcome, options: argparse.Namespace, device_info: DeviceInfo) -> Outcome:
+    """Returns the outcome to report: SHOULD violations are warnings, and choices of this project's profile are
+    skipped."""
     session = outcome.session
-    if outcome.status != "not ok" or outcome.wanted in (GOES_ON, IN_TIME):
+    if outcome.status != "not ok" or outcome.expected in (GOES_ON, IN_TIME):
         return outcome
-    if session.head.get("profile") and not options.choices:
-        came = f"{outcome.came} for {outcome.wanted}"
-        return Outcome(session, "skip", f"differs in a choice of this project ({session.head['profile']}): {came}")
-    if session.head.get("since") and offers.old and not options.choices:
-        return Outcome(session, "skip", f"differs, and the device names FIDO_2_0 alone: {session.head['since']}")
-    if session.head.get("level") == "should" and not options.should:
+    if session.head.get("profile") and not options.profile_choices:
+        actual = f"{outcome.actual} instead of {outcome.expected}"
+        return Outcome(
+            session, "skip", f"differs from a choice of this project's profile ({session.head['profile']}): {actual}"
+        )
+    if session.head.get("since") and device_info.old and not options.profile_choices:
+        return Outcome(session, "skip", f"differs, but the device supports only FIDO_2_0: {session.head['since']}")
+    if session.head.get("level") == "should" and not options.warnings_as_errors:
         outcome.status = "warn"
     return outcome
 
 
 def may_be_late(device: Device, outcome: Outcome, options: argparse.Namespace) -> bool:
-    """Says whether a case may have failed since the runner was late, on a machine that has much to do."""
+    """Returns whether a case may have failed because the runner sent packets late, on a busy machine."""
     asks = options.touch and not options.touch_line and "touch" in outcome.session.needs
-    return outcome.status == "not ok" and not outcome.hung and device.late > LATE and not asks
+    return outcome.status == "not ok" and not outcome.hung and device.late > MAX_DELAY and not asks
+
+
+def unstable(first: Outcome, second: Outcome, late: float) -> Outcome:
+    """Returns the outcome of a case that differed and then did not: a failure is unstable, with both recordings."""
+    if first.status == "not ok":
+        first.status = UNSTABLE
+        first.recordings = [*first.recordings, *second.recordings]
+        first.reason = f"failed while the runner was up to {late * 1000:.0f} ms late, then passed"
+    return first
 
 
 def play_one(
     device: Device,
     session: Session,
     options: argparse.Namespace,
-    offers: Offers,
-    sparing: Optional[Sparing] = None,
+    device_info: DeviceInfo,
+    reuse: Optional[CredentialReuse] = None,
     again: bool = True,
 ) -> Outcome:
-    """Plays a session, or skips it with its reason. Where touches are spared it may go without a reset; where the runner
-    was late a case that failed is played once more."""
-    reason = offers.lacking(session, device, options.touch, options.reset)
-    front = sparing.front(session) if sparing is not None and not reason else ""
-    is_empty = sparing is not None and not reason and sparing.empties(session) and empty_blobs(device)
+    """Plays a session, or skips it with a reason. With `reuse` it may use credentials of earlier cases and not reset.
+    A case that failed while the runner was late is played once more, and is unstable if it then passes."""
+    reason = device_info.lacking(session, device, options.touch, options.reset)
+    front = reuse.front(session) if reuse is not None and not reason else ""
+    is_empty = reuse is not None and not reason and reuse.empties(session) and empty_blobs(device)
     if not reason and "reset" in session.needs and not device.fresh and not front and not is_empty:
         print(f"resetting the device for {session.name}", file=sys.stderr)
         try:
             reason = prepare(device, any(map(sends_reset, session.steps)))
         except OSError as fault:
             return Outcome(session, "not ok", "", GOES_ON, f"at the reset before the case: {fault}")
-        if sparing is not None:
-            sparing.forget()
+        if reuse is not None:
+            reuse.forget()
     if reason:
         return Outcome(session, "skip", reason)
-    outcome = Player(device, session, options.choices, offers.facts(), options.deadline, sparing, front).play()
-    if sparing is not None:
-        sparing.played(session)
+    player = Player(device, session, options.profile_choices, device_info.facts(), options.deadline, reuse, front)
+    outcome = player.play()
+    outcome.recordings = [player.recording()]
+    if reuse is not None:
+        reuse.played(session)
     if may_be_late(device, outcome, options) and again:
-        return play_one(device, session, options, offers, sparing, False)
+        late = device.late
+        second = play_one(device, session, options, device_info, reuse, False)
+        first = judged(outcome, options, device_info)
+        return second if second.status in FAILED else unstable(first, second, late)
     if front and outcome.status == "skip":
-        # There is no space beside other cases' credentials.
-        return play_one(device, session, options, offers)
-    return judged(outcome, options, offers)
+        # No space beside the credentials of other cases.
+        return play_one(device, session, options, device_info)
+    return judged(outcome, options, device_info)
 
 
 def touches(session: Session) -> int:
-    """Returns how often a person touches in a session."""
+    """Returns how many touches a session needs."""
     return sum(step.kind == "p" and step.words[:1] == ["granted"] for step in session.steps)
 
 
 def in_order(device: Device, sessions: List[Session], asks: bool) -> List[Session]:
-    """Returns sessions in the order in which they are played: those of a PIN last, where the device keeps it; where a
-    person is asked, those first that ask nobody, and then by how often they ask."""
+    """Returns sessions in the order to play them: those that set a PIN last if the device keeps it; and if a person
+    touches, by the number of touches."""
     if asks:
         asking = [count for count in map(touches, sessions) if count]
-        text = f"{len(sessions) - len(asking)} cases ask for no touch and come first, then {len(asking)}"
-        print(f"{text} for {sum(asking)} at most", file=sys.stderr)
+        first = quantity(len(sessions) - len(asking), "case")
+        most = quantity(sum(asking), "touch", "touches")
+        print(f"{first} without a touch first, then {len(asking)} with at most {most}", file=sys.stderr)
     by_touches = sorted(sessions, key=touches) if asks else sessions
     return sorted(by_touches, key=lambda session: bool(device.lasting and PINS in session.uses))
 
 
-def play_apart(given: Tuple[Session, argparse.Namespace, Offers]) -> Outcome:
-    """Plays a session to a device of its own, in a worker."""
-    session, options, offers = given
-    return play_one(device_of(options), session, options, offers)
+def play_in_worker(task: Tuple[Session, argparse.Namespace, DeviceInfo]) -> Outcome:
+    """Plays a session against a new device, in a worker process."""
+    session, options, device_info = task
+    return play_one(device_of(options), session, options, device_info)
 
 
-def play_all(device: Device, sessions: List[Session], options: argparse.Namespace, offers: Offers) -> List[Outcome]:
-    """Plays sessions one after another; to commands that share nothing and ask nobody several at a time."""
+def play_on_cluster(
+    sessions: List[Session], options: argparse.Namespace, device_info: DeviceInfo, results: Results[Outcome]
+) -> None:
+    """Plays sessions on the workers of --executor."""
+    tasks = [(session, options, device_info) for session in sessions]
+    folder = os.path.dirname(os.path.dirname(os.path.abspath(__file__)))
+    for number, outcome in enumerate(executor.results(options.executor, [folder], play_in_worker, tasks)):
+        results.add(number, outcome)
+
+
+def play_all(
+    device: Device,
+    sessions: List[Session],
+    options: argparse.Namespace,
+    device_info: DeviceInfo,
+    results: Results[Outcome],
+) -> None:
+    """Plays sessions one after another, or in parallel against commands that share no state and ask nobody. Adds each
+    outcome when its case ends."""
     hangs, lock = [0], threading.Lock()
     asks = options.touch and not options.touch_line
-    sparing = Sparing() if asks and device.lasting and not options.alone else None
+    reuse = CredentialReuse() if asks and device.lasting and not options.isolated else None
 
     def play(session: Session, own: Device) -> Outcome:
-        if hangs[0] >= HANGS:
-            return Outcome(session, "not ok", "", IN_TIME, f"not played: {HANGS} cases ended by their deadline")
+        if hangs[0] >= MAX_HANGS:
+            return Outcome(session, "not ok", "", IN_TIME, f"not played: {MAX_HANGS} cases reached their deadline")
         if options.device and options.report == "text":
             print(f"playing {session.name}", file=sys.stderr)
-        outcome = play_one(own, session, options, offers, sparing)
+        outcome = play_one(own, session, options, device_info, reuse)
+        interrupts.wait_for_end(own.status)
         with lock:
             hangs[0] += outcome.hung
+        if options.report == "text" and not results.is_closed:
+            report.progress(outcome)
         return outcome
 
-    alone = not isinstance(device, PipeDevice) or options.keeps or asks
+    alone = not isinstance(device, PipeDevice) or options.persistent or asks
     if options.executor and not alone:
-        tasks = [(session, options, offers) for session in sessions]
-        folder = os.path.dirname(os.path.dirname(os.path.abspath(__file__)))
-        return list(executor.results(options.executor, [folder], play_apart, tasks))
+        play_on_cluster(sessions, options, device_info, results)
+        return
     if options.executor:
         raise ValueError(
-            "--executor needs a --device COMMAND that keeps nothing, and --touch-line in place of a person"
+            "--executor needs a --device COMMAND without --persistent, and --touch-line instead of a person"
         )
     if alone:
-        return [play(session, device) for session in sessions]
-    with ThreadPoolExecutor(options.jobs) as pool:
-        return list(pool.map(lambda session: play(session, device_of(options)), sessions))
+        for number, session in enumerate(sessions):
+            results.add(number, play(session, device))
+    else:
+        collect(lambda session: play(session, device_of(options)), sessions, options.jobs, results)
 
 
 def device_words(parser: argparse.ArgumentParser) -> None:
-    """Adds the words about a device."""
-    parser.add_argument("--device", help="a command, or /dev/hidrawN")
-    parser.add_argument("--touch", action="store_true", help="a person is there to touch the device")
-    parser.add_argument("--touch-line", default="", metavar="LINE", help="what a command reads in place of a touch")
-    parser.add_argument("--jobs", type=int, default=4, metavar="N", help="commands at a time; by default 4")
-    parser.add_argument("--executor", default="", metavar="dask://HOST:PORT", help="a Dask scheduler's workers play")
-    parser.add_argument("--keeps", action="store_true", help="a command keeps its credentials when it is started anew")
-    parser.add_argument("--reset", action="store_true", help="the device may be reset: ALL ITS CREDENTIALS ARE LOST")
-    parser.add_argument("--alone", action="store_true", help="no case uses what another one registered")
-    parser.add_argument("--display", action="store_true", help="the device has a display on which accounts are chosen")
-    parser.add_argument("--deadline", type=float, default=CASE, metavar="SECONDS", help="for a case; by default 60")
+    """Adds the options about the device."""
+    parser.add_argument("--device", help="a command line, or /dev/hidrawN")
+    parser.add_argument("--touch", action="store_true", help="ask a person to touch the device")
+    parser.add_argument(
+        "--touch-line", default="", metavar="LINE", help="line to write to the command instead of a touch"
+    )
+    parser.add_argument("--jobs", type=int, default=4, metavar="N", help="run N commands in parallel (default: 4)")
+    parser.add_argument("--executor", default="", metavar="dask://HOST:PORT", help="run on a Dask cluster")
+    parser.add_argument("--persistent", action="store_true", help="the command keeps credentials across restarts")
+    parser.add_argument("--reset", action="store_true", help="allow resets: DELETES ALL CREDENTIALS OF THE DEVICE")
+    parser.add_argument("--isolated", action="store_true", help="do not share credentials between cases")
+    parser.add_argument("--display", action="store_true", help="the device has a display to select accounts")
+    parser.add_argument(
+        "--deadline", type=float, default=CASE_SECONDS, metavar="SECONDS", help="time limit of a case (default: 60)"
+    )
 
 
-def words_of(arguments: List[str]) -> argparse.Namespace:
-    """Reads the command's words."""
+def parse_options(arguments: List[str]) -> argparse.Namespace:
+    """Parses the command line."""
     parser = argparse.ArgumentParser(
-        prog="hidlog-conformance", description="Plays the conformance corpus against an authenticator or a client."
+        prog="hidlog-conformance",
+        description="Run the CTAP 2.1 conformance tests against an authenticator or a client.",
     )
     device_words(parser)
-    parser.add_argument("--should", action="store_true", help="what the standard says should be so counts as failed")
-    parser.add_argument("--choices", action="store_true", help="count the choices of the corpus's own key")
-    parser.add_argument("--strict", action="store_true", help="both of these")
-    parser.add_argument("--only", default="", metavar="WORD", help="cases whose name or rule has the word")
-    parser.add_argument("--skip", action="append", default=[], metavar="WORD", help="no cases that have the word")
-    parser.add_argument("--known", default="", metavar="FILE", help="names of cases that are known to fail")
-    parser.add_argument("--list", action="store_true", help="lists the cases and plays none")
-    parser.add_argument("--report", choices=sorted(report.WRITERS), default="text")
-    parser.add_argument("--client", default="", metavar="COMMAND", help="plays the device to a client's command")
-    parser.add_argument("--slow", action="store_true", help="to a client: a minute of KEEPALIVEs takes a minute")
-    parser.add_argument("--logs", default="", metavar="FOLDER", help="to a client: keeps the logs of what failed")
+    parser.add_argument("--warnings-as-errors", action="store_true", help="count SHOULD violations as failures")
+    parser.add_argument(
+        "--profile-choices", action="store_true", help="test the choices of this project's profile, too"
+    )
+    parser.add_argument("--strict", action="store_true", help="--warnings-as-errors and --profile-choices")
+    parser.add_argument("--only", default="", metavar="WORD", help="run the cases whose name or rule contains WORD")
+    parser.add_argument(
+        "--skip",
+        action="append",
+        default=[],
+        metavar="WORD",
+        help="do not run the cases whose name or rule contains WORD",
+    )
+    parser.add_argument(
+        "--expected-failures", default="", metavar="FILE", help="file of cases that are expected to fail"
+    )
+    parser.add_argument("--list", action="store_true", help="list the cases and exit")
+    parser.add_argument("--report", choices=sorted(report.WRITERS), default="text", help="output format")
+    parser.add_argument("--client", default="", metavar="COMMAND", help="test a client: play the device to COMMAND")
+    parser.add_argument("--slow", action="store_true", help="with --client: one minute of KEEPALIVEs takes a minute")
+    parser.add_argument("--logs", default="", metavar="DIR", help="with --client: save the logs of failed cases to DIR")
     parser.add_argument("--version", action="version", version=f"hidlog-conformance {__version__}")
-    parser.add_argument("sessions", nargs="*", metavar="SESSION", help="files; without them the whole corpus")
+    parser.add_argument("sessions", nargs="*", metavar="SESSION", help="session files (default: all)")
     options = parser.parse_args(arguments)
     if options.executor:
         try:
@@ -214,35 +271,55 @@ def words_of(arguments: List[str]) -> argparse.Namespace:
             parser.error(str(fault))
     options.touch = options.touch or bool(options.touch_line)
     strict = options.strict or options.device is None and not options.client
-    options.should = options.should or strict
-    options.choices = options.choices or strict
+    options.warnings_as_errors = options.warnings_as_errors or strict
+    options.profile_choices = options.profile_choices or strict
     return options
 
 
-def ended(options: argparse.Namespace, outcomes: List[Outcome], header: Dict[str, str]) -> int:
-    """Writes the report, compares it with what is known to fail, and returns the status."""
+def results_so_far(results: "Results[Result]") -> "List[Result]":
+    """Returns the results, of an interrupted run those so far. Signals are ignored from now on, for the report."""
+    interrupts.hold()
+    found = results.close()
+    kill_running()
+    return found
+
+
+def finish(options: argparse.Namespace, outcomes: List[Outcome], header: Dict[str, str], interrupted: int = 0) -> int:
+    """Writes the report, compares it with the expected failures, and returns the exit status. `interrupted` is the
+    number of cases of a run that was interrupted, or 0."""
+    if interrupted:
+        header["interrupted"] = f"after {len(outcomes)} of {quantity(interrupted, 'case')}"
     report.write(options.report, outcomes, header)
-    failed = {outcome.session.name for outcome in outcomes if outcome.status == "not ok"}
-    if not options.known:
+    if interrupted:
+        return interrupts.INTERRUPTED
+    failed = {outcome.session.name for outcome in outcomes if outcome.status in FAILED}
+    if not options.expected_failures:
         return 1 if failed else 0
     played = {outcome.session.name for outcome in outcomes if outcome.status != "skip"}
-    expected = set(failing(options.known)) & played
+    expected = set(failing(options.expected_failures)) & played
     for name in sorted(failed ^ expected):
-        said = "fails, which isn't known" if name in failed else "passes, and is known to fail"
-        print(f"{said} ({options.known}): {name}", file=sys.stderr)
+        text = "unexpected failure" if name in failed else "unexpected success"
+        print(f"{text} (by {options.expected_failures}): {name}", file=sys.stderr)
     return 1 if failed - expected else 0
 
 
 def play_to_client(options: argparse.Namespace) -> int:
-    """Plays the device's side to a client's command and writes the report."""
+    """Tests a client: plays the device to its command, and writes the report."""
     paths = options.sessions or client_sessions(options.only)
     paths = [path for path in paths if not any(word in path for word in options.skip)]
     if not paths:
-        raise ValueError(f"no case has the word {options.only}")
-    played = play_clients(options.client, paths, options.slow, options.should, options.deadline)
+        raise ValueError(f"no case contains {options.only!r}")
+    results: Results[Played] = Results()
+    interrupted = False
+    try:
+        play_clients(options.client, paths, options.slow, options.warnings_as_errors, options.deadline, results)
+    except KeyboardInterrupt:
+        interrupted = True
+    played = results_so_far(results)
     if options.logs:
         keep_logs(options.logs, played)
-    return ended(options, [outcome for outcome, _ in played], report.header_of_client(options.client))
+    header = report.header_of_client(options.client)
+    return finish(options, [outcome for outcome, _ in played], header, len(paths) if interrupted else 0)
 
 
 def listed(options: argparse.Namespace) -> int:
@@ -252,31 +329,41 @@ def listed(options: argparse.Namespace) -> int:
     else:
         sessions = all_sessions(options.only, tuple(options.sessions), tuple(options.skip))
     for session in sessions:
-        print(f"{session.name}: {session.head['rule']}: {session.head['shows']}")
+        print(f"{session.name}: {session.head['rule']}: {session.head['requirement']}")
     return 0
 
 
 def play_to_device(options: argparse.Namespace) -> int:
-    """Plays the host's side to a device and writes the report."""
+    """Tests a device: plays the host to it, and writes the report."""
     sessions = all_sessions(options.only, tuple(options.sessions), tuple(options.skip))
     if not sessions:
-        raise ValueError(f"no case has the word {options.only}")
+        raise ValueError(f"no case contains {options.only!r}")
     device = device_of(options)
-    offers = Offers.ask(device, options.touch, options.display)
-    if not keys.THERE:
-        print("skipped: signatures aren't checked, python3-cryptography is missing", file=sys.stderr)
-    if options.reset and not device.fresh:
-        print("this RESETS the device: its credentials are lost", file=sys.stderr)
-    outcomes = play_all(device, in_order(device, sessions, options.touch and not options.touch_line), options, offers)
-    if device.lasting and options.reset and any(PINS in session.uses for session in sessions):
-        print("resetting the device: its PIN goes", file=sys.stderr)
-        prepare(device, False)
-    return ended(options, outcomes, report.header_of_device(options.device or "release/hidlog live", offers))
+    device_info, results = DeviceInfo(display=options.display), Results[Outcome]()
+    interrupted = False
+    try:
+        device_info = DeviceInfo.ask(device, options.touch, options.display)
+        if not keys.AVAILABLE:
+            print("skipped: signatures not checked: python3-cryptography is not installed", file=sys.stderr)
+        if options.reset and not device.fresh:
+            print("RESETTING the device: all its credentials are deleted", file=sys.stderr)
+        ordered = in_order(device, sessions, options.touch and not options.touch_line)
+        play_all(device, ordered, options, device_info, results)
+        if device.lasting and options.reset and any(PINS in session.uses for session in sessions):
+            print("resetting the device to remove the PIN", file=sys.stderr)
+            prepare(device, False)
+    except KeyboardInterrupt:
+        interrupted = True
+        if device.lasting and options.reset:
+            print("the device may have a PIN and credentials of the interrupted case", file=sys.stderr)
+    outcomes = results_so_far(results)
+    header = report.header_of_device(options.device or "release/hidlog live", device_info)
+    return finish(options, outcomes, header, len(sessions) if interrupted else 0)
 
 
 def main(arguments: List[str]) -> int:
-    """Plays the cases and writes the report."""
-    options = words_of(arguments)
+    """Runs the command."""
+    options = parse_options(arguments)
     try:
         if options.list:
             return listed(options)
@@ -289,18 +376,21 @@ def main(arguments: List[str]) -> int:
 
 
 def command(arguments: List[str]) -> int:
-    """Runs the command; a reader that ends early ends it quietly."""
+    """Runs the command; exits quietly if the reader of its output closes the pipe."""
+    interrupts.install()
     try:
         if hasattr(sys.stdout, "reconfigure"):
             sys.stdout.reconfigure(errors="backslashreplace")
         status = main(arguments)
         sys.stdout.flush()
         return status
+    except KeyboardInterrupt:
+        return interrupts.INTERRUPTED
     except BrokenPipeError:
         os.dup2(os.open(os.devnull, os.O_WRONLY), sys.stdout.fileno())
         return 141
 
 
 def installed() -> int:
-    """Runs the command with the words of the shell."""
+    """Entry point of the installed command."""
     return command(sys.argv[1:])

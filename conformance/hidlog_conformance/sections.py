@@ -1,4 +1,4 @@
-"""Names the sections of the standard that cases are about."""
+"""The sections of CTAP 2.1 that cases are about."""
 
 from __future__ import annotations
 

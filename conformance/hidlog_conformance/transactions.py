@@ -1,8 +1,8 @@
-"""Joins the packets of a log to messages and transactions, as the proved walk says which packet belongs to which.
+"""Assembles the packets of a log into messages and transactions, by the output of `hidlog_transactions`.
 
-The walk is that of the C library: `hidlog_transactions` (crates/hidlog_c/hidlog.h) writes a line for each packet, tick
-and reply. It decides by CTAP 2.1, 11.2, alone, so that recordings of any key are read, and says what packets can't
-show. This reads that text beside the log, line by line, and keeps what is open alone.
+`hidlog_transactions` of the C library (crates/hidlog_c/hidlog.h) writes a line for each packet, tick and reply: which
+transaction it belongs to, by CTAP 2.1, 11.2, so it works for any key. This reads that text and the log line by line,
+and keeps only what is unfinished.
 """
 
 from __future__ import annotations
@@ -14,22 +14,22 @@ from hidlog_conformance.hid_packets import CANCEL, ERROR, KEEPALIVE, LONGEST
 
 INVALID_COMMAND, INVALID_LENGTH, INVALID_SEQUENCE, TIMED_OUT, BUSY, INVALID_CHANNEL = 0x01, 0x03, 0x04, 0x05, 0x06, 0x0B
 CANCELLED = 0x2D
-# Milliseconds within which no key drops an unfinished message: KEEPALIVE's own interval.
+# Milliseconds within which no key drops an unfinished message: the interval of KEEPALIVEs.
 NO_TIME_OUT = 100
-# How a transaction ends that packets alone don't show the end of.
+# Ends of transactions whose end the packets do not show.
 UNKNOWN = ("unknown", "forgotten")
-# What the walk's words say of a transaction's end, beside answers.
+# Ends of transactions, by letter.
 ENDS = {ord("d"): "dropped", ord("r"): "replaced", ord("f"): "forgotten", ord("u"): "unknown"}
 ANSWERED, BY_ERROR, LATE = b"sac", ord("e"), ord("l")
-# Words that name the line that ends a transaction.
+# Letters that are followed by the line that ended the transaction.
 NAMES_LINE = b"dr"
-# Bytes of a text that are split into lines at once.
+# Bytes to split into lines at a time.
 BLOCK = 1 << 16
 
 
 @dataclass(eq=False)
 class Part:
-    """What the packets of one message carry."""
+    """The packets of one message."""
 
     line: int
     channel: int
@@ -37,27 +37,27 @@ class Part:
     length: int
     parts: List[bytes]
     lines: List[int]
-    # The bytes that came, joined; none before they are asked for.
+    # The joined data, once it was needed.
     joined: Optional[bytes] = None
 
     @property
     def next(self) -> int:
-        """Returns the sequence number of the next packet."""
+        """The sequence number of the next packet."""
         return len(self.parts) - 1
 
     @property
-    def came(self) -> int:
-        """Returns how many bytes came."""
+    def received(self) -> int:
+        """The number of bytes received."""
         return min(self.length, 57 + 59 * self.next)
 
     @property
     def whole(self) -> bool:
-        """Says whether all bytes came."""
-        return self.came == self.length <= LONGEST
+        """Whether the message is complete."""
+        return self.received == self.length <= LONGEST
 
     @property
     def data(self) -> bytes:
-        """Returns the bytes that came."""
+        """The data received."""
         if self.joined is None:
             self.joined = b"".join(self.parts)[: self.length]
         return self.joined
@@ -76,40 +76,40 @@ class Part:
 
     @property
     def padding(self) -> bytes:
-        """Returns what is behind the message in its last packet."""
+        """The padding in the last packet."""
         return b"".join(self.parts)[self.length :]
 
 
 @dataclass(eq=False)
 class Transaction(Part):
-    """A message of a host, except CANCEL, and what became of it."""
+    """A message of a host, except CANCEL, and how it ended."""
 
-    # answered, refused, timed out, dropped, replaced; unknown, forgotten; empty at the log's end.
+    # answered, refused, timed out, dropped, replaced, unknown, forgotten; or empty at the end of the log.
     end: str = ""
-    # The code of the ERROR that ended it, and the line of what ended it.
+    # The code of the ERROR that ended it, and the line that ended it.
     code: Optional[int] = None
     by: Optional[int] = None
     answer: Optional["Answer"] = None
     keepalives: List["Entry"] = field(default_factory=list)
-    # The line and the moment of a CANCEL that came while it waited.
+    # The line and time of a CANCEL that came while it was pending.
     cancelled: Optional[int] = None
     cancelled_at: int = 0
-    # The moments of its packets.
-    moments: List[int] = field(default_factory=list)
+    # The timestamps of its packets.
+    times: List[int] = field(default_factory=list)
 
     @property
     def began(self) -> int:
-        """Returns the moment of its first packet."""
-        return self.moments[0]
+        """The time of its first packet."""
+        return self.times[0]
 
     @property
     def last(self) -> int:
-        """Returns the moment of its last packet."""
-        return self.moments[len(self.moments) - 1]
+        """The time of its last packet."""
+        return self.times[len(self.times) - 1]
 
     @property
     def is_unknown(self) -> bool:
-        """Says whether packets don't show how it ended."""
+        """Whether packets do not show how it ended."""
         return self.end in UNKNOWN
 
 
@@ -122,7 +122,7 @@ class Answer(Part):
 
 @dataclass(eq=False)
 class Entry:
-    """A packet: what it is, and which transaction it belongs to."""
+    """A packet: its role, and its transaction."""
 
     line: int
     is_host: bool
@@ -131,14 +131,14 @@ class Entry:
     # start, more, wrong number, stray, cancel; keepalive, error, answer.
     part: str = ""
     transaction: Optional[Transaction] = None
-    # Of a KEEPALIVE: whether its status is another than before, or time has come.
+    # Of a KEEPALIVE: whether its status changed, or the interval passed.
     why: str = ""
     message: Optional[Answer] = None
 
 
 @dataclass
 class Ending:
-    """A word of the walk: a letter, a line that it is about, and the status, the code or the line behind it."""
+    """The end of a transaction: a letter, the transaction's line, and the status, code or line."""
 
     letter: int
     line: int
@@ -147,7 +147,8 @@ class Ending:
 
 @dataclass
 class Owned:
-    """What the walk says of a line: the first lines of its transaction and its message, 0 for none, and words."""
+    """The transaction of a line: the first lines of its transaction and its message (or 0), and transactions that
+    ended."""
 
     transaction: int = 0
     message: int = 0
@@ -155,7 +156,7 @@ class Owned:
 
 
 class Lines:
-    """Reads the lines of a text in pieces, so that its lines aren't all kept at once."""
+    """Splits a text into lines block by block, to save memory."""
 
     def __init__(self, text: bytes) -> None:
         self.text = text
@@ -163,7 +164,7 @@ class Lines:
         self.rest = b""
 
     def block(self) -> List[bytes]:
-        """Returns some of the lines, the last one of the text too if it has no line feed; none at the end."""
+        """Returns the next lines; none at the end."""
         while self.at < len(self.text):
             lines = (self.rest + self.text[self.at : self.at + BLOCK]).split(b"\n")
             self.at += BLOCK
@@ -175,7 +176,7 @@ class Lines:
 
 
 class Owners:
-    """Reads the text of `hidlog_transactions`, beside the lines of its log, before which there are others."""
+    """Reads the output of `hidlog_transactions` for a part of a log that begins after line `before`."""
 
     def __init__(self, text: bytes, before: int = 0) -> None:
         self.lines = Lines(text)
@@ -184,7 +185,7 @@ class Owners:
         self.place = 0
 
     def of(self, number: int) -> Owned:
-        """Returns what is said of a line; lines are asked for in their order."""
+        """Returns the transaction of a line; call it with rising line numbers."""
         while True:
             if self.place == len(self.ready):
                 self.ready, self.place = self.lines.block(), 0
@@ -199,7 +200,7 @@ class Owners:
                 return Owned(self.line(parts[1]), self.line(parts[2]), [self.ending(word) for word in parts[3:]])
 
     def line(self, digits: bytes) -> int:
-        """Returns a line of the whole log, 0 for none."""
+        """Returns a line number in the whole log, or 0."""
         line = int(digits)
         return line + self.before if line else 0
 
@@ -213,14 +214,14 @@ class Owners:
 
 
 class Transactions:
-    """Takes the packets of a log, each with what the walk says of it. `entries` has those that weren't judged yet."""
+    """The transactions of a log. `entries` has the packets that are not checked yet."""
 
     def __init__(self) -> None:
         self.entries: List[Entry] = []
         self.now = 0
-        # How many packets of each side and transactions there were.
+        # The number of packets of each side, and of transactions.
         self.packets = self.answers = self.count = 0
-        # By their first lines the transactions that may go on, and by channel the device's message that may.
+        # The unfinished transactions by first line, and the device's unfinished messages by channel.
         self.open: Dict[int, Transaction] = {}
         self.answering: Dict[int, Answer] = {}
         # The host's last packet.
@@ -228,25 +229,25 @@ class Transactions:
 
     @property
     def is_quiet(self) -> bool:
-        """Says whether nothing that comes may still belong to a packet that was taken."""
+        """Whether no later line can belong to an earlier packet."""
         return not self.open and not self.answering
 
     def restart(self) -> None:
-        """Forgets what is open: the device lost its power."""
+        """Forgets what is unfinished: the device lost power."""
         self.open, self.answering, self.input = {}, {}, None
 
-    def taken(self) -> List[Entry]:
-        """Returns the entries, and keeps them no longer."""
+    def take_entries(self) -> List[Entry]:
+        """Returns the entries, and clears the list."""
         entries, self.entries = self.entries, []
         return entries
 
-    def pass_time(self, at: int) -> None:
+    def advance_time(self, at: int) -> None:
         """Lets time pass."""
         self.now = max(self.now, at)
 
     def host(self, line: int, at: int, packet: bytes, owned: Owned) -> None:
-        """Takes a packet of a host."""
-        self.pass_time(at)
+        """Processes a packet of a host."""
+        self.advance_time(at)
         self.packets += 1
         entry = Entry(line, True, self.now, packet)
         self.input = entry
@@ -261,7 +262,7 @@ class Transactions:
         self.take_words(entry, owned.words)
 
     def device(self, line: int, packet: bytes, owned: Owned) -> None:
-        """Takes a packet of the device."""
+        """Processes a packet of the device."""
         self.packets += 1
         self.answers += 1
         entry = Entry(line, False, self.now, packet)
@@ -276,27 +277,27 @@ class Transactions:
         self.take_words(entry, owned.words)
 
     def passed(self, line: int, owned: Owned) -> None:
-        """Takes what is said of a tick or a reply."""
+        """Processes a tick or a reply."""
         self.take_words(Entry(line, True, self.now, b""), owned.words)
 
     def cancel(self, entry: Entry) -> None:
-        """Takes a CANCEL."""
+        """Processes a CANCEL."""
         entry.part = "cancel"
         if entry.transaction is not None:
             entry.transaction.cancelled, entry.transaction.cancelled_at = entry.line, entry.at
 
     def begin(self, entry: Entry) -> None:
-        """Takes an initialization packet of a host, which begins a transaction."""
+        """Processes an initialization packet of a host, which begins a transaction."""
         packet = entry.packet
         channel, length = int.from_bytes(packet[:4], "big"), packet[5] << 8 | packet[6]
         begun = Transaction(entry.line, channel, packet[4] & 0x7F, length, [packet[7:]], [entry.line])
-        begun.moments = [self.now]
+        begun.times = [self.now]
         entry.part, entry.transaction = "start", begun
         self.open[entry.line] = begun
         self.count += 1
 
     def go_on(self, entry: Entry, owned: Owned) -> None:
-        """Takes a continuation packet of a host."""
+        """Processes a continuation packet of a host."""
         owner = entry.transaction
         if owner is None:
             entry.part = "stray"
@@ -305,10 +306,10 @@ class Transactions:
         else:
             entry.part = "more"
             owner.add(entry.packet[5:], entry.line)
-            owner.moments.append(self.now)
+            owner.times.append(self.now)
 
     def answer(self, entry: Entry, channel: int) -> None:
-        """Takes an initialization packet of the device."""
+        """Processes an initialization packet of the device."""
         packet, owner = entry.packet, entry.transaction
         command, length = packet[4] & 0x7F, packet[5] << 8 | packet[6]
         if command == KEEPALIVE:
@@ -323,24 +324,24 @@ class Transactions:
             return
         answer = Answer(entry.line, channel, command, length, [packet[7:]], [entry.line], request=owner)
         entry.part, entry.message = "answer", answer
-        if answer.came < length:
+        if answer.received < length:
             self.answering[channel] = answer
         if owner is not None:
             owner.answer, owner.end, owner.by = answer, "answered", entry.line
 
     def go_on_answering(self, entry: Entry, owned: Owned, channel: int) -> None:
-        """Takes a continuation packet of the device."""
+        """Processes a continuation packet of the device."""
         answer, entry.part = self.answering.get(channel), "stray"
         if answer is None or answer.line != owned.message:
             entry.transaction = None
             return
         answer.add(entry.packet[5:], entry.line)
         entry.part, entry.transaction, entry.message = "answer", answer.request, answer
-        if answer.came == answer.length:
+        if answer.received == answer.length:
             del self.answering[channel]
 
     def take_words(self, entry: Entry, words: List[Ending]) -> None:
-        """Takes what a line shows of transactions."""
+        """Processes the transactions that a line ends."""
         for word in words:
             if word.letter == LATE:
                 self.leave_late(word.line)
@@ -357,11 +358,11 @@ class Transactions:
             owner.end, owner.by = ENDS[word.letter], word.number or entry.line
 
     def leave_late(self, line: int) -> None:
-        """Takes a continuation packet, the last input, out of a message that had timed out before it came."""
+        """Removes the last input, a continuation packet, from a message that had timed out before."""
         entry = self.input
         if entry is None or entry.line != line or entry.transaction is None:
             return
         if entry.part == "more":
             entry.transaction.remove_last()
-            entry.transaction.moments.pop()
+            entry.transaction.times.pop()
         entry.part, entry.transaction = "stray", None

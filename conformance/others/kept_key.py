@@ -1,7 +1,7 @@
 #!/usr/bin/env python3
-"""The authenticator in Python with a file for its credentials: kept_key.py FILE.
+"""python_key.py with a file for its credentials: kept_key.py FILE
 
-It begins with what the file has, and writes it at the end of its input, which is the end of its power.
+Loads the file at the start, and saves it at the end of input, which is the loss of power.
 """
 
 from __future__ import annotations
@@ -14,7 +14,7 @@ from python_state import load, save
 
 
 def main(words: List[str]) -> int:
-    """Serves until the input ends."""
+    """Runs until the end of input."""
     if len(words) != 1:
         print(__doc__, file=sys.stderr)
         return 2

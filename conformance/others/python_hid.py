@@ -1,4 +1,4 @@
-"""The transport of the authenticator in python_key.py: CTAPHID, with no code of this project."""
+"""CTAPHID for python_key.py, without code of this project's core."""
 
 from __future__ import annotations
 
@@ -10,12 +10,12 @@ BROADCAST = 0xFFFFFFFF
 INVALID_COMMAND, INVALID_LENGTH, INVALID_SEQUENCE, TIMEOUT, BUSY, INVALID_CHANNEL = 1, 3, 4, 5, 6, 11
 CANCELLED, USER_TIMEOUT = 0x2D, 0x2F
 
-# A request at work: it asks for a touch by each yield, and returns its answer.
+# A request in progress: each yield requests a touch. Returns the response.
 Work = Generator[None, None, bytes]
 
 
 class Transaction:
-    """A message that comes in, and then the request at work."""
+    """An incoming message, and then the request in progress."""
 
     def __init__(self, channel: int, command: int, length: int, data: bytes, deadline: int) -> None:
         self.channel = channel
@@ -29,7 +29,7 @@ class Transaction:
 
 
 class Hid:
-    """Takes packets and moments in milliseconds; `out` has the packets to send."""
+    """Processes packets and timestamps in milliseconds; `out` has the packets to send."""
 
     def __init__(self, serve: Callable[[int, int, bytes], Work]) -> None:
         self.serve = serve
@@ -44,13 +44,13 @@ class Hid:
             self.out.append((struct.pack(">IB", channel, number) + data[start : start + 59]).ljust(64, b"\0"))
 
     def error(self, channel: int, code: int) -> None:
-        """Sends an error, and forgets this channel's transaction."""
+        """Sends an ERROR, and ends this channel's transaction."""
         if self.now is not None and self.now.channel == channel and code != BUSY:
             self.now = None
         self.send(channel, ERROR, bytes([code]))
 
     def packet(self, at: int, packet: bytes) -> None:
-        """Takes a packet."""
+        """Processes a packet."""
         self.tick(at)
         channel, first = struct.unpack(">IB", packet[:5])
         if first & 128:
@@ -60,7 +60,7 @@ class Hid:
             self.go_on(at, self.now, first, packet[5:])
 
     def begin(self, at: int, channel: int, command: int, length: int, data: bytes) -> None:
-        """Takes an initialization packet."""
+        """Processes an initialization packet."""
         if command == INIT:
             self.init(at, channel, length, data[:8])
         elif not 0 < channel <= self.channels:
@@ -80,27 +80,27 @@ class Hid:
             self.whole(at, self.now)
 
     def init(self, at: int, channel: int, length: int, nonce: bytes) -> None:
-        """Answers INIT: a new channel, or this one anew."""
+        """Responds to INIT with a new channel, or this one."""
         if channel != BROADCAST and not 0 < channel <= self.channels:
             self.error(channel, INVALID_CHANNEL)
         elif length != 8:
             self.error(channel, INVALID_LENGTH)
         else:
-            given = channel
+            allocated = channel
             if channel == BROADCAST:
                 self.channels += 1
-                given = self.channels
+                allocated = self.channels
             elif self.now is not None and self.now.channel == channel:
                 self.now = None
-            self.send(channel, INIT, nonce + struct.pack(">IBBBBB", given, 2, 1, 0, 0, 0x0C))
+            self.send(channel, INIT, nonce + struct.pack(">IBBBBB", allocated, 2, 1, 0, 0, 0x0C))
 
     def cancel(self, channel: int) -> None:
-        """Ends the request that waits on this channel."""
+        """Cancels the pending request on this channel."""
         if self.now is not None and self.now.channel == channel and self.now.work is not None:
             self.finish(bytes([CANCELLED]))
 
     def go_on(self, at: int, open_one: Transaction, sequence: int, data: bytes) -> None:
-        """Takes a continuation packet."""
+        """Processes a continuation packet."""
         if sequence != open_one.sequence:
             self.error(open_one.channel, INVALID_SEQUENCE)
             return
@@ -110,7 +110,7 @@ class Hid:
         self.whole(at, open_one)
 
     def whole(self, at: int, message: Transaction) -> None:
-        """Serves a message once all its bytes are there."""
+        """Processes a complete message."""
         if len(message.data) < message.length:
             return
         data = message.data[: message.length]
@@ -126,7 +126,7 @@ class Hid:
             self.work_on(at)
 
     def work_on(self, at: int) -> None:
-        """Lets the request work until it asks for a touch or is done."""
+        """Runs the request until it requests a touch or is done."""
         assert self.now is not None and self.now.work is not None
         try:
             next(self.now.work)
@@ -135,19 +135,19 @@ class Hid:
             self.finish(done.value)
 
     def finish(self, answer: bytes) -> None:
-        """Sends the answer of the request at work."""
+        """Sends the response of the request in progress."""
         assert self.now is not None
         channel, self.now = self.now.channel, None
         self.send(channel, CBOR, answer)
 
     def touch(self, at: int) -> None:
-        """Takes the user's touch."""
+        """Processes a touch."""
         self.tick(at)
         if self.now is not None and self.now.work is not None:
             self.work_on(at)
 
     def tick(self, at: int) -> None:
-        """Ends what took too long, and shows every 100 ms that a request is at work."""
+        """Handles timeouts, and sends a KEEPALIVE every 100 ms."""
         if self.now is None:
             return
         if at >= self.now.deadline:

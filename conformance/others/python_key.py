@@ -1,9 +1,8 @@
 #!/usr/bin/env python3
-"""An authenticator that isn't this project's core: small, in Python, on the CBOR of python-fido2.
+"""A small authenticator in Python, with python-fido2's CBOR and no code of this project's core.
 
-It was written for the corpus from what CTAP 2.1 says, before a session was played against it. What it got wrong stays
-as it was: python_key.failed has the list. It reads a packet a line, 128 hexadecimal digits, and writes such lines; the
-line `touch` stands for the user's touch.
+It was written from CTAP 2.1 before any test was run against it. Its errors are kept, and listed in python_key.failed.
+Reads and writes packets as lines of 128 hexadecimal digits; the line `touch` is a touch.
 """
 
 from __future__ import annotations
@@ -28,7 +27,7 @@ NO_CREDENTIALS, NOT_ALLOWED, PIN_NOT_SET = 0x2E, 0x30, 0x35
 ROOM = 100
 
 
-class Refused(Exception):
+class RequestError(Exception):
     """Ends a request with a status."""
 
     def __init__(self, status: int) -> None:
@@ -60,25 +59,25 @@ class Credential:
 
 
 def member(item: Dict[Any, Any], key: Any, kind: type, required: bool = True) -> Any:
-    """Returns a member of a type; None where it may be missing and is."""
+    """Returns a member of a type; None if it is missing and not required."""
     if key not in item:
         if required:
-            raise Refused(MISSING)
+            raise RequestError(MISSING)
         return None
     if not isinstance(item[key], kind) or (kind is int and isinstance(item[key], bool)):
-        raise Refused(UNEXPECTED_TYPE)
+        raise RequestError(UNEXPECTED_TYPE)
     return item[key]
 
 
 def ids_of(item: Dict[Any, Any], key: int) -> Optional[List[bytes]]:
-    """Returns the ids of a list of descriptors; those of another type than public-key are passed over."""
+    """Returns the IDs of the descriptors with the type public-key."""
     found = member(item, key, list, False)
     if found is None:
         return None
     ids = []
     for entry in found:
         if not isinstance(entry, dict):
-            raise Refused(UNEXPECTED_TYPE)
+            raise RequestError(UNEXPECTED_TYPE)
         identity, kind = member(entry, "id", bytes), member(entry, "type", str)
         if kind == "public-key":
             ids.append(identity)
@@ -86,16 +85,16 @@ def ids_of(item: Dict[Any, Any], key: int) -> Optional[List[bytes]]:
 
 
 def options_of(item: Dict[Any, Any], key: int) -> Dict[str, bool]:
-    """Returns the options, where no option asks for user verification, which isn't served."""
+    """Returns the options; refuses user verification, which is not supported."""
     found = member(item, key, dict, False) or {}
     options = {name: member(found, name, bool) for name in ("rk", "up", "uv") if name in found}
     if options.get("uv"):
-        raise Refused(INVALID_OPTION)
+        raise RequestError(INVALID_OPTION)
     return options
 
 
 class Key:
-    """Serves requests; the transport asks for touches."""
+    """Runs requests; the transport asks for touches."""
 
     def __init__(self, credentials: Optional[List[Credential]] = None) -> None:
         self.credentials: List[Credential] = credentials or []
@@ -119,32 +118,32 @@ class Key:
                 yield
                 return b"\0"
             if data[0] not in (1, 2):
-                raise Refused(INVALID_COMMAND)
+                raise RequestError(INVALID_COMMAND)
             item = self.parameters(data[1:])
             return (yield from self.make(item) if data[0] == 1 else self.get(at, channel, item))
-        except Refused as refused:
+        except RequestError as refused:
             return bytes([refused.status])
 
     def parameters(self, data: bytes) -> Dict[Any, Any]:
-        """Reads the parameters, a map."""
+        """Decodes the parameters, a map."""
         try:
             item = cbor.decode(data)
         except Exception:
-            # python-fido2's reader ends with whatever Python raises.
-            raise Refused(INVALID_CBOR) from None
+            # python-fido2's decoder may raise any exception.
+            raise RequestError(INVALID_CBOR) from None
         if not isinstance(item, dict):
-            raise Refused(UNEXPECTED_TYPE)
+            raise RequestError(UNEXPECTED_TYPE)
         return item
 
     def no_pin(self, item: Dict[Any, Any], param: int) -> Work:
-        """Refuses a PIN: none is served."""
-        given = member(item, param, bytes, False)
-        if given == b"":
+        """Refuses pinUvAuthParam: PINs are not supported."""
+        auth_param = member(item, param, bytes, False)
+        if auth_param == b"":
             yield
-            raise Refused(PIN_NOT_SET)
-        if given is not None:
+            raise RequestError(PIN_NOT_SET)
+        if auth_param is not None:
             member(item, param + 1, int)
-            raise Refused(INVALID_PARAMETER)
+            raise RequestError(INVALID_PARAMETER)
         return b""
 
     def make(self, item: Dict[Any, Any]) -> Work:
@@ -157,25 +156,25 @@ class Key:
         options = options_of(item, 7)
         yield from self.no_pin(item, 8)
         if not [1 for kind in kinds if member(kind, "type", str) == "public-key" and member(kind, "alg", int) == -7]:
-            raise Refused(ALGORITHM)
+            raise RequestError(ALGORITHM)
         if options.get("up") is False:
-            raise Refused(INVALID_OPTION)
+            raise RequestError(INVALID_OPTION)
         if 10 in item:
-            raise Refused(INVALID_PARAMETER)
+            raise RequestError(INVALID_PARAMETER)
         if [one for one in self.credentials if one.rp == rp_id and one.id in excluded]:
             yield
-            raise Refused(EXCLUDED)
+            raise RequestError(EXCLUDED)
         yield
         return self.made(rp_id, user, options.get("rk", False), client_hash)
 
     def made(self, rp_id: str, user: Dict[str, Any], discoverable: bool, client_hash: bytes) -> bytes:
-        """Returns the answer with a new credential."""
+        """Returns the response with a new credential."""
         new = Credential(rp_id, user, discoverable)
         if discoverable:
             same = [one for one in self.credentials if one.rp == rp_id and one.user["id"] == user["id"]]
             self.credentials = [one for one in self.credentials if one not in same or not one.discoverable]
         if len(self.credentials) >= ROOM:
-            raise Refused(FULL)
+            raise RequestError(FULL)
         self.credentials.append(new)
         attested = AAGUID + struct.pack(">H", len(new.id)) + new.id + new.cose()
         auth = hashlib.sha256(rp_id.encode()).digest() + b"\x41" + struct.pack(">I", new.counter) + attested
@@ -188,14 +187,14 @@ class Key:
         allowed, options = ids_of(item, 3), options_of(item, 5)
         yield from self.no_pin(item, 6)
         if "rk" in options:
-            raise Refused(UNSUPPORTED)
+            raise RequestError(UNSUPPORTED)
         found = [one for one in reversed(self.credentials) if one.rp == rp_id]
         if allowed:
             found = [one for one in found if one.id in allowed][:1]
         else:
             found = [one for one in found if one.discoverable]
         if not found:
-            raise Refused(NO_CREDENTIALS)
+            raise RequestError(NO_CREDENTIALS)
         present = options.get("up", True)
         if present:
             yield
@@ -217,7 +216,7 @@ class Key:
     def next(self, at: int, channel: int) -> Work:
         """Serves authenticatorGetNextAssertion."""
         if not self.pending or channel != self.pending_channel or at > self.pending_until:
-            raise Refused(NOT_ALLOWED)
+            raise RequestError(NOT_ALLOWED)
         self.pending_until = at + 30000
         yield from ()
         return self.asserted(self.pending.pop(0), self.pending_hash, True, True, {})
@@ -229,16 +228,16 @@ class Key:
         return b"\0" + bytes(cbor.encode(answer))
 
     def reset(self, at: int) -> Work:
-        """Serves authenticatorReset: in the first ten seconds alone."""
+        """Runs authenticatorReset, only in the first ten seconds."""
         if at > 10000:
-            raise Refused(NOT_ALLOWED)
+            raise RequestError(NOT_ALLOWED)
         yield
         self.credentials = []
         return b"\0"
 
 
 def take(key: Key, line: bytes, at: int) -> None:
-    """Takes a line of the input."""
+    """Processes a line of the input."""
     if line == b"touch":
         key.hid.touch(at)
     else:
@@ -246,7 +245,7 @@ def take(key: Key, line: bytes, at: int) -> None:
 
 
 def serve(key: Key) -> None:
-    """Serves until the input ends."""
+    """Runs until the end of input."""
     start, rest = time.monotonic(), b""
     while True:
         ready, _, _ = select.select([sys.stdin], [], [], 0.05)

@@ -1,4 +1,4 @@
-"""Keeps the credentials of the authenticator in Python in a file, while it has no power."""
+"""Stores the credentials of python_key.py in a file."""
 
 from __future__ import annotations
 
@@ -12,7 +12,7 @@ from python_key import Credential
 
 
 def written(one: Credential) -> Dict[str, Any]:
-    """Returns a credential as JSON has it; its private key is in the clear."""
+    """Converts a credential to JSON, with the private key in clear text."""
     pem = one.private.private_bytes(
         serialization.Encoding.PEM, serialization.PrivateFormat.PKCS8, serialization.NoEncryption()
     )
@@ -22,7 +22,7 @@ def written(one: Credential) -> Dict[str, Any]:
 
 
 def read(kept: Dict[str, Any]) -> Credential:
-    """Returns a credential that was kept."""
+    """Converts a credential from JSON."""
     user = {**kept["user"], "id": bytes.fromhex(kept["user"]["id"])}
     one = Credential(kept["rp"], user, kept["discoverable"])
     one.id, one.counter = bytes.fromhex(kept["id"]), kept["counter"]
@@ -33,7 +33,7 @@ def read(kept: Dict[str, Any]) -> Credential:
 
 
 def load(path: str) -> List[Credential]:
-    """Returns the credentials of a file, none where there is no file."""
+    """Returns the credentials of a file; none if it does not exist."""
     if not os.path.exists(path):
         return []
     with open(path, encoding="utf-8") as file:

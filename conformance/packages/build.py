@@ -1,10 +1,10 @@
 #!/usr/bin/env python3
-"""Makes the packages of the corpus, with no toolchain: conformance/packages/build.py FOLDER
+"""Builds the packages of the conformance tests, without a toolchain: conformance/packages/build.py FOLDER
 
     hidlog_conformance-VERSION-py3-none-any.whl    the runner, the sessions, the reference authenticator
-    hidlog-conformance_VERSION_all.deb             the same for Debian, where dpkg-deb is there
+    hidlog-conformance_VERSION_all.deb             the same for Debian, if dpkg-deb is installed
 
-The same files make the same bytes.
+The builds are reproducible.
 """
 
 from __future__ import annotations
@@ -26,10 +26,11 @@ TOP = os.path.join(CORPUS, "..")
 sys.path.insert(0, CORPUS)
 
 from hidlog_conformance import __version__  # noqa: E402
+from hidlog_conformance.cases.all_cases import session_texts  # noqa: E402
 
 MOMENT = (2026, 11, 26, 0, 0, 0)
 EPOCH = 1795651200
-SUMMARY = "Conformance corpus for CTAP 2.1 over USB HID, for authenticators and clients"
+SUMMARY = "Conformance tests for CTAP 2.1 over USB HID, for authenticators and clients"
 MAINTAINER = "Cogtzil maintainers <maintainers@users.noreply.cogtzil.example>"
 METADATA = f"""Metadata-Version: 2.1
 Name: hidlog-conformance
@@ -41,21 +42,20 @@ Requires-Dist: cryptography
 Description-Content-Type: text/markdown
 
 """
-ABOUT = """Sessions of a host and of a device, and what CTAP 2.1 fixes of each answer. A runner plays them against an
-authenticator or a client, and says which rule is broken.
+ABOUT = """Sessions of a host and of a device, with the responses that CTAP 2.1 requires. The runner plays them against
+an authenticator or a client, and reports violations.
 
-The corpus was written from knowledge of the standard, and its text wasn't compared sentence by sentence. It is no
-certification of FIDO's, whose tools test more: metadata, biometric enrolment, configuration, NFC and BLE among others.
+The tests were written from knowledge of the standard and have not been checked against its text line by line. This is
+not a FIDO certification, whose tools test more: metadata, biometric enrolment, configuration, NFC, BLE and others.
 """
 SCRIPT = "#!/usr/bin/python3\nimport sys\n\nfrom hidlog_conformance.run import installed\n\nsys.exit(installed())\n"
 
 
 def files() -> Dict[str, bytes]:
-    """Returns the package's files by their place: modules, sessions and those of clients."""
-    found: Dict[str, bytes] = {}
+    """Returns the package's files, by path: modules, sessions, which are generated here, and client sessions."""
+    found = {f"hidlog_conformance/sessions/{name}.log": text.encode() for name, text in session_texts().items()}
     folders = {
         "hidlog_conformance": ".py",
-        "sessions": ".log",
         "clients": ".session",
         "fuzzed": ".log",
         "recorded": ".log",
@@ -119,7 +119,7 @@ def documents(root: str) -> None:
     expat = "License: Expat\n" + "".join(f" {line or '.'}\n" for line in text)
     place = "usr/share/doc/hidlog-conformance"
     put(root, f"{place}/copyright", (start + who + apache + expat).encode())
-    change = f"hidlog-conformance ({__version__}) unstable; urgency=low\n\n  * The corpus {__version__}.\n\n"
+    change = f"hidlog-conformance ({__version__}) unstable; urgency=low\n\n  * Version {__version__}.\n\n"
     change += f" -- {MAINTAINER}  Thu, 26 Nov 2026 00:00:00 +0000\n"
     put(root, f"{place}/changelog.gz", gzip.compress(change.encode(), 9, mtime=0))
 

@@ -1,17 +1,18 @@
 #!/usr/bin/env bash
-# Installs the packages of the corpus in a clean machine, and runs them there as a user who isn't root, against the
-# reference authenticator: the whole corpus without a PIN, with one that is set, and with a fingerprint:
-# conformance/packages/clean.sh FOLDER
+# Installs the packages of the conformance tests in a clean Debian system, and runs them there as an unprivileged user
+# against the reference authenticator: all tests without a PIN, with a PIN, and with built-in user verification.
 #
-# FOLDER is made by debootstrap, or used again; it has Debian's base system, and nothing of this repository. Needs root,
-# debootstrap and its mirror. Ends with 3 where one is missing.
+#     conformance/packages/clean.sh FOLDER
+#
+# FOLDER is created by debootstrap or reused. It has Debian's base system and nothing of this repository. Needs root,
+# debootstrap and network access. Exit status: 3 if a requirement is missing.
 set -euo pipefail
 top=$(cd "$(dirname "${BASH_SOURCE[0]}")/../.." && pwd)
 room=${1:?usage: conformance/packages/clean.sh FOLDER}
 for tool in debootstrap dpkg-deb; do
     command -v "$tool" >/dev/null || { echo "$tool is missing; nothing was run" >&2 && exit 3; }
 done
-[ "$(id -u)" = 0 ] || { echo "root is needed for a folder of debootstrap; nothing was run" >&2 && exit 3; }
+[ "$(id -u)" = 0 ] || { echo "debootstrap needs root; nothing was run" >&2 && exit 3; }
 [ -d "$room/usr" ] || debootstrap --variant=minbase bookworm "$room" >"${room%/}.log" || exit 3
 python=$("$top/tests/with_fido2.sh" -c 'import sys; print(sys.executable)')
 rm -rf "$room/home/tester"
@@ -19,22 +20,22 @@ mkdir -p "$room/home/tester/packages"
 "$python" "$top/conformance/packages/build.py" "$room/home/tester/packages" >/dev/null
 chown -R 1234:1234 "$room/home/tester"
 
-# Runs commands in the machine: inside USER COMMANDS
+# Runs commands in the Debian system: inside USER:GROUP COMMANDS
 inside() {
     chroot --userspec="$1" "$room" /usr/bin/env -i PATH=/usr/sbin:/usr/bin:/sbin:/bin HOME=/home/tester LANG=C.UTF-8 \
         DEBIAN_FRONTEND=noninteractive bash -euc "$2"
 }
 
-# What a maker does who has the command: its version, its cases, all of them to each kind of authenticator, and a run with
-# each report. The command is $1, and the authenticator's is $2.
-# shellcheck disable=SC2016 # the shell in the machine expands it
-played='
+# Prints the version, lists the tests, runs all of them against each kind of authenticator, and writes each kind of
+# report. $1 is the command of the tests, $2 that of the authenticator.
+# shellcheck disable=SC2016 # expanded by the shell in the Debian system
+run_tests='
     $1 --version
     $1 --list | tail -1
     for kind in "" "--pin 1234" "--fingerprint"; do
         $1 --device "$2 $kind" --touch-line touch --reset --jobs 4 2>/dev/null >report || true
         grep -A 3 ^failed report || true
-        echo "all cases ${kind:-without a PIN}: $(tail -1 report)"
+        echo "all tests ${kind:-without a PIN}: $(tail -1 report)"
         [[ $(tail -1 report) =~ ^[1-9][0-9]*\ passed,\ 0\ failed ]]
     done
     for kind in tap junit json html; do
@@ -44,11 +45,11 @@ played='
 
 inside 0:0 'cd /home/tester/packages && apt-get -qq update && apt-get -qq install -y --no-install-recommends ./*.deb >/dev/null'
 echo "the deb:"
-inside 1234:1234 "cd && set -- hidlog-conformance 'python3 -m hidlog_conformance.reference' && $played"
+inside 1234:1234 "cd && set -- hidlog-conformance 'python3 -m hidlog_conformance.reference' && $run_tests"
 inside 0:0 'apt-get -qq purge -y hidlog-conformance >/dev/null && ! python3 -c "import hidlog_conformance" 2>/dev/null'
 inside 0:0 'apt-get -qq install -y --no-install-recommends python3-venv >/dev/null'
 echo "the wheel:"
 inside 1234:1234 "cd && python3 -m venv --system-site-packages venv &&
     venv/bin/python -m pip install --quiet --no-index --no-deps --disable-pip-version-check packages/*.whl &&
-    set -- venv/bin/hidlog-conformance 'venv/bin/python -m hidlog_conformance.reference' && $played"
-echo "the packages run in a clean machine"
+    set -- venv/bin/hidlog-conformance 'venv/bin/python -m hidlog_conformance.reference' && $run_tests"
+echo "the packages work in a clean Debian system"

@@ -1,7 +1,6 @@
 #!/usr/bin/env bash
-# Makes the packages of the corpus twice and compares them, then uses each without this repository: against the reference
-# authenticator, by the wheel in an environment of its own and by the files of the deb. Ends with 3 where something is
-# missing.
+# Builds the packages of the conformance tests twice and compares them. Then runs the wheel in a virtual environment and
+# the files of the deb against the reference authenticator, without this repository. Exit status: 3 if a tool is missing.
 set -euo pipefail
 top=$(cd "$(dirname "${BASH_SOURCE[0]}")/../.." && pwd)
 work=$(mktemp -d)
@@ -15,11 +14,11 @@ for folder in one two; do
 done
 diff -r "$work/one" "$work/two"
 
-# Plays some cases by a command: played COMMAND .., with PYTHONPATH where it is needed.
-played() {
-    local said
-    said=$("$@" --device "$reference" --touch-line touch --only ping/bytes_00 --report text 2>/dev/null | tail -1)
-    [[ $said =~ ^[1-9][0-9]*\ passed,\ 0\ failed ]] || { echo "$*: $said" && exit 1; }
+# Runs a few tests with a command: run_tests COMMAND ..
+run_tests() {
+    local summary
+    summary=$("$@" --device "$reference" --touch-line touch --only ping/bytes_00 --report text 2>/dev/null | tail -1)
+    [[ $summary =~ ^[1-9][0-9]*\ passed,\ 0\ failed ]] || { echo "$*: $summary" && exit 1; }
     "$@" --device "$reference" --touch-line touch --only pin/registers --report html 2>/dev/null |
         grep "<h2>By section</h2>" >/dev/null
     "$@" --device "$reference" --touch-line touch --reset --only pin/registers 2>/dev/null | tail -1
@@ -30,12 +29,12 @@ cd "$work"
 "$python" -m venv --system-site-packages "$work/venv" >/dev/null
 "$work/venv/bin/python" -m pip install --quiet --no-index --no-deps --disable-pip-version-check "$work"/one/*.whl
 reference="$work/venv/bin/python -m hidlog_conformance.reference"
-echo "the wheel: $(played "$work/venv/bin/hidlog-conformance" | tr '\n' ' ')"
+echo "the wheel: $(run_tests "$work/venv/bin/hidlog-conformance" | tr '\n' ' ')"
 dpkg-deb -x "$work"/one/*.deb "$work/root"
 export PYTHONPATH=$work/root/usr/lib/python3/dist-packages
 reference="$python -m hidlog_conformance.reference"
-echo "the deb: $(played "$python" "$work/root/usr/bin/hidlog-conformance" | tr '\n' ' ')"
-! "$work/venv/bin/python" -c 'import keys, report, rules' 2>/dev/null || { echo "modules of common names" && exit 1; }
+echo "the deb: $(run_tests "$python" "$work/root/usr/bin/hidlog-conformance" | tr '\n' ' ')"
+! "$work/venv/bin/python" -c 'import keys, report, rules' 2>/dev/null || { echo "a module with a common name is importable" && exit 1; }
 if command -v lintian >/dev/null; then
     lintian --fail-on error "$work"/one/*.deb
 fi

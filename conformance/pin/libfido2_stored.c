@@ -1,8 +1,7 @@
-// libfido2 manages what is stored: it registers with keys of large blobs,
-// lists, renames and deletes credentials, and writes a large blob, by a PIN.
-// With a word it verifies the user by the device, registers and signs in. It
-// writes packets as lines and reads the device's, and ends with a line `ok` or
-// `refused`.
+// Credential management with libfido2: registers with large blob keys, lists,
+// renames and deletes credentials, and writes a large blob, with a PIN. With
+// an argument it uses built-in user verification, registers and signs in.
+// Writes and reads packets as lines, and ends with a line `ok` or `refused`.
 //
 //     gcc -o libfido2_stored conformance/pin/libfido2_stored.c -lfido2
 #define main main_without_pin
@@ -20,7 +19,7 @@ static void same(const char *what, unsigned long found, unsigned long wanted) {
   }
 }
 
-static fido_cred_t *stored(fido_dev_t *device, const char *at, const char *name,
+static fido_cred_t *register_stored(fido_dev_t *device, const char *at, const char *name,
                            const char *given) {
   fido_cred_t *cred = fido_cred_new();
   must("type", fido_cred_set_type(cred, COSE_ES256));
@@ -39,7 +38,7 @@ static fido_cred_t *stored(fido_dev_t *device, const char *at, const char *name,
   return cred;
 }
 
-static void listed(fido_dev_t *device, const fido_cred_t *first) {
+static void check_list(fido_dev_t *device, const fido_cred_t *first) {
   fido_credman_metadata_t *metadata = fido_credman_metadata_new();
   fido_credman_rp_t *rps = fido_credman_rp_new();
   fido_credman_rk_t *found = fido_credman_rk_new();
@@ -67,7 +66,7 @@ static void listed(fido_dev_t *device, const fido_cred_t *first) {
        0);
 }
 
-static void changed(fido_dev_t *device, fido_cred_t *first,
+static void check_changes(fido_dev_t *device, fido_cred_t *first,
                     const fido_cred_t *second) {
   fido_cred_t *renamed = fido_cred_new();
   fido_credman_rk_t *found = fido_credman_rk_new();
@@ -100,7 +99,7 @@ static void blobs(fido_dev_t *device, const fido_cred_t *first) {
 static void by_user(fido_dev_t *device) {
   int left;
   must("retries", fido_dev_get_uv_retry_count(device, &left));
-  fido_cred_t *cred = stored(device, rp, "alice", NULL);
+  fido_cred_t *cred = register_stored(device, rp, "alice", NULL);
   fido_assert_t *found = fido_assert_new();
   es256_pk_t *key = es256_pk_new();
   must("key", es256_pk_from_ptr(key, fido_cred_pubkey_ptr(cred),
@@ -115,16 +114,16 @@ static void by_user(fido_dev_t *device) {
 int main(int count, char **words) {
   (void)words;
   fido_init(0);
-  fido_dev_t *device = opened();
+  fido_dev_t *device = open_device();
   if (count > 1) {
     by_user(device);
   } else {
     must("set a PIN", fido_dev_set_pin(device, pin, NULL));
-    fido_cred_t *first = stored(device, rp, "alice", pin),
-                *second = stored(device, rp, "bob", pin);
-    stored(device, "example.org", "alice", pin);
-    listed(device, first);
-    changed(device, first, second);
+    fido_cred_t *first = register_stored(device, rp, "alice", pin),
+                *second = register_stored(device, rp, "bob", pin);
+    register_stored(device, "example.org", "alice", pin);
+    check_list(device, first);
+    check_changes(device, first, second);
     blobs(device, first);
   }
   printf("ok\n");

@@ -1,6 +1,6 @@
 #!/usr/bin/env python3
-"""python-fido2 sets a PIN, registers and signs in with it: python_client.py PROTOCOL. It writes packets as lines and reads
-the device's, and ends with a line `ok` or `refused`."""
+"""python-fido2 sets a PIN, registers and signs in with it: python_client.py PROTOCOL. Writes and reads packets as
+lines, and ends with a line `ok` or `refused`."""
 
 from __future__ import annotations
 
@@ -24,7 +24,7 @@ UV = 0x04
 
 
 def wrong_pin(pin: Any) -> None:
-    """Tries a wrong PIN, and counts the retries."""
+    """Tries a wrong PIN, and compares the retries."""
     before = pin.get_pin_retries()[0]
     try:
         pin.get_pin_token("9999", ClientPin.PERMISSION.MAKE_CREDENTIAL, RP)
@@ -32,9 +32,9 @@ def wrong_pin(pin: Any) -> None:
         if refused.code != CtapError.ERR.PIN_INVALID:
             raise
     else:
-        raise ValueError("a wrong PIN was taken")
+        raise ValueError("a wrong PIN was accepted")
     if pin.get_pin_retries()[0] != before - 1:
-        raise ValueError("a wrong PIN cost nothing")
+        raise ValueError("a wrong PIN did not decrement the retries")
 
 
 def registered(ctap: Any, pin: Any, protocol: Any) -> AttestationObject:
@@ -67,10 +67,10 @@ def signed_in(ctap: Any, pin: Any, protocol: Any, made: Any) -> None:
         found = ctap.get_assertion(RP, HASH, None, asked, None, param, protocol.VERSION)
         found.verify(HASH, made.auth_data.credential_data.public_key)
         if not found.auth_data.flags & UV or found.auth_data.extensions["credBlob"] != b"a blob":
-            raise ValueError("no verified user, or another blob")
+            raise ValueError("no user verification, or a wrong blob")
         secrets.append(extension.process_get_output(found.auth_data))
     if secrets[0]["hmacGetSecret"]["output1"] != secrets[1]["hmacGetSecret"]["output1"]:
-        raise ValueError("other secrets of the same salt")
+        raise ValueError("different secrets for the same salt")
 
 
 def main(words: List[str]) -> int:

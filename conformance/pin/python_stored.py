@@ -1,7 +1,7 @@
 #!/usr/bin/env python3
-"""python-fido2 manages what is stored: python_stored.py PROTOCOL [uv]. It registers with keys of large blobs, lists, renames
-and deletes credentials, and writes a large blob; with `uv` the device verifies the user, and there is no PIN. It writes
-packets as lines and reads the device's, and ends with a line `ok` or `refused`."""
+"""Credential management with python-fido2: python_stored.py PROTOCOL [uv]. Registers with large blob keys, lists,
+renames and deletes credentials, and writes a large blob; `uv` uses built-in user verification instead of a PIN. Writes
+and reads packets as lines, and ends with a line `ok` or `refused`."""
 
 from __future__ import annotations
 
@@ -25,7 +25,7 @@ BLOB = b"a large blob, " * 40
 
 
 class Stored:
-    """Holds the client's side."""
+    """The client's side."""
 
     def __init__(self, number: int, by_user: bool) -> None:
         self.ctap = Ctap2(client.device())
@@ -36,21 +36,21 @@ class Stored:
             self.pin.set_pin("1234")
 
     def token(self, permission: Any, rp: Any = None) -> bytes:
-        """Returns a token, by the PIN or by the user."""
+        """Returns a token, by PIN or built-in user verification."""
         found = (
             self.pin.get_uv_token(permission, rp) if self.by_user else self.pin.get_pin_token("1234", permission, rp)
         )
         return bytes(found)
 
     def register(self, rp: str, name: str) -> AttestationObject:
-        """Registers a discoverable credential that has a key of large blobs."""
+        """Registers a discoverable credential with a large blob key."""
         param = self.protocol.authenticate(self.token(MAY.MAKE_CREDENTIAL, rp), HASH)
         user = {"id": name.encode(), "name": name, "displayName": name.title()}
         extensions, options = {"largeBlobKey": True, "credProtect": 2}, {"rk": True}
-        given = (HASH, {"id": rp, "name": rp}, user, ES256, None, extensions, options, param, self.protocol.VERSION)
-        made = self.ctap.make_credential(*given)
+        arguments = (HASH, {"id": rp, "name": rp}, user, ES256, None, extensions, options, param, self.protocol.VERSION)
+        made = self.ctap.make_credential(*arguments)
         if not made.auth_data.flags & UV or len(made.data[AttestationObject.KEY.LARGE_BLOB_KEY]) != 32:
-            raise ValueError("no verified user, or no key of large blobs")
+            raise ValueError("no user verification, or no large blob key")
         return made
 
     def management(self) -> Any:
@@ -58,24 +58,24 @@ class Stored:
         return CredentialManagement(self.ctap, self.protocol, self.token(MAY.CREDENTIAL_MGMT))
 
 
-def same(what: str, found: Any, wanted: Any) -> None:
+def same(what: str, found: Any, expected: Any) -> None:
     """Compares."""
-    if found != wanted:
-        raise ValueError(f"{what}: {found!r} in place of {wanted!r}")
+    if found != expected:
+        raise ValueError(f"{what}: {found!r} instead of {expected!r}")
 
 
 def listed(stored: Stored, made: List[Any]) -> None:
-    """Lists RPs and credentials, by what the registrations answered."""
+    """Lists RPs and credentials, and compares them with the registrations."""
     same("the count", stored.management().get_metadata()[FOUND.EXISTING_CRED_COUNT], len(made))
     rps = stored.management().enumerate_rps()
     same("the RPs", sorted(rp[FOUND.RP]["id"] for rp in rps), [RP, OTHER])
     digest = next(rp[FOUND.RP_ID_HASH] for rp in rps if rp[FOUND.RP]["id"] == RP)
-    found = {it[FOUND.CREDENTIAL_ID]["id"]: it for it in stored.management().enumerate_creds(digest)}
+    found = {cred[FOUND.CREDENTIAL_ID]["id"]: cred for cred in stored.management().enumerate_creds(digest)}
     for one in made[:2]:
         data, item = one.auth_data.credential_data, found[one.auth_data.credential_data.credential_id]
         same("the public key", item[FOUND.PUBLIC_KEY], dict(data.public_key))
         same("the protection", item[FOUND.CRED_PROTECT], 2)
-        same("the key of large blobs", item[FOUND.LARGE_BLOB_KEY], one.data[AttestationObject.KEY.LARGE_BLOB_KEY])
+        same("the large blob key", item[FOUND.LARGE_BLOB_KEY], one.data[AttestationObject.KEY.LARGE_BLOB_KEY])
     same("the credentials of the RP", len(found), 2)
 
 
@@ -104,7 +104,7 @@ def main(words: List[str]) -> int:
     """Registers, lists, renames, deletes and writes."""
     stored = Stored(int(words[0]), "uv" in words)
     if stored.by_user:
-        same("the user's retries", stored.pin.get_uv_retries()[0], 5)
+        same("the user verification retries", stored.pin.get_uv_retries()[0], 5)
     made = [stored.register(RP, "alice"), stored.register(RP, "bob"), stored.register(OTHER, "alice")]
     listed(stored, made)
     changed(stored, made)

@@ -1,10 +1,10 @@
 #!/usr/bin/env python3
-"""Records browsers: what Chromium's and Firefox's own code for security keys sends.
+"""Records what Chromium and Firefox send to a security key.
 
-    conformance/recorded/browsers.py FOLDER [chromium|firefox]    writes FOLDER/NAME_RUN.log, cut down
+    conformance/recorded/browsers.py FOLDER [chromium|firefox]    write FOLDER/NAME_RUN.log, trimmed
 
-The browser sees a device of hidraw: fake_udev.c stands in for libudev, and a terminal without line editing for
-/dev/hidrawN. Behind it is the program of release/, and a user who touches at once. It needs gcc and the browser.
+The browser sees a hidraw device: fake_udev.c replaces libudev, and a terminal without line editing /dev/hidrawN. Behind
+it are the program of release/ and a user who touches at once. Needs gcc and the browser.
 """
 
 from __future__ import annotations
@@ -36,9 +36,9 @@ from trim import trimmed  # noqa: E402
 DESCRIPTOR = bytes.fromhex("06d0f10901a1010920150026ff00750895408102092115002 6ff00750895409102c0".replace(" ", ""))
 TOUCH_AFTER = 0.3
 SECONDS = 60
-# A browser that sends nothing for so long waits for a person who closes its window.
+# Seconds without a packet after which a browser waits for a person to close its dialog.
 IDLE = 7.0
-# What the page does, a browser and a key without credentials for each.
+# The steps of the page, by name; each has a new browser and key.
 RUNS = {
     "excluded": "register,sign_in,excluded",
     "discoverable": "discoverable,found",
@@ -53,21 +53,21 @@ BROWSERS: Dict[str, List[str]] = {
 
 
 class RecordedDevice(LiveDevice):
-    """Keeps the input lines."""
+    """Records the input lines."""
 
     def __init__(self) -> None:
         super().__init__()
         self.lines: List[str] = []
 
     def exchange(self, line: str) -> List[str]:
-        """Writes an input line and returns the answer's lines."""
+        """Writes an input line and returns the output lines."""
         self.lines.append(line)
         answers: List[str] = super().exchange(line)
         return answers
 
 
 class Terminal:
-    """Serves the program on a terminal, a packet at a time, as a device of hidraw would."""
+    """Runs the program on a terminal, one packet at a time, like a hidraw device."""
 
     def __init__(self) -> None:
         self.master, self.slave = pty.openpty()
@@ -77,22 +77,22 @@ class Terminal:
         self.device.start()
         self.begun = time.monotonic()
         self.asked = 0.0
-        # When a packet came last.
+        # The time of the last packet.
         self.latest = time.monotonic() + SECONDS
         self.ended = False
         self.thread = threading.Thread(target=self.serve, daemon=True)
         self.thread.start()
 
     def now(self) -> int:
-        """Returns the moment in milliseconds."""
+        """Returns the time in milliseconds."""
         return int((time.monotonic() - self.begun) * 1000)
 
     def unread(self) -> int:
-        """Returns how many bytes the browser has yet to read."""
+        """Returns the number of bytes that the browser has not read yet."""
         return int(struct.unpack("i", fcntl.ioctl(self.slave, termios.FIONREAD, b"\0" * 4))[0])
 
     def answer(self) -> None:
-        """Does what the program needs, and hands on its packets."""
+        """Provides what the program needs, and passes on its packets."""
         while self.device.need == "key" or self.device.need.startswith("signature"):
             if self.device.need == "key":
                 self.device.key(self.now(), ["yes"])
@@ -110,12 +110,12 @@ class Terminal:
             while self.unread() and time.monotonic() < end:
                 time.sleep(0.001)
             if self.unread():
-                # Nobody has the device open.
+                # The device is not open.
                 termios.tcflush(self.slave, termios.TCIFLUSH)
             packet = self.device.read(0)
 
     def serve(self) -> None:
-        """Serves until the end."""
+        """Runs until the end."""
         rest = b""
         while not self.ended:
             ready, _, _ = select.select([self.master], [], [], 0.05)
@@ -130,7 +130,7 @@ class Terminal:
                 self.answer()
 
     def end(self) -> List[str]:
-        """Ends the program and returns what was recorded."""
+        """Ends the program and returns the recording."""
         self.ended = True
         self.thread.join()
         self.device.close()
@@ -138,10 +138,10 @@ class Terminal:
 
 
 class Handler(BaseHTTPRequestHandler):
-    """Serves the page, and hears what came of it."""
+    """Serves the page, and receives its result."""
 
     def log_message(self, *words: Any) -> None:
-        """Says nothing of each request."""
+        """Logs nothing."""
 
     def do_GET(self) -> None:
         """Serves the page."""
@@ -153,16 +153,16 @@ class Handler(BaseHTTPRequestHandler):
         self.wfile.write(body)
 
     def do_POST(self) -> None:
-        """Hears of the end."""
+        """Receives the result."""
         server: Any = self.server
-        server.said = self.rfile.read(int(self.headers["Content-Length"])).decode()
+        server.result = self.rfile.read(int(self.headers["Content-Length"])).decode()
         server.done.set()
         self.send_response(200)
         self.end_headers()
 
 
 def compiled(room: str) -> str:
-    """Compiles what stands in for libudev."""
+    """Compiles the replacement of libudev."""
     library = os.path.join(room, "libudev.so.1")
     words = ["gcc", "-std=c11", "-O2", "-shared", "-fPIC", "-Wl,-soname,libudev.so.1"]
     script = "-Wl,--version-script=" + os.path.join(HERE, "fake_udev.map")
@@ -171,10 +171,10 @@ def compiled(room: str) -> str:
 
 
 def record(name: str, steps: str, room: str) -> List[str]:
-    """Lets a browser do some steps; returns the recording."""
+    """Runs some steps in a browser; returns the recording."""
     terminal = Terminal()
     server: Any = ThreadingHTTPServer(("127.0.0.1", 0), Handler)
-    server.done, server.said = threading.Event(), "it waits for a person"
+    server.done, server.result = threading.Event(), "it waits for a person"
     threading.Thread(target=server.serve_forever, daemon=True).start()
     for folder in ("profile", "sysfs/hidraw/hidraw0"):
         os.makedirs(os.path.join(room, folder))
@@ -191,12 +191,12 @@ def record(name: str, steps: str, room: str) -> List[str]:
     os.killpg(browser.pid, signal.SIGTERM)
     browser.wait()
     server.shutdown()
-    print(f"{name} {steps}:\n{server.said}")
+    print(f"{name} {steps}:\n{server.result}")
     return terminal.end()
 
 
 def main(words: List[str]) -> int:
-    """Records the browsers that are there."""
+    """Records the installed browsers."""
     if not words:
         print(__doc__, file=sys.stderr)
         return 2

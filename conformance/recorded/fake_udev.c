@@ -1,5 +1,5 @@
-// Shows a browser one device of hidraw that the kernel doesn't have: stands in for libudev, and answers the ioctls that
-// ask for a report descriptor. For recordings on a machine without /dev/uhid.
+// Shows a browser a hidraw device that the kernel does not have: replaces libudev, and the ioctls for a report descriptor.
+// For recordings on a machine without /dev/uhid.
 //
 //     gcc -shared -fPIC -Wl,-soname,libudev.so.1 -Wl,--version-script=fake_udev.map -o libudev.so.1 fake_udev.c
 //     FAKE_HIDRAW=/dev/pts/3 FAKE_SYSFS=FOLDER LD_PRELOAD=./libudev.so.1 chromium ..
@@ -25,7 +25,7 @@ struct udev_device {
     bool is_parent;
 };
 
-// Without a match all subsystems are wanted.
+// Without a match all subsystems are requested.
 struct udev_enumerate {
     bool is_matched;
     bool wants_hidraw;
@@ -237,7 +237,7 @@ struct udev_device *udev_monitor_receive_device(struct udev_monitor *monitor) {
     return NULL;
 }
 
-// Reads the report descriptor; its size, 0 where there is none.
+// Reads the report descriptor; returns its size, or 0 if there is none.
 static size_t read_descriptor(unsigned char *to, size_t room) {
     char path[300];
     snprintf(path, sizeof path, "%s/report_descriptor", setting("FAKE_SYSFS"));
@@ -249,7 +249,7 @@ static size_t read_descriptor(unsigned char *to, size_t room) {
     return len;
 }
 
-// Whether a file is the device.
+// Returns whether a file is the device.
 static bool is_device(int file) {
     char path[64], found[256] = "";
     snprintf(path, sizeof path, "/proc/self/fd/%d", file);

@@ -1,9 +1,9 @@
 #!/usr/bin/env python3
-"""Cuts recordings down to what the corpus needs of them: what the host sent, and when the user and the caller answered.
+"""Trims recordings to the host's packets and the user's and caller's replies.
 
-    conformance/recorded/trim.py LOG ..    writes each file anew
+    conformance/recorded/trim.py LOG ..    rewrite each file
 
-Moments are at most ten milliseconds apart, public keys and signatures are made up: a device has its own.
+Timestamps become at most ten milliseconds apart; public keys and signatures are replaced by made-up ones.
 """
 
 from __future__ import annotations
@@ -13,7 +13,7 @@ from typing import List
 
 
 def trimmed(lines: List[str]) -> List[str]:
-    """Returns the lines that are kept."""
+    """Returns the lines to keep."""
     kept, latest, at = [], -1, 0
     for line in lines:
         kind, _, rest = line.partition(" ")
@@ -31,7 +31,7 @@ def trimmed(lines: List[str]) -> List[str]:
 
 
 def main(paths: List[str]) -> int:
-    """Writes the files anew."""
+    """Rewrites the files."""
     for path in paths:
         with open(path, encoding="utf-8") as file:
             lines = file.read().splitlines()

@@ -1,4 +1,4 @@
-"""A key that stays the same from case to case, as one in a person's hand: touches and unplugging are counted."""
+"""A key that keeps its state across cases, like a hardware key; counts touches and unplugging."""
 
 from __future__ import annotations
 
@@ -7,37 +7,39 @@ from contextlib import redirect_stderr
 from typing import Dict, List, Tuple
 
 from hidlog_conformance import run
-from hidlog_conformance.offers import Offers
+from hidlog_conformance.device_info import DeviceInfo
+from hidlog_conformance.outcome import Outcome
 from hidlog_conformance.reference.device import ReferenceDevice
-from hidlog_conformance.reference.traits import Traits
+from hidlog_conformance.reference.traits import DeviceTraits
+from hidlog_conformance.results import Results
 
 
 class KeptKey(ReferenceDevice):
-    """The reference authenticator, which nothing begins anew but a reset."""
+    """The reference authenticator, whose state only a reset clears."""
 
     lasting = True
     fresh = False
-    offers = ("touch", "two channels", "power cycle")
+    features = ("touch", "two channels", "power cycle")
 
     def __init__(self) -> None:
-        # Credentials that aren't discoverable take no space of most keys.
-        super().__init__(Traits(capacity=100000))
+        # Most keys do not store non-discoverable credentials.
+        super().__init__(DeviceTraits(capacity=100000))
         self.touches = self.unplugged = self.clock = 0
 
     def start(self) -> None:
-        """Begins a session, at the time to which the one before came."""
+        """Begins a session, at the end time of the last one."""
         self.packets.clear()
         self.clock = self.authenticator.transport.at
 
     def power_cycle(self, at: int) -> None:
-        """Switches it off and on again, and its clock begins anew."""
+        """Power cycles the key; its clock starts over."""
         self.unplugged += 1
         self.authenticator.power_cycle()
         self.packets.clear()
         self.clock = -at
 
     def send(self, at: int, packet: bytes) -> None:
-        """Hands the authenticator a packet."""
+        """Sends a packet to the key."""
         super().send(max(0, self.clock + at), packet)
 
     def tick(self, at: int) -> None:
@@ -51,25 +53,26 @@ class KeptKey(ReferenceDevice):
 
 
 def played(words: List[str]) -> Tuple[Dict[str, str], KeptKey]:
-    """Plays cases; returns what came of each, and the key."""
-    options = run.words_of(["--device", "reference", "--touch", *words])
+    """Runs cases; returns their outcomes, and the key."""
+    options = run.parse_options(["--device", "reference", "--touch", *words])
     device = KeptKey()
     with redirect_stderr(io.StringIO()):
-        offers = Offers.ask(device, True)
+        device_info = DeviceInfo.ask(device, True)
         device.touches = 0
         sessions = run.in_order(device, run.all_sessions(options.only), True)
-        outcomes = run.play_all(device, sessions, options, offers)
-    return {outcome.session.name: outcome.status for outcome in outcomes}, device
+        results: Results[Outcome] = Results()
+        run.play_all(device, sessions, options, device_info, results)
+    return {outcome.session.name: outcome.status for outcome in results.close()}, device
 
 
 def spared() -> None:
-    """One touch serves several cases: the same outcomes by fewer touches and less unplugging."""
+    """Reusing credentials gives the same outcomes with fewer touches and less unplugging."""
     runs: List[List[str]] = [[], ["--reset", "--only", "lists/"], ["--reset", "--only", "blobs/"]]
     for words in runs:
-        sparing, device = played(words)
-        alone, other = played([*words, "--alone"])
-        assert sparing == alone, {name: it for name, it in sparing.items() if alone[name] != it}
-        assert "not ok" not in sparing.values(), [name for name, it in sparing.items() if it == "not ok"]
+        reuse, device = played(words)
+        alone, other = played([*words, "--isolated"])
+        assert reuse == alone, {name: status for name, status in reuse.items() if alone[name] != status}
+        assert "not ok" not in reuse.values(), [name for name, status in reuse.items() if status == "not ok"]
         assert device.touches < other.touches and device.unplugged <= other.unplugged
         text = f"{device.touches} touches and {device.unplugged} times unplugged, by itself {other.touches} and"
         print(f"{' '.join(words) or 'all without --reset'}: {text} {other.unplugged}")

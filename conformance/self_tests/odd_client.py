@@ -1,5 +1,5 @@
 #!/usr/bin/env python3
-"""A client that greets the device, and then crashes, hangs, or sends the same packet for ever: odd_client.py KIND."""
+"""A client that sends INIT, and then crashes, hangs, or sends the same packet forever: odd_client.py KIND"""
 
 from __future__ import annotations
 
@@ -13,7 +13,7 @@ INIT = "ffffffff860008" + "0102030405060708".ljust(114, "0")
 
 
 def main(words: List[str]) -> int:
-    """Greets the device."""
+    """Runs the client."""
     print(INIT, flush=True)
     while words[0] == "floods":
         print(INIT, flush=True)

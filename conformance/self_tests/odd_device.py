@@ -1,7 +1,7 @@
 #!/usr/bin/env python3
-"""An authenticator that is lawful but unusual, or out of order on purpose: odd_device.py KIND.
+"""An authenticator that is conforming but unusual, or broken: odd_device.py KIND
 
-It is the one of others/python_key.py, with packets of its own before, behind or in place of the answers.
+It is others/python_key.py, with other packets before, after or instead of the responses.
 """
 
 from __future__ import annotations
@@ -20,24 +20,24 @@ for folder in ("..", "../others"):
 from hidlog_conformance import hid_packets as hid  # noqa: E402
 from python_key import Key  # noqa: E402
 
-# How long a busy key works before it asks for a touch, in milliseconds.
+# Milliseconds that a busy key works before it requests a touch.
 WORK = 3500
 EVIL = "\x1b[31mred\u202e\u0001"
 START = time.monotonic()
 
 
 def now() -> int:
-    """Returns the moment in milliseconds."""
+    """Returns the time in milliseconds."""
     return int((time.monotonic() - START) * 1000)
 
 
 class OddKey:
     """Serves lines."""
 
-    def __init__(self, kind: str) -> None:
-        self.kind = kind
+    def __init__(self, kind: str, words: List[str]) -> None:
+        self.kind, self.words = kind, words
         self.key = Key()
-        # Requests that are kept until the key has worked for them, and when the next KEEPALIVE is due.
+        # Requests in progress, and the time of the next KEEPALIVE.
         self.kept: List["tuple[int, bytes]"] = []
         self.due = 0
 
@@ -50,7 +50,7 @@ class OddKey:
         self.say(hid.packets_of(channel, hid.KEEPALIVE, status)[0])
 
     def take(self, line: bytes) -> None:
-        """Takes a line of the host."""
+        """Processes a line of the host."""
         if line == b"touch":
             self.key.hid.touch(now())
             return
@@ -81,9 +81,19 @@ class OddKey:
                 self.keepalive(int.from_bytes(packet[:4], "big"))
         self.key.hid.tick(now())
 
+    def wrong_once(self, packet: bytes) -> bytes:
+        """Returns a packet after 80 ms; the first PING of all processes is wrong."""
+        time.sleep(0.08)
+        if packet[4] != 0x80 | hid.PING or os.path.exists(self.words[0]):
+            return packet
+        open(self.words[0], "w", encoding="utf-8").close()
+        return packet[:7] + b"\xff" + packet[8:]
+
     def answer(self) -> None:
-        """Writes what the key answers."""
+        """Writes the key's packets."""
         for packet in self.key.hid.out:
+            if self.kind == "unstable":
+                packet = self.wrong_once(packet)
             if self.kind == "evil_text" and packet[4] == 0x80 | hid.CBOR and packet[5:8] != b"\0\1\0":
                 packet = packet[:8] + packet[8:].replace(b"FIDO_2_0", EVIL.encode()[:8].ljust(8, b"\1"))
             self.say(packet)
@@ -93,7 +103,7 @@ class OddKey:
 
 
 def out_of_order(kind: str) -> None:
-    """Never serves: a flood, or a line without an end."""
+    """Writes a flood of packets, or a line without a newline."""
     packet = hid.packets_of(hid.BROADCAST, hid.KEEPALIVE, b"\1")[0].hex().encode() + b"\n"
     piece = {"flood": packet * 100, "no_line_feed": b"0" * 4096}[kind]
     while True:
@@ -101,12 +111,12 @@ def out_of_order(kind: str) -> None:
 
 
 def main(words: List[str]) -> int:
-    """Serves until the input ends."""
+    """Runs until the end of input."""
     if words[0] in ("flood", "no_line_feed"):
         out_of_order(words[0])
     if words[0] == "with_a_child":
         subprocess.Popen(["sleep", words[1]])
-    odd, rest = OddKey(words[0]), b""
+    odd, rest = OddKey(words[0], words[1:]), b""
     while True:
         ready, _, _ = select.select([sys.stdin], [], [], 0.02)
         piece = os.read(0, 4096) if ready else b""

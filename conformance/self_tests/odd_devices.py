@@ -1,8 +1,8 @@
-"""Devices that are lawful but unusual, and devices that are out of order: neither hangs the runner, nor is the first
-blamed."""
+"""Conforming but unusual devices have no violations, and broken devices do not hang the runner."""
 
 from __future__ import annotations
 
+import json
 import os
 import subprocess
 import sys
@@ -11,14 +11,14 @@ import xml.etree.ElementTree as xml
 from typing import Any, Dict
 
 import ways
-from hidlog_conformance import devices, offers, report
+from hidlog_conformance import devices, device_info, report, run
 from hidlog_conformance import hid_packets as hid
 from hidlog_conformance.devices import HidrawDevice
 from hidlog_conformance.player import Player
 from hidlog_conformance.session_file import Session
-from trying import HERE, Test, noticed, odd, said
+from trying import HERE, Test, noticed, odd, run_command
 
-# Packets of another host: an answer, a KEEPALIVE, a new host's INIT answer, and a message that isn't whole.
+# Packets of another host: a response, a KEEPALIVE, a new host's INIT response, and an incomplete message.
 OTHERS = [
     hid.packets_of(0x0000BEEF, hid.CBOR, b"\0\xa0")[0],
     hid.packets_of(0x0000BEEF, hid.KEEPALIVE, b"\2")[0],
@@ -28,7 +28,7 @@ OTHERS = [
 
 
 class SharedTerminal(ways.Terminal):
-    """A device that a browser uses too: before each answer come packets for the browser."""
+    """A device shared with a browser: packets for the browser come before each response."""
 
     def write_out(self, packet: bytes) -> None:
         """Writes a packet, and others before it."""
@@ -38,11 +38,11 @@ class SharedTerminal(ways.Terminal):
 
 
 def other_hosts() -> None:
-    """Plays cases to a device that another host uses too."""
+    """Cases pass on a device shared with another host."""
     terminal = SharedTerminal()
     try:
         for only in ("init/nonce", "ping/bytes_0117", "info/", "channels/"):
-            status, out, _ = said(["--device", terminal.path, "--only", only])
+            status, out, _ = run_command(["--device", terminal.path, "--only", only])
             assert status == 0 and " 0 failed" in out and not out.startswith("0 passed"), out
     finally:
         terminal.ended = True
@@ -50,92 +50,92 @@ def other_hosts() -> None:
 
 
 def keepalive_first() -> None:
-    """A KEEPALIVE before getInfo's answer leaves what is offered as it is."""
-    status, out, _ = said([*odd("keepalive_first"), "--reset", "--only", "lists/allow_empty"])
+    """A KEEPALIVE before getInfo's response does not change the supported features."""
+    status, out, _ = run_command([*odd("keepalive_first"), "--reset", "--only", "lists/allow_empty"])
     assert status == 0 and "1 passed, 0 failed" in out, out
 
 
 def skip_names_info() -> None:
-    """A case that is skipped for what isn't offered names the getInfo that was read."""
-    _, out, _ = said([*odd("plain"), "--only", "ping/bytes_7609"])
-    assert "doesn't offer: messages of 7609 (getInfo: {1: " in out, out
+    """A case skipped for a missing feature prints the getInfo response."""
+    _, out, _ = run_command([*odd("plain"), "--only", "ping/bytes_7609"])
+    assert "does not support: messages of 7609 (getInfo: {1: " in out, out
 
 
 def busy() -> None:
-    """A device that works for 3.5 seconds before it asks for a touch, and takes none before, passes."""
-    status, out, _ = said([*odd("busy"), "--only", "selection/granted", "--deadline", "12"])
+    """A device that asks for a touch only after 3.5 seconds passes."""
+    status, out, _ = run_command([*odd("busy"), "--only", "selection/granted", "--deadline", "12"])
     assert status == 0 and "1 passed" in out, out
 
 
 def never_asked(player: Player) -> None:
-    """Waits for nothing before the touch."""
+    """Does not wait before the touch."""
 
 
 def for_ever() -> None:
-    """KEEPALIVEs without an end are a verdict within the deadline, and after three of them no more is played."""
+    """Endless KEEPALIVEs fail at the deadline, and after three such cases the run stops."""
     words = [*odd("keepalive_for_ever"), "--deadline", "2", "--jobs", "1", "--only", "cancel/of"]
-    status, out, _ = said(words)
-    assert status == 1 and "an end of the case within its deadline" in out, out
-    _, out, _ = said([*odd("keepalive_for_ever"), "--deadline", "1", "--jobs", "1", "--only", "recorded/"])
-    assert out.count("not played: 3 cases ended by their deadline") > 3, out
+    status, out, _ = run_command(words)
+    assert status == 1 and "the end of the case before its deadline" in out, out
+    _, out, _ = run_command([*odd("keepalive_for_ever"), "--deadline", "1", "--jobs", "1", "--only", "recorded/"])
+    assert out.count("not played: 3 cases reached their deadline") > 3, out
 
 
 def without_line_feed() -> None:
-    """A line without an end is a verdict."""
-    status, _, heard = said(odd("no_line_feed"))
-    assert status == 2 and "a line without an end" in heard, heard
+    """A line without a newline is reported."""
+    status, _, heard = run_command(odd("no_line_feed"))
+    assert status == 2 and "a line without a newline" in heard, heard
 
 
 def flood() -> None:
-    """A flood of packets ends in a verdict."""
-    status, _, heard = said(odd("flood"))
-    assert status == 2 and "doesn't answer INIT" in heard, heard
+    """A flood of packets is reported."""
+    status, _, heard = run_command(odd("flood"))
+    assert status == 2 and "does not respond to INIT" in heard, heard
 
 
 def zeros() -> None:
-    """/dev/zero never stops sending."""
-    status, _, heard = said(["--device", "/dev/zero"])
+    """/dev/zero is reported as a device that never stops sending."""
+    status, _, heard = run_command(["--device", "/dev/zero"])
     assert status == 2 and "never stops sending" in heard, heard
 
 
 def full() -> None:
-    """A device that may be full from before is skipped."""
-    _, out, _ = said([*odd("full"), "--only", "make/answer"])
-    assert "1 skipped" in out and "no space for another credential" in out, out
+    """A case is skipped if the device may have been full before."""
+    _, out, _ = run_command([*odd("full"), "--only", "make/answer"])
+    assert "1 skipped" in out and "the device is full (28)" in out, out
 
 
 def children() -> None:
-    """What a command started ends with it."""
+    """A command's child processes are killed."""
     seconds = "38.4321"
-    said([*odd(f"with_a_child {seconds}"), "--only", "init/nonce_count"])
+    run_command([*odd(f"with_a_child {seconds}"), "--only", "init/nonce_count"])
     found = subprocess.run(["ps", "-eo", "args"], capture_output=True, text=True, check=True).stdout
     assert f"sleep {seconds}" not in found, found
 
 
 def evil_text() -> None:
-    """Texts of a device reach neither the terminal nor XML raw."""
+    """Text of a device is escaped for terminals and XML."""
     for kind in ("text", "junit", "tap", "json", "html"):
-        _, out, _ = said([*odd("evil_text"), "--only", "ping/bytes_7609", "--report", kind])
+        _, out, _ = run_command([*odd("evil_text"), "--only", "ping/bytes_7609", "--report", kind])
         assert not set(out) & set("\x1b\u202e\x01"), repr(out)
         if kind == "junit":
             xml.fromstring(out)
 
 
 def behind() -> None:
-    """In real time too a packet behind the last answer is found."""
-    status, out, _ = said([*odd("continues"), "--only", "ping/bytes_0057"])
+    """In real time, too, a packet after the last response is detected."""
+    status, out, _ = run_command([*odd("continues"), "--only", "ping/bytes_0057"])
     assert status == 1 and "a continuation packet" in out, out
 
 
 def unplugged() -> None:
-    """Where nobody unplugs the device a case of power cycles is skipped."""
+    """Cases with power cycles are skipped if nobody unplugs the device."""
     with tempfile.NamedTemporaryFile() as file:
         device = HidrawDevice(file.name, False)
         clock = iter(range(0, 10000, 30))
         before = devices.time
 
         class Clock:
-            """Passes 30 seconds at each look."""
+            """Advances 30 seconds at each call."""
 
             monotonic = staticmethod(lambda: float(next(clock)))
             sleep = staticmethod(lambda seconds: None)
@@ -145,7 +145,7 @@ def unplugged() -> None:
             outcome = None
             try:
                 device.power_cycle(0)
-            except devices.Unplayable as unplayable:
+            except devices.CaseSkipped as unplayable:
                 outcome = str(unplayable)
         finally:
             setattr(devices, "time", before)
@@ -153,48 +153,70 @@ def unplugged() -> None:
 
 
 def reader_ends() -> None:
-    """A reader that ends early ends the command without a traceback."""
+    """The command exits without a traceback if its output is closed."""
     words = f"{sys.executable} {os.path.join(HERE, '..', 'run.py')} --report tap | head -1"
     ended = subprocess.run(words, shell=True, capture_output=True, text=True, check=True)
     assert ended.stdout == "TAP version 13\n" and "Traceback" not in ended.stderr, ended.stderr
 
 
 def results() -> None:
-    """A should warns, counts by --should, and choices count by --choices."""
+    """SHOULD violations are warnings, or failures with --warnings-as-errors; choices count with --profile-choices."""
     words = [*odd("plain"), "--only", "cbor/uint_in_1_level_2"]
-    assert said(words)[:1] == (0,) and "0 failed, 1 warned" in said(words)[1], said(words)
-    assert said([*words, "--should"])[0] == 1, "--should"
+    assert run_command(words)[:1] == (0,) and "0 failed, 1 warned" in run_command(words)[1], run_command(words)
+    assert run_command([*words, "--warnings-as-errors"])[0] == 1, "--warnings-as-errors"
     words = [*odd("plain"), "--only", "cbor/array_in_1_level_1"]
-    assert said(words)[0] == 0 and "differs in a choice of this project" in said(words)[1], said(words)
-    assert said([*words, "--choices"])[0] == 1, "--choices"
+    assert (
+        run_command(words)[0] == 0 and "differs from a choice of this project's profile" in run_command(words)[1]
+    ), run_command(words)
+    assert run_command([*words, "--profile-choices"])[0] == 1, "--profile-choices"
 
 
 def known() -> None:
-    """A known failure doesn't count, and one that passes is said."""
+    """An expected failure does not count, and an unexpected success is reported."""
     words = [*odd("plain"), "--only", "cbor/break_alone_level_"]
     names = [f"cbor/break_alone_level_{level}" for level in (2, 3, 4)]
     with tempfile.NamedTemporaryFile("w") as file:
         file.write("# python-fido2's reader\n" + "\n".join(names) + "\n")
         file.flush()
-        status, _, heard = said([*words, "--known", file.name])
-        assert status == 0 and "known" not in heard, heard
-        status, _, heard = said([*odd("plain"), "--only", "ping/bytes_0000", "--known", file.name])
+        status, _, heard = run_command([*words, "--expected-failures", file.name])
+        assert status == 0 and "unexpected" not in heard, heard
+        status, _, heard = run_command([*odd("plain"), "--only", "ping/bytes_0000", "--expected-failures", file.name])
         assert status == 0, heard
         file.write("ping/bytes_0000\n")
         file.flush()
-        status, _, heard = said([*odd("plain"), "--only", "ping/bytes_0000", "--known", file.name])
-        assert "passes, and is known to fail" in heard, heard
+        status, _, heard = run_command([*odd("plain"), "--only", "ping/bytes_0000", "--expected-failures", file.name])
+        assert "unexpected success" in heard, heard
+
+
+def unstable() -> None:
+    """A case that failed and then passed fails the run, with both recordings."""
+    for kind in ("text", "junit", "tap", "json", "html"):
+        with tempfile.TemporaryDirectory() as room:
+            words = [*odd(f"unstable {room}/pinged"), "--only", "ping/bytes_0058", "--report", kind]
+            status, out, _ = run_command(words)
+        assert status == 1 and "unstable" in out, out
+        if kind == "text":
+            assert out.count("\n           > 0 ") == 6 and "0 passed, 1 failed (1 unstable), 0 warned" in out, out
+        if kind == "junit":
+            assert xml.fromstring(out).get("failures") == "1", out
+        if kind == "json":
+            (case,) = json.loads(out)["cases"]
+            first, second = case["recordings"]
+            assert case["result"] == "unstable" and first.count("< ") == second.count("< ") and first != second, case
 
 
 def lists() -> None:
     """--list, --skip and --version."""
-    everything, some = said(["--list"])[1].splitlines(), said(["--list", "--skip", "cbor/"])[1].splitlines()
+    everything, some = (
+        run_command(["--list"])[1].splitlines(),
+        run_command(["--list", "--skip", "cbor/"])[1].splitlines(),
+    )
     assert len(everything) > len(some) > 100 and all(": CTAP 2.1, " in line for line in everything)
     assert not [line for line in some if line.startswith("cbor/")], "--skip"
 
 
-def none_asked(device: Any, channel: int, nonce: bytes, seconds: float, until_asked: bool) -> Any:
-    """Takes the first message of a channel for the answer."""
+def first_message(device: Any, channel: int, nonce: bytes, seconds: float, until_asked: bool) -> Any:
+    """Returns the first message of a channel as the response."""
     collector = hid.Collector()
     while True:
         packet = device.read(seconds)
@@ -204,14 +226,14 @@ def none_asked(device: Any, channel: int, nonce: bytes, seconds: float, until_as
 
 
 def skips(self: Any, session: Session, device: Any, touch: bool, reset: bool) -> str:
-    """Says why a case is skipped, without the getInfo."""
-    return next((f"the device doesn't offer: {use}" for use in session.uses if not self.has(use)), "")
+    """Returns why a case is skipped, without the getInfo response."""
+    return next((f"the device does not support: {use}" for use in session.uses if not self.has(use)), "")
 
 
 TESTS: Dict[str, Test] = {
     "device/other_hosts": noticed(other_hosts, (Player, "for_others", lambda self, packet: False)),
-    "device/keepalive_first": noticed(keepalive_first, (offers, "heard", none_asked)),
-    "device/skip_names_info": noticed(skip_names_info, (offers.Offers, "lacking", skips)),
+    "device/keepalive_first": noticed(keepalive_first, (device_info, "read_message", first_message)),
+    "device/skip_names_info": noticed(skip_names_info, (device_info.DeviceInfo, "lacking", skips)),
     "device/busy": noticed(busy, (Player, "until_asked", never_asked)),
     "device/for_ever": for_ever,
     "device/without_line_feed": without_line_feed,
@@ -220,10 +242,11 @@ TESTS: Dict[str, Test] = {
     "device/full": noticed(full, (devices.Device, "fresh", True)),
     "device/children": noticed(children, (devices.os, "killpg", lambda process, number: None)),
     "device/evil_text": noticed(evil_text, (report, "clean", str)),
-    "device/behind": noticed(behind, (Player, "judge_end", lambda self: None)),
+    "device/behind": noticed(behind, (Player, "check_end", lambda self: None)),
     "device/unplugged": unplugged,
     "device/reader_ends": reader_ends,
     "report/results": results,
     "report/known": known,
     "report/lists": lists,
+    "report/unstable": noticed(unstable, (run, "unstable", lambda first, second, late: second)),
 }

@@ -1,8 +1,8 @@
-"""A second walk over the packets of a log, the tests' independent source beside the proved one: which transaction each
-packet belongs to, and how each transaction ends.
+"""An independent implementation of transactions, for comparison with the verified one: which transaction each packet
+belongs to, and how each transaction ends.
 
-It decides from the packets alone, their order and the moments (CTAP 2.1, 11.2). Where packets don't show an owner it
-guesses one, so it is compared with the proved walk (hidlog_transactions) where that one is sure.
+It decides by packets, order and timestamps (CTAP 2.1, 11.2). If packets do not show the transaction it guesses, so it
+is only compared with hidlog_transactions where that is sure.
 """
 
 from __future__ import annotations
@@ -13,16 +13,16 @@ from typing import Dict, List, Optional, Tuple, Type, TypeVar
 from hidlog_conformance.hid_packets import BROADCAST, CANCEL, CBOR, ERROR, INIT, KEEPALIVE, LONGEST, PING
 
 INVALID_COMMAND, INVALID_LENGTH, INVALID_SEQUENCE, TIMED_OUT, BUSY, INVALID_CHANNEL = 0x01, 0x03, 0x04, 0x05, 0x06, 0x0B
-# What a CANCEL or a stray packet may be answered, though both begin no transaction.
+# Codes of ERRORs for a CANCEL or a stray packet, which begin no transaction.
 NOT_SERVED = (INVALID_COMMAND, INVALID_SEQUENCE, BUSY, INVALID_CHANNEL)
 CANCELLED = 0x2D
-# Milliseconds within which no key drops an unfinished message: KEEPALIVE's own interval.
+# Milliseconds within which no key drops an incomplete message: the interval of KEEPALIVEs.
 NO_TIME_OUT = 100
 
 
 @dataclass(eq=False)
 class Part:
-    """What the packets of one message carry."""
+    """The packets of one message."""
 
     line: int
     channel: int
@@ -37,40 +37,40 @@ class Part:
         return len(self.parts) - 1
 
     @property
-    def came(self) -> int:
-        """Returns how many bytes came."""
+    def actual(self) -> int:
+        """The number of bytes received."""
         return min(self.length, 57 + 59 * self.next)
 
     @property
     def whole(self) -> bool:
-        """Says whether all bytes came."""
-        return bool(self.came == self.length <= LONGEST)
+        """Whether the message is complete."""
+        return bool(self.actual == self.length <= LONGEST)
 
     @property
     def data(self) -> bytes:
-        """Returns the bytes that came."""
+        """The data received."""
         return b"".join(self.parts)[: self.length]
 
     @property
     def padding(self) -> bytes:
-        """Returns what is behind the message in its last packet."""
+        """The padding in the last packet."""
         return b"".join(self.parts)[self.length :]
 
 
 @dataclass(eq=False)
 class Transaction(Part):
-    """A message of a host, except CANCEL, and what became of it."""
+    """A message of a host, except CANCEL, and how it ended."""
 
-    # answered, refused, timed out, dropped, replaced; at the log's end unanswered or not whole.
+    # answered, refused, timed out, dropped, replaced; at the end of the log unanswered or incomplete.
     end: str = ""
-    # The code of the ERROR that ended it, and the line of what ended it.
+    # The code of the ERROR that ended it, and the line that ended it.
     code: Optional[int] = None
     by: Optional[int] = None
     answer: Optional["Answer"] = None
     keepalives: List["Entry"] = field(default_factory=list)
-    # The line of a CANCEL that came while it waited.
+    # The line of a CANCEL that came while it was pending.
     cancelled: Optional[int] = None
-    # The moments of its first and last packets, and how long the first came after the channel's packet before.
+    # The times of its first and last packets, and the delay of the first after the channel's last packet.
     began: int = 0
     last: int = 0
     after: int = 0
@@ -81,13 +81,13 @@ class Answer(Part):
     """A message of the device."""
 
     request: Optional[Transaction] = None
-    # The latest moment of the log when it began.
+    # The latest timestamp of the log when it began.
     at: int = 0
 
 
 @dataclass(eq=False)
 class Entry:
-    """A packet or a reply: what it is, and which transaction it belongs to."""
+    """A packet or a reply: its role, and its transaction."""
 
     line: int
     kind: str
@@ -96,24 +96,24 @@ class Entry:
     # start, more, wrong number, stray, cancel; keepalive, error, answer.
     part: str = ""
     transaction: Optional[Transaction] = None
-    # Of a KEEPALIVE: whether its status is another than before, or time has come.
+    # Of a KEEPALIVE: whether its status changed, or the interval passed.
     why: str = ""
     message: Optional[Answer] = None
 
 
 @dataclass(eq=False)
 class Channel:
-    """What is open on a channel."""
+    """The state of a channel."""
 
-    # A message that is collected, or is whole and not answered.
+    # An incomplete message, or a complete one without a response.
     held: Optional[Transaction] = None
-    # The last start, neither refused nor taken yet, where `held` is another one.
+    # The last new message beside `held`, neither refused nor accepted yet.
     asked: Optional[Transaction] = None
     # INITs without an end.
     inits: List[Transaction] = field(default_factory=list)
-    # Whether the host's last packet was a CANCEL, or a continuation of nothing.
+    # Whether the host's last packet was a CANCEL, or a stray continuation packet.
     stray: bool = False
-    # The device's last message, while it may go on, and the status of the last KEEPALIVE of `held`.
+    # The device's last message, while it may continue, and the status of the last KEEPALIVE of `held`.
     answering: Optional[Answer] = None
     status: Optional[int] = None
 
@@ -122,12 +122,12 @@ Message = TypeVar("Message", bound=Part)
 
 
 def works(transaction: Optional[Transaction]) -> bool:
-    """Says whether a key may send KEEPALIVEs of it: of a whole message, except PING and INIT."""
+    """Returns whether a key may send KEEPALIVEs for it: a complete message, except PING and INIT."""
     return transaction is not None and transaction.whole and transaction.command not in (PING, INIT)
 
 
 def may_refuse(code: int, start: Transaction) -> bool:
-    """Says whether an ERROR may be for a start: INIT is taken at any time on its own channel."""
+    """Returns whether an ERROR may belong to a new message; INIT is accepted at any time on its own channel."""
     if start.command != INIT:
         return True
     is_taken: bool = code in (INVALID_SEQUENCE, TIMED_OUT) or (code == BUSY and start.channel != BROADCAST)
@@ -135,30 +135,30 @@ def may_refuse(code: int, start: Transaction) -> bool:
 
 
 class Walk:
-    """Walks over lines. `entries` has one for each packet and reply, `transactions` one for each start of a host."""
+    """Processes lines. `entries` has the packets and replies, `transactions` the messages of hosts."""
 
     def __init__(self) -> None:
         self.entries: List[Entry] = []
         self.transactions: List[Transaction] = []
         self.channels: Dict[bytes, Channel] = {}
         self.now = 0
-        # The last input, until a packet of the device follows it; how long after the message's packet before it came.
+        # The last input, until a packet of the device follows; its delay after the message's last packet.
         self.first: Optional[Entry] = None
         self.taken: Optional[int] = None
 
     def finish(self) -> None:
-        """Says of transactions without an end what they are at the log's end."""
+        """Sets the end of transactions that are unfinished at the end of the log."""
         for transaction in self.transactions:
             if not transaction.end:
                 transaction.end = "unanswered" if transaction.whole else "not whole"
 
-    def pass_time(self, at: int) -> None:
+    def advance_time(self, at: int) -> None:
         """Lets time pass."""
         self.now = max(self.now, at)
 
     def host(self, line: int, at: int, packet: bytes) -> Entry:
-        """Takes a packet of a host."""
-        self.pass_time(at)
+        """Processes a packet of a host."""
+        self.advance_time(at)
         entry = Entry(line, "host", self.now, packet)
         self.first, self.taken = entry, None
         (self.start if packet[4] & 0x80 else self.more)(entry, self.channel(packet))
@@ -166,7 +166,7 @@ class Walk:
         return entry
 
     def device(self, line: int, packet: bytes) -> Entry:
-        """Takes a packet of the device."""
+        """Processes a packet of the device."""
         entry = Entry(line, "device", self.now, packet)
         self.answer_of(entry, self.channel(packet))
         self.first = None
@@ -174,17 +174,21 @@ class Walk:
         return entry
 
     def reply(self, line: int, at: int) -> Entry:
-        """Takes a reply of the caller, which belongs to the one CBOR message that waits."""
-        self.pass_time(at)
+        """Processes a reply of the caller, which belongs to the pending CBOR message."""
+        self.advance_time(at)
         entry = Entry(line, "reply", self.now)
-        held = [it.held for it in self.channels.values() if it.held and it.held.whole and it.held.command == CBOR]
+        held = [
+            channel.held
+            for channel in self.channels.values()
+            if channel.held and channel.held.whole and channel.held.command == CBOR
+        ]
         entry.transaction = held[0] if len(held) == 1 else None
         self.first, self.taken = entry, None
         self.entries.append(entry)
         return entry
 
     def channel(self, packet: bytes) -> Channel:
-        """Returns what is open on a packet's channel."""
+        """Returns the state of a packet's channel."""
         return self.channels.setdefault(packet[:4], Channel())
 
     def message(self, entry: Entry, kind: Type[Message]) -> Message:
@@ -194,11 +198,11 @@ class Walk:
         return kind(entry.line, channel, packet[4] & 0x7F, packet[5] << 8 | packet[6], [packet[7:]], [entry.line])
 
     def start(self, entry: Entry, channel: Channel) -> None:
-        """Takes an initialization packet of a host."""
+        """Processes an initialization packet of a host."""
         channel.stray = entry.packet[4] & 0x7F == CANCEL
         if channel.stray:
-            waiting = [it for it in (channel.held, channel.asked) if it is not None and works(it)]
-            fresh = [it for it in waiting if not it.cancelled] or waiting
+            waiting = [element for element in (channel.held, channel.asked) if element is not None and works(element)]
+            fresh = [item for item in waiting if not item.cancelled] or waiting
             entry.part, entry.transaction = "cancel", fresh[0] if fresh else None
             if entry.transaction:
                 entry.transaction.cancelled = entry.line
@@ -217,7 +221,7 @@ class Walk:
             self.hold(channel, begun)
 
     def more(self, entry: Entry, channel: Channel) -> None:
-        """Takes a continuation packet of a host."""
+        """Processes a continuation packet of a host."""
         open_one, asked = channel.held, channel.asked
         if asked and asked.command != INIT and entry.packet[4] == asked.next and not asked.whole:
             open_one = asked
@@ -235,38 +239,38 @@ class Walk:
         open_one.last = self.now
 
     def hold(self, channel: Channel, transaction: Optional[Transaction]) -> None:
-        """Begins to hold a message."""
+        """Sets the channel's current message."""
         channel.held, channel.status = transaction, None
 
-    def ended(self, it: Transaction, how: str, code: Optional[int] = None, by: Optional[int] = None) -> None:
+    def ended(self, item: Transaction, how: str, code: Optional[int] = None, by: Optional[int] = None) -> None:
         """Ends a transaction."""
-        it.end, it.code, it.by = how, code, by
+        item.end, item.code, item.by = how, code, by
 
     def free(self, channel: Channel) -> None:
-        """Holds no message any more; the last start takes its place."""
+        """Drops the channel's current message; the last new one replaces it."""
         channel.held = None
         self.settle(channel)
 
     def settle(self, channel: Channel) -> None:
-        """Lets a start that wasn't refused take the channel."""
+        """Makes a new message that was not refused the current one."""
         asked, old = channel.asked, channel.held
         if asked is None or asked.command == INIT:
             return
         channel.asked = None
         if old:
             self.ended(old, "dropped" if old.cancelled else "replaced", by=old.cancelled or asked.line)
-            asked.keepalives = [it for it in old.keepalives if works(asked) and it.line > asked.lines[-1]]
+            asked.keepalives = [item for item in old.keepalives if works(asked) and item.line > asked.lines[-1]]
             old.keepalives = old.keepalives[: len(old.keepalives) - len(asked.keepalives)]
             for keepalive in asked.keepalives:
                 keepalive.transaction = asked
         self.hold(channel, asked)
 
     def answer_of(self, entry: Entry, channel: Channel) -> None:
-        """Takes a packet of the device."""
+        """Processes a packet of the device."""
         command = entry.packet[4] & 0x7F
         if entry.packet[4] < 0x80:
             answer, entry.part = channel.answering, "stray"
-            if answer and entry.packet[4] == answer.next and answer.came < answer.length:
+            if answer and entry.packet[4] == answer.next and answer.actual < answer.length:
                 answer.parts.append(entry.packet[5:])
                 answer.lines.append(entry.line)
                 entry.part, entry.transaction, entry.message = "answer", answer.request, answer
@@ -309,7 +313,7 @@ class Walk:
                 self.ended(held, "timed out", code, entry.line)
                 self.free(channel)
                 return held
-        found = next((it for it in channel.inits if it.length != 8 and code == INVALID_LENGTH), channel.asked)
+        found = next((init for init in channel.inits if init.length != 8 and code == INVALID_LENGTH), channel.asked)
         if found and may_refuse(code, found):
             return self.refuse(entry, channel, found, code)
         if channel.stray and (held is None or (held.keepalives and code in NOT_SERVED)):
@@ -324,7 +328,7 @@ class Walk:
         return held
 
     def leave_late(self, held: Transaction) -> None:
-        """Takes a continuation packet out of a message that had timed out before it came."""
+        """Removes a continuation packet from a message that had timed out before."""
         first = self.first
         if not first or first.transaction is not held or first.part not in ("more", "wrong number"):
             return
@@ -337,7 +341,7 @@ class Walk:
         first.part, first.transaction = "stray", None
 
     def refuse(self, entry: Entry, channel: Channel, found: Transaction, code: int) -> Transaction:
-        """Ends a start that is refused, and the message that it interrupted."""
+        """Ends a refused message, and the message that it interrupted."""
         held = channel.held
         self.ended(found, "refused", code, entry.line)
         if channel.asked is found:
@@ -366,9 +370,9 @@ class Walk:
         return held
 
     def greeting(self, channel: Channel, answer: Answer) -> Optional[Transaction]:
-        """Returns the INIT that a message answers; off broadcast it ends what its channel held."""
+        """Returns the INIT of a response; except on the broadcast channel, it ends the current message."""
         nonce = answer.parts[0][:8]
-        found = next((it for it in channel.inits if it.length == 8 and it.parts[0][:8] == nonce), None)
+        found = next((init for init in channel.inits if init.length == 8 and init.parts[0][:8] == nonce), None)
         if found is None:
             return None
         channel.inits.remove(found)
@@ -381,7 +385,7 @@ class Walk:
 
 
 def walk_log(log: bytes) -> Walk:
-    """Walks over a log's lines; those that aren't packets, ticks or replies are passed over."""
+    """Processes the lines of a log; ignores those that are not packets, ticks or replies."""
     walk = Walk()
     for number, line in enumerate(log.split(b"\n"), 1):
         take_line(walk, number, line)
@@ -390,7 +394,7 @@ def walk_log(log: bytes) -> Walk:
 
 
 def take_line(walk: Walk, number: int, line: bytes) -> Optional[Entry]:
-    """Takes a line of a log."""
+    """Processes a line of a log."""
     word, _, rest = line.partition(b" ")
     if word == b"<" and len(rest) == 128:
         return walk.device(number, bytes.fromhex(rest.decode()))
@@ -400,11 +404,11 @@ def take_line(walk: Walk, number: int, line: bytes) -> Optional[Entry]:
     if word in (b"p", b"k", b"s"):
         return walk.reply(number, int(moment))
     if word == b"t":
-        walk.pass_time(int(moment))
+        walk.advance_time(int(moment))
     return None
 
 
 def packets_in(log: bytes) -> List[Tuple[bool, bytes]]:
-    """Returns the packets of a log, each with whether a host sent it."""
+    """Returns the packets of a log, and whether the host sent each."""
     lines = [line for line in log.split(b"\n") if line[:2] in (b"> ", b"< ")]
     return [(line[:1] == b">", bytes.fromhex(line.split(b" ")[-1].decode())) for line in lines]

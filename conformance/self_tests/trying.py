@@ -1,4 +1,4 @@
-"""Runs the command in this process, and shows that a test notices where what it tests is taken away."""
+"""Runs the command in this process, and checks that tests fail once the tested code is disabled."""
 
 from __future__ import annotations
 
@@ -12,12 +12,12 @@ from hidlog_conformance import run
 
 HERE = os.path.dirname(os.path.abspath(__file__))
 Test = Callable[[], None]
-# What is put in the place of something while a test is played again: an object, its attribute, another value.
+# A replacement that disables tested code: object, attribute, value.
 Undone = Tuple[Any, str, Any]
 
 
-def said(words: List[str]) -> Tuple[int, str, str]:
-    """Returns the status of the command, and what it writes on both streams."""
+def run_command(words: List[str]) -> Tuple[int, str, str]:
+    """Returns the exit status, standard output and standard error of the command."""
     out, heard = io.StringIO(), io.StringIO()
     with redirect_stdout(out), redirect_stderr(heard):
         status = run.main(words)
@@ -25,12 +25,12 @@ def said(words: List[str]) -> Tuple[int, str, str]:
 
 
 def odd(kind: str) -> List[str]:
-    """Returns the words that play an odd device."""
+    """Returns the arguments for an odd device."""
     return ["--device", f"{sys.executable} {os.path.join(HERE, 'odd_device.py')} {kind}", "--touch-line", "touch"]
 
 
 def fails(test: Test) -> bool:
-    """Says whether a test fails."""
+    """Returns whether a test fails."""
     try:
         test()
     except (AssertionError, OSError):
@@ -39,7 +39,7 @@ def fails(test: Test) -> bool:
 
 
 def noticed(test: Test, *undone: Undone) -> Test:
-    """Returns a test that is played twice: as it is, and with each thing taken away, where it has to fail."""
+    """Returns a test that also checks that `test` fails with each replacement."""
 
     def both() -> None:
         test()

@@ -1,7 +1,7 @@
-"""Compares the proved walk, which the judge uses, with a second one of the corpus's own (second_walk.py).
+"""Compares `hidlog_transactions`, which `hidlog judge` uses, with a second implementation (second_walk.py).
 
-Where packets don't show how a transaction ends the proved walk says so, and the second one guesses: the channels on
-which it said so aren't compared.
+If packets do not show how a transaction ends, `hidlog_transactions` says so, and the second implementation guesses:
+such channels are not compared.
 """
 
 from __future__ import annotations
@@ -19,21 +19,21 @@ from trying import noticed
 
 TOP = os.path.join(os.path.dirname(os.path.abspath(__file__)), "..", "..")
 FOLDERS = ("examples", "examples/failing", "tests/captures/data", "conformance/recorded", "conformance/clients/logs")
-# By the first line of a transaction: how it ended, by which line, that of a CANCEL, and the lines that belong to it.
+# By the first line of a transaction: its end, the line that ended it, the line of a CANCEL, and its lines.
 Ends = Dict[int, Tuple[str, int, int, List[int]]]
 OPEN = ("", "unanswered", "not whole")
 
 
 def entries_of(log: bytes) -> List[Entry]:
-    """Returns the packets of a log, as the proved walk joins them."""
+    """Returns the packets of a log, with their transactions by `hidlog_transactions`."""
     recording, owners = Recording(), Owners(proved_walk.walk(log))
     for number, line in enumerate(log.split(b"\n"), 1):
         recording.take(number, line, owners)
-    return list(recording.walk.taken())
+    return list(recording.walk.take_entries())
 
 
 def ends_of(owners: Dict[int, List[int]], transactions: List[Any], unsure: Set[int]) -> Ends:
-    """Returns how transactions end, but for those of channels that aren't compared."""
+    """Returns the ends of transactions, except on channels that are not compared."""
     return {
         one.line: ("" if one.end in OPEN else one.end, one.by or 0, one.cancelled or 0, owners.get(one.line, []))
         for one in transactions
@@ -42,7 +42,7 @@ def ends_of(owners: Dict[int, List[int]], transactions: List[Any], unsure: Set[i
 
 
 def proved(log: bytes) -> Tuple[Ends, Set[int]]:
-    """Returns how the proved walk says that transactions end, and the channels on which it can't tell."""
+    """Returns the ends of transactions by `hidlog_transactions`, and the channels where it is unsure."""
     owners: Dict[int, List[int]] = {}
     entries = entries_of(log)
     transactions = [one.transaction for one in entries if one.part == "start" and one.transaction is not None]
@@ -54,7 +54,7 @@ def proved(log: bytes) -> Tuple[Ends, Set[int]]:
 
 
 def second(log: bytes, unsure: Set[int]) -> Ends:
-    """Returns how the second walk says that transactions end."""
+    """Returns the ends of transactions by the second implementation."""
     found = walk_log(log)
     owners: Dict[int, List[int]] = {}
     for entry in found.entries:
@@ -64,8 +64,7 @@ def second(log: bytes, unsure: Set[int]) -> Ends:
 
 
 def recorded() -> List[Tuple[str, bytes]]:
-    """Returns the logs of the repository by their paths, but for broken ones; those of inputs alone with what this key
-    sends."""
+    """Returns the valid logs of the repository, by path; logs of only inputs with this key's packets."""
     found = []
     for path in sorted(path for folder in FOLDERS for path in glob.glob(os.path.join(TOP, folder, "*.log"))):
         with open(path, "rb") as file:
@@ -76,18 +75,18 @@ def recorded() -> List[Tuple[str, bytes]]:
 
 
 def both_walks_agree() -> None:
-    """Each log's transactions have the same packets and end alike; some are compared."""
+    """The transactions of each log have the same packets and ends."""
     count = 0
     for path, log in recorded():
         for part in powered(log):
             ends, unsure = proved(walked(part))
-            assert ends == second(walked(part), unsure), f"{path}: the walks differ"
+            assert ends == second(walked(part), unsure), f"{path}: the two implementations differ"
             count += len(ends)
     assert count > 300, f"only {count} transactions were compared"
 
 
 def lines_are_read_in_pieces() -> None:
-    """A text is cut at its line feeds alone, wherever its pieces end."""
+    """Text is split only at line feeds, whatever the block size."""
     text = b"\n".join(b"x" * (number % 300) for number in range(3000))
     found: List[bytes] = []
     lines = Lines(text)

@@ -1,7 +1,7 @@
-"""Tries the ways to a device that no test of the corpus itself takes, and the reports.
+"""Tests the ways to a device, and the reports.
 
-A terminal without line editing takes the place of /dev/hidrawN, and others/python_key.py that of the device behind it.
-Report descriptors and the kernel's own driver have no part in this.
+A terminal without line editing replaces /dev/hidrawN, and others/python_key.py the device behind it. Report descriptors
+and the kernel's driver are not tested.
 """
 
 from __future__ import annotations
@@ -25,13 +25,16 @@ from typing import List
 
 from hidlog_conformance import run
 from hidlog_conformance.devices import LiveDevice, PipeDevice
+from hidlog_conformance.outcome import UNSTABLE
+from hidlog_conformance.paths import CLIENTS
+from hidlog_conformance.session_cache import sessions_folder
 from python_key import Key
 
 HERE = os.path.join(os.path.dirname(os.path.abspath(__file__)), "..")
 
 
 class Terminal:
-    """Serves the authenticator in Python on a terminal; counts resets, and reports without the number 0 in front."""
+    """Runs python_key.py on a terminal; counts resets, and reports without the report number 0."""
 
     def __init__(self) -> None:
         self.master, slave = pty.openpty()
@@ -44,7 +47,7 @@ class Terminal:
         self.thread.start()
 
     def serve(self) -> None:
-        """Serves until the end."""
+        """Runs until the end."""
         key, start, rest = Key(), time.monotonic(), b""
         while not self.ended:
             ready, _, _ = select.select([self.master], [], [], 0.02)
@@ -65,8 +68,8 @@ class Terminal:
         os.write(self.master, packet)
 
 
-def said(words: List[str]) -> str:
-    """Returns what run.py writes."""
+def output_of(words: List[str]) -> str:
+    """Returns the output of run.py."""
     out = io.StringIO()
     with redirect_stdout(out), redirect_stderr(io.StringIO()):
         run.main(words)
@@ -74,10 +77,10 @@ def said(words: List[str]) -> str:
 
 
 def hidraw() -> None:
-    """Plays some cases by the way of /dev/hidrawN."""
+    """Runs some cases as with /dev/hidrawN."""
     terminal = Terminal()
     for only in ("init/", "reset/"):
-        text = said(["--device", terminal.path, "--only", only])
+        text = output_of(["--device", terminal.path, "--only", only])
         print(f"by a terminal, {only}: {text.splitlines()[-1]}")
         assert " 0 failed" in text, text
     terminal.ended = True
@@ -87,81 +90,81 @@ def hidraw() -> None:
 
 
 def pipe() -> None:
-    """Plays some cases by a pipe, with touches and resets."""
+    """Runs some cases over a pipe, with touches and resets."""
     command = f"{sys.executable} {os.path.join(HERE, 'others', 'python_key.py')}"
-    text = said(["--device", command, "--touch-line", "touch", "--reset", "--only", "selection/"])
+    text = output_of(["--device", command, "--touch-line", "touch", "--reset", "--only", "selection/"])
     print(f"by a pipe, selection/: {text.splitlines()[-1]}")
     assert " 0 failed" in text, text
 
 
 def power() -> None:
-    """Plays a power cycle by a pipe: the command is started anew, and has what it kept."""
+    """Runs power cycles over a pipe: the command is restarted with its credentials."""
     with tempfile.TemporaryDirectory() as room:
         command = f"{sys.executable} {os.path.join(HERE, 'others', 'kept_key.py')} {room}/state"
         words = ["--device", command, "--touch-line", "touch", "--only", "power/c"]
-        text = said([*words, "--keeps"])
+        text = output_of([*words, "--persistent"])
         print(f"by a pipe, power/c*: {text.splitlines()[-1]}")
-        count = len(glob.glob(os.path.join(HERE, "sessions", "power", "c*.log")))
+        count = len(glob.glob(os.path.join(sessions_folder(), "power", "c*.log")))
         assert count >= 4 and text.endswith(f"\n{count} passed, 0 failed, 0 warned, 0 skipped\n"), text
-        text = said(words)
+        text = output_of(words)
         assert text.endswith(f"\n0 passed, 0 failed, 0 warned, {count} skipped\n"), text
 
 
 def reports() -> None:
-    """Reads the reports for machines."""
-    found = xml.fromstring(said(["--only", "ping/", "--report", "junit"]))
+    """Parses the JUnit and TAP reports."""
+    found = xml.fromstring(output_of(["--only", "ping/", "--report", "junit"]))
     cases = found.findall("testcase")
-    assert cases and len(cases) == int(found.attrib["tests"]), "JUnit's number of cases"
+    assert cases and len(cases) == int(found.attrib["tests"]), "the number of cases in JUnit"
     assert all(len(case.findall("properties/property")) == 2 for case in cases), "a case without its rule"
-    lines = said(["--only", "ping/", "--report", "tap"]).splitlines()
+    lines = output_of(["--only", "ping/", "--report", "tap"]).splitlines()
     assert lines[:2] == ["TAP version 13", f"1..{len(cases)}"], "TAP's plan"
     assert sum(line.startswith("# rule: ") for line in lines) == len(cases), "a case without its rule"
     print(f"reports: JUnit and TAP, {len(cases)} cases with their rules")
 
 
 def sentences() -> None:
-    """Looks for each case that the table of sentences names, of the corpus or of the clients."""
+    """Checks that each case in the table of requirements exists."""
     words = [sys.executable, os.path.join(HERE, "make.py"), "--sentences"]
-    said = subprocess.run(words, capture_output=True, check=True, text=True).stdout
-    lines = [line for line in said.splitlines() if line.startswith("|")]
+    output = subprocess.run(words, capture_output=True, check=True, text=True).stdout
+    lines = [line for line in output.splitlines() if line.startswith("|")]
     count = 0
     for line in lines:
         before, _, of_clients = line.partition("client: ")
-        for text, pattern in ((before, "sessions/{}.log"), (of_clients, "clients/{}.session")):
+        for text, pattern in ((before, f"{sessions_folder()}/{{}}.log"), (of_clients, f"{CLIENTS}/{{}}.session")):
             for name in re.findall(r"`([a-z]+/[a-z0-9_*]+)`", text):
-                assert glob.glob(os.path.join(HERE, pattern.format(name))), f"the table names {name}"
+                assert glob.glob(pattern.format(name)), f"the table names {name}"
                 count += 1
     assert count > 100, "the table's names"
-    print(f"the sentences name cases {count} times, and each is there")
+    print(f"the table names {count} cases, all exist")
 
 
 def mistakes() -> None:
-    """Names devices that are none; each is said at once."""
+    """Invalid devices are reported at once."""
     wrong = {
         "./nothing": "No such file",
-        "yes": "isn't 128 hexadecimal digits: b'y'",
-        "false": "the command ended",
-        "sleep 9": "nothing came; a command has to write each line at once",
-        "": "names no command",
-        "/dev/null": "is no device",
+        "yes": "b'y', expected 128 hexadecimal digits",
+        "false": "the command exited",
+        "sleep 39": "no packet came (a command must flush each line)",
+        "": "--device is empty",
+        "/dev/null": "cannot be read",
     }
-    for device, wanted in wrong.items():
+    for device, expected in wrong.items():
         heard = io.StringIO()
         with redirect_stdout(io.StringIO()), redirect_stderr(heard):
             status = run.main(["--device", device, "--only", "ping/bytes_0000"])
-        assert status == 2 and wanted in heard.getvalue(), (device, heard.getvalue())
-    print(f"{len(wrong)} devices that are none are named so")
+        assert status == 2 and expected in heard.getvalue(), (device, heard.getvalue())
+    print(f"{len(wrong)} invalid devices are reported")
 
 
 def help_text() -> None:
-    """Reads what run.py says of its words."""
+    """Checks --help."""
     shown = subprocess.run([sys.executable, os.path.join(HERE, "run.py"), "--help"], capture_output=True, check=True)
     for word in (b"--touch", b"--reset", b"--client", b"--report"):
         assert word in shown.stdout, word
 
 
 def order() -> None:
-    """A person is asked for nothing until the cases are played that need no touch."""
+    """Cases that need no touch run before the first request for one."""
     sessions = run.all_sessions()
     with redirect_stderr(io.StringIO()):
         played = run.in_order(LiveDevice(), sessions, True)
@@ -172,7 +175,7 @@ def order() -> None:
 
 
 class LateDevice(PipeDevice):
-    """Sends one packet of the first session late, as on a machine that has much to do."""
+    """Sends one packet of the first session late, as on a busy machine."""
 
     slept = False
 
@@ -186,15 +189,15 @@ class LateDevice(PipeDevice):
 
 
 def late_runner() -> None:
-    """A case that failed since the runner was late is played once more."""
+    """A case that failed while the runner was late is repeated, and unstable if it then passes."""
     command = f"env PYTHONPATH={os.path.abspath(HERE)} {sys.executable} -m hidlog_conformance.reference"
     (session,) = run.all_sessions("ping/bytes_0058")
-    options = run.words_of(["--device", command])
-    offers = run.Offers.ask(PipeDevice(command, False), False)
-    for again, wanted in ((False, "not ok"), (True, "ok")):
+    options = run.parse_options(["--device", command])
+    device_info = run.DeviceInfo.ask(PipeDevice(command, False), False)
+    for again, expected in ((False, "not ok"), (True, UNSTABLE)):
         LateDevice.slept = False
-        played = run.play_one(LateDevice(command, False), session, options, offers, None, again)
-        assert played.status == wanted, (again, played)
+        played = run.play_one(LateDevice(command, False), session, options, device_info, None, again)
+        assert played.status == expected and len(played.recordings) == 1 + again, (again, played)
 
 
 TESTS = {

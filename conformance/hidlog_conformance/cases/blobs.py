@@ -1,4 +1,4 @@
-"""Cases of authenticatorLargeBlobs, and of the keys by which a credential's large blob is encrypted."""
+"""Cases about authenticatorLargeBlobs and large blob keys."""
 
 from __future__ import annotations
 
@@ -19,18 +19,18 @@ READ, SET, OFFSET, LENGTH = 1, 2, 3, 4
 
 
 def hashed(data: bytes) -> bytes:
-    """Returns an array's bytes with the hash that ends them."""
+    """Returns an array followed by its hash."""
     return data + hashlib.sha256(data).digest()[:16]
 
 
 EMPTY = hashed(b"\x80")
-# An array of one entry: what is encrypted, a nonce, and how long it was.
+# An array of one entry: ciphertext, nonce, original size.
 ENTRY = hashed(encode([{1: b"\x5a" * 48, 2: b"\x01" * 12, 3: 32}]))
 OTHER = hashed(encode([{1: b"\xa5" * 40, 2: b"\x02" * 12, 3: 24}]))
 
 
 class Blobs:
-    """Sends pieces of arrays; part of a case."""
+    """Methods of cases that read and write arrays."""
 
     def blobs(self: Any, asked: Dict[int, Any]) -> Any:
         """Sends the command."""
@@ -38,7 +38,7 @@ class Blobs:
         return self
 
     def read(self: Any, count: int = 900, offset: int = 0) -> Any:
-        """Asks for a piece."""
+        """Reads a fragment."""
         return self.blobs({READ: count, OFFSET: offset})
 
     def holds(self: Any, array: bytes) -> Any:
@@ -46,7 +46,7 @@ class Blobs:
         return self.read().expect(f"piece {array.hex()}")
 
     def write(self: Any, piece: bytes, offset: int = 0, length: Optional[int] = None, **more: Any) -> Any:
-        """Sends a piece; the first with the length of the whole."""
+        """Writes a fragment; the first has the length of the array."""
         asked: Dict[int, Any] = {SET: piece, OFFSET: offset}
         if length is not None:
             asked[LENGTH] = length
@@ -54,28 +54,28 @@ class Blobs:
         return self.blobs(asked)
 
     def whole(self: Any, array: bytes, **more: Any) -> Any:
-        """Sends an array as one piece."""
+        """Writes an array as one fragment."""
         return self.write(array, 0, len(array), **more)
 
 
 class BlobCase(Blobs, Case):
-    """A case without a token: of a device at which nobody can be verified."""
+    """A case without a token, for a device without user verification."""
 
-    def __init__(self, name: str, shows: str, section: str = "blobs", needs: Optional[List[str]] = None) -> None:
+    def __init__(self, name: str, requirement: str, section: str = "blobs", needs: Optional[List[str]] = None) -> None:
         uses = ["largeBlobs", "no protection"]
-        super().__init__(f"blobs/{name}", section, shows, needs=["reset", *(needs or [])], uses=uses)
+        super().__init__(f"blobs/{name}", section, requirement, needs=["reset", *(needs or [])], uses=uses)
         self.greet()
 
 
 class TokenCase(Blobs, PinCase):
     """A case with a token."""
 
-    def __init__(self, name: str, shows: str, protocol: int) -> None:
-        super().__init__(f"blobs/{name}", "blobs", shows, protocol)
+    def __init__(self, name: str, requirement: str, protocol: int) -> None:
+        super().__init__(f"blobs/{name}", "blobs", requirement, protocol)
         self.comment("uses: largeBlobs")
 
     def writing(self, permissions: int = WRITE) -> Self:
-        """Sets a PIN, and gets a token that may write."""
+        """Sets a PIN, and gets a token with the permission lbw."""
         return self.with_pin().token(permissions=permissions, rp="" if permissions == WRITE else "example.com")
 
     def authentic(self, **more: Any) -> Self:
@@ -85,22 +85,22 @@ class TokenCase(Blobs, PinCase):
 
 
 def reads() -> List[Case]:
-    """Pieces that are read."""
+    """Reads."""
     cases: List[Case] = []
-    cases.append(BlobCase("begins_empty", "It begins with an empty array.").holds(EMPTY))
-    case = BlobCase("read_in_pieces", "A piece has as many bytes as were asked for, from where they were.")
+    cases.append(BlobCase("begins_empty", "The initial array is empty.").holds(EMPTY))
+    case = BlobCase("read_in_pieces", "A read returns the requested number of bytes from the offset.")
     case.read(10).expect(f"piece {EMPTY[:10].hex()}")
     cases.append(case.read(5, 10).expect(f"piece {EMPTY[10:15].hex()}").read(9, 15).expect(f"piece {EMPTY[15:].hex()}"))
-    case = BlobCase("read_at_the_end", "Behind the last byte there is none.")
+    case = BlobCase("read_at_the_end", "A read at the end returns no bytes.")
     cases.append(case.read(10, 17).expect("piece "))
-    case = BlobCase("read_behind_the_end", "An offset behind the end is refused.")
+    case = BlobCase("read_behind_the_end", "An offset past the end is refused.")
     cases.append(case.read(10, 18).expect("status 02").alive())
-    case = BlobCase("read_behind_a_written_end", "So it is behind another array's.")
+    case = BlobCase("read_behind_a_written_end", "An offset past the end of a written array is refused.")
     case.whole(ENTRY).expect("status 00").read(10, len(ENTRY) + 1).expect("status 02")
     cases.append(case.read(10, len(ENTRY)).expect("piece "))
-    case = BlobCase("read_far_too_much", "So is far more.")
+    case = BlobCase("read_far_too_much", "A read of far more bytes than a fragment may have is refused.")
     cases.append(case.read(2**31 - 1).expect("status 03").holds(EMPTY))
-    case = BlobCase("read_too_much", "More than a piece may have is refused.")
+    case = BlobCase("read_too_much", "A read of more bytes than a fragment may have is refused.")
     cases.append(case.read(7609).expect("status 03").alive())
     wrong: Dict[str, Dict[int, Any]] = {
         "without_offset": {READ: 10},
@@ -110,19 +110,19 @@ def reads() -> List[Case]:
     for name, asked in wrong.items():
         case = BlobCase(f"read_{name}", f"A read {name.replace('_', ' ')} is refused.")
         cases.append(case.blobs(asked).expect("status 02").alive())
-    case = BlobCase("neither", "What neither reads nor writes is refused.")
+    case = BlobCase("neither", "A request with neither `get` nor `set` is refused.")
     cases.append(case.blobs({OFFSET: 0}).expect("status 02").alive())
     return cases
 
 
 def writes() -> List[Case]:
-    """Arrays that are written."""
+    """Successful writes."""
     cases: List[Case] = []
-    case = BlobCase("written", "An array that was written is read.")
+    case = BlobCase("written", "A written array can be read.")
     cases.append(case.whole(ENTRY).expect("status 00").holds(ENTRY))
-    case = BlobCase("written_again", "The last array counts.")
+    case = BlobCase("written_again", "A second write replaces the array.")
     cases.append(case.whole(ENTRY).expect("status 00").whole(OTHER).expect("status 00").holds(OTHER))
-    case = BlobCase("written_in_pieces", "An array is written in pieces, and the last one makes it count.")
+    case = BlobCase("written_in_pieces", "An array written in fragments takes effect with the last one.")
     case.write(ENTRY[:30], 0, len(ENTRY)).expect("status 00").holds(EMPTY)
     case.write(ENTRY[30:50], 30).expect("status 00").holds(EMPTY)
     cases.append(case.write(ENTRY[50:], 50).expect("status 00").holds(ENTRY))
@@ -133,71 +133,76 @@ def writes() -> List[Case]:
     case = BlobCase("reset", "A reset empties the array.", "reset", ["touch"])
     case.whole(ENTRY).expect("status 00").cbor(RESET).presence().expect("status 00")
     cases.append(case.holds(EMPTY))
-    case = BlobCase("reset_after_pieces", "So it does with one that was written in pieces.", "reset", ["touch"])
+    case = BlobCase("reset_after_pieces", "A reset empties an array that was written in fragments.", "reset", ["touch"])
     case.write(OTHER[:30], 0, len(OTHER)).expect("status 00").write(OTHER[30:], 30).expect("status 00")
     case.cbor(RESET).presence().expect("status 00").holds(EMPTY)
     cases.append(case.whole(ENTRY).expect("status 00").holds(ENTRY))
-    case = BlobCase("stays", "The array outlasts the power.", "blobs", ["power cycle"])
+    case = BlobCase("stays", "The array survives a power cycle.", "blobs", ["power cycle"])
     cases.append(case.whole(ENTRY).expect("status 00").power_cycle().greet().holds(ENTRY))
-    case = BlobCase("half_is_gone", "What wasn't whole is gone with the power.", "blobs", ["power cycle"])
+    case = BlobCase("half_is_gone", "An incomplete array is lost at a power cycle.", "blobs", ["power cycle"])
     case.write(ENTRY[:30], 0, len(ENTRY)).expect("status 00").power_cycle().greet()
     cases.append(case.write(ENTRY[30:], 30).expect("status 04").holds(EMPTY))
-    case = BlobCase("half_is_gone_beside_a_whole", "So it is beside one that was whole.", "blobs", ["power cycle"])
+    case = BlobCase(
+        "half_is_gone_beside_a_whole",
+        "An incomplete array is lost at a power cycle, and the complete one stays.",
+        "blobs",
+        ["power cycle"],
+    )
     case.whole(OTHER).expect("status 00").write(ENTRY[:50], 0, len(ENTRY)).expect("status 00").power_cycle().greet()
     cases.append(case.write(ENTRY[50:60], 50).expect("status 04").holds(OTHER))
     return cases
 
 
 def wrong_writes() -> List[Case]:
-    """Arrays that are refused."""
+    """Refused writes."""
     cases: List[Case] = []
-    case = BlobCase("wrong_hash", "An array whose hash is wrong is refused, and the old one stays.")
+    case = BlobCase("wrong_hash", "An array with a wrong hash is refused, and the old one stays.")
     case.whole(OTHER).expect("status 00").whole(ENTRY[:-1] + b"\0").expect("status 3d")
     cases.append(case.holds(OTHER))
-    case = BlobCase("wrong_hash_in_pieces", "So it is in pieces.")
+    case = BlobCase("wrong_hash_in_pieces", "An array in fragments with a wrong hash is refused.")
     case.write(ENTRY[:30], 0, len(ENTRY)).expect("status 00")
     cases.append(case.write(ENTRY[30:-1] + b"\0", 30).expect("status 3d").holds(EMPTY))
-    case = BlobCase("out_of_order", "A piece that isn't the next one is refused.")
+    case = BlobCase("out_of_order", "A fragment out of order is refused.")
     case.write(ENTRY[:30], 0, len(ENTRY)).expect("status 00")
     cases.append(case.write(ENTRY[40:], 40).expect("status 04").holds(EMPTY))
-    case = BlobCase("later_piece_alone", "Without a first piece there is no later one.")
+    case = BlobCase("later_piece_alone", "A later fragment without a first one is refused.")
     cases.append(case.write(ENTRY[30:], 30).expect("status 04").holds(EMPTY))
-    case = BlobCase("too_many_bytes", "More bytes than the length says are refused.")
+    case = BlobCase("too_many_bytes", "More bytes than `length` are refused.")
     cases.append(case.write(ENTRY, 0, len(ENTRY) - 1).expect("status 02").holds(EMPTY))
-    case = BlobCase("too_many_in_pieces", "So they are in pieces.")
+    case = BlobCase("too_many_in_pieces", "More bytes than `length` are refused, in fragments too.")
     case.write(ENTRY[:30], 0, len(ENTRY) - 1).expect("status 00")
     cases.append(case.write(ENTRY[30:], 30).expect("status 02").holds(EMPTY))
     for length in (0, 16):
         case = BlobCase(f"length_{length}", "A length below 17 is refused.")
         cases.append(case.write(EMPTY[:length], 0, length).expect("status 02").holds(EMPTY))
-    case = BlobCase("without_length", "A first piece has the length.")
+    case = BlobCase("without_length", "A first fragment without `length` is refused.")
     cases.append(case.write(ENTRY).expect("status 02").holds(EMPTY))
-    case = BlobCase("later_length", "A later piece has none.")
+    case = BlobCase("later_length", "A later fragment with `length` is refused.")
     case.write(ENTRY[:30], 0, len(ENTRY)).expect("status 00")
     cases.append(case.write(ENTRY[30:], 30, len(ENTRY)).expect("status 02").holds(EMPTY))
-    case = BlobCase("too_long", "An array that doesn't fit is refused.")
+    case = BlobCase("too_long", "An array that is too long is refused.")
     cases.append(case.write(ENTRY, 0, 2**31 - 1).expect("status 42").holds(EMPTY))
     return cases
 
 
 def tokens(protocol: int) -> List[Case]:
-    """Writes where a PIN is set."""
+    """Writes with a PIN set."""
     cases: List[Case] = []
-    case = TokenCase("by_token", "With a PIN a token writes.", protocol)
+    case = TokenCase("by_token", "With a PIN set, a token can write.", protocol)
     cases.append(case.writing().authentic().expect("status 00").holds(ENTRY))
-    case = TokenCase("pieces_by_token", "One token writes all pieces.", protocol)
+    case = TokenCase("pieces_by_token", "One token can write all fragments.", protocol)
     case.writing().write(ENTRY[:30], 0, len(ENTRY), p5=b"=blob", p6=protocol).expect("status 00")
     cases.append(case.write(ENTRY[30:], 30, None, p5=b"=blob", p6=protocol).expect("status 00").holds(ENTRY))
-    case = TokenCase("read_without_token", "Without a token it is read.", protocol)
+    case = TokenCase("read_without_token", "Reading needs no token.", protocol)
     cases.append(case.with_pin().holds(EMPTY))
-    case = TokenCase("without_token", "With a PIN nothing is written without a token.", protocol)
+    case = TokenCase("without_token", "With a PIN set, a write without a token is refused.", protocol)
     cases.append(case.with_pin().whole(ENTRY).expect("status 36").holds(EMPTY))
-    case = TokenCase("without_protocol", "The token's protocol has to be there.", protocol)
+    case = TokenCase("without_protocol", "A token without pinUvAuthProtocol is refused.", protocol)
     cases.append(case.writing().whole(ENTRY, p5=b"=blob").expect("status 14").holds(EMPTY))
     wrong = bytes(16 if protocol == 1 else 32)
-    case = TokenCase("not_authentic", "What isn't authentic isn't written.", protocol)
+    case = TokenCase("not_authentic", "A write with a wrong pinUvAuthParam is refused.", protocol)
     cases.append(case.writing().authentic(p5=wrong).expect("status 33").holds(EMPTY))
-    case = TokenCase("not_permitted", "A token that may not write writes nothing.", protocol)
+    case = TokenCase("not_permitted", "A write with a token without the permission lbw is refused.", protocol)
     cases.append(case.writing(MAKE | GET).authentic().expect("status 33").holds(EMPTY))
     return cases
 
@@ -207,31 +212,40 @@ def blob_keys() -> List[Case]:
     cases: List[Case] = []
     found: Dict[str, Any] = {"needs": ["touch", "reset"], "uses": ["rk", "extension largeBlobKey"]}
     asked = {"largeBlobKey": True}
-    case = Case("blobkey/same", "blob key", "A credential has one key, and each another one.", **found)
+    case = Case(
+        "blobkey/same", "blob key", "A credential's large blob key never changes, and differs from others.", **found
+    )
     case.greet()
     for number in (1, 2):
         case.make(p3=user(number), p6=asked, p7={"rk": True}).made(number, f"up blob-key of-{number}")
     for number in (2, 1):
         case.get(p3=[descriptor(number)], p4=asked).asserted(f"up counter-rises blob-key of-{number}")
     cases.append(case)
-    case = Case("blobkey/without_list", "blob key", "So it has without a list, and behind the first.", **found)
+    case = Case(
+        "blobkey/without_list",
+        "blob key",
+        "Large blob keys are returned without an allow list, and by authenticatorGetNextAssertion.",
+        **found,
+    )
     case.greet()
     for number in (1, 2):
         case.make(p3=user(number), p6=asked, p7={"rk": True}).made(number, f"up blob-key of-{number}")
     case.get(p4=asked).asserted("up user 02 number 2 blob-key of-2")
     cases.append(case.cbor(b"\x08").asserted("up user 01 blob-key of-1", presence=False))
-    case = Case("blobkey/not_asked", "blob key", "Who doesn't ask gets none.", **found)
+    case = Case("blobkey/not_asked", "blob key", "A registration without the extension returns no key.", **found)
     case.greet().make(p7={"rk": True}).made(1, "up no-blob-key")
     cases.append(case.get(p3=[descriptor(1)]).asserted("up counter-rises no-blob-key"))
-    case = Case("blobkey/not_asked_at_sign_in", "blob key", "So it is at a sign-in.", **found)
+    case = Case("blobkey/not_asked_at_sign_in", "blob key", "A sign-in without the extension returns no key.", **found)
     case.greet().make(p6=asked, p7={"rk": True}).made(1, "up blob-key one")
     cases.append(case.get(p3=[descriptor(1)]).asserted("up counter-rises no-blob-key"))
-    case = Case("blobkey/of_none", "blob key", "A credential that was made without one has none.", **found)
+    case = Case("blobkey/of_none", "blob key", "A credential registered without the extension has no key.", **found)
     case.greet().make(p7={"rk": True}).made(1, "up no-blob-key")
     cases.append(case.get(p3=[descriptor(1)], p4=asked).asserted("up counter-rises no-blob-key"))
     wrong: List[Tuple[str, bool, Dict[str, bool]]] = [("not_discoverable", True, {}), ("false", False, {"rk": True})]
     for name, value, options in wrong:
-        case = Case(f"blobkey/{name}", "blob key", "It is true, and for discoverable credentials alone.", **found)
+        case = Case(
+            f"blobkey/{name}", "blob key", "largeBlobKey must be true, and needs a discoverable credential.", **found
+        )
         cases.append(
             case.greet().make(p6={"largeBlobKey": value}, p7=options or None).expect("status 2c or touch").alive()
         )
@@ -239,8 +253,8 @@ def blob_keys() -> List[Case]:
 
 
 def listed(protocol: int) -> List[Case]:
-    """Keys of large blobs in credential management."""
-    case = ManageCase("blob_key", "A credential's key of large blobs is listed.", protocol)
+    """Large blob keys in credential management."""
+    case = ManageCase("blob_key", "Credential management returns the large blob key.", protocol)
     case.comment("uses: extension largeBlobKey")
     case.make(p6={"largeBlobKey": True}, p7={"rk": True}).made(1, "up blob-key one").with_pin()
     return [case.managing().manage(CREDENTIALS, of_rp()).expect("managed credentials 1 blob-key one")]

@@ -1,4 +1,4 @@
-"""Cases of CTAP2 canonical CBOR: what is refused, by kind and depth, and what is taken (CTAP 2.1, 8)."""
+"""Cases about CTAP2 canonical CBOR: what must be refused, by kind and depth, and what accepted (CTAP 2.1, 8)."""
 
 from __future__ import annotations
 
@@ -7,8 +7,8 @@ from typing import Any, Dict, List, Tuple
 from hidlog_conformance.cases.corpus import MAKE, Case, make_request
 from hidlog_conformance.ctap_cbor import Raw, encode
 
-OURS = "the canonical form doesn't forbid it, this authenticator doesn't take it"
-# The bytes of an item, by name. Malformed: no decoder can take it.
+OURS = "allowed by the canonical form, but not accepted by this authenticator"
+# Malformed items, by name.
 MALFORMED = {
     "head_cut": "18",
     "bytes_cut": "4301",
@@ -27,7 +27,7 @@ MALFORMED = {
     "break_alone": "ff",
     "indefinite_integer": "1f",
 }
-# What a decoder could take, but shouldn't (the canonical form).
+# Well-formed but not canonical items, by name.
 NOT_CANONICAL = {
     "indefinite_bytes": "5f4100ff",
     "indefinite_text": "7f6161ff",
@@ -96,7 +96,7 @@ def nested(item: bytes, level: int) -> bytes:
 
 
 def kinds() -> List[Tuple[str, bytes, str, Dict[str, str]]]:
-    """Returns each kind's name, bytes, expectation and how far it binds."""
+    """Returns each kind's name, bytes, expectation and level."""
     found: List[Tuple[str, bytes, str, Dict[str, str]]] = []
     found += [(name, bytes.fromhex(text), "refused 12", {}) for name, text in MALFORMED.items()]
     found += [(name, bytes.fromhex(text), "status 12", {"level": "should"}) for name, text in NOT_CANONICAL.items()]
@@ -105,42 +105,44 @@ def kinds() -> List[Tuple[str, bytes, str, Dict[str, str]]]:
 
 
 def refused() -> List[Case]:
-    """Each kind of fault, at levels 2, 3 and 4, and as the whole of the parameters."""
+    """Each kind of error, at levels 2, 3 and 4, and instead of the parameters."""
     cases = []
     for name, item, answer, more in kinds():
-        says = f"An item that isn't canonical CBOR ({name.replace('_', ' ')}, {item.hex()}) is refused"
+        says = f"An item that is not canonical CBOR ({name.replace('_', ' ')}, {item.hex()}) is refused"
         for level in (2, 3, 4):
             if level == 4 and item[0] >> 5 in (4, 5):
                 continue
             case = Case(f"cbor/{name}_level_{level}", "cbor", f"{says}, at level {level} of the parameters.", **more)
             cases.append(case.greet().cbor(nested(item, level)).expect(answer).alive())
-        profile = {"profile": "the standard doesn't say which of two faults of one message is named"}
+        profile = {"profile": "the standard does not say which of two errors is reported"}
         more_whole = profile if answer == "status 12" else more
-        case = Case(f"cbor/{name}_level_1", "cbor", f"{says}, in the place of the parameters.", **more_whole)
+        case = Case(f"cbor/{name}_level_1", "cbor", f"{says}, instead of the parameters.", **more_whole)
         cases.append(case.greet().cbor(MAKE + item).expect(answer).alive())
     return cases
 
 
 def whole() -> List[Case]:
-    """Faults of a message as a whole, and nesting."""
+    """Errors of a message as a whole, and nesting."""
     cases = []
     good = encode(make_request())
     for name, more in (("integer", b"\0"), ("null", b"\xf6"), ("map", b"\xa0"), ("break", b"\xff")):
-        case = Case(f"cbor/trailing_{name}", "cbor", "Nothing comes behind the map of the parameters.", level="should")
+        case = Case(f"cbor/trailing_{name}", "cbor", "Bytes after the map of parameters are refused.", level="should")
         cases.append(case.greet().cbor(MAKE + good + more).expect("status 12").alive())
     for count in (1, 2, 10, len(good) // 2, len(good) - 1):
-        case = Case(f"cbor/cut_after_{count:03}", "cbor", "A map of parameters that is cut off is refused.")
+        case = Case(f"cbor/cut_after_{count:03}", "cbor", "A truncated map of parameters is refused.")
         cases.append(case.greet().cbor(MAKE + good[:count]).expect("refused 12").alive())
     for level in (5, 6, 16, 200):
-        shows = f"More than four levels of nesting are refused: here {level}."
-        case = Case(f"cbor/nested_{level:03}", "cbor", shows, profile="an authenticator may take more than four levels")
+        requirement = f"More than four levels of nesting are refused: {level}."
+        case = Case(
+            f"cbor/nested_{level:03}", "cbor", requirement, profile="an authenticator may accept more than four levels"
+        )
         item = b"\x81" * (level - 2) + b"\x80"
         cases.append(case.greet().cbor(nested(item, 2)).expect("status 12").alive())
     swapped = b"\xa2" + encode(2) + encode({"id": "example.com"}) + encode(1) + encode(bytes(32))
     case = Case("cbor/parameters_out_of_order", "cbor", "Parameters out of order are refused.", level="should")
     cases.append(case.greet().cbor(MAKE + swapped).expect("status 12").alive())
     twice = b"\xa6" + good[1:35] + good[1:]
-    case = Case("cbor/parameter_twice", "cbor", "A parameter that comes twice is refused.", level="should")
+    case = Case("cbor/parameter_twice", "cbor", "A duplicate parameter is refused.", level="should")
     cases.append(case.greet().cbor(MAKE + twice).expect("status 12").alive())
     case = Case("cbor/rp_out_of_order", "cbor", "Members of rp out of order are refused.", level="should")
     rp = Raw(b"\xa2" + encode("name") + encode("x") + encode("id") + encode("example.com"))
@@ -149,27 +151,23 @@ def whole() -> List[Case]:
 
 
 def taken() -> List[Case]:
-    """What is canonical and unknown is ignored."""
+    """Canonical but unknown items, which are ignored."""
     cases = []
     for name, value in TAKEN.items():
         for number in (64,) if name != "null" else (64, 255):
-            shows = f"A parameter that isn't known is ignored: {name.replace('_', ' ')} under the key {number}."
-            case = Case(f"cbor/taken_{name}_{number}", "cbor", shows, needs=["touch"])
+            requirement = f"An unknown parameter is ignored: {name.replace('_', ' ')} under the key {number}."
+            case = Case(f"cbor/taken_{name}_{number}", "cbor", requirement, needs=["touch"])
             asked = {**make_request(), number: value}
             cases.append(case.greet().cbor(MAKE + encode(asked)).made(1))
     others: List[Any] = [0, -1, b"\1", "1"]
     for key in others:
-        case = Case(
-            f"cbor/taken_key_{encode(key).hex()}", "cbor", "A key that isn't known is ignored.", needs=["touch"]
-        )
+        case = Case(f"cbor/taken_key_{encode(key).hex()}", "cbor", "An unknown key is ignored.", needs=["touch"])
         cases.append(case.greet().cbor(MAKE + encode({**make_request(), key: 0})).made(1))
-    case = Case(
-        "cbor/taken_members", "cbor", "Members that aren't known are ignored, in rp and user too.", needs=["touch"]
-    )
+    case = Case("cbor/taken_members", "cbor", "Unknown members are ignored, also in rp and user.", needs=["touch"])
     rp = {"id": "example.com", "name": "Example", "icon": "x"}
     user = {"id": b"\1", "name": "alice", "displayName": "Alice", "icon": "x", "more": [1]}
     cases.append(case.greet().make(p2=rp, p3=user, p7={"unknown": True}).made(1))
-    case = Case("cbor/taken_extension", "cbor", "An extension that isn't known is ignored.", needs=["touch"])
+    case = Case("cbor/taken_extension", "cbor", "An unknown extension is ignored.", needs=["touch"])
     cases.append(case.greet().make(p6={"an unknown extension": [1, 2]}).made(1))
     return cases
 

@@ -1,4 +1,4 @@
-"""Cases of every check of authenticatorMakeCredential and authenticatorGetAssertion, alone and two at once."""
+"""Cases about each check of authenticatorMakeCredential and authenticatorGetAssertion, alone and in pairs."""
 
 from __future__ import annotations
 
@@ -6,15 +6,16 @@ from typing import Any, Callable, Dict, List, NamedTuple, Tuple
 
 from hidlog_conformance.cases.corpus import GET, KIND, MAKE, Case, descriptor, get_request, make_request, name_of
 from hidlog_conformance.ctap_cbor import encode
+from hidlog_conformance.quantity import quantity
 
 Asked = Dict[Any, Any]
-TYPES = "the standard names the status, not which of two faults is named first"
+TYPES = "the standard defines the statuses, but not their order"
 PIN = "the status of pinUvAuthParam in an authenticator that has no PIN"
-LENGTH = "the standard doesn't say which status answers a length"
+LENGTH = "the standard does not define the status for a wrong length"
 
 
 class Check(NamedTuple):
-    """A check: its place in the order, its name, its status, what breaks it, and how far the standard fixes it."""
+    """A check: its position, name and status, a change that makes it fail, and what the standard leaves open."""
 
     name: str
     status: str
@@ -24,7 +25,7 @@ class Check(NamedTuple):
 
 
 def put(key: Any, value: Any) -> Callable[[Asked], None]:
-    """Returns what puts a value under a key; None takes the key away."""
+    """Returns a change that sets a key, or removes it (None)."""
 
     def spoil(asked: Asked) -> None:
         if value is None:
@@ -37,7 +38,7 @@ def put(key: Any, value: Any) -> Callable[[Asked], None]:
     return spoil
 
 
-# In the order of the algorithm; one of each place, for the pairs.
+# In the order of the algorithm; one of each position, for the pairs.
 MAKE_ORDER = [
     Check("type", "11", put(6, 1)),
     Check("missing", "14", put(3, None)),
@@ -60,7 +61,7 @@ WRONG: Dict[str, Any] = {"integer": 1, "text": "x", "bytes": b"x", "array": [], 
 
 
 def wrong_types(known: Dict[int, Tuple[str, str]]) -> List[Tuple[int, str, str, Any]]:
-    """Returns each parameter with values of other types."""
+    """Returns each parameter with values of wrong types."""
     found = []
     for key, (name, kind) in known.items():
         for other, value in WRONG.items():
@@ -119,15 +120,15 @@ def with_value(asked: Asked, key: int, value: Any) -> bytes:
 
 
 def types(chapter: str, command: bytes, good: Asked, known: Dict[int, Tuple[str, str]]) -> List[Case]:
-    """Parameters of other types, and maps that are none."""
+    """Parameters with wrong types, and parameters that are not a map."""
     cases = []
     section = chapter
     for key, name, other, value in wrong_types(known):
-        shows = f"{name} that is of another type ({other}) is refused."
-        case = Case(f"{chapter}/type_{key}_{other}", section, shows)
+        requirement = f"{name} with a wrong type ({other}) is refused."
+        case = Case(f"{chapter}/type_{key}_{other}", section, requirement)
         cases.append(case.greet().cbor(command + with_value(good, key, value)).expect("refused 11").alive())
     for name, item in (("integer", 1), ("bytes", b"x"), ("text", "x"), ("array", []), ("true", True), ("null", None)):
-        case = Case(f"{chapter}/parameters_{name}", section, f"Parameters that are no map ({name}) are refused.")
+        case = Case(f"{chapter}/parameters_{name}", section, f"Parameters that are not a map ({name}) are refused.")
         cases.append(case.greet().cbor(command + encode(item)).expect("refused 11").alive())
     case = Case(f"{chapter}/parameters_absent", section, "A command without its parameters is refused.")
     cases.append(case.greet().cbor(command).expect("refused 12").alive())
@@ -135,19 +136,19 @@ def types(chapter: str, command: bytes, good: Asked, known: Dict[int, Tuple[str,
         case = Case(f"{chapter}/missing_{key}", section, f"The parameter {known[key][0]} is required.")
         left = {other: value for other, value in good.items() if other != key}
         cases.append(case.greet().cbor(command + encode(left)).expect("status 14").alive())
-    case = Case(f"{chapter}/missing_all", section, "An empty map lacks what is required.")
+    case = Case(f"{chapter}/missing_all", section, "An empty map is refused, since parameters are missing.")
     cases.append(case.greet().cbor(command + encode({})).expect("status 14").alive())
     return cases
 
 
 def inside() -> List[Case]:
-    """Members of another type, or missing."""
+    """Members with a wrong type, or missing."""
     cases = []
     for name, key, value, status in MAKE_INSIDE:
-        says = "of another type" if status == "11" else "missing"
-        shows = f"A member that is {says} is refused ({name.replace('_', ' ')})."
+        says = "of a wrong type" if status == "11" else "missing"
+        requirement = f"A member that is {says} is refused ({name.replace('_', ' ')})."
         case = Case(
-            f"make/inside_{name}", "make", shows, profile="the standard asks for an error, and not for this one"
+            f"make/inside_{name}", "make", requirement, profile="the standard requires an error, but not this status"
         )
         cases.append(
             case.greet().cbor(MAKE + with_value(make_request(), key, value)).expect(f"status {status}").alive()
@@ -159,87 +160,94 @@ def inside() -> List[Case]:
         ("without_id", [{"type": KIND}], "14"),
         ("without_type", [{"id": name_of(1)}], "14"),
     ):
-        shows = f"A descriptor of the allow list that isn't whole is refused ({name.replace('_', ' ')})."
-        case = Case(f"get/inside_{name}", "get", shows, profile="the standard asks for an error, and not for this one")
+        requirement = f"An incomplete descriptor in the allow list is refused ({name.replace('_', ' ')})."
+        case = Case(
+            f"get/inside_{name}", "get", requirement, profile="the standard requires an error, but not this status"
+        )
         cases.append(case.greet().get(p3=allow).expect(f"status {status}").alive())
     return cases
 
 
 def values() -> List[Case]:
-    """Values that are refused, though their types are right."""
+    """Invalid values with right types."""
     cases = []
     for length in (0, 31, 33, 64):
         for chapter, key in (("make", "p1"), ("get", "p2")):
-            shows = f"A clientDataHash of {length} bytes is refused: a SHA-256 has 32."
-            case = Case(f"{chapter}/hash_of_{length}", chapter, shows, profile=LENGTH)
+            requirement = f"A clientDataHash of {quantity(length, 'byte')} instead of 32 is refused."
+            case = Case(f"{chapter}/hash_of_{length}", chapter, requirement, profile=LENGTH)
             case.greet()
             changes: Dict[str, Any] = {key: bytes(length)}
             case = case.make(**changes) if chapter == "make" else case.get(**changes)
             cases.append(case.expect("status 03").alive())
-    case = Case("make/user_id_of_65", "make", "A user.id has at most 64 bytes.", profile=LENGTH)
+    case = Case("make/user_id_of_65", "make", "A user.id of more than 64 bytes is refused.", profile=LENGTH)
     cases.append(case.greet().make(p3={"id": bytes(65), "name": "x"}).expect("status 03").alive())
-    case = Case("make/user_id_of_64", "make", "A user.id of 64 bytes is taken.", needs=["touch"])
+    case = Case("make/user_id_of_64", "make", "A user.id of 64 bytes is accepted.", needs=["touch"])
     cases.append(case.greet().register(1, p3={"id": bytes(64), "name": "x", "displayName": "x"}))
     lists = {"none": [], "unknown": [{"alg": -65535, "type": KIND}], "other_type": [{"alg": -7, "type": "other"}]}
     for name, entries in lists.items():
-        case = Case(f"make/algorithms_{name}", "make", "Without an algorithm that is served the request is refused.")
+        case = Case(f"make/algorithms_{name}", "make", "A request without a supported algorithm is refused.")
         if name == "none":
-            case.comment("profile: an empty list is a list of which nothing is served")
+            case.comment("profile: an empty list has no supported algorithm")
         cases.append(case.greet().make(p4=entries).expect("status 26").alive())
     return cases
 
 
 def good_values() -> List[Case]:
-    """Values that are good, and options and PINs that are not."""
+    """Valid values, and invalid options and PINs."""
     cases = []
     both = [{"alg": -65535, "type": KIND}, {"alg": -7, "type": "other"}, {"alg": -7, "type": KIND}]
-    case = Case("make/algorithms_last", "make", "The first algorithm that is served is taken.", needs=["touch"])
+    case = Case("make/algorithms_last", "make", "The first supported algorithm is chosen.", needs=["touch"])
     case.comment("uses: algorithm -7")
     cases.append(case.greet().register(1, p4=both))
     case = Case("make/option_up_false", "make", "The option up false is refused in a registration.")
     cases.append(case.greet().make(p7={"up": False}).expect("status 2c").alive())
-    case = Case("make/options_as_they_are", "make", "rk false, up true and uv false change nothing.", needs=["touch"])
+    case = Case(
+        "make/options_as_they_are",
+        "make",
+        "The default options rk false, up true and uv false are accepted.",
+        needs=["touch"],
+    )
     cases.append(case.greet().register(1, p7={"rk": False, "up": True, "uv": False}))
     for command in ("make", "get"):
         case = Case(
             f"{command}/pin_of_no_bytes",
             command,
-            "A pinUvAuthParam of no bytes is refused.",
+            "An empty pinUvAuthParam is refused.",
             uses=["no pin"],
             profile=PIN,
         )
         case.greet()
         cases.append((case.make(p8=b"") if command == "make" else case.get(p6=b"")).expect("status 02").alive())
-    case = Case("get/option_rk_false", "get", "The option rk is refused in a sign-in, false too.")
+    case = Case("get/option_rk_false", "get", "The option rk is refused in a sign-in, even if false.")
     cases.append(case.greet().get(p5={"rk": False}).expect("status 2b").alive())
     return cases
 
 
 def pair(chapter: str, command: bytes, good: Asked, first: Check, second: Check) -> Case:
-    """Two checks that fail at once: the first one decides."""
+    """Returns a case in which two checks fail: the first is reported."""
     fixed = not first.profile and first.name not in ("type", "missing")
     more: Dict[str, Any] = {"uses": [*first.uses, *second.uses]}
     if not fixed:
         more["profile"] = first.profile or TYPES
-    shows = f"Of two reasons to refuse, {first.name.replace('_', ' ')} comes before {second.name.replace('_', ' ')}."
-    case = Case(f"{chapter}/first_{first.name}_then_{second.name}", chapter, shows, **more)
+    requirement = f"Of two errors, {first.name.replace('_', ' ')} is reported before {second.name.replace('_', ' ')}."
+    case = Case(f"{chapter}/first_{first.name}_then_{second.name}", chapter, requirement, **more)
     second.spoil(good)
     first.spoil(good)
     return case.greet().cbor(command + encode(good)).expect(f"status {first.status}").alive()
 
 
 def ordered(chapter: str, command: bytes, good: Callable[[], Asked], checks: List[Check]) -> List[Case]:
-    """Each check alone, and each two of them at once."""
+    """Each check alone, and each pair."""
     cases = []
     for place, check in enumerate(checks):
-        shows = f"The check {check.name.replace('_', ' ')} refuses a request that is good otherwise."
-        case = Case(f"{chapter}/alone_{check.name}", chapter, shows, uses=check.uses, profile=check.profile)
+        requirement = f"The check {check.name.replace('_', ' ')} refuses an otherwise valid request."
+        case = Case(f"{chapter}/alone_{check.name}", chapter, requirement, uses=check.uses, profile=check.profile)
         asked = good()
         check.spoil(asked)
         word = "refused" if check.name == "type" else "status"
         cases.append(case.greet().cbor(command + encode(asked)).expect(f"{word} {check.status}").alive())
-        shows = "What isn't whole CBOR is refused before it is looked into."
-        case = Case(f"{chapter}/first_cbor_then_{check.name}", chapter, shows)
+        requirement = "Invalid CBOR is reported before errors in its contents."
+        case = Case(f"{chapter}/first_cbor_then_{check.name}", chapter, requirement)
         cases.append(case.greet().cbor(command + encode(asked)[:-1]).expect("refused 12").alive())
         for later in checks[place + 1 :]:
             cases.append(pair(chapter, command, good(), check, later))

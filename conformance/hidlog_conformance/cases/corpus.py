@@ -1,4 +1,4 @@
-"""Writes a session of the corpus: its head, its inputs and what is expected after them."""
+"""Builds a session file: its head, its inputs, and what is expected after them."""
 
 from __future__ import annotations
 
@@ -17,7 +17,7 @@ KIND = "public-key"
 
 
 def name_of(number: int) -> bytes:
-    """Returns the id by which a session names its credential of this number."""
+    """Returns the ID that sessions use for credential `number`."""
     return bytes([0xA0 + number % 96]) * 31 + bytes([number])
 
 
@@ -27,12 +27,13 @@ def descriptor(number: int, kind: str = KIND) -> Dict[str, Any]:
 
 
 def like(number: int, kind: str) -> bytes:
-    """Returns the name of an id that is like that of a credential: changed in its last bit, longer or shorter."""
+    """Returns the ID that sessions use for one similar to credential `number`: with a changed bit, longer or
+    shorter."""
     return name_of(number)[:-2] + {"changed": b"\xc0", "longer": b"\xc1", "shorter": b"\xc2"}[kind] + bytes([number])
 
 
 def make_request(**changes: Any) -> Dict[Any, Any]:
-    """Returns good parameters of authenticatorMakeCredential; changes name a parameter as p1, p2 .., None leaves it out."""
+    """Returns valid parameters of authenticatorMakeCredential. p1, p2 .. replace a parameter, or remove it (None)."""
     asked: Dict[Any, Any] = {
         1: b"\x11" * 32,
         2: {"id": "example.com", "name": "Example"},
@@ -43,12 +44,12 @@ def make_request(**changes: Any) -> Dict[Any, Any]:
 
 
 def get_request(**changes: Any) -> Dict[Any, Any]:
-    """Returns good parameters of authenticatorGetAssertion."""
+    """Returns valid parameters of authenticatorGetAssertion."""
     return changed({1: "example.com", 2: b"\x22" * 32}, changes)
 
 
 def changed(asked: Dict[Any, Any], changes: Dict[str, Any]) -> Dict[Any, Any]:
-    """Puts changes into parameters."""
+    """Returns changed parameters."""
     for key, value in changes.items():
         if value is None:
             asked.pop(int(key[1:]), None)
@@ -58,14 +59,14 @@ def changed(asked: Dict[Any, Any], changes: Dict[str, Any]) -> Dict[Any, Any]:
 
 
 class Case:
-    """Collects the lines of a session. Moments are those of the host's clock, in milliseconds."""
+    """Collects the lines of a session. Times are in milliseconds, by the host's clock."""
 
-    def __init__(self, name: str, section: str, shows: str, why: str = "", **more: Any) -> None:
+    def __init__(self, name: str, section: str, requirement: str, why: str = "", **more: Any) -> None:
         self.name = name
         self.at = 0
         self.lines: List[str] = []
         self.comment("rule: CTAP 2.1, " + SECTIONS[section])
-        self.comment("shows: " + shows)
+        self.comment("requirement: " + requirement)
         if why:
             self.comment("why: " + why)
         for word in ("needs", "uses"):
@@ -82,36 +83,36 @@ class Case:
         self.lines.append(line)
 
     def expect(self, *texts: str) -> Self:
-        """Writes what is expected after the last input."""
+        """Adds expectations after the last input."""
         for text in texts:
             self.comment("expect " + text)
         return self
 
     def wait(self, milliseconds: int) -> Self:
-        """Moves the clock; nothing is written."""
+        """Advances the clock without an input."""
         self.at += milliseconds
         return self
 
     def packets(self, packets: Sequence[bytes]) -> Self:
-        """Writes packets of the host."""
+        """Adds packets of the host."""
         self.lines += [f"> {self.at} {packet.hex()}" for packet in packets]
         return self
 
     def send(self, channel: int, command: int, data: bytes = b"", length: Optional[int] = None) -> Self:
-        """Writes a message's packets."""
+        """Adds the packets of a message."""
         return self.packets(hid.packets_of(channel, command, data, length))
 
     def begin(self, channel: int, length: int = 100, command: int = hid.PING) -> Self:
-        """Writes the first packet of a longer message."""
+        """Adds the first packet of a longer message."""
         return self.packets(hid.packets_of(channel, command, counted(length))[:1])
 
     def go_on(self, channel: int, sequence: int = 0, length: int = 100) -> Self:
-        """Writes a continuation packet of what `begin` began, under any sequence number."""
+        """Adds a continuation packet of the message that `begin` began, with any sequence number."""
         data = counted(length)[57 + 59 * sequence :][:59]
         return self.packets([(channel.to_bytes(4, "big") + bytes([sequence]) + data).ljust(64, b"\0")])
 
     def greet(self, count: int = 1) -> Self:
-        """Asks for channels."""
+        """Allocates channels."""
         for number in range(count):
             nonce = NONCE[:7] + bytes([7 + number])
             self.send(hid.BROADCAST, hid.INIT, nonce).expect(f"init nonce {nonce.hex()}")
@@ -136,33 +137,33 @@ class Case:
         return self
 
     def power_cycle(self) -> Self:
-        """Switches the authenticator off and on again; channels are counted anew."""
+        """Adds a power cycle; the next channel is number 1 again."""
         self.lines.append("# power cycle")
         return self
 
     def presence(self, word: str = "granted") -> Self:
-        """Lets the user answer."""
+        """Lets the user reply."""
         self.at += 10
         self.lines.append(f"p {self.at} {word}")
         return self
 
     def key(self, number: int) -> Self:
-        """Lets the authenticator make a key, under a name of the session."""
+        """Provides a key pair, under the session's credential ID."""
         self.lines.append(f"k {self.at} {name_of(number).hex()} {'bb' * 32} {'cc' * 32}")
         return self
 
     def sign(self) -> Self:
-        """Lets the authenticator sign."""
+        """Provides a signature."""
         self.lines.append(f"s {self.at} {'dd' * 70}")
         return self
 
     def made(self, number: int, words: str = "up", channel: int = 1) -> Self:
-        """Lets the user consent to a registration, and expects a credential."""
+        """Lets the user touch for a registration, and expects a credential."""
         self.presence().key(number).sign()
         return self.expect(f"made {words}" + (f" on {channel:08x}" if channel != 1 else ""))
 
     def alike(self, number: int, kind: str) -> Dict[str, Any]:
-        """Names an id that is like that of a credential, and returns its descriptor."""
+        """Returns the descriptor of an ID similar to that of credential `number`."""
         name = like(number, kind)
         self.comment(f"derived: {kind} {name_of(number).hex()} {name.hex()}")
         return {"id": name, "type": KIND}
@@ -174,14 +175,14 @@ class Case:
         return self.make(channel, **changes).made(number, channel=channel)
 
     def asserted(self, words: str, channel: int = 1, presence: bool = True) -> Self:
-        """Lets the user consent to a sign-in, and expects an assertion."""
+        """Lets the user touch for a sign-in, and expects an assertion."""
         if presence:
             self.presence()
         self.sign()
         return self.expect(f"asserted {words}" + (f" on {channel:08x}" if channel != 1 else ""))
 
     def alive(self, channel: int = 1) -> Self:
-        """Shows that the channel still serves."""
+        """Checks with a PING that the channel still works."""
         return self.send(channel, hid.PING, b"still here").expect(f"echo on {channel:08x}")
 
     def text(self) -> str:
@@ -190,5 +191,5 @@ class Case:
 
 
 def counted(length: int) -> bytes:
-    """Returns so many bytes that differ from place to place."""
+    """Returns `length` different bytes."""
     return bytes((7 * number + number // 251 + 1) % 256 for number in range(length))

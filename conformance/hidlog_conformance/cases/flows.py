@@ -1,4 +1,4 @@
-"""Cases of registrations and sign-ins: lists, pending assertions, getInfo, reset and selection."""
+"""Cases about registrations and sign-ins: lists, pending assertions, getInfo, reset and selection."""
 
 from __future__ import annotations
 
@@ -21,11 +21,13 @@ def user(number: int) -> Any:
 def infos() -> List[Case]:
     """authenticatorGetInfo."""
     cases = []
-    case = Case("info/shape", "info", "The answer is a map with versions and an AAGUID of 16 bytes, in canonical CBOR.")
+    case = Case(
+        "info/shape", "info", "The response is a map with versions and an AAGUID of 16 bytes, in canonical CBOR."
+    )
     cases.append(case.greet().cbor(INFO).expect("info"))
-    case = Case("info/twice", "info", "It is answered as often as it is asked.")
+    case = Case("info/twice", "info", "getInfo can be repeated.")
     cases.append(case.greet().cbor(INFO).expect("info").cbor(INFO).expect("info"))
-    case = Case("info/each_host", "info", "Each host is answered.")
+    case = Case("info/each_host", "info", "Each host gets a response.")
     cases.append(case.greet(2).cbor(INFO, 2).expect("info on 2").cbor(INFO, 1).expect("info"))
     for name, data, byte in (
         ("info", INFO, "04"),
@@ -36,9 +38,9 @@ def infos() -> List[Case]:
         case = Case(
             f"commands/bytes_behind_{name}",
             "commands",
-            f"Bytes behind the command {byte}, which has none, are refused.",
+            f"Parameters of the command {byte}, which has none, are refused.",
         )
-        case.comment("profile: the standard says that it takes no parameters, not what answers some")
+        case.comment("profile: the standard does not say how parameters are refused")
         if name == "reset":
             case.comment("needs: reset")
         cases.append(case.greet().cbor(data + b"\xa0").expect("status 03").alive())
@@ -46,10 +48,13 @@ def infos() -> List[Case]:
 
 
 def registrations() -> List[Case]:
-    """Registrations, and what a user says to them."""
+    """Registrations, and the user's replies."""
     cases = []
     case = Case(
-        "make/answer", "make", "The answer has authenticator data with UP and AT, a key and an attestation.", **TOUCH
+        "make/answer",
+        "make",
+        "The response has authenticator data with UP and AT, a public key and an attestation.",
+        **TOUCH,
     )
     cases.append(case.greet().make().made(1, "up no-uv"))
     case = Case(
@@ -57,37 +62,37 @@ def registrations() -> List[Case]:
         "make",
         "A new credential's counter is 0.",
         **TOUCH,
-        profile="a counter may begin anywhere",
+        profile="a counter may start at any value",
     )
     cases.append(case.greet().make().made(1, "up counter 0"))
-    case = Case("make/three_ids", "make", "Each registration has an id of its own.", **TOUCH)
+    case = Case("make/three_ids", "make", "Each registration has a new credential ID.", **TOUCH)
     cases.append(case.greet().register(1).register(2).register(3))
     for word, status in (("denied", "27"), ("timeout", "27")):
-        case = Case(f"make/user_{word}", "make", "Without the user's consent nothing is made.", needs=["denial"])
+        case = Case(f"make/user_{word}", "make", "Without user presence no credential is made.", needs=["denial"])
         cases.append(case.greet().make().presence(word).expect(f"status {status}").alive())
     return cases
 
 
 def without_keys() -> List[Case]:
-    """Registrations for which there is no key, no signature or no room."""
+    """Registrations without a key pair, signature or capacity."""
     cases = []
-    case = Case("make/no_key", "make", "Where no key could be made an error is answered.", needs=["refusal"])
-    case.comment("profile: the standard doesn't say which")
+    case = Case("make/no_key", "make", "If no key pair can be made, the response is an error.", needs=["refusal"])
+    case.comment("profile: the standard does not say which error")
     case.greet().make().presence()
     case.lines.append(f"k {case.at} no")
     cases.append(case.expect("status 7f").alive())
     case = Case(
         "make/no_signature",
         "make",
-        "Where nothing could be signed an error is answered, and nothing is stored.",
+        "If nothing can be signed, the response is an error and nothing is stored.",
         needs=["refusal"],
     )
-    case.comment("profile: the standard doesn't say which")
+    case.comment("profile: the standard does not say which error")
     case.greet().make(p7={"rk": True}).presence().key(1)
     case.lines.append(f"s {case.at} no")
     cases.append(case.expect("status 7f").get().expect("status 2e"))
-    case = Case("make/full", "make", "Without room for another credential the status is 28.", needs=["capacity 64"])
-    case.comment("profile: there is room for 64")
+    case = Case("make/full", "make", "If the device is full, the status is 28.", needs=["capacity 64"])
+    case.comment("profile: the capacity is 64")
     case.greet()
     for number in range(64):
         case.register(number)
@@ -109,41 +114,46 @@ def exclude_lists() -> List[Case]:
         case = Case(
             f"lists/exclude_{name}",
             "make",
-            "A credential of this RP in the exclude list ends it after the touch.",
+            "A credential of this RP in the exclude list ends the request after the touch.",
             **TOUCH,
         )
         cases.append(case.greet().register(1).make(p5=exclude).presence().expect("status 19").alive())
     for word in ("denied", "timeout"):
-        case = Case(f"lists/exclude_{word}", "make", "An excluded registration has this status whatever the user does.")
+        case = Case(
+            f"lists/exclude_{word}", "make", "An excluded registration has this status whether or not the user touches."
+        )
         case.comment("needs: denial")
         cases.append(case.greet().register(1).make(p5=[descriptor(1)]).presence(word).expect("status 19"))
     return cases
 
 
 def exclude_nothing() -> List[Case]:
-    """Exclude lists that name no credential of the RP, and what comes before the refusal."""
+    """Exclude lists without a credential of the RP, and what comes before the error."""
     cases = []
     passes: Dict[str, List[Any]] = {"empty": [], "unknown": [descriptor(9)], "other_type": [descriptor(1, "other")]}
     for name, exclude in passes.items():
         case = Case(
             f"lists/exclude_{name}",
             "make",
-            "An exclude list that names no credential of this RP excludes nothing.",
+            "An exclude list without a credential of this RP has no effect.",
             **TOUCH,
         )
         cases.append(case.greet().register(1).register(2, p5=exclude))
-    case = Case("lists/exclude_of_another_rp", "make", "A credential of another RP excludes nothing.", **TOUCH)
+    case = Case("lists/exclude_of_another_rp", "make", "A credential of another RP does not exclude.", **TOUCH)
     cases.append(case.greet().register(1).register(2, p2={"id": "example.org", "name": "x"}, p5=[descriptor(1)]))
     case = Case(
-        "lists/exclude_asks_first", "make", "The user is asked before the host hears that it is excluded.", **TOUCH
+        "lists/exclude_asks_first",
+        "make",
+        "User presence is requested before the error about an excluded credential.",
+        **TOUCH,
     )
     case.greet().register(1).make(p5=[descriptor(1)]).expect("keepalive 02").tick(100).expect("nothing")
     cases.append(case.send(1, hid.CANCEL).expect("status 2d"))
-    case = Case("lists/exclude_discoverable", "make", "A discoverable credential is excluded like others.", **EMPTY)
+    case = Case("lists/exclude_discoverable", "make", "A discoverable credential can be excluded.", **EMPTY)
     cases.append(
         case.greet().register(1, rk=True).make(p5=[descriptor(1)], p7={"rk": True}).presence().expect("status 19")
     )
-    case = Case("lists/exclude_replaced", "make", "A credential that was replaced excludes nothing.", **EMPTY)
+    case = Case("lists/exclude_replaced", "make", "A replaced credential does not exclude.", **EMPTY)
     cases.append(case.greet().register(1, rk=True).register(2, rk=True).register(3, p5=[descriptor(1)]))
     return cases
 
@@ -159,13 +169,13 @@ def allow_lists() -> List[Case]:
         "with_transports": [{**descriptor(1), "transports": ["usb", "nfc"]}],
     }
     for name, allow in found.items():
-        case = Case(f"lists/allow_{name}", "get", "The credential of this RP that the list names signs.", **TOUCH)
+        case = Case(f"lists/allow_{name}", "get", "The credential of this RP in the allow list signs.", **TOUCH)
         cases.append(case.greet().register(1).get(p3=allow).asserted(RISES + " no-uv no-number"))
     return cases
 
 
 def allow_missing() -> List[Case]:
-    """Allow lists that name no credential of the RP."""
+    """Allow lists without a credential of the RP."""
     cases = []
     missing: Dict[str, List[Any]] = {
         "unknown": [descriptor(9)],
@@ -174,13 +184,13 @@ def allow_missing() -> List[Case]:
     }
     for name, allow in missing.items():
         case = Case(
-            f"lists/allow_{name}", "get", "Where the list names no credential of this RP the status is 2e.", **TOUCH
+            f"lists/allow_{name}", "get", "If the allow list has no credential of this RP, the status is 2e.", **TOUCH
         )
         cases.append(case.greet().register(1).get(p3=allow).expect("status 2e").alive())
-    case = Case("lists/allow_of_another_rp", "get", "A credential signs for its own RP alone.", **TOUCH)
+    case = Case("lists/allow_of_another_rp", "get", "A credential signs only for its own RP.", **TOUCH)
     cases.append(case.greet().register(1).get(p1="example.org", p3=[descriptor(1)]).expect("status 2e").alive())
     for name, rp in (("capital", "Example.com"), ("longer", "example.com."), ("empty", "")):
-        case = Case(f"lists/allow_rp_{name}", "get", "The RP is compared byte by byte.", **TOUCH)
+        case = Case(f"lists/allow_rp_{name}", "get", "RP IDs are compared byte by byte.", **TOUCH)
         cases.append(case.greet().register(1).get(p1=rp, p3=[descriptor(1)]).expect("status 2e").alive())
     return cases
 
@@ -189,7 +199,10 @@ def allow_several() -> List[Case]:
     """Allow lists of several credentials, and empty ones."""
     cases = []
     case = Case(
-        "lists/allow_two", "get", "Where the list names two, one of them signs and no number is answered.", **TOUCH
+        "lists/allow_two",
+        "get",
+        "If the allow list has two credentials, one signs, without numberOfCredentials.",
+        **TOUCH,
     )
     cases.append(
         case.greet().register(1).register(2).get(p3=[descriptor(2), descriptor(1)]).asserted(RISES + " no-number")
@@ -197,18 +210,23 @@ def allow_several() -> List[Case]:
     case = Case(
         "lists/allow_two_first",
         "get",
-        "Where the list names two, the first of them signs.",
+        "If the allow list has two credentials, the first signs.",
         **TOUCH,
-        profile="any of them may sign",
+        profile="either may sign",
     )
     case.greet().register(1).register(2).get(p3=[descriptor(2), descriptor(1)])
     cases.append(case.asserted(f"id {descriptor(2)['id'].hex()}"))
-    case = Case("lists/allow_empty", "get", "An empty list counts as none.", **EMPTY)
+    case = Case("lists/allow_empty", "get", "An empty allow list is treated as absent.", **EMPTY)
     cases.append(case.greet().register(1, rk=True).get(p3=[]).asserted(RISES))
-    case = Case("lists/allow_unknown_discoverable", "get", "A list that names nothing isn't taken for none.", **EMPTY)
+    case = Case(
+        "lists/allow_unknown_discoverable",
+        "get",
+        "An allow list without a known credential is not treated as absent.",
+        **EMPTY,
+    )
     cases.append(case.greet().register(1, rk=True).get(p3=[descriptor(9)]).expect("status 2e"))
-    case = Case("lists/allow_then_next", "next", "After a sign-in by a list there is nothing more.", **EMPTY)
-    case.comment("since: by 2.0's text the credentials of a list may be asked for one after the other")
+    case = Case("lists/allow_then_next", "next", "After a sign-in with an allow list no assertion is pending.", **EMPTY)
+    case.comment("since: CTAP 2.0 allows further assertions after an allow list")
     case.greet().register(1, rk=True, p3=user(1)).register(2, rk=True, p3=user(2)).get(
         p3=[descriptor(1), descriptor(2)]
     )
@@ -217,9 +235,9 @@ def allow_several() -> List[Case]:
 
 
 def sign_ins() -> List[Case]:
-    """Counters, presence, and credentials that are found without a list."""
+    """Counters, and user presence."""
     cases = []
-    case = Case("get/counter_rises", "get", "The counter is greater at each sign-in.", **TOUCH)
+    case = Case("get/counter_rises", "get", "The counter rises at each sign-in.", **TOUCH)
     case.greet().register(1)
     for _ in range(4):
         case.get(p3=[descriptor(1)]).asserted(RISES)
@@ -229,7 +247,7 @@ def sign_ins() -> List[Case]:
     case = Case(
         "get/without_presence",
         "get",
-        "With the option up false nobody is asked and flag UP isn't set.",
+        "With up false no touch is requested, and flag UP is not set.",
         **TOUCH,
         uses=["up"],
     )
@@ -239,62 +257,69 @@ def sign_ins() -> List[Case]:
         .get(p3=[descriptor(1)], p5={"up": False})
         .asserted("no-up counter-rises", presence=False)
     )
-    case = Case("get/up_true", "get", "With the option up true the user is asked.", **TOUCH)
+    case = Case("get/up_true", "get", "With up true a touch is requested.", **TOUCH)
     cases.append(
         case.greet().register(1).get(p3=[descriptor(1)], p5={"up": True}).expect("keepalive 02").asserted(RISES)
     )
-    case = Case("get/up_true_uv_false", "get", "The option uv false changes nothing.", **TOUCH)
+    case = Case("get/up_true_uv_false", "get", "The option uv false has no effect.", **TOUCH)
     cases.append(case.greet().register(1).get(p3=[descriptor(1)], p5={"uv": False}).asserted(RISES + " no-uv"))
     return cases
 
 
 def found_alone() -> List[Case]:
-    """Sign-ins that are refused, and credentials that are found without a list."""
+    """Refused sign-ins, and sign-ins without a list."""
     cases = []
     for word in ("denied", "timeout"):
-        case = Case(f"get/user_{word}", "get", "Without the user's consent nothing is signed.", needs=["denial"])
+        case = Case(f"get/user_{word}", "get", "Without user presence nothing is signed.", needs=["denial"])
         cases.append(case.greet().register(1).get(p3=[descriptor(1)]).presence(word).expect("status 27").alive())
     case = Case("get/nothing_registered", "get", "Without a credential of the RP the status is 2e.", needs=["reset"])
     cases.append(case.greet().get().expect("status 2e").alive())
     case = Case(
         "get/other_credentials_stay_hidden",
         "get",
-        "A credential that isn't discoverable is found by a list alone.",
+        "A non-discoverable credential is only found by an allow list.",
         **EMPTY,
     )
     cases.append(case.greet().register(1).get().expect("status 2e").get(p3=[descriptor(1)]).asserted(RISES))
-    case = Case("get/discoverable", "get", "A discoverable credential is found without a list, with its user.", **EMPTY)
+    case = Case(
+        "get/discoverable", "get", "A discoverable credential is found without an allow list, with its user.", **EMPTY
+    )
     cases.append(case.greet().register(1, rk=True).get().asserted(RISES + " user 01 no-number no-name"))
     case = Case(
-        "get/discoverable_by_list", "get", "A discoverable credential is found by a list too, with its user.", **EMPTY
+        "get/discoverable_by_list",
+        "get",
+        "A discoverable credential is found by an allow list, with its user.",
+        **EMPTY,
     )
     cases.append(case.greet().register(1, rk=True).get(p3=[descriptor(1)]).asserted(RISES + " user 01 no-name"))
     return cases
 
 
 def same_users() -> List[Case]:
-    """The same user once more, and other RPs."""
+    """The same user again, and other RPs."""
     cases = []
-    case = Case("get/same_user_again", "get", "A discoverable credential replaces that of its RP and user.", **EMPTY)
+    case = Case(
+        "get/same_user_again", "get", "A discoverable credential replaces that of the same RP and user.", **EMPTY
+    )
     case.greet().register(1, rk=True).register(2, rk=True).get().asserted(
         f"{RISES} no-number id {descriptor(2)['id'].hex()}"
     )
     cases.append(case.get(p3=[descriptor(1)]).expect("status 2e"))
-    case = Case("get/same_user_of_another_rp", "get", "The same user of another RP is another user.", **EMPTY)
+    case = Case("get/same_user_of_another_rp", "get", "The same user ID at another RP is a different user.", **EMPTY)
     case.greet().register(1, rk=True).register(2, rk=True, p2={"id": "example.org", "name": "x"})
     cases.append(case.get().asserted(f"{RISES} no-number id {descriptor(1)['id'].hex()}"))
-    case = Case("get/hidden_replaces_nothing", "get", "One that isn't discoverable replaces nothing.", **EMPTY)
+    case = Case("get/hidden_replaces_nothing", "get", "A non-discoverable credential replaces none.", **EMPTY)
     case.greet().register(1, rk=True).register(2)
     cases.append(case.get().asserted(f"{RISES} no-number id {descriptor(1)['id'].hex()}"))
     for number, rp in enumerate(("a", "example.com:443", "x" * 253, "ü.example"), 1):
-        case = Case(f"get/rp_{number}", "get", "The RP is a text of any length and any letters.", **TOUCH)
+        case = Case(f"get/rp_{number}", "get", "RP IDs have any length and characters.", **TOUCH)
         case.greet().register(1, p2={"id": rp, "name": "x"}).get(p1=rp, p3=[descriptor(1)])
         cases.append(case.asserted("up counter-rises"))
     return cases
 
 
 def three(case: Case) -> Case:
-    """Registers three users and asks for them; the newest signs."""
+    """Registers three users and signs in without a list; the newest signs."""
     case.greet()
     for number in (1, 2, 3):
         case.register(number, rk=True, p3=user(number))
@@ -304,9 +329,7 @@ def three(case: Case) -> Case:
 def nexts() -> List[Case]:
     """authenticatorGetNextAssertion."""
     cases = []
-    case = three(
-        Case("next/newest_first", "next", "The others follow, each once, from the newest to the oldest.", **EMPTY)
-    )
+    case = three(Case("next/newest_first", "next", "The other assertions follow, each once, newest first.", **EMPTY))
     for number in (2, 1):
         case.cbor(NEXT).asserted(f"{RISES} user 0{number} no-number", presence=False)
     cases.append(case.cbor(NEXT).expect("status 30"))
@@ -326,44 +349,55 @@ def next_times() -> List[Case]:
         )
     )
     cases.append(case.wait(30500).cbor(NEXT).expect("status 30").cbor(NEXT).expect("status 30"))
-    case = three(Case("next/one_then_too_late", "next", "Nor later than that after one that followed.", **EMPTY))
+    case = three(
+        Case(
+            "next/one_then_too_late",
+            "next",
+            "More than 30 seconds after a further assertion the status is 30.",
+            **EMPTY,
+        )
+    )
     case.cbor(NEXT).asserted(f"{RISES} user 02", presence=False)
     cases.append(case.wait(30500).cbor(NEXT).expect("status 30"))
-    case = three(Case("next/each_renews", "next", "Each assertion renews the 30 seconds.", **EMPTY))
+    case = three(Case("next/each_renews", "next", "Each assertion restarts the 30 seconds.", **EMPTY))
     case.wait(20000).cbor(NEXT).asserted(f"{RISES} user 02", presence=False)
     cases.append(case.wait(20000).cbor(NEXT).asserted(f"{RISES} user 01", presence=False))
     for wait, late in ((30000, False), (30001, True)):
         case = Case(
-            f"next/at_{wait}", "next", "The 30 seconds are counted to the millisecond.", needs=["exact time", "reset"]
+            f"next/at_{wait}", "next", "The 30 seconds are exact to the millisecond.", needs=["exact time", "reset"]
         )
-        case.comment("profile: no clock of another authenticator is so exact")
+        case.comment("profile: other authenticators have no such exact clock")
         three(case).wait(wait).cbor(NEXT)
         cases.append(case.expect("status 30") if late else case.asserted(f"{RISES} user 02", presence=False))
     return cases
 
 
 def next_between() -> List[Case]:
-    """What comes between, and new sign-ins."""
+    """Other messages between assertions."""
     cases = []
-    case = three(Case("next/ping_between", "next", "A PING between changes nothing.", **EMPTY))
+    case = three(Case("next/ping_between", "next", "A PING in between has no effect.", **EMPTY))
     cases.append(case.alive().cbor(NEXT).asserted(f"{RISES} user 02", presence=False))
-    case = three(
-        Case("next/refused_packet_between", "next", "A packet that is refused between changes nothing.", **EMPTY)
-    )
+    case = three(Case("next/refused_packet_between", "next", "A refused packet in between has no effect.", **EMPTY))
     cases.append(
         case.send(9, hid.PING, b"a").expect("error 0b on 9").cbor(NEXT).asserted(f"{RISES} user 02", presence=False)
     )
     case = three(
-        Case("next/another_command_between", "next", "Another command ends it.", **EMPTY, profile="it may go on")
+        Case(
+            "next/another_command_between",
+            "next",
+            "Another command discards pending assertions.",
+            **EMPTY,
+            profile="they may stay pending",
+        )
     )
     cases.append(case.cbor(INFO).expect("info").cbor(NEXT).expect("status 30"))
     case = three(
         Case(
             "next/another_channel",
             "next",
-            "It belongs to the channel that asked.",
+            "Pending assertions belong to the channel of the sign-in.",
             **EMPTY,
-            profile="a device may have one state",
+            profile="a device may keep them for all channels",
         )
     )
     cases.append(
@@ -376,16 +410,16 @@ def next_between() -> List[Case]:
 
 
 def next_anew() -> List[Case]:
-    """New sign-ins, and the flags of the first."""
+    """New sign-ins, and the flags of the first assertion."""
     cases = []
-    case = three(Case("next/new_sign_in", "next", "A new sign-in begins anew, with the newest.", **EMPTY))
+    case = three(Case("next/new_sign_in", "next", "A new sign-in starts over with the newest credential.", **EMPTY))
     case.cbor(NEXT).asserted(f"{RISES} user 02", presence=False).get().asserted(f"{RISES} user 03 number 3")
     cases.append(case.cbor(NEXT).asserted(f"{RISES} user 02", presence=False))
-    case = Case("next/without_presence", "next", "The flags are those of the first: UP isn't set.", **EMPTY)
+    case = Case("next/without_presence", "next", "The flags are those of the first assertion: UP is not set.", **EMPTY)
     case.greet().register(1, rk=True, p3=user(1)).register(2, rk=True, p3=user(2))
     case.get(p5={"up": False}).asserted("no-up user 02 number 2", presence=False)
     cases.append(case.cbor(NEXT).asserted("no-up user 01", presence=False))
-    case = Case("next/two_rps", "next", "Credentials of other RPs aren't counted.", **EMPTY)
+    case = Case("next/two_rps", "next", "Credentials of other RPs are not counted.", **EMPTY)
     case.greet().register(1, rk=True, p3=user(1)).register(
         2, rk=True, p3=user(2), p2={"id": "example.org", "name": "x"}
     )
@@ -396,42 +430,42 @@ def next_anew() -> List[Case]:
 def resets() -> List[Case]:
     """authenticatorReset and authenticatorSelection."""
     cases = []
-    case = Case("reset/granted", "reset", "A reset that the user consents to is answered by 00.", **ANEW)
+    case = Case("reset/granted", "reset", "A reset with a touch returns 00.", **ANEW)
     cases.append(case.greet().cbor(RESET).presence().expect("status 00").alive())
     case = Case("reset/forgets", "reset", "After a reset no credential is left.", **ANEW, uses=["rk"])
     case.greet().register(1).register(2, rk=True).cbor(RESET).presence().expect("status 00")
     cases.append(case.get(p3=[descriptor(1)]).expect("status 2e").get().expect("status 2e"))
-    case = Case("reset/serves_again", "reset", "After a reset credentials can be made.", **ANEW)
+    case = Case("reset/serves_again", "reset", "After a reset credentials can be registered.", **ANEW)
     cases.append(
         case.greet().cbor(RESET).presence().expect("status 00").register(1).get(p3=[descriptor(1)]).asserted(RISES)
     )
-    case = Case("reset/asks_for_the_user", "reset", "A reset waits for the user.", **ANEW)
+    case = Case("reset/asks_for_the_user", "reset", "A reset requests a touch.", **ANEW)
     cases.append(
         case.greet().cbor(RESET).expect("keepalive 02").tick(100).expect("nothing").presence().expect("status 00")
     )
     for word, status in (("denied", "27"), ("timeout", "2f")):
         case = Case(
-            f"reset/user_{word}", "reset", "Without the user's consent nothing is lost.", needs=["denial", "reset"]
+            f"reset/user_{word}", "reset", "Without user presence a reset deletes nothing.", needs=["denial", "reset"]
         )
         case.greet().register(1).cbor(RESET).presence(word).expect(f"status {status}")
         cases.append(case.get(p3=[descriptor(1)]).asserted(RISES))
-    case = Case("reset/cancelled", "reset", "After a CANCEL nothing is lost.", **ANEW)
+    case = Case("reset/cancelled", "reset", "A cancelled reset deletes nothing.", **ANEW)
     case.greet().register(1).cbor(RESET).expect("keepalive 02").send(1, hid.CANCEL).expect("status 2d")
     cases.append(case.get(p3=[descriptor(1)]).asserted(RISES))
     return cases
 
 
 def late_resets() -> List[Case]:
-    """Resets too long after the start."""
+    """Resets too long after power-up."""
     cases = []
-    case = Case("reset/too_late", "reset", "More than 10 seconds after the start a reset is refused.", **ANEW)
+    case = Case("reset/too_late", "reset", "A reset more than 10 seconds after power-up is refused.", **ANEW)
     case.comment("uses: no display")
     cases.append(case.greet().wait(10500).cbor(RESET).expect("status 30").alive())
     for wait, answer in ((10000, "keepalive 02"), (10001, "status 30")):
         case = Case(
-            f"reset/at_{wait}", "reset", "The 10 seconds are counted to the millisecond.", needs=["exact time", "reset"]
+            f"reset/at_{wait}", "reset", "The 10 seconds are exact to the millisecond.", needs=["exact time", "reset"]
         )
-        case.comment("profile: no clock of another authenticator is so exact")
+        case.comment("profile: other authenticators have no such exact clock")
         cases.append(case.greet().wait(wait).cbor(RESET).expect(answer))
     return cases
 
@@ -442,16 +476,20 @@ def selections() -> List[Case]:
     for word, status in (("granted", "00"), ("denied", "27"), ("timeout", "2f")):
         need = "touch" if word == "granted" else "denial"
         case = Case(
-            f"selection/{word}", "selection", f"A selection is answered by {status}.", needs=[need], uses=["selection"]
+            f"selection/{word}", "selection", f"A selection returns {status}.", needs=[need], uses=["selection"]
         )
         cases.append(case.greet().cbor(SELECTION).presence(word).expect(f"status {status}").alive())
     case = Case(
-        "selection/asks_for_the_user", "selection", "A selection waits for the user.", **TOUCH, uses=["selection"]
+        "selection/asks_for_the_user", "selection", "A selection requests a touch.", **TOUCH, uses=["selection"]
     )
     case.greet().cbor(SELECTION).expect("keepalive 02").tick(100).expect("nothing")
     cases.append(case.presence().expect("status 00").tick(200).expect("silence"))
     case = Case(
-        "selection/changes_nothing", "selection", "A selection changes no credential.", **TOUCH, uses=["selection"]
+        "selection/changes_nothing",
+        "selection",
+        "A selection does not change credentials.",
+        **TOUCH,
+        uses=["selection"],
     )
     case.greet().register(1).cbor(SELECTION).presence().expect("status 00")
     cases.append(case.get(p3=[descriptor(1)]).asserted(RISES))

@@ -1,6 +1,6 @@
-"""Cases that the fuzzer found in wrong authenticators, cut down by fuzzed/find.py and `hidlog shrink`.
+"""Cases that the fuzzer found in faulty authenticators, minimized by fuzzed/find.py and `hidlog shrink`.
 
-What is expected was written by hand, by the line of the finding that it comes after.
+The expectations were written by hand, by line of the finding.
 """
 
 from __future__ import annotations
@@ -10,19 +10,19 @@ from typing import Any, Dict, List, NamedTuple
 
 from hidlog_conformance import hid_packets as hid
 from hidlog_conformance.cases.corpus import Case
-from hidlog_conformance.places import DATA
+from hidlog_conformance.paths import DATA
 
 FOLDER = os.path.join(DATA, "fuzzed")
-OURS = "the standard leaves open which of two faults is named"
+OURS = "the standard does not say which of two errors is reported"
 
 
 class Found(NamedTuple):
-    """Names a finding's rule, the fault that it showed, and what comes after which line."""
+    """A finding: its rule, the fault it showed, and the expectations by line."""
 
     name: str
     fault: str
     section: str
-    shows: str
+    requirement: str
     expects: Dict[int, str]
     needs: List[str] = []
     uses: List[str] = []
@@ -34,14 +34,14 @@ FOUND = [
         "allow_list_is_a_map",
         "allow_ignored",
         "get",
-        "An allow list that is no array is refused.",
+        "An allow list that is not an array is refused.",
         {1: "init", 2: "refused 11"},
     ),
     Found(
         "cancel_on_channel_0",
         "cancel_of_all",
         "cancel",
-        "A CANCEL of eight bytes on channel 0 ends nobody's request.",
+        "A CANCEL of eight bytes on channel 0 cancels no request.",
         {1: "init", 3: "keepalive 02", 4: "nothing", 7: "made up"},
         needs=["touch"],
     ),
@@ -56,7 +56,7 @@ FOUND = [
         "excluded_after_long_names",
         "exclude_ignored",
         "make",
-        "A credential that is twice in the exclude list ends it; the user's names had letters of three and four bytes.",
+        "A credential twice in the exclude list excludes; the user names have characters of three and four bytes.",
         {1: "init", 12: "made up", 17: "status 19"},
         needs=["touch"],
         uses=["rk"],
@@ -65,7 +65,7 @@ FOUND = [
         "registration_of_four_packets",
         "from_one",
         "packets",
-        "A registration of four packets is answered in several, numbered from 0.",
+        "The response to a registration has several packets, numbered from 0.",
         {1: "init", 8: "made up"},
         needs=["touch"],
     ),
@@ -73,28 +73,28 @@ FOUND = [
         "init_before_any_channel",
         "init_keeps_message",
         "channels",
-        "INIT on a channel is refused as long as none was given out.",
+        "INIT on a channel is refused before any channel was allocated.",
         {1: "error 0b on 2"},
     ),
     Found(
         "same_nonce_twice",
         "keepalive_after",
         "init",
-        "Two INITs with the same nonce get two channels.",
+        "Two INITs with the same nonce get different channels.",
         {1: "init", 2: "init", 3: "init"},
     ),
     Found(
         "first_init_too_long",
         "length_wrong_code",
         "packets",
-        "An INIT of 29 bytes is refused: its length is 8.",
+        "An INIT of 29 bytes instead of 8 is refused.",
         {1: "error 03 on ffffffff"},
     ),
     Found(
         "missing_before_algorithm",
         "missing_wrong_status",
         "make",
-        "A user that is missing is found before an algorithm that isn't offered.",
+        "A missing user is reported before an unsupported algorithm.",
         {1: "init", 3: "status 14"},
         uses=["no algorithm -8"],
     ),
@@ -102,7 +102,7 @@ FOUND = [
         "nothing_pending_after_a_list",
         "next_for_ever",
         "next",
-        "After a sign-in by a list nothing is pending.",
+        "After a sign-in with an allow list no assertion is pending.",
         {1: "init", 6: "made up", 10: "asserted up counter-rises", 11: "status 30"},
         needs=["touch"],
         uses=["rk"],
@@ -111,7 +111,7 @@ FOUND = [
         "strange_packet_inside",
         "not_stored",
         "channels",
-        "Between the packets of a message a request on channel 0 is refused, and the message goes on.",
+        "A request on channel 0 between the packets of a message is refused, and the message continues.",
         {1: "init", 2: "init", 4: "error 0b on 0", 7: "keepalive 02 on 2"},
         needs=["touch"],
         uses=["rk"],
@@ -121,14 +121,14 @@ FOUND = [
         "error_from_the_host",
         "unknown_silent",
         "error",
-        "An ERROR of two bytes from a host is refused: what only a device sends.",
+        "An ERROR from a host is refused: only devices send it.",
         {1: "init", 2: "error 01"},
     ),
     Found(
         "uv_before_the_list",
         "up_ignored",
         "get",
-        "User verification that isn't served is refused before the allow list is looked at.",
+        "Unsupported user verification is reported before errors in the allow list.",
         {1: "init", 5: "status 2c"},
         uses=["no uv"],
     ),
@@ -136,10 +136,10 @@ FOUND = [
 
 
 def case_of(found: Found) -> Case:
-    """Returns a finding as a case."""
+    """Converts a finding to a case."""
     more: Dict[str, Any] = {"needs": found.needs, "uses": found.uses, "profile": found.profile}
-    case = Case(f"fuzzed/{found.name}", found.section, found.shows, **more)
-    case.comment("found: in the wrong authenticator " + found.fault)
+    case = Case(f"fuzzed/{found.name}", found.section, found.requirement, **more)
+    case.comment("found: in the faulty authenticator " + found.fault)
     with open(os.path.join(FOLDER, found.name + ".log"), encoding="utf-8") as file:
         lines = file.read().splitlines()
     assert max(found.expects) == len(lines), (found.name, len(lines))

@@ -1,4 +1,4 @@
-"""Cases of authenticatorCredentialManagement."""
+"""Cases about authenticatorCredentialManagement."""
 
 from __future__ import annotations
 
@@ -27,13 +27,13 @@ def of_rp(rp: str = "example.com") -> Dict[int, Any]:
 class ManageCase(PinCase):
     """A case with subcommands of credential management by a protocol."""
 
-    def __init__(self, name: str, shows: str, protocol: int, section: str = "manage") -> None:
-        super().__init__(f"manage/{name}", section, shows, protocol)
+    def __init__(self, name: str, requirement: str, protocol: int, section: str = "manage") -> None:
+        super().__init__(f"manage/{name}", section, requirement, protocol)
         self.comment("uses: credMgmt")
         self.comment("uses: rk")
 
     def manage(self, command: int, parameters: Optional[Dict[int, Any]] = None, auth: Optional[bytes] = b"") -> Self:
-        """Sends a subcommand, authenticated by the token, by other bytes, or by nothing."""
+        """Sends a subcommand, with the token's pinUvAuthParam, other bytes, or none."""
         asked: Dict[int, Any] = {1: command}
         if parameters is not None:
             asked[2] = parameters
@@ -43,12 +43,12 @@ class ManageCase(PinCase):
         return self
 
     def go_on_listing(self, command: int) -> Self:
-        """Asks for the next one of a list, which needs no token."""
+        """Continues an enumeration, which needs no token."""
         self.cbor(COMMAND + encode({1: command}))
         return self
 
     def managing(self, rp: str = "") -> Self:
-        """Gets a token that may manage."""
+        """Gets a token with the permission cm."""
         return self.token(permissions=MANAGE, rp=rp)
 
     def stored(self, *users: int, **more: Any) -> Self:
@@ -59,29 +59,29 @@ class ManageCase(PinCase):
 
 
 def counts(protocol: int) -> List[Case]:
-    """How many there are."""
+    """The number of credentials."""
     cases: List[Case] = []
-    case = ManageCase("count", "It says how many discoverable credentials there are.", protocol)
+    case = ManageCase("count", "The metadata has the number of discoverable credentials.", protocol)
     cases.append(case.stored(1, 2).register(3).with_pin().managing().manage(COUNT).expect("managed count 2"))
-    case = ManageCase("count_of_none", "Without a credential it says 0.", protocol)
+    case = ManageCase("count_of_none", "Without credentials the number is 0.", protocol)
     cases.append(case.with_pin().managing().manage(COUNT).expect("managed count 0"))
-    case = ManageCase("count_after_replacing", "A credential that was replaced isn't counted.", protocol)
+    case = ManageCase("count_after_replacing", "A replaced credential is not counted.", protocol)
     case.stored(1).register(2, rk=True, p3=user(1)).with_pin()
     cases.append(case.managing().manage(COUNT).expect("managed count 1"))
-    case = ManageCase("count_after_reset", "After a reset there is none.", protocol, "reset")
+    case = ManageCase("count_after_reset", "After a reset the number is 0.", protocol, "reset")
     case.stored(1).cbor(RESET).presence().expect("status 00").with_pin()
     cases.append(case.managing().manage(COUNT).expect("managed count 0"))
     return cases
 
 
 def lists(protocol: int) -> List[Case]:
-    """Lists of RPs and of their credentials."""
+    """Enumerations of RPs and credentials."""
     cases: List[Case] = []
     case = ManageCase("rps", "Each RP with a discoverable credential is listed once.", protocol)
     case.stored(1, 2).stored(3, p2=OTHER_RP).register(4, p2={"id": "hidden.example", "name": "x"}).with_pin()
     case.managing().manage(RPS).expect("managed rps 2").go_on_listing(NEXT_RP).expect("managed rp")
     cases.append(case.go_on_listing(NEXT_RP).expect("status 30"))
-    case = ManageCase("rps_of_one", "One RP is listed alone.", protocol)
+    case = ManageCase("rps_of_one", "A single RP is listed.", protocol)
     case.stored(1).with_pin().managing().manage(RPS).expect("managed rps 1")
     cases.append(case.go_on_listing(NEXT_RP).expect("status 30"))
     case = ManageCase("rps_of_none", "Without a discoverable credential the status is 2e.", protocol)
@@ -92,19 +92,19 @@ def lists(protocol: int) -> List[Case]:
     for _ in range(2):
         case.go_on_listing(NEXT_CREDENTIAL).expect("managed credential")
     cases.append(case.go_on_listing(NEXT_CREDENTIAL).expect("status 30"))
-    case = ManageCase("credentials_of_one", "One credential is listed alone.", protocol)
+    case = ManageCase("credentials_of_one", "A single credential is listed.", protocol)
     case.stored(1).with_pin().managing().manage(CREDENTIALS, of_rp()).expect("managed credentials 1")
     cases.append(case.go_on_listing(NEXT_CREDENTIAL).expect("status 30"))
-    case = ManageCase("credentials_of_a_token_s_rp", "A token for an RP lists the credentials of this RP.", protocol)
+    case = ManageCase("credentials_of_a_token_s_rp", "A token for an RP can list its credentials.", protocol)
     case.stored(1).with_pin().managing("example.com")
     cases.append(case.manage(CREDENTIALS, of_rp()).expect("managed credentials 1"))
     case = ManageCase("credentials_of_none", "For an RP without a credential the status is 2e.", protocol)
     case.stored(1).with_pin().managing().manage(CREDENTIALS, of_rp("example.org"))
     cases.append(case.expect("status 2e"))
     for name, command in (("rp", NEXT_RP), ("credential", NEXT_CREDENTIAL)):
-        case = ManageCase(f"next_{name}_alone", "Without a list nothing is next.", protocol)
+        case = ManageCase(f"next_{name}_alone", "The next item without an enumeration is refused.", protocol)
         cases.append(case.stored(1).with_pin().go_on_listing(command).expect("status 30"))
-    case = ManageCase("protection", "The protection of a credential is listed.", protocol)
+    case = ManageCase("protection", "The credProtect level of a credential is listed.", protocol)
     case.comment("uses: extension credProtect")
     case.make(p6={"credProtect": 2}, p7={"rk": True}).made(1, "up extension credProtect 02").with_pin()
     cases.append(case.managing().manage(CREDENTIALS, of_rp()).expect("managed credentials 1 protect 2"))
@@ -112,29 +112,29 @@ def lists(protocol: int) -> List[Case]:
 
 
 def changes(protocol: int) -> List[Case]:
-    """Deletions and other names of users."""
+    """Deletions, and updates of user information."""
     cases: List[Case] = []
-    case = ManageCase("delete", "A credential that was deleted isn't there any more, and others are.", protocol)
+    case = ManageCase("delete", "A deleted credential is gone, and others stay.", protocol)
     case.stored(1, 2).with_pin().managing().manage(DELETE, {2: descriptor(1)}).expect("status 00")
     case.managing().manage(CREDENTIALS, of_rp()).expect("managed credentials 1")
     case.get(p3=[descriptor(1)]).expect("status 2e")
     cases.append(case.get(p3=[descriptor(2)]).asserted("up counter-rises"))
-    case = ManageCase("delete_the_last", "Without the last credential there is none.", protocol)
+    case = ManageCase("delete_the_last", "After the last credential is deleted, none is left.", protocol)
     case.stored(1).with_pin().managing().manage(DELETE, {2: descriptor(1)}).expect("status 00")
     cases.append(case.managing().manage(COUNT).expect("managed count 0").get().expect("status 2e"))
-    case = ManageCase("delete_what_isn_t_there", "For a credential that isn't there the status is 2e.", protocol)
+    case = ManageCase("delete_what_isn_t_there", "For an unknown credential the status is 2e.", protocol)
     case.stored(1).with_pin().managing().manage(DELETE, {2: descriptor(9)}).expect("status 2e")
     cases.append(case.managing().manage(COUNT).expect("managed count 1"))
     new = {"id": b"\1", "name": "renamed", "displayName": "Renamed"}
     for name, more in (("update", new), ("update_to_no_display_name", {"id": b"\1", "name": "renamed"})):
-        case = ManageCase(name, "The user's names are those that were given last.", protocol)
+        case = ManageCase(name, "User information can be updated.", protocol)
         case.stored(1).with_pin().managing().manage(UPDATE, {2: descriptor(1), 3: more}).expect("status 00")
         case.managing().manage(CREDENTIALS, of_rp()).expect("managed credentials 1 name renamed")
         cases.append(case.get(p3=[descriptor(1)]).asserted("up counter-rises user 01"))
-    case = ManageCase("update_what_isn_t_there", "For a credential that isn't there the status is 2e.", protocol)
+    case = ManageCase("update_what_isn_t_there", "For an unknown credential the status is 2e.", protocol)
     case.stored(1).with_pin().managing().manage(UPDATE, {2: descriptor(9), 3: new})
     cases.append(case.expect("status 2e"))
-    case = ManageCase("update_of_another_user", "The user's id has to be the same.", protocol)
+    case = ManageCase("update_of_another_user", "An update with another user ID is refused.", protocol)
     case.stored(1).with_pin().managing().manage(UPDATE, {2: descriptor(1), 3: {**new, "id": b"\2"}})
     case.expect("status 02").managing().manage(CREDENTIALS, of_rp())
     cases.append(case.expect("managed credentials 1 name user1"))
@@ -142,7 +142,7 @@ def changes(protocol: int) -> List[Case]:
 
 
 def refusals(protocol: int) -> List[Case]:
-    """Requests without a token, with one that doesn't permit it, and with what is missing."""
+    """Requests without a token, with a wrong one, or with missing parameters."""
     cases: List[Case] = []
     asked: Dict[str, Any] = {
         "count": (COUNT, None),
@@ -155,19 +155,19 @@ def refusals(protocol: int) -> List[Case]:
     for name, (command, parameters) in asked.items():
         case = ManageCase(f"{name}_without_token", "Without a token the status is 36.", protocol)
         cases.append(case.stored(1).with_pin().manage(command, parameters, None).expect("status 36").alive())
-        case = ManageCase(f"{name}_not_authentic", "What isn't authentic is refused.", protocol)
+        case = ManageCase(f"{name}_not_authentic", "A wrong pinUvAuthParam is refused.", protocol)
         case.stored(1).with_pin().managing().manage(command, parameters, wrong).expect("status 33")
         cases.append(case.managing().manage(COUNT).expect("managed count 1"))
-        case = ManageCase(f"{name}_not_permitted", "A token that may not manage manages nothing.", protocol)
+        case = ManageCase(f"{name}_not_permitted", "A token without the permission cm is refused.", protocol)
         case.stored(1).with_pin().token(permissions=MAKE | GET).manage(command, parameters)
         cases.append(case.expect("status 33"))
-        case = ManageCase(f"{name}_of_another_rp", "A token for another RP manages nothing here.", protocol)
+        case = ManageCase(f"{name}_of_another_rp", "A token for another RP is refused.", protocol)
         case.stored(1).with_pin().managing("example.org").manage(command, parameters)
         cases.append(case.expect("status 33"))
     for name, command in (("credentials", CREDENTIALS), ("delete", DELETE), ("update", UPDATE)):
-        case = ManageCase(f"{name}_without_parameters", "A subcommand's parameters have to be there.", protocol)
+        case = ManageCase(f"{name}_without_parameters", "A subcommand without its parameters is refused.", protocol)
         cases.append(case.stored(1).with_pin().managing().manage(command).expect("status 14"))
-    case = ManageCase("unknown", "A subcommand that isn't known is refused.", protocol)
+    case = ManageCase("unknown", "An unknown subcommand is refused.", protocol)
     cases.append(case.with_pin().managing().manage(0x7F).expect("refused 3e").alive())
     return cases
 

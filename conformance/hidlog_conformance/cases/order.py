@@ -1,4 +1,4 @@
-"""Cases of packets to which two rows of the transport's replies apply: which of the two decides."""
+"""Cases about packets with two errors, or that also meet a busy device: which ERROR is sent."""
 
 from __future__ import annotations
 
@@ -8,7 +8,7 @@ from hidlog_conformance import hid_packets as hid
 from hidlog_conformance.cases.corpus import INFO, NONCE, Case
 
 STRANGE = 9
-OURS = "the standard leaves open which of two faults is named"
+OURS = "the standard does not say which of two errors is reported"
 STATES: Dict[str, Callable[[Case], Case]] = {
     "idle": lambda case: case,
     "own_message": lambda case: case.begin(1),
@@ -17,7 +17,7 @@ STATES: Dict[str, Callable[[Case], Case]] = {
     "other_work": lambda case: case.make(2).expect("keepalive 02 on 2"),
 }
 
-# A state, what comes, what answers it (nothing: silence), what still goes on, whether the standard fixes it, its section.
+# State, packet, response (empty for none), what continues, whether the standard defines it, section.
 Row = Tuple[str, str, str, str, bool, str]
 ROWS: List[Row] = [
     ("own_work", "cancel", "status 2d", "", True, "cancel"),
@@ -79,8 +79,8 @@ ROWS: List[Row] = [
 ]
 
 
-def coming(case: Case, what: str) -> None:
-    """Writes the packet that comes."""
+def add_packet(case: Case, what: str) -> None:
+    """Adds the packet with this name to the case."""
     name, _, place = what.rpartition("_")
     channel = {"strange": STRANGE, "broadcast": hid.BROADCAST}.get(place, 1)
     name = name if channel != 1 else what
@@ -105,7 +105,7 @@ def coming(case: Case, what: str) -> None:
 
 
 def after(case: Case, state: str, goes_on: str) -> None:
-    """Shows what goes on after the packet."""
+    """Adds expectations about what continues after the packet."""
     channel = 2 if state.startswith("other") else 1
     if goes_on == "message":
         case.go_on(channel).expect(f"echo on {channel}")
@@ -121,12 +121,12 @@ def cases() -> List[Case]:
     """Returns the cases of this file."""
     found = []
     for state, what, answer, goes_on, fixed, section in ROWS:
-        says = f"answered by {answer}" if answer else "ignored"
-        shows = f"In the state {state}, what comes ({what}) is {says}; then {goes_on or 'nothing'} goes on."
+        says = f"answered with {answer}" if answer else "ignored"
+        requirement = f"In the state {state}, {what} is {says}; then {goes_on or 'nothing'} continues."
         more: Dict[str, Any] = {"needs": ["touch"] if state.endswith("work") else [], "profile": "" if fixed else OURS}
-        case = Case(f"order/{state}_and_{what}", section, shows.replace("_", " "), **more)
+        case = Case(f"order/{state}_and_{what}", section, requirement.replace("_", " "), **more)
         STATES[state](case.greet(2))
-        coming(case, what)
+        add_packet(case, what)
         case.expect(answer or "nothing")
         after(case, state, goes_on)
         found.append(case)

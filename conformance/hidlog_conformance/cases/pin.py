@@ -1,4 +1,4 @@
-"""Cases of authenticatorClientPIN, of what a PIN permits, and of extensions."""
+"""Cases about authenticatorClientPIN, permissions of tokens, and extensions."""
 
 from __future__ import annotations
 
@@ -16,26 +16,26 @@ RIGHT, OTHER, WRONG = b"1234", b"567890", b"9999"
 
 
 def uses(protocol: int) -> Dict[str, Any]:
-    """Returns what cases of a protocol need."""
+    """Returns the requirements of cases with a PIN protocol."""
     return {"needs": ["touch", "reset"], "uses": ["pin token", f"pin protocol {protocol}"]}
 
 
 class PinCase(Case):
-    """A case with PIN commands by a protocol."""
+    """A case with PIN commands of one protocol."""
 
-    def __init__(self, name: str, section: str, shows: str, protocol: int) -> None:
-        super().__init__(f"{name}_{protocol}", section, shows, **uses(protocol))
+    def __init__(self, name: str, section: str, requirement: str, protocol: int) -> None:
+        super().__init__(f"{name}_{protocol}", section, requirement, **uses(protocol))
         self.protocol = protocol
         self.greet()
 
     def pin(self, command: int, **members: Any) -> Self:
-        """Sends a subcommand; members name parameters as p3, p4 .."""
+        """Sends a subcommand with parameters p3, p4 .."""
         asked = {1: self.protocol, 2: command, **{int(name[1:]): value for name, value in members.items()}}
         self.cbor(PIN + encode(asked))
         return self
 
     def agree(self) -> Self:
-        """Asks for the key for key agreement."""
+        """Gets the key agreement key."""
         self.pin(2).expect("agreement")
         return self
 
@@ -44,7 +44,7 @@ class PinCase(Case):
         return self.agree().pin(3, p3=b"=agreement", p4=auth, p5=b"=encrypt:" + pin.ljust(64, b"\0"))
 
     def with_pin(self, pin: bytes = RIGHT) -> Self:
-        """Sets a PIN well."""
+        """Sets a PIN successfully."""
         self.set(pin).expect("status 00")
         return self
 
@@ -77,24 +77,24 @@ class PinCase(Case):
 def setting(protocol: int) -> List[Case]:
     """Sets and changes PINs."""
     cases: List[Case] = []
-    case = PinCase("pin/set", "pin", "A PIN is set, and getInfo says so.", protocol)
+    case = PinCase("pin/set", "pin", "A PIN can be set, and getInfo shows it.", protocol)
     cases.append(case.with_pin().cbor(INFO).expect("option clientPin true"))
-    case = PinCase("pin/not_set", "pin", "Without a PIN there is no token.", protocol)
+    case = PinCase("pin/not_set", "pin", "Without a PIN no token is issued.", protocol)
     cases.append(case.ask_token().expect("status 35"))
     for name, pin in (("of_three", b"123"), ("empty", b""), ("of_two_letters", "éé".encode())):
-        case = PinCase(f"pin/{name}", "pin", "A PIN has at least four letters.", protocol)
+        case = PinCase(f"pin/{name}", "pin", "A PIN of fewer than four characters is refused.", protocol)
         cases.append(case.set(pin).expect("status 37").cbor(INFO).expect("option clientPin false"))
-    case = PinCase("pin/of_63", "pin", "A PIN has at most 63 bytes.", protocol)
+    case = PinCase("pin/of_63", "pin", "A PIN of 63 bytes is accepted.", protocol)
     cases.append(case.with_pin(b"x" * 63).token(pin=b"x" * 63))
-    case = PinCase("pin/wrong_authentication", "pin", "What isn't authentic is refused.", protocol)
+    case = PinCase("pin/wrong_authentication", "pin", "A wrong pinUvAuthParam is refused.", protocol)
     wrong = bytes(16 if protocol == 1 else 32)
     cases.append(case.set(auth=wrong).expect("status 33").cbor(INFO).expect("option clientPin false"))
-    case = PinCase("pin/set_twice", "pin", "A PIN that is set isn't set anew.", protocol)
+    case = PinCase("pin/set_twice", "pin", "A PIN cannot be set twice.", protocol)
     cases.append(case.with_pin().set(OTHER).expect("status 33").token())
-    case = PinCase("pin/change", "pin", "The new PIN counts, and the old one no more.", protocol)
+    case = PinCase("pin/change", "pin", "After a change only the new PIN is accepted.", protocol)
     case.with_pin().change(RIGHT, OTHER).expect("status 00")
     cases.append(case.ask_token(RIGHT).expect("status 31").token(pin=OTHER))
-    case = PinCase("pin/change_by_a_wrong_one", "pin", "With a wrong PIN it isn't changed.", protocol)
+    case = PinCase("pin/change_by_a_wrong_one", "pin", "A change with a wrong PIN is refused.", protocol)
     cases.append(case.with_pin().change(WRONG, OTHER).expect("status 31").token())
     case = PinCase("pin/reset", "pin", "A reset removes the PIN.", protocol)
     case.with_pin().cbor(RESET).presence().expect("status 00").cbor(INFO).expect("option clientPin false")
@@ -105,35 +105,39 @@ def setting(protocol: int) -> List[Case]:
 def guessing(protocol: int) -> List[Case]:
     """Wrong PINs and retries."""
     cases: List[Case] = []
-    case = PinCase("pin/retries", "pin", "A wrong PIN costs a retry, and the right one brings them back.", protocol)
+    case = PinCase(
+        "pin/retries", "pin", "A wrong PIN decrements the retries, and the right one restores them.", protocol
+    )
     case.with_pin().pin(1).expect("retries 8").ask_token(WRONG).expect("status 31").pin(1).expect("retries 7")
     cases.append(case.token().pin(1).expect("retries 8"))
-    case = PinCase("pin/three_wrong", "pin", "After three wrong PINs in a row the power has to go.", protocol)
+    case = PinCase("pin/three_wrong", "pin", "After three consecutive wrong PINs a power cycle is required.", protocol)
     case.with_pin().pin(1).expect("retries 8")
     for status in ("31", "31", "34"):
         case.ask_token(WRONG).expect(f"status {status}")
     cases.append(case.ask_token().expect("status 34").pin(1).expect("retries 5"))
-    case = PinCase("pin/key_renewed", "pin", "After a wrong PIN the secret isn't the same.", protocol)
+    case = PinCase("pin/key_renewed", "pin", "After a wrong PIN the key agreement key is new.", protocol)
     case.with_pin().ask_token(WRONG).expect("status 31").pin(9, p3=b"=agreement", p6=b"=hash:" + RIGHT, p9=3, p10="a.b")
     cases.append(case.expect("status 31"))
     return cases
 
 
 def tokens(protocol: int) -> List[Case]:
-    """What tokens permit."""
+    """Permissions of tokens."""
     cases: List[Case] = []
-    case = PinCase("pin/registers", "make", "With a token the user is verified: flag UV.", protocol)
+    case = PinCase("pin/registers", "make", "With a token flag UV is set.", protocol)
     cases.append(case.with_pin().token().make_by_token().made(1, "up uv"))
-    case = PinCase("pin/signs_in", "get", "With a token the user is verified: flag UV.", protocol)
+    case = PinCase("pin/signs_in", "get", "With a token flag UV is set.", protocol)
     case.with_pin().token().make_by_token().made(1, "up uv")
     cases.append(case.token().get_by_token(p3=[descriptor(1)]).asserted("up uv counter-rises"))
-    case = PinCase("pin/old_token", "get", "The token of CTAP 2.0 registers and signs in.", protocol)
+    case = PinCase("pin/old_token", "get", "A token from getPinToken can register and sign in.", protocol)
     case.with_pin().agree().pin(5, p3=b"=agreement", p6=b"=hash:" + RIGHT).expect("token")
     case.make_by_token().made(1, "up uv").agree().pin(5, p3=b"=agreement", p6=b"=hash:" + RIGHT).expect("token")
     cases.append(case.get_by_token(p3=[descriptor(1)]).asserted("up uv counter-rises"))
-    case = PinCase("pin/discoverable_needs_it", "make", "With a PIN no discoverable one is made without it.", protocol)
+    case = PinCase(
+        "pin/discoverable_needs_it", "make", "With a PIN set, a discoverable credential needs a token.", protocol
+    )
     cases.append(case.with_pin().make(p7={"rk": True}).expect("refused 36").alive())
-    case = PinCase("pin/sign_in_without", "get", "A sign-in without a token has no flag UV.", protocol)
+    case = PinCase("pin/sign_in_without", "get", "Without a token flag UV is not set in a sign-in.", protocol)
     case.with_pin().token().make_by_token().made(1, "up uv").get(p3=[descriptor(1)])
     cases.append(case.asserted("up no-uv counter-rises"))
     refused: Dict[str, Dict[str, Any]] = {
@@ -141,15 +145,15 @@ def tokens(protocol: int) -> List[Case]:
         "that_signs_in": {"permissions": GET},
     }
     for name, more in refused.items():
-        case = PinCase(f"pin/token_{name}", "make", f"A token {name.replace('_', ' ')} registers nothing.", protocol)
+        case = PinCase(f"pin/token_{name}", "make", f"A token {name.replace('_', ' ')} cannot register.", protocol)
         cases.append(case.with_pin().token(**more).make_by_token().expect("status 33"))
-    case = PinCase("pin/token_that_registers", "get", "A token that registers signs in nowhere.", protocol)
+    case = PinCase("pin/token_that_registers", "get", "A token with only the permission mc cannot sign in.", protocol)
     case.with_pin().token().make_by_token().made(1, "up uv").token(permissions=MAKE)
     cases.append(case.get_by_token(p3=[descriptor(1)]).expect("status 33"))
     wrong = bytes(16 if protocol == 1 else 32)
-    case = PinCase("pin/wrong_param", "make", "A pinUvAuthParam that isn't the token's is refused.", protocol)
+    case = PinCase("pin/wrong_param", "make", "A wrong pinUvAuthParam is refused in a registration.", protocol)
     cases.append(case.with_pin().token().make(p8=wrong, p9=protocol).expect("status 33"))
-    case = PinCase("pin/wrong_param_of_sign_in", "get", "So it is at a sign-in.", protocol)
+    case = PinCase("pin/wrong_param_of_sign_in", "get", "A sign-in without the extension returns no key.", protocol)
     case.with_pin().token().make_by_token().made(1, "up uv").get(p3=[descriptor(1)], p6=wrong, p7=protocol)
     cases.append(case.expect("status 33"))
     return cases
@@ -160,23 +164,25 @@ def secrets(protocol: int) -> List[Case]:
     cases: List[Case] = []
     asked: Dict[int, Any] = {1: b"=agreement", 2: b"=encrypt:" + b"1" * 32, 3: b"=auth:2", 4: protocol}
     other, two = {**asked, 2: b"=encrypt:" + b"2" * 32}, {**asked, 2: b"=encrypt:" + b"1" * 32 + b"2" * 32}
-    case = PinCase("secret/same", "secret", "The same salt has the same secret, another salt another.", protocol)
+    case = PinCase(
+        "secret/same", "secret", "The same salt gives the same secret, and another salt a different one.", protocol
+    )
     case.comment("uses: extension hmac-secret")
     case.register(1, p6={"hmac-secret": True})
     for name, given in (("one", asked), ("one", asked), ("two", other)):
         case.agree().get(p3=[descriptor(1)], p4={"hmac-secret": given}).asserted(f"up secret {name}")
     cases.append(case)
-    case = PinCase("secret/of_two_salts", "secret", "Two salts have two secrets.", protocol)
+    case = PinCase("secret/of_two_salts", "secret", "Two salts give two secrets.", protocol)
     case.comment("uses: extension hmac-secret")
     case.register(1, p6={"hmac-secret": True}).agree()
     cases.append(case.get(p3=[descriptor(1)], p4={"hmac-secret": two}).asserted("up secret both"))
-    case = PinCase("secret/of_each_credential", "secret", "Each credential has secrets of its own.", protocol)
+    case = PinCase("secret/of_each_credential", "secret", "Each credential has different secrets.", protocol)
     case.comment("uses: extension hmac-secret")
     for number in (1, 2):
         case.register(number, p6={"hmac-secret": True}).agree()
         case.get(p3=[descriptor(number)], p4={"hmac-secret": asked}).asserted(f"up secret of-{number}")
     cases.append(case)
-    case = PinCase("secret/not_authentic", "secret", "Salts that aren't authentic are refused.", protocol)
+    case = PinCase("secret/not_authentic", "secret", "A wrong saltAuth is refused.", protocol)
     case.comment("uses: extension hmac-secret")
     wrong = {**asked, 3: bytes(16 if protocol == 1 else 32)}
     case.register(1, p6={"hmac-secret": True}).agree().get(p3=[descriptor(1)], p4={"hmac-secret": wrong}).presence()
@@ -185,11 +191,11 @@ def secrets(protocol: int) -> List[Case]:
 
 
 def extensions() -> List[Case]:
-    """credProtect, credBlob and what hmac-secret says at a registration."""
+    """credProtect, credBlob, and hmac-secret at a registration."""
     cases: List[Case] = []
     found: Dict[str, Any] = {"needs": ["touch", "reset"], "uses": ["rk", "extension credProtect"]}
     for level in (1, 2, 3):
-        case = Case(f"protect/level_{level}", "protect", "The protection of a credential is answered.", **found)
+        case = Case(f"protect/level_{level}", "protect", "The credProtect level is returned.", **found)
         case.greet().make(p6={"credProtect": level}, p7={"rk": True}).made(1, f"up extension credProtect 0{level}")
         by_list, alone = case.get(p3=[descriptor(1)]), level < 2
         case = by_list.asserted("up counter-rises") if level < 3 else by_list.expect("status 2e")
@@ -197,12 +203,12 @@ def extensions() -> List[Case]:
         cases.append(case.asserted("up counter-rises") if alone else case.expect("status 2e"))
     blob: Dict[str, Any] = {"needs": ["touch", "reset"], "uses": ["rk", "extension credBlob"]}
     for name, data in (("kept", b"a blob"), ("of_32", bytes(range(32)))):
-        case = Case(f"blob/{name}", "blob", "A blob comes back.", **blob)
+        case = Case(f"blob/{name}", "blob", "A credBlob is returned unchanged.", **blob)
         case.greet().make(p6={"credBlob": data}, p7={"rk": True}).made(1, "up extension credBlob f5")
         case.get(p4={"credBlob": True})
         cases.append(case.asserted(f"up extension credBlob {encode(data).hex()}"))
     for name, value in (("made", True), ("not_asked", False)):
-        case = Case(f"secret/{name}", "secret", "A registration answers that it has secrets.", needs=["touch"])
+        case = Case(f"secret/{name}", "secret", "A registration with hmac-secret returns true.", needs=["touch"])
         case.comment("uses: extension hmac-secret")
         words = "up extension hmac-secret f5" if value else "up"
         cases.append(case.greet().make(p6={"hmac-secret": value}).made(1, words))

@@ -1,4 +1,4 @@
-"""Cases that clients sent: their recordings, with what the standard says of each answer, written by hand.
+"""Recordings of clients, with expectations written by hand from the standard.
 
 The recordings are of tests/clients/record.sh and conformance/recorded/browsers.py.
 """
@@ -10,7 +10,7 @@ from typing import Any, Dict, List, NamedTuple
 
 from hidlog_conformance import hid_packets as hid
 from hidlog_conformance.cases.corpus import Case
-from hidlog_conformance.places import DATA
+from hidlog_conformance.paths import DATA
 
 FOLDER = os.path.join(DATA, "recorded")
 TOUCH = ["touch"]
@@ -25,12 +25,12 @@ SSH = "OpenSSH 9.2p1 with libfido2 1.12.0"
 
 
 class Recorded(NamedTuple):
-    """Names a recording's rule and what has to answer each of its messages, in their order."""
+    """A recording: its rule, and the expected response to each message, in order."""
 
     name: str
     client: str
     section: str
-    shows: str
+    requirement: str
     expects: List[str]
     needs: List[str] = TOUCH
     uses: List[str] = ES256
@@ -42,17 +42,17 @@ RECORDED = [
         "libfido2_token",
         FIDO2 + ": fido2-token -I",
         "commands",
-        "A client that asks for what isn't served hears so, command by command.",
+        "Unsupported commands are refused.",
         ["init", "info", "info", "status 01", "status 01", "status 01"],
         needs=[],
         uses=["no pin"],
-        profile="a maker's command 40 may be served",
+        profile="the vendor command 40 may be supported",
     ),
     Recorded(
         "libfido2_register",
         FIDO2 + ": fido2-cred -M, fido2-assert -G -t up=true twice",
         "get",
-        "Each program has a channel of its own, and the credential is there for all.",
+        "Each program gets its own channel, and all share the credentials.",
         ["init", "info", "made up", "init", "info", ASSERTED, "init", "info", ASSERTED],
         uses=ES256 + ["up"],
     ),
@@ -60,7 +60,7 @@ RECORDED = [
         "libfido2_discoverable",
         FIDO2 + ": fido2-cred -M -r for two users, fido2-assert -G -r",
         "next",
-        "All accounts are named, the newest first.",
+        "All accounts are returned, newest first.",
         ["init", "info", "made up", "init", "info", "made up", "init", "info"]
         + [ASSERTED + " user a634e17932285b481a2235733638107c3c231e50614d21f993f753eaefa40146 number 2"]
         + [ASSERTED + " user 3850fd3a3f8f8034e42b49caad9a9e11b0f9bee8e6eab7ffdc31c74a0f7bab5a no-number"],
@@ -71,7 +71,7 @@ RECORDED = [
         "libfido2_refused",
         FIDO2 + ": fido2-cred -M, again by EdDSA, fido2-assert -G at another RP",
         "make",
-        "An algorithm that isn't offered is refused, and so is another RP's credential.",
+        "An unsupported algorithm is refused, and so is another RP's credential.",
         ["init", "info", "made up", "init", "info", "status 26", "init", "info", "status 2e"],
         uses=ES256 + ["no algorithm -8"],
     ),
@@ -79,7 +79,7 @@ RECORDED = [
         "openssh_key",
         SSH + ": ssh-keygen -t ecdsa-sk, ssh-keygen -Y sign",
         "get",
-        "The credential is found without a touch, and then signs with one; a CANCEL at the end isn't answered.",
+        "The credential is found without a touch, then signs with one; a final CANCEL gets no response.",
         ["init", "info", "made up", "silence", "init", "info", "info", SILENT, ASSERTED, "silence"],
         uses=ES256 + ["up"],
     ),
@@ -87,7 +87,7 @@ RECORDED = [
         "openssh_untouched",
         SSH + ": ssh-keygen -t ecdsa-sk -O no-touch-required, ssh-keygen -Y sign",
         "get",
-        "With the option up false it signs without a touch, and without flag UP.",
+        "With up false the credential signs without a touch and without flag UP.",
         ["init", "info", "made up", "silence", "init", "info", "info", SILENT, SILENT, "silence"],
         uses=ES256 + ["up"],
     ),
@@ -95,7 +95,7 @@ RECORDED = [
         "openssh_refused",
         SSH + ": ssh-keygen -t ed25519-sk",
         "make",
-        "An algorithm that isn't offered is refused; a CANCEL behind it isn't answered.",
+        "An unsupported algorithm is refused; a CANCEL after it gets no response.",
         ["init", "info", "status 26", "silence"],
         needs=[],
         uses=["no algorithm -8"],
@@ -104,7 +104,7 @@ RECORDED = [
         "pam_u2f",
         "pam-u2f 1.1.0 with " + FIDO2 + ": fido2-cred -M, pamtester",
         "get",
-        "The credential is found without a touch, and then signs with one.",
+        "The credential is found without a touch, then signs with one.",
         ["init", "info", "made up", "init", "info", SILENT, ASSERTED],
         uses=ES256 + ["up"],
     ),
@@ -112,28 +112,28 @@ RECORDED = [
         "python_fido2",
         "python-fido2 0.9.1: registers, registers again with an exclude list, signs in",
         "make",
-        "Of several algorithms the first that is served is taken; a credential of the exclude list ends it.",
+        "The first supported algorithm is chosen; an excluded credential ends a registration.",
         ["init", "info", "info", "made up", "info", "status 19", "info", ASSERTED],
     ),
     Recorded(
         "chromium_excluded",
         CHROMIUM + ": create, get, create with an exclude list",
         "make",
-        "A credential of the exclude list ends it after the touch.",
+        "An excluded credential ends a registration after the touch.",
         ["init", "info", "made up", "init", "info", ASSERTED, "init", "info", "status 19"],
     ),
     Recorded(
         "chromium_unknown",
         CHROMIUM + ": create, get with an id that isn't the authenticator's",
         "get",
-        "Where the list names no credential of this RP the status is 2e.",
+        "If the allow list has no credential of this RP, the status is 2e.",
         ["init", "info", "made up", "init", "info", "status 2e"],
     ),
     Recorded(
         "chromium_discoverable",
         CHROMIUM + ": create of a discoverable credential, which it doesn't make without a PIN",
         "make",
-        "A client that wants no more than a touch registers at an RP that nobody has, and is answered.",
+        "A registration at a made-up RP, by which a client asks only for a touch, is accepted.",
         ["init", "info", "made up"],
         uses=ES256 + ["no pin"],
     ),
@@ -141,7 +141,7 @@ RECORDED = [
         "firefox_excluded",
         FIREFOX + ": create, get, create with an exclude list",
         "make",
-        "Lists are asked without a touch before; then a credential of the exclude list ends it after the touch.",
+        "Lists are checked without a touch first; then an excluded credential ends the registration after the touch.",
         ["init", "info", "made up", "init", "info", SILENT, ASSERTED, "init", "info", SILENT, "status 19"],
         uses=ES256 + ["up"],
     ),
@@ -149,7 +149,7 @@ RECORDED = [
         "firefox_discoverable",
         FIREFOX + ": create of a discoverable credential, get without a list",
         "get",
-        "A discoverable credential is found without a list, with its user.",
+        "A discoverable credential is found without an allow list, with its user.",
         ["init", "info", "made up", "init", "info", ASSERTED + " user 626f62 no-number no-name"],
         needs=FOUND,
         uses=ES256 + ["rk"],
@@ -158,31 +158,31 @@ RECORDED = [
         "firefox_unknown",
         FIREFOX + ": create, get with an id that isn't the authenticator's",
         "get",
-        "Where the list names no credential the status is 2e; then a registration with a PIN of no bytes is refused.",
+        "Without a known credential in the list the status is 2e; then a registration with an empty pinUvAuthParam is refused.",
         ["init", "info", "made up", "init", "info", "status 2e", "refused 02"],
         uses=ES256 + ["up", "no pin"],
-        profile="whether an authenticator without a PIN asks for a touch before it refuses one",
+        profile="an authenticator without a PIN may request a touch before it refuses",
     ),
 ]
 
 
 def lines_of(name: str) -> List[str]:
-    """Returns a recording's lines."""
+    """Returns the lines of a recording."""
     with open(os.path.join(FOLDER, name + ".log"), encoding="utf-8") as file:
         return file.read().splitlines()
 
 
-def expected(said: str, message: hid.Message) -> str:
-    """Returns an expectation with what it takes from the message: the nonce, and the channel."""
-    if said == "init":
-        said += f" nonce {message.data.hex()}"
-    return said if message.channel in (1, hid.BROADCAST) else f"{said} on {message.channel}"
+def expected(text: str, message: hid.Message) -> str:
+    """Completes an expectation with the message's nonce and channel."""
+    if text == "init":
+        text += f" nonce {message.data.hex()}"
+    return text if message.channel in (1, hid.BROADCAST) else f"{text} on {message.channel}"
 
 
 def case_of(recorded: Recorded) -> Case:
-    """Returns a recording as a case: what is expected comes before the next message."""
+    """Converts a recording to a case, with each expectation before the next message."""
     more: Dict[str, Any] = {"needs": recorded.needs, "uses": recorded.uses, "profile": recorded.profile}
-    case = Case(f"recorded/{recorded.name}", recorded.section, recorded.shows, **more)
+    case = Case(f"recorded/{recorded.name}", recorded.section, recorded.requirement, **more)
     case.comment("client: " + recorded.client)
     collector, expects = hid.Collector(of_host=True), list(recorded.expects)
     due = ""

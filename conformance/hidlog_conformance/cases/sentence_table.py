@@ -1,4 +1,4 @@
-"""Writes the table of the standard's sentences, and compares it with the cases: each has to be under its own rule."""
+"""Writes the table of the standard's requirements with their cases, and checks it."""
 
 from __future__ import annotations
 
@@ -9,25 +9,25 @@ from hidlog_conformance.cases.sentences import SENTENCES
 
 
 def matched(pattern: str, names: Dict[str, str]) -> Set[str]:
-    """Returns the names of a pattern; there is one at least."""
+    """Returns the cases that match a pattern; at least one must."""
     found = {name for name in names if fnmatchcase(name, pattern)}
-    assert found, f"sentences.py: no case is called {pattern}"
+    assert found, f"sentences.py: no case matches {pattern}"
     return found
 
 
 def check(rules: Dict[str, str]) -> None:
-    """Fails where a case isn't named under its own rule, or a name has no case."""
+    """Fails if a case is not listed under its own rule, or a pattern has no case."""
     named: Dict[str, Set[str]] = {}
     for section, rows in SENTENCES.items():
         for _, patterns in rows:
             for pattern in patterns.split():
                 named.setdefault(section.split(" ")[0], set()).update(matched(pattern, rules))
     lost = [name for name, rule in rules.items() if name not in named.get(rule.split(" ")[0], set())]
-    assert not lost, f"sentences.py doesn't name under their own rules: {' '.join(sorted(lost))}"
+    assert not lost, f"sentences.py does not list under their own rules: {' '.join(sorted(lost))}"
 
 
 def shown(patterns: str) -> str:
-    """Writes a sentence's cases: those of clients last."""
+    """Formats the cases of a requirement, those for clients last."""
     words = patterns.split()
     device = [f"`{word}`" for word in words if not word.startswith("client:")]
     client = [f"`{word[len('client:'):]}`" for word in words if word.startswith("client:")]
@@ -36,17 +36,17 @@ def shown(patterns: str) -> str:
 
 
 def sentence_table(rules: Dict[str, str], choices: Set[str]) -> str:
-    """Returns the table, a row a sentence, and how many have a case. A sentence whose cases are all a choice of this
-    project says so."""
+    """Returns the table, one row per requirement, and how many have a case. Marks requirements whose cases are all
+    choices of this project's profile."""
     check(rules)
-    lines: List[str] = ["| Section | What it says | Cases |", "|---|---|---|"]
+    lines: List[str] = ["| Section | Requirement | Cases |", "|---|---|---|"]
     count = [0, 0]
     for section, rows in SENTENCES.items():
         for place, (says, patterns) in enumerate(rows):
             names = {name for pattern in patterns.split() for name in matched(pattern, rules)}
-            ours = ", a choice of ours" if names and names <= choices else ""
+            ours = ", a choice of the profile" if names and names <= choices else ""
             lines.append(
                 f"| {section if place == 0 else ''} | {says} | {shown(patterns)}{ours} |".replace("|  |", "| |")
             )
             count[bool(patterns)] += 1
-    return "\n".join(lines) + f"\n\n{count[1]} sentences have a case, and {count[0]} have none.\n"
+    return "\n".join(lines) + f"\n\n{count[1]} requirements have a case, {count[0]} have none.\n"

@@ -1,4 +1,4 @@
-"""Cases of time-outs, KEEPALIVEs, CANCEL and several hosts (CTAP 2.1, 11.2.5 and 11.2.9.1)."""
+"""Cases about timeouts, KEEPALIVEs, CANCEL and several hosts (CTAP 2.1, 11.2.5 and 11.2.9.1)."""
 
 from __future__ import annotations
 
@@ -7,58 +7,60 @@ from typing import Any, Dict, List
 from hidlog_conformance import hid_packets as hid
 from hidlog_conformance.cases.corpus import INFO, RESET, SELECTION, Case, counted, descriptor
 
-OURS = "the time is 500 ms after the message's last packet, judged at the next input"
+OURS = "the timeout is 500 ms after the message's last packet, checked at the next input"
 TOUCH: Dict[str, Any] = {"needs": ["touch"]}
 EXACT: Dict[str, Any] = {"needs": ["exact time"], "profile": OURS}
 
 
 def timeouts() -> List[Case]:
-    """Messages that aren't finished."""
+    """Incomplete messages."""
     cases = []
-    case = Case("time/message_is_given_up", "timeout", "A message whose packets stop coming is dropped with an ERROR.")
+    case = Case("time/message_is_given_up", "timeout", "An incomplete message times out with an ERROR.")
     cases.append(case.greet().begin(1).tick(4000).expect("maybe error 05").alive())
-    case = Case(
-        "time/other_hosts_go_on", "timeout", "After a host stopped in the middle of a message, others are served."
-    )
+    case = Case("time/other_hosts_go_on", "timeout", "After an incomplete message times out, other hosts can send.")
     cases.append(case.greet(2).begin(1).tick(4000).expect("maybe error 05").alive(2))
-    case = Case("time/late_packet_is_ignored", "timeout", "A message that was given up isn't taken up again.")
+    case = Case("time/late_packet_is_ignored", "timeout", "A message that timed out cannot be continued.")
     cases.append(case.greet().begin(1).tick(4000).expect("maybe error 05").go_on(1).expect("silence").alive())
     case = Case(
-        "time/host_hears_of_it", "timeout", "The host should hear of it by an ERROR of code 05.", level="should"
+        "time/host_hears_of_it", "timeout", "A message that times out should get an ERROR with code 05.", level="should"
     )
     cases.append(case.greet().begin(1).tick(4000).expect("error 05").alive())
-    case = Case("time/idle_channel_stays", "timeout", "A channel without a message has no time-out.")
+    case = Case("time/idle_channel_stays", "timeout", "An idle channel has no timeout.")
     cases.append(case.greet().tick(4000).expect("silence").alive())
-    case = Case("time/just_in_time", "timeout", "A packet 499 ms after the one before is in time.", **EXACT)
+    case = Case("time/just_in_time", "timeout", "A packet 499 ms after the last one is in time.", **EXACT)
     cases.append(case.greet().begin(1).wait(499).go_on(1).expect("echo"))
-    case = Case("time/just_too_late", "timeout", "A packet 500 ms after the one before is too late.", **EXACT)
+    case = Case("time/just_too_late", "timeout", "A packet 500 ms after the last one is too late.", **EXACT)
     cases.append(case.greet().begin(1).wait(500).go_on(1).expect("error 05").alive())
-    case = Case("time/each_packet_renews", "timeout", "Each packet of the message renews its time.", **EXACT)
+    case = Case("time/each_packet_renews", "timeout", "Each packet of the message restarts the timeout.", **EXACT)
     case.greet().begin(1, 200).wait(499).go_on(1, 0, 200).wait(499).go_on(1, 1, 200).wait(499)
     cases.append(case.go_on(1, 2, 200).expect("echo"))
-    case = Case("time/cancel_renews_nothing", "timeout", "CANCEL is no packet of the message.", **EXACT)
+    case = Case("time/cancel_renews_nothing", "timeout", "CANCEL is not a packet of the message.", **EXACT)
     case.greet().begin(1).wait(300).send(1, hid.CANCEL).expect("silence").wait(200)
     cases.append(case.go_on(1).expect("error 05").alive())
-    case = Case("time/others_renew_nothing", "timeout", "Packets of other channels don't renew the time.", **EXACT)
+    case = Case(
+        "time/others_renew_nothing", "timeout", "Packets of other channels do not restart the timeout.", **EXACT
+    )
     case.greet(2).begin(1).wait(300).send(2, hid.PING, b"a").expect("error 06 on 2").wait(200)
     cases.append(case.go_on(1).expect("error 05").alive())
     for name, wait in (("499", 499), ("500", 500)):
-        case = Case(f"time/other_host_at_{name}", "timeout", "Time passes first, then the packet is served.", **EXACT)
+        case = Case(f"time/other_host_at_{name}", "timeout", "The timeout is handled before the packet.", **EXACT)
         case.greet(2).begin(1).wait(wait).send(2, hid.PING, b"a")
         cases.append(case.expect("error 06 on 2") if wait < 500 else case.expect("error 05", "echo on 2"))
-    case = Case("time/init_after_time", "timeout", "Time passes first: ERROR, then the answer of INIT.", **EXACT)
+    case = Case(
+        "time/init_after_time", "timeout", "The timeout is handled first: ERROR, then the INIT response.", **EXACT
+    )
     case.greet().begin(1).wait(500).send(1, hid.INIT, b"\x08" * 8)
     cases.append(case.expect("error 05", "init nonce 0808080808080808 on 1"))
     return cases
 
 
 def keepalives() -> List[Case]:
-    """KEEPALIVEs while a request waits."""
+    """KEEPALIVEs during a request."""
     cases = []
     case = Case(
         "keepalive/asks_for_the_user",
         "keepalive",
-        "A request that waits for the user has KEEPALIVEs of status 02.",
+        "While a touch is requested, KEEPALIVEs have status 02.",
         **TOUCH,
     )
     cases.append(case.greet().make().expect("keepalive 02").send(1, hid.CANCEL).expect("status 2d"))
@@ -69,18 +71,16 @@ def keepalives() -> List[Case]:
     for _ in range(10):
         case.tick(100).expect("keepalive 02")
     cases.append(case.send(1, hid.CANCEL).expect("status 2d"))
-    case = Case(
-        "keepalive/for_a_minute", "keepalive", "A KEEPALIVE comes at least every 100 ms, for as long as it takes."
-    )
+    case = Case("keepalive/for_a_minute", "keepalive", "A KEEPALIVE comes at least every 100 ms, without a time limit.")
     case.comment("needs: exact time")
-    case.comment("profile: nothing but the host ends the wait for the user")
+    case.comment("profile: only the host ends the wait for a touch")
     case.greet().make().expect("keepalive 02")
     for _ in range(600):
         case.tick(100).expect("keepalive 02")
     cases.append(case.send(1, hid.CANCEL).expect("status 2d"))
-    case = Case("keepalive/not_earlier", "keepalive", "Before 100 ms are over none comes.")
+    case = Case("keepalive/not_earlier", "keepalive", "No KEEPALIVE comes before 100 ms have passed.")
     case.comment("needs: exact time")
-    case.comment("profile: the standard names the longest time between two, not the shortest")
+    case.comment("profile: the standard sets a maximum interval, not a minimum")
     cases.append(case.greet().make().expect("keepalive 02").tick(99).expect("silence").tick(1).expect("keepalive 02"))
     return cases
 
@@ -88,23 +88,25 @@ def keepalives() -> List[Case]:
 def keepalive_ends() -> List[Case]:
     """Which KEEPALIVEs come, where they go, and when they end."""
     cases = []
-    case = Case("keepalive/status_changes", "keepalive", "As the status changes a KEEPALIVE says so.")
+    case = Case("keepalive/status_changes", "keepalive", "A KEEPALIVE is sent when the status changes.")
     case.comment("needs: exact time")
-    case.comment("profile: keys and signatures take no time in other devices")
+    case.comment("profile: other devices may make keys and signatures at once")
     case.greet().make().expect("keepalive 02").presence().expect("keepalive 01").tick(100).expect("keepalive 01")
     cases.append(case.key(1).expect("nothing").tick(100).expect("keepalive 01").sign().expect("made up"))
-    case = Case("keepalive/ends_with_the_answer", "keepalive", "After the answer none comes.", **TOUCH)
+    case = Case("keepalive/ends_with_the_answer", "keepalive", "No KEEPALIVE comes after the response.", **TOUCH)
     cases.append(case.greet().register(1).tick(250).expect("silence").alive())
-    case = Case("keepalive/none_for_get_info", "keepalive", "What is answered at once has none afterwards.")
+    case = Case("keepalive/none_for_get_info", "keepalive", "No KEEPALIVE comes after an immediate response.")
     cases.append(case.greet().cbor(INFO).expect("info").tick(250).expect("silence"))
-    case = Case("keepalive/on_the_channel_that_asked", "keepalive", "It goes to the channel that asked.", **TOUCH)
+    case = Case(
+        "keepalive/on_the_channel_that_asked", "keepalive", "KEEPALIVEs go to the channel of the request.", **TOUCH
+    )
     case.greet(3).make(2).expect("keepalive 02 on 2").tick(100).expect("keepalive 02 on 2")
     cases.append(case.send(2, hid.CANCEL).expect("status 2d on 2"))
     return cases
 
 
 def cancels() -> List[Case]:
-    """CANCEL of each command that waits, and of nothing."""
+    """CANCEL of each command that waits for a touch."""
     cases = []
     waiting = (("make", None), ("selection", SELECTION), ("reset", RESET))
     for name, data in waiting:
@@ -112,41 +114,35 @@ def cancels() -> List[Case]:
             "needs": ["touch"] + (["reset"] if name == "reset" else []),
             "uses": ["selection"] if name == "selection" else [],
         }
-        case = Case(
-            f"cancel/{name}", "cancel", "A request that waits is answered by CTAP2_ERR_KEEPALIVE_CANCEL.", **more
-        )
+        case = Case(f"cancel/{name}", "cancel", "A cancelled request returns CTAP2_ERR_KEEPALIVE_CANCEL.", **more)
         case.greet()
         case = case.cbor(data) if data else case.make()
         cases.append(
             case.expect("keepalive 02").send(1, hid.CANCEL).expect("status 2d").tick(200).expect("silence").alive()
         )
-    case = Case(
-        "cancel/get", "cancel", "A sign-in that waits is answered by CTAP2_ERR_KEEPALIVE_CANCEL.", needs=["touch"]
-    )
+    case = Case("cancel/get", "cancel", "A cancelled sign-in returns CTAP2_ERR_KEEPALIVE_CANCEL.", needs=["touch"])
     case.greet().register(1).get(p3=[descriptor(1)]).expect("keepalive 02").send(1, hid.CANCEL).expect("status 2d")
     cases.append(case.tick(200).expect("silence").alive())
-    case = Case("cancel/twice", "cancel", "The second CANCEL finds nothing and isn't answered.", needs=["touch"])
+    case = Case("cancel/twice", "cancel", "A second CANCEL is ignored.", needs=["touch"])
     case.greet().make().expect("keepalive 02").send(1, hid.CANCEL).expect("status 2d")
     cases.append(case.send(1, hid.CANCEL).expect("silence").alive())
-    case = Case(
-        "cancel/then_the_user_touches", "cancel", "A consent that comes after CANCEL changes nothing.", needs=["touch"]
-    )
+    case = Case("cancel/then_the_user_touches", "cancel", "A touch after CANCEL has no effect.", needs=["touch"])
     case.greet().make().expect("keepalive 02").send(1, hid.CANCEL).expect("status 2d")
     cases.append(case.presence().expect("silence").tick(150).expect("silence").alive())
-    case = Case("cancel/then_again", "cancel", "After a CANCEL the next request is served.", needs=["touch"])
+    case = Case("cancel/then_again", "cancel", "After a CANCEL the next request works.", needs=["touch"])
     case.greet().make().expect("keepalive 02").send(1, hid.CANCEL).expect("status 2d")
     cases.append(case.register(1).get(p3=[descriptor(1)]).asserted("rp example.com up counter-rises"))
-    case = Case("cancel/with_bytes", "cancel", "A CANCEL with bytes cancels too.", needs=["touch"])
-    case.comment("profile: its length isn't looked at")
+    case = Case("cancel/with_bytes", "cancel", "A CANCEL with data cancels, too.", needs=["touch"])
+    case.comment("profile: its length is ignored")
     cases.append(case.greet().make().expect("keepalive 02").send(1, hid.CANCEL, b"abc").expect("status 2d"))
     return cases
 
 
 def cancels_ignored() -> List[Case]:
-    """CANCEL for which nothing waits."""
+    """CANCEL without a pending request."""
     cases = []
     for place, channel in (("own", 1), ("strange", 9), ("broadcast", hid.BROADCAST)):
-        case = Case(f"cancel/nothing_waits_{place}", "cancel", "A CANCEL for which nothing waits is ignored.")
+        case = Case(f"cancel/nothing_waits_{place}", "cancel", "A CANCEL without a pending request is ignored.")
         cases.append(case.greet().send(channel, hid.CANCEL).expect("silence").alive())
     for place, channel in (("another_host", 2), ("strange", 9), ("broadcast", hid.BROADCAST)):
         case = Case(
@@ -157,28 +153,28 @@ def cancels_ignored() -> List[Case]:
         )
         case.greet(2).make().expect("keepalive 02").send(channel, hid.CANCEL).expect("nothing")
         cases.append(case.made(1))
-    case = Case("cancel/inside_a_message", "cancel", "A CANCEL inside of an unfinished message is ignored.")
+    case = Case("cancel/inside_a_message", "cancel", "A CANCEL within an incomplete message is ignored.")
     cases.append(case.greet().begin(1).send(1, hid.CANCEL).expect("silence").go_on(1).expect("echo"))
     return cases
 
 
 def hosts() -> List[Case]:
-    """Sessions of two hosts and more."""
+    """Sessions of two or more hosts."""
     cases = []
-    case = Case("hosts/each_its_channel", "busy", "Hosts that take turns are both served.")
+    case = Case("hosts/each_its_channel", "busy", "Two hosts can take turns.")
     case.greet(2)
     for channel in (1, 2, 2, 1):
         case.send(channel, hid.PING, counted(80)).expect(f"echo on {channel}")
     cases.append(case)
     for name, length, command in (("ping", 1, hid.PING), ("long_ping", 100, hid.PING), ("cbor", 1, hid.CBOR)):
         data = INFO if command == hid.CBOR else counted(length)
-        case = Case(f"hosts/{name}_into_a_message", "busy", "While a host's message is open, another host has to wait.")
+        case = Case(f"hosts/{name}_into_a_message", "busy", "During a host's message the device is busy for others.")
         case.greet(2).begin(1).packets(hid.packets_of(2, command, data)[:1]).expect("error 06 on 2")
         cases.append(case.go_on(1).expect("echo"))
         case = Case(
             f"hosts/{name}_into_a_request",
             "busy",
-            "While a host's request waits, another has to wait.",
+            "During a host's request the device is busy for others.",
             needs=["touch"],
         )
         case.greet(2).make().expect("keepalive 02").packets(hid.packets_of(2, command, data)[:1]).expect(
@@ -189,13 +185,13 @@ def hosts() -> List[Case]:
 
 
 def hosts_afterwards() -> List[Case]:
-    """Hosts that are served after others."""
+    """Hosts that send after others."""
     cases = []
-    case = Case("hosts/served_after_the_wait", "busy", "The other host is served once the transaction is over.")
+    case = Case("hosts/served_after_the_wait", "busy", "After the transaction another host can send.")
     case.greet(2).begin(1).send(2, hid.PING, b"a").expect("error 06 on 2").go_on(1).expect("echo")
     cases.append(case.alive(2))
     case = Case(
-        "hosts/served_after_cancel", "busy", "The other host is served once the request was cancelled.", needs=["touch"]
+        "hosts/served_after_cancel", "busy", "After a cancelled request another host can send.", needs=["touch"]
     )
     case.greet(2).make().expect("keepalive 02").send(1, hid.CANCEL).expect("status 2d")
     cases.append(case.cbor(INFO, 2).expect("info on 2"))
@@ -203,13 +199,15 @@ def hosts_afterwards() -> List[Case]:
     packets = hid.packets_of(2, hid.PING, counted(150))
     case.greet(2).begin(1).packets(packets[:1]).expect("error 06 on 2").packets(packets[1:]).expect("silence")
     cases.append(case.go_on(1).expect("echo"))
-    case = Case("hosts/sign_in_after_another_registered", "busy", "A credential is every host's.", needs=["touch"])
+    case = Case(
+        "hosts/sign_in_after_another_registered", "busy", "Credentials are shared by all hosts.", needs=["touch"]
+    )
     case.greet(2).register(1).get(2, p3=[descriptor(1)])
     cases.append(case.asserted("rp example.com up counter-rises", channel=2))
     case = Case(
         "hosts/new_host_while_one_waits",
         "init",
-        "INIT is answered at any time, and others' work goes on.",
+        "INIT gets a response at any time, and other requests continue.",
         needs=["touch"],
     )
     case.greet().make().expect("keepalive 02").send(hid.BROADCAST, hid.INIT, b"\x0a" * 8)

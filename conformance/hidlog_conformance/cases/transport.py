@@ -1,4 +1,4 @@
-"""Cases of packets, messages and each row of the transport's replies (CTAP 2.1, 11.2)."""
+"""Cases about packets, messages and the transport's responses (CTAP 2.1, 11.2)."""
 
 from __future__ import annotations
 
@@ -7,31 +7,32 @@ from typing import Any, Dict, List
 from hidlog_conformance import hid_packets as hid
 from hidlog_conformance.cases.corpus import INFO, MAKE, NONCE, Case, counted, make_request
 from hidlog_conformance.ctap_cbor import encode
+from hidlog_conformance.quantity import quantity
 
 STRANGE = 9
 SIZES = (0, 1, 2, 56, 57, 58, 59, 115, 116, 117, 118, 174, 175, 176, 256, 512, 1023, 1024, 2048, 4096, 7549, 7550, 7551)
 
 
 def pings() -> List[Case]:
-    """PING of each length at a boundary of packets."""
+    """PINGs with lengths around packet boundaries."""
     cases = []
     for size in SIZES + (7608, 7609):
         more: Dict[str, Any] = {"uses": ["messages of 7609"]} if size > 1024 else {}
-        case = Case(f"ping/bytes_{size:04}", "ping", f"A PING of {size} bytes comes back with its bytes.", **more)
+        case = Case(
+            f"ping/bytes_{size:04}", "ping", f"A PING of {quantity(size, 'byte')} is returned unchanged.", **more
+        )
         if size > 57:
-            case.comment("why: The packets are cut at 57 bytes and then at each 59.")
+            case.comment("why: The first packet has 57 bytes of data, the others 59.")
         cases.append(case.greet().send(1, hid.PING, counted(size)).expect("echo"))
-    case = Case("ping/padding_is_ignored", "packets", "Bytes behind a message are no part of it.")
+    case = Case("ping/padding_is_ignored", "packets", "Padding is ignored.")
     packet = hid.packets_of(1, hid.PING, b"abc")[0]
     cases.append(case.greet().packets([packet[:10] + b"\xff" * 54]).expect("ping 616263"))
     case = Case("ping/zeros_behind", "packets", "Unused bytes of a packet should be zero.", level="should")
     cases.append(case.greet().packets([packet[:10] + b"\xff" * 54]).expect("ping 616263", "zeros"))
-    case = Case(
-        "ping/padding_of_a_continuation", "packets", "Bytes behind a message are no part of it, in its last packet."
-    )
+    case = Case("ping/padding_of_a_continuation", "packets", "Padding in a continuation packet is ignored.")
     first, last = hid.packets_of(1, hid.PING, counted(60))
     cases.append(case.greet().packets([first, last[:8] + b"\xff" * 56]).expect("echo"))
-    case = Case("ping/many_in_a_row", "ping", "Each PING is answered, one after the other.")
+    case = Case("ping/many_in_a_row", "ping", "Several PINGs in a row get their responses.")
     case.greet()
     for size in (3, 100, 0, 57, 58):
         case.send(1, hid.PING, counted(size)).expect("echo")
@@ -39,7 +40,7 @@ def pings() -> List[Case]:
 
 
 def inits() -> List[Case]:
-    """INIT on the broadcast channel and on one's own."""
+    """INIT on the broadcast channel and on an allocated one."""
     cases = []
     for name, nonce in (
         ("count", NONCE),
@@ -47,49 +48,47 @@ def inits() -> List[Case]:
         ("ones", b"\xff" * 8),
         ("mixed", b"\xa5\0\xff\1\x80\7\0\x10"),
     ):
-        case = Case(f"init/nonce_{name}", "init", "The answer has the nonce of the request, and a new channel.")
+        case = Case(f"init/nonce_{name}", "init", "The response has the nonce of the request, and a new channel.")
         cases.append(case.send(hid.BROADCAST, hid.INIT, nonce).expect(f"init nonce {nonce.hex()}"))
-    case = Case("init/eight_channels", "init", "Each INIT on the broadcast channel gets a channel of its own.")
+    case = Case("init/eight_channels", "init", "Each INIT on the broadcast channel allocates a new channel.")
     case.greet(8)
     for number in range(1, 9):
         case.alive(number)
     cases.append(case)
-    case = Case("init/padding_is_ignored", "init", "Bytes behind the nonce are no part of the request.")
+    case = Case("init/padding_is_ignored", "init", "Padding after the nonce is ignored.")
     packet = hid.packets_of(hid.BROADCAST, hid.INIT, NONCE)[0]
     cases.append(case.packets([packet[:15] + b"\xee" * 49]).expect(f"init nonce {NONCE.hex()}"))
-    case = Case(
-        "init/on_its_own_channel", "init", "On a channel that was given out INIT is answered there, with that channel."
-    )
+    case = Case("init/on_its_own_channel", "init", "INIT on an allocated channel returns this channel.")
     case.greet().send(1, hid.INIT, b"\x08" * 8).expect("init nonce 0808080808080808 on 1")
     cases.append(case.alive())
-    case = Case("init/on_its_own_channel_twice", "init", "INIT on one's own channel gives out no new one.")
+    case = Case("init/on_its_own_channel_twice", "init", "INIT on an allocated channel allocates no new one.")
     case.greet()
     for byte in (b"\1", b"\2"):
         case.send(1, hid.INIT, byte * 8).expect(f"init nonce {byte.hex() * 8} on 1")
     cases.append(case.alive())
-    case = Case("init/drops_an_open_message", "abort", "INIT on the channel of an open message drops the message.")
+    case = Case("init/drops_an_open_message", "abort", "INIT aborts an incomplete message on its channel.")
     case.greet().begin(1).send(1, hid.INIT, b"\x08" * 8).expect("init nonce 0808080808080808 on 1")
     cases.append(case.go_on(1).expect("nothing").alive())
-    case = Case("init/drops_waiting_work", "abort", "INIT on the channel of a request that waits ends the request.")
+    case = Case("init/drops_waiting_work", "abort", "INIT aborts a pending request on its channel.")
     case.greet().make().expect("keepalive 02").send(1, hid.INIT, b"\x08" * 8).expect("init nonce 0808080808080808 on 1")
     cases.append(case.tick(200).expect("silence").alive())
     return cases + bad_inits()
 
 
 def bad_inits() -> List[Case]:
-    """INIT of another length than 8."""
+    """INIT with a wrong length."""
     cases = []
     for length in (0, 1, 7, 9, 16, 57):
         for place, channel in (("broadcast", hid.BROADCAST), ("own_channel", 1)):
-            shows = f"INIT of {length} bytes is refused: its length is 8."
-            case = Case(f"init/{place}_length_{length:02}", "init", shows)
+            requirement = f"INIT of {quantity(length, 'byte')} instead of 8 is refused."
+            case = Case(f"init/{place}_length_{length:02}", "init", requirement)
             case.greet().send(channel, hid.INIT, counted(length)).expect(f"error 03 on {channel:08x}")
             cases.append(case.alive())
     return cases
 
 
 def channels() -> List[Case]:
-    """Channels that were never given out, channel 0 and the broadcast channel."""
+    """Channels that were not allocated, channel 0 and the broadcast channel."""
     cases = []
     commands = (
         ("ping", hid.PING, b"a"),
@@ -101,51 +100,52 @@ def channels() -> List[Case]:
         for place, channel in (("strange", STRANGE), ("zero", 0), ("broadcast", hid.BROADCAST)):
             if name == "init" and place == "broadcast":
                 continue
-            shows = f"{name.upper()} on a channel that wasn't given to a host is refused."
+            requirement = f"{name.upper()} on a channel that was not allocated is refused."
             case = Case(
-                f"channels/{name}_on_{place}", "channels", shows, "Channel 0 is reserved, the broadcast one for INIT."
+                f"channels/{name}_on_{place}",
+                "channels",
+                requirement,
+                "Channel 0 is reserved, and the broadcast channel is only for INIT.",
             )
             case.greet().send(channel, command, data).expect(f"error 0b on {channel:08x}")
             cases.append(case.alive())
-    case = Case("channels/before_any_init", "channels", "Before an INIT no channel is given out.")
+    case = Case("channels/before_any_init", "channels", "Before an INIT no channel is allocated.")
     cases.append(case.send(STRANGE, hid.PING, b"a").expect(f"error 0b on {STRANGE:08x}"))
     for place, channel in (("strange", STRANGE), ("own", 1), ("broadcast", hid.BROADCAST), ("zero", 0)):
         case = Case(
-            f"channels/continuation_on_{place}", "sequence", "A continuation packet without a message is ignored."
+            f"channels/continuation_on_{place}", "sequence", "A continuation packet outside any transaction is ignored."
         )
         cases.append(case.greet().go_on(channel).expect("silence").alive())
     return cases
 
 
 def commands() -> List[Case]:
-    """Commands that aren't served, and lengths that aren't."""
+    """Unsupported commands, and invalid lengths."""
     cases = []
     served = {"msg": (hid.MSG, ["no msg"]), "wink": (hid.WINK, ["no wink"])}
     for name, (command, uses) in served.items():
-        case = Case(
-            f"commands/{name}", "error", f"{name.upper()} is refused where the capabilities don't have it.", uses=uses
-        )
+        case = Case(f"commands/{name}", "error", f"{name.upper()} is refused without its capability.", uses=uses)
         cases.append(case.greet().send(1, command, b"").expect("error 01").alive())
     for command in (0x00, 0x02, 0x05, 0x07, 0x12, 0x20, 0x3A, 0x3C, 0x3E):
-        case = Case(f"commands/unknown_{command:02x}", "error", "A command that the standard doesn't know is refused.")
+        case = Case(f"commands/unknown_{command:02x}", "error", "An unknown command is refused.")
         cases.append(case.greet().send(1, command, b"a").expect("error 01").alive())
     for command, name in ((hid.KEEPALIVE, "keepalive"), (hid.ERROR, "error")):
-        case = Case(f"commands/{name}_from_the_host", "error", "What only a device sends is refused.")
+        case = Case(f"commands/{name}_from_the_host", "error", "A message that only devices send is refused.")
         cases.append(case.greet().send(1, command, b"\1").expect("error 01").alive())
     for command, name in ((hid.LOCK, "lock"), (0x40, "vendor_40"), (0x7F, "vendor_7f")):
-        case = Case(f"commands/{name}", "error", "A command that is optional is refused.", profile="it isn't served")
+        case = Case(
+            f"commands/{name}", "error", "An unsupported optional command is refused.", profile="it is not supported"
+        )
         cases.append(case.greet().send(1, command, b"").expect("error 01").alive())
     for length in (7610, 7611, 0x7FFF, 0xFFFF):
-        case = Case(f"commands/ping_length_{length}", "packets", "A length that no message can have is refused.")
+        case = Case(f"commands/ping_length_{length}", "packets", "An invalid length is refused.")
         cases.append(case.greet().send(1, hid.PING, b"", length).expect("error 03").alive())
-        case = Case(f"commands/cbor_length_{length}", "packets", "A length that no message can have is refused.")
+        case = Case(f"commands/cbor_length_{length}", "packets", "An invalid length is refused.")
         cases.append(case.greet().send(1, hid.CBOR, INFO, length).expect("error 03").alive())
     case = Case("commands/cbor_length_0", "cbor command", "A CBOR message has at least its command byte.")
     cases.append(case.greet().send(1, hid.CBOR, b"").expect("error 03 or status").alive())
     for command in (0x00, 0x03, 0x05, 0x0E, 0x3F, 0xFF):
-        case = Case(
-            f"commands/ctap_{command:02x}", "commands", "A command byte that the standard doesn't know is refused."
-        )
+        case = Case(f"commands/ctap_{command:02x}", "commands", "An unknown command byte is refused.")
         cases.append(case.greet().cbor(bytes([command])).expect("status 01").alive())
     return cases
 
@@ -157,25 +157,27 @@ def sequences() -> List[Case]:
         case = Case(
             f"sequence/first_{name}",
             "sequence",
-            "A continuation packet with another number than the due one is refused.",
+            "A continuation packet with a wrong sequence number is refused.",
         )
         cases.append(case.greet().begin(1, 200).go_on(1, number, 200).expect("error 04").alive())
-    case = Case("sequence/repeated", "sequence", "A number that comes twice is refused.")
+    case = Case("sequence/repeated", "sequence", "A repeated sequence number is refused.")
     cases.append(case.greet().begin(1, 200).go_on(1, 0, 200).go_on(1, 0, 200).expect("error 04").alive())
-    case = Case("sequence/second_skips_one", "sequence", "A number that is left out is noticed.")
+    case = Case("sequence/second_skips_one", "sequence", "A skipped sequence number is refused.")
     cases.append(case.greet().begin(1, 300).go_on(1, 0, 300).go_on(1, 2, 300).expect("error 04").alive())
-    case = Case("sequence/message_is_dropped", "sequence", "After a wrong number the message isn't taken up again.")
+    case = Case(
+        "sequence/message_is_dropped", "sequence", "After a wrong sequence number the message cannot be continued."
+    )
     cases.append(case.greet().begin(1).go_on(1, 1).expect("error 04").go_on(1, 0).expect("silence").alive())
-    case = Case("sequence/of_another_channel", "sequence", "A continuation packet of another channel changes nothing.")
+    case = Case("sequence/of_another_channel", "sequence", "A continuation packet on another channel has no effect.")
     case.greet(2).begin(1).go_on(2).expect("silence").go_on(1).expect("echo")
     cases.append(case)
-    case = Case("sequence/after_the_last", "sequence", "A continuation packet behind a whole message is ignored.")
+    case = Case("sequence/after_the_last", "sequence", "A continuation packet after a complete message is ignored.")
     cases.append(case.greet().send(1, hid.PING, counted(100)).expect("echo").go_on(1, 1).expect("silence").alive())
-    case = Case("sequence/cbor_message", "sequence", "A CBOR message out of order is refused, and not served.")
+    case = Case("sequence/cbor_message", "sequence", "A CBOR message out of order is refused, and not processed.")
     packets = hid.packets_of(1, hid.CBOR, MAKE + encode(make_request()))
     cases.append(case.greet().packets([packets[0], packets[2]]).expect("error 04").tick(150).expect("silence").alive())
-    case = Case("sequence/init_packet_inside", "sequence", "A new message inside of an open one breaks it off.")
-    case.comment("profile: the standard leaves open what answers a host that begins anew with no INIT")
+    case = Case("sequence/init_packet_inside", "sequence", "An initialization packet within a message aborts it.")
+    case.comment("profile: the standard does not say how a host that starts over without INIT is answered")
     cases.append(case.greet().begin(1).send(1, hid.PING, b"a").expect("error 04").go_on(1).expect("silence").alive())
     return cases
 

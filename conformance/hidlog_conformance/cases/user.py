@@ -1,4 +1,4 @@
-"""Cases of devices that verify the user themselves: by a fingerprint, or by a PIN on their own keys."""
+"""Cases about built-in user verification, as by fingerprint."""
 
 from __future__ import annotations
 
@@ -14,22 +14,22 @@ UV = {"uv": True}
 
 
 class UserCase(PinCase):
-    """A case with a token for which the device verifies the user."""
+    """A case with a token from built-in user verification."""
 
-    def __init__(self, name: str, section: str, shows: str, protocol: int) -> None:
-        Case.__init__(self, f"user/{name}_{protocol}", section, shows, needs=["touch"])
+    def __init__(self, name: str, section: str, requirement: str, protocol: int) -> None:
+        Case.__init__(self, f"user/{name}_{protocol}", section, requirement, needs=["touch"])
         for use in ("uv token", f"pin protocol {protocol}"):
             self.comment(f"uses: {use}")
         self.protocol = protocol
         self.greet()
 
     def by_user(self, permissions: int = MAKE | GET, rp: str = "example.com") -> "UserCase":
-        """Asks for a token by the user."""
+        """Requests a token by built-in user verification."""
         self.agree().pin(6, p3=b"=agreement", p9=permissions, p10=rp)
         return self
 
     def token_by_user(self, permissions: int = MAKE | GET, rp: str = "example.com") -> "UserCase":
-        """Gets a token by the user."""
+        """Gets a token by built-in user verification."""
         self.by_user(permissions, rp).presence().expect("token")
         return self
 
@@ -37,28 +37,38 @@ class UserCase(PinCase):
 def options() -> List[Case]:
     """Requests with the option uv."""
     cases: List[Case] = []
-    case = Case("user/registers", "make", "With the option uv the user is verified: flag UV.", **VERIFIED)
+    case = Case("user/registers", "make", "With the option uv flag UV is set.", **VERIFIED)
     cases.append(case.greet().make(p7=UV).made(1, "up uv"))
-    case = Case("user/registers_discoverable", "make", "So it is for a discoverable one.", **ANEW)
+    case = Case(
+        "user/registers_discoverable",
+        "make",
+        "With the option uv flag UV is set for a discoverable credential.",
+        **ANEW,
+    )
     case.greet().make(p7={"rk": True, **UV}).made(1, "up uv")
     cases.append(case.get(p5=UV).asserted("up uv counter-rises user 01"))
-    case = Case("user/signs_in", "get", "With the option uv the user is verified: flag UV.", **VERIFIED)
+    case = Case("user/signs_in", "get", "With the option uv flag UV is set.", **VERIFIED)
     case.greet().make(p7=UV).made(1, "up uv").get(p3=[descriptor(1)], p5=UV)
     cases.append(case.asserted("up uv counter-rises"))
-    case = Case("user/signs_in_twice", "get", "Each sign-in verifies anew.", **VERIFIED)
+    case = Case("user/signs_in_twice", "get", "Each sign-in verifies the user again.", **VERIFIED)
     case.greet().make(p7=UV).made(1, "up uv")
     for _ in range(2):
         case.get(p3=[descriptor(1)], p5=UV).expect("keepalive 02").asserted("up uv counter-rises")
     cases.append(case)
-    case = Case("user/needed", "make", "Without verification nothing is registered.", **VERIFIED)
+    case = Case("user/needed", "make", "A registration without user verification is refused.", **VERIFIED)
     case.comment("uses: verified registrations")
     cases.append(case.greet().make().expect("status 36").alive())
-    case = Case("user/needed_for_discoverable", "make", "Without it nothing discoverable is.", **VERIFIED)
+    case = Case(
+        "user/needed_for_discoverable",
+        "make",
+        "A discoverable registration without user verification is refused.",
+        **VERIFIED,
+    )
     case.comment("uses: rk")
     case.comment("uses: verified registrations")
     cases.append(case.greet().make(p7={"rk": True}).expect("status 36").alive())
     for kind in ("make", "get"):
-        case = Case(f"user/denied_{kind}", kind, "Without the user nothing is done.", uses=["uv"], needs=["denial"])
+        case = Case(f"user/denied_{kind}", kind, "Without the user the request fails.", uses=["uv"], needs=["denial"])
         case.greet().make(p7=UV)
         if kind == "get":
             case.made(1, "up uv").get(p3=[descriptor(1)], p5=UV)
@@ -69,16 +79,16 @@ def options() -> List[Case]:
 def several() -> List[Case]:
     """Several accounts, and credential protection."""
     cases: List[Case] = []
-    shows = "A verified user sees the names of several accounts."
-    case = Case("user/names_of_several", "get", shows, **ANEW, level="should")
+    requirement = "With user verification the names of several accounts are returned."
+    case = Case("user/names_of_several", "get", requirement, **ANEW, level="should")
     case.greet()
     for number in (1, 2):
         case.make(p3=user(number), p7={"rk": True, **UV}).made(number, "up uv")
     case.get(p5=UV).asserted("up uv counter-rises user 02 number 2 name user2")
     cases.append(case.cbor(b"\x08").asserted("up uv counter-rises user 01 name user1", presence=False))
     for level in (2, 3):
-        shows = "With a verified user credential protection hides nothing."
-        case = Case(f"user/protected_{level}", "protect", shows, **ANEW)
+        requirement = "With user verification credProtect hides no credential."
+        case = Case(f"user/protected_{level}", "protect", requirement, **ANEW)
         case.comment("uses: extension credProtect")
         case.greet().make(p6={"credProtect": level}, p7={"rk": True, **UV})
         case.made(1, f"up uv extension credProtect 0{level}").get().expect("status 2e")
@@ -88,26 +98,28 @@ def several() -> List[Case]:
 
 
 def tokens(protocol: int) -> List[Case]:
-    """Tokens by the user."""
+    """Tokens by built-in user verification."""
     cases: List[Case] = []
     case = UserCase("token_registers", "pin", "For a token the device verifies the user.", protocol)
     cases.append(case.token_by_user().make_by_token().made(1, "up uv"))
-    case = UserCase("token_signs_in", "pin", "So it does for a sign-in.", protocol)
+    case = UserCase("token_signs_in", "pin", "For a token for a sign-in the device verifies the user.", protocol)
     case.token_by_user().make_by_token().made(1, "up uv").token_by_user()
     cases.append(case.get_by_token(p3=[descriptor(1)]).asserted("up uv counter-rises"))
-    case = UserCase("token_waits", "pin", "There is no token before the user is verified.", protocol)
+    case = UserCase("token_waits", "pin", "No token is issued before user verification.", protocol)
     case.by_user().expect("keepalive 02").tick(100).expect("nothing").presence()
     cases.append(case.expect("token"))
     for name, permissions, rp in (("another_rp", MAKE | GET, "example.org"), ("sign_ins", GET, "example.com")):
-        case = UserCase(f"token_of_{name}", "make", f"A token of {name.replace('_', ' ')} registers nothing.", protocol)
+        case = UserCase(f"token_of_{name}", "make", f"A token of {name.replace('_', ' ')} cannot register.", protocol)
         cases.append(case.token_by_user(permissions, rp).make_by_token().expect("status 33"))
-    case = UserCase("token_of_nothing", "pin", "A token has to permit something.", protocol)
+    case = UserCase("token_of_nothing", "pin", "A token without permissions is refused.", protocol)
     cases.append(case.by_user(0).expect("status 02"))
-    case = UserCase("token_without_permissions", "pin", "Permissions have to be there.", protocol)
+    case = UserCase(
+        "token_without_permissions", "pin", "A token request without the parameter permissions is refused.", protocol
+    )
     cases.append(case.agree().pin(6, p3=b"=agreement").expect("status 14"))
-    case = UserCase("retries", "pin", "It says how often the user may fail.", protocol)
+    case = UserCase("retries", "pin", "The user verification retries are returned.", protocol)
     cases.append(case.pin(7).expect("user_retries").pin(7).expect("user_retries"))
-    case = UserCase("retries_fall", "pin", "A user who isn't verified costs a retry.", protocol)
+    case = UserCase("retries_fall", "pin", "A failed user verification decrements the retries.", protocol)
     case.comment("needs: denial")
     case.pin(7).expect("user_retries").by_user().presence("denied").expect("status 3f")
     cases.append(case.pin(7).expect("user_retries less"))

@@ -1,1 +1,2 @@
-"""A reference authenticator: CTAP 2.1 over CTAPHID, written from the standard's algorithms for the corpus alone."""
+"""A reference authenticator for the conformance tests: CTAP 2.1 over CTAPHID, written from the standard's
+algorithms."""

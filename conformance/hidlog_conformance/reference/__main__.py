@@ -1,7 +1,6 @@
-"""Serves the reference authenticator as a command of packets: python3 -m hidlog_conformance.reference [--pin PIN]
-[--fingerprint].
+"""Runs the reference authenticator: python3 -m hidlog_conformance.reference [--pin PIN] [--fingerprint]
 
-It reads a packet a line, 128 hexadecimal digits, and writes such lines. The line `touch` is the user's touch.
+Reads and writes packets as lines of 128 hexadecimal digits. The line `touch` is a touch.
 """
 
 from __future__ import annotations
@@ -14,11 +13,11 @@ import time
 from typing import List
 
 from hidlog_conformance.reference.authenticator import Authenticator
-from hidlog_conformance.reference.traits import Traits
+from hidlog_conformance.reference.traits import DeviceTraits
 
 
 def take(authenticator: Authenticator, at: int, line: bytes) -> None:
-    """Takes a line."""
+    """Processes a line."""
     if line == b"touch":
         authenticator.u2f.touched = at
         authenticator.transport.touch(at)
@@ -27,14 +26,16 @@ def take(authenticator: Authenticator, at: int, line: bytes) -> None:
 
 
 def main(words: List[str]) -> int:
-    """Serves until the input ends."""
+    """Runs until the end of input."""
     parser = argparse.ArgumentParser(
-        prog="hidlog_conformance.reference", description="Serves a reference authenticator."
+        prog="hidlog_conformance.reference", description="Run the reference authenticator."
     )
-    parser.add_argument("--pin", default="", help="a PIN that is set from the start")
-    parser.add_argument("--fingerprint", action="store_true", help="a touch verifies the user too")
+    parser.add_argument("--pin", default="", help="initial PIN")
+    parser.add_argument(
+        "--fingerprint", action="store_true", help="built-in user verification: a touch also verifies the user"
+    )
     options = parser.parse_args(words)
-    authenticator = Authenticator(Traits(pin=options.pin, built_in_uv=options.fingerprint))
+    authenticator = Authenticator(DeviceTraits(pin=options.pin, built_in_uv=options.fingerprint))
     start, rest = time.monotonic(), b""
     while True:
         ready, _, _ = select.select([sys.stdin], [], [], 0.02)

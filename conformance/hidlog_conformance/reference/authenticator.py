@@ -1,6 +1,6 @@
 """The reference authenticator: registrations, sign-ins, reset and selection (CTAP 2.1, 6).
 
-Each step of the standard is a method, so that a fault or a trait changes one alone.
+Each step of the standard is a method, so that a mutant or a trait can change it alone.
 """
 
 from __future__ import annotations
@@ -16,9 +16,9 @@ from hidlog_conformance.reference.extensions import Extensions
 from hidlog_conformance.reference.large_blobs import LargeBlobs
 from hidlog_conformance.reference.management import Management
 from hidlog_conformance.reference.pin import AUTH_INVALID, GET, GET_USER_RETRIES, MAKE, MANAGE, NOT_SET
-from hidlog_conformance.reference.pin import USER_TOKEN, WRITE, Pin, Refused
+from hidlog_conformance.reference.pin import SHORTEST_PIN, USER_TOKEN, WRITE, Pin, RequestError
 from hidlog_conformance.reference.requests import Requests
-from hidlog_conformance.reference.traits import Traits
+from hidlog_conformance.reference.traits import DeviceTraits
 from hidlog_conformance.reference.transport import Transport, Work
 from hidlog_conformance.reference.u2f import U2f
 
@@ -27,12 +27,12 @@ ALGORITHM, DENIED, FULL, UNSUPPORTED, INVALID_OPTION = 0x26, 0x27, 0x28, 0x2B, 0
 NO_CREDENTIALS, TIMEOUT, NOT_ALLOWED, PIN_REQUIRED = 0x2E, 0x2F, 0x30, 0x36
 UP, UV, AT, ED = 0x01, 0x04, 0x40, 0x80
 RESET_TIME = 10000
-# Credential management as it was before 2.1.
+# authenticatorCredentialManagementPreview, before CTAP 2.1.
 PREVIEW = 0x41
 
 
 class Asked:
-    """Holds a request that is served: whether the user was there, and was verified."""
+    """A request in progress: user presence, and user verification."""
 
     def __init__(self, at: int, channel: int, item: Dict[Any, Any], options: Dict[str, Any]) -> None:
         self.at = at
@@ -44,7 +44,7 @@ class Asked:
 
 
 class Pending:
-    """Holds what authenticatorGetNextAssertion goes on with."""
+    """The pending assertions for authenticatorGetNextAssertion."""
 
     def __init__(self, asked: Asked, left: List[Credential], at: int) -> None:
         self.asked = asked
@@ -55,7 +55,7 @@ class Pending:
 class Authenticator:
     """Serves requests."""
 
-    def __init__(self, traits: Traits) -> None:
+    def __init__(self, traits: DeviceTraits) -> None:
         self.traits = traits
         self.transport = Transport(traits, self.serve)
         self.requests = Requests(traits)
@@ -71,13 +71,13 @@ class Authenticator:
         self.counter = traits.first_counter
 
     def new_pin(self, pin: str) -> Pin:
-        """Returns a PIN whose tokens permit what is served."""
+        """Returns a PIN whose tokens may have all supported permissions."""
         traits = self.traits
         more = (MANAGE if traits.management else 0) | (WRITE if traits.large_blobs else 0)
-        return Pin(traits.protocols, pin, MAKE | GET | more)
+        return Pin(traits.protocols, pin, MAKE | GET | more, traits.shortest_pin)
 
     def power_cycle(self) -> None:
-        """Forgets what isn't kept without power."""
+        """Resets the state that a power cycle clears."""
         self.transport = Transport(self.traits, self.serve)
         self.transport.serve_message = self.u2f.serve
         self.pending = None
@@ -91,18 +91,18 @@ class Authenticator:
             if data[0] != 8 and (data[0] == 2 or not self.traits.pending_outlasts_commands):
                 self.pending = None
             answer = yield from self.command(at, channel, data[0], data[1:])
-        except Refused as refused:
+        except RequestError as refused:
             return self.refusal(data[0], refused.status)
         return b"\0" + (encode(answer) if answer else b"")
 
     def refusal(self, command: int, status: int) -> bytes:
-        """Returns the answer of a refusal."""
+        """Returns the response for an error."""
         return bytes([status])
 
     def command(self, at: int, channel: int, command: int, data: bytes) -> Any:
-        """Serves one command; returns its answer's map."""
+        """Runs a command; returns the response's map."""
         if command in (4, 7, 8, 11) and data and command != 11:
-            raise Refused(self.traits.wrong_length)
+            raise RequestError(self.traits.wrong_length)
         if command == 1:
             return (yield from self.make(self.asked(at, channel, self.requests.read(data, requests.MAKE), 7)))
         if command == 2:
@@ -123,10 +123,10 @@ class Authenticator:
         if command == 11 and self.traits.selection:
             yield from self.consent(TIMEOUT)
             return {}
-        raise Refused(INVALID_COMMAND)
+        raise RequestError(INVALID_COMMAND)
 
     def serve_pin(self, asked: Dict[int, Any]) -> Any:
-        """Serves authenticatorClientPIN, and what a device has that verifies users itself."""
+        """Runs authenticatorClientPIN, with built-in user verification."""
         if asked.get(2) == USER_TOKEN and self.traits.built_in_uv:
             return (yield from self.pin.user_token(asked))
         if asked.get(2) == GET_USER_RETRIES and self.traits.built_in_uv:
@@ -138,17 +138,17 @@ class Authenticator:
         return Asked(at, channel, item, item.get(place, {}))
 
     def consent(self, late: int = DENIED) -> Work:
-        """Asks the user; without consent it ends."""
+        """Requests a touch; ends the request without it."""
         reply = yield
         if reply != "granted":
-            raise Refused(late if reply == "timeout" else DENIED)
+            raise RequestError(late if reply == "timeout" else DENIED)
         return b""
 
-    # What the device says of itself.
+    # getInfo (6.4).
 
     @property
     def protected(self) -> bool:
-        """Says whether some way to verify the user is set up."""
+        """Returns whether user verification is configured."""
         return bool(self.pin.hash) or self.traits.built_in_uv
 
     def options(self) -> Dict[str, bool]:
@@ -188,6 +188,8 @@ class Authenticator:
             answer[10] = [{"alg": alg, "type": "public-key"} for alg in traits.algorithms]
         if traits.large_blobs:
             answer[11] = max(1024, traits.largest_array)
+        if traits.shortest_pin != SHORTEST_PIN:
+            answer[13] = traits.shortest_pin
         if "credBlob" in traits.extensions:
             answer[15] = 32
         answer.update(traits.more_info)
@@ -199,14 +201,14 @@ class Authenticator:
         """Serves authenticatorMakeCredential."""
         item = asked.item
         if len(item[1]) != 32 or len(item[3]["id"]) > 64:
-            raise Refused(self.traits.wrong_length)
+            raise RequestError(self.traits.wrong_length)
         yield from self.pin_asks_for_touch(asked, 8)
         self.token_known(asked, 8, 9)
         algorithm = self.algorithm(item[4])
         self.make_options(asked)
         self.make_wants_user(asked)
         if 10 in item:
-            raise Refused(INVALID_PARAMETER)
+            raise RequestError(INVALID_PARAMETER)
         self.verify(asked, 8, 9, MAKE, item[2]["id"])
         self.extensions.first(asked)
         yield from self.exclude(asked)
@@ -216,52 +218,52 @@ class Authenticator:
         return self.made(asked, algorithm)
 
     def pin_asks_for_touch(self, asked: Asked, key: int) -> Work:
-        """Answers a pinUvAuthParam of no bytes: whether a PIN is set, after a touch."""
+        """Responds to an empty pinUvAuthParam after a touch: whether a PIN is set."""
         if asked.item.get(key) == b"" and self.traits.has_pin:
             yield from self.consent()
-            raise Refused(0x31 if self.pin.hash else NOT_SET)
+            raise RequestError(0x31 if self.pin.hash else NOT_SET)
         return b""
 
     def token_known(self, asked: Asked, key: int, protocol: int) -> None:
-        """Refuses a pinUvAuthParam of a protocol that isn't served."""
+        """Refuses a pinUvAuthParam with an unsupported protocol."""
         if key in asked.item:
             if not self.traits.has_pin:
-                raise Refused(INVALID_PARAMETER)
+                raise RequestError(INVALID_PARAMETER)
             self.pin.protocol(asked.item, protocol)
 
     def algorithm(self, listed: List[Dict[str, Any]]) -> int:
-        """Returns the first algorithm of the list that is served."""
+        """Returns the first supported algorithm of the list."""
         for entry in listed:
             if entry["type"] == "public-key" and entry["alg"] in self.traits.algorithms:
                 return int(entry["alg"])
-        raise Refused(ALGORITHM)
+        raise RequestError(ALGORITHM)
 
     def make_options(self, asked: Asked) -> None:
-        """Refuses options that aren't served, or can't be."""
+        """Refuses unsupported and invalid options."""
         if asked.options.get("uv") and not self.traits.built_in_uv:
-            raise Refused(INVALID_OPTION)
+            raise RequestError(INVALID_OPTION)
         if asked.options.get("rk") and not self.traits.rk:
-            raise Refused(UNSUPPORTED)
+            raise RequestError(UNSUPPORTED)
         if asked.options.get("up") is False:
-            raise Refused(INVALID_OPTION)
+            raise RequestError(INVALID_OPTION)
 
     def make_wants_user(self, asked: Asked) -> None:
-        """Refuses a registration without a verified user where one is wanted."""
+        """Refuses a registration without user verification if it is required."""
         without = 8 not in asked.item and not asked.options.get("uv")
         if without and self.traits.always_uv:
-            raise Refused(PIN_REQUIRED)
+            raise RequestError(PIN_REQUIRED)
         needed = bool(asked.options.get("rk")) or not self.traits.make_without_uv
         if without and self.protected and needed:
-            raise Refused(PIN_REQUIRED)
+            raise RequestError(PIN_REQUIRED)
 
     def verify(self, asked: Asked, key: int, protocol: int, permission: int, rp: str) -> None:
-        """Verifies the user by a token, or by the device itself."""
+        """Verifies the user by a token, or by built-in user verification."""
         if key in asked.item and self.traits.has_pin:
             if not self.protected:
-                raise Refused(AUTH_INVALID)
+                raise RequestError(AUTH_INVALID)
             found = self.pin.protocol(asked.item, protocol)
-            given = asked.item[1] if permission == MAKE else asked.item[2]
-            self.pin.check(found, given, asked.item[key], permission, rp)
+            param = asked.item[1] if permission == MAKE else asked.item[2]
+            self.pin.check(found, param, asked.item[key], permission, rp)
             asked.verified = True
             asked.present = self.traits.present_by_token and self.pin.present
             self.pin.present = False
@@ -269,20 +271,20 @@ class Authenticator:
             asked.verified = True
 
     def exclude(self, asked: Asked) -> Work:
-        """Ends a registration for which there is a credential already, after a touch."""
+        """Ends an excluded registration, after a touch."""
         if self.excluded(asked):
             yield
-            raise Refused(EXCLUDED)
+            raise RequestError(EXCLUDED)
         return b""
 
     def excluded(self, asked: Asked) -> bool:
-        """Says whether the exclude list names a credential of the RP that may be known."""
+        """Returns whether the exclude list has a visible credential of the RP."""
         named = [entry["id"] for entry in asked.item.get(5, []) if entry["type"] == "public-key"]
         found = [one for one in self.credentials if one.rp == asked.item[2]["id"] and one.id in named]
         return any(one.protection < 3 or asked.verified for one in found)
 
     def new_id(self, rp: str, user: Dict[str, Any]) -> bytes:
-        """Returns a new credential's id."""
+        """Returns a new credential ID."""
         return os.urandom(self.traits.id_length)
 
     def new_private(self, algorithm: int) -> Any:
@@ -300,14 +302,14 @@ class Authenticator:
         return self.attestation(new, auth, item[1])
 
     def store(self, new: Credential) -> None:
-        """Stores a credential; a discoverable one takes the place of that of its RP and user."""
+        """Stores a credential; a discoverable one replaces that of the same RP and user."""
         kept = [one for one in self.credentials if not self.replaces(new, one)]
         if len(kept) >= self.traits.capacity:
-            raise Refused(FULL)
+            raise RequestError(FULL)
         self.credentials = kept + [new]
 
     def replaces(self, new: Credential, old: Credential) -> bool:
-        """Says whether a new credential takes the place of an old one."""
+        """Returns whether a new credential replaces an old one."""
         return new.discoverable and old.discoverable and new.rp == old.rp and new.user["id"] == old.user["id"]
 
     def attested(self, new: Credential) -> bytes:
@@ -315,7 +317,7 @@ class Authenticator:
         return self.traits.aaguid + len(new.id).to_bytes(2, "big") + new.id + encode(new.cose())
 
     def flags(self, asked: Asked) -> int:
-        """Returns the flags of an answer."""
+        """Returns the flags of a response."""
         return self.traits.flags | (UP if asked.present else 0) | (UV if asked.verified else 0)
 
     def data(self, asked: Asked, one: Credential, counter: int, attested: bytes, outputs: Dict[str, Any]) -> bytes:
@@ -325,7 +327,7 @@ class Authenticator:
         return start + attested + (encode(outputs) if outputs else b"")
 
     def attestation(self, new: Credential, auth: bytes, client_hash: bytes) -> Dict[int, Any]:
-        """Returns the answer with the attestation of its format."""
+        """Returns the response with the attestation statement."""
         kind, statement = "packed", {}
         if self.traits.format == "none":
             kind = "none"
@@ -347,7 +349,7 @@ class Authenticator:
         return self.raised(new) if self.traits.counter in ("all", "steps") else new.counter
 
     def raised(self, one: Credential) -> int:
-        """Raises the counter of a credential, or that of all, and returns it."""
+        """Increments the counter of a credential, or the common one, and returns it."""
         if self.traits.counter == "none":
             return 0
         if self.traits.counter in ("all", "steps"):
@@ -360,7 +362,7 @@ class Authenticator:
         """Serves authenticatorGetAssertion."""
         item = asked.item
         if len(item[2]) != 32:
-            raise Refused(self.traits.wrong_length)
+            raise RequestError(self.traits.wrong_length)
         yield from self.pin_asks_for_touch(asked, 6)
         self.token_known(asked, 6, 7)
         self.get_options(asked)
@@ -370,7 +372,7 @@ class Authenticator:
         if not found:
             if self.traits.touch_before_none and asked.options.get("up", True):
                 yield from self.consent()
-            raise Refused(NO_CREDENTIALS)
+            raise RequestError(NO_CREDENTIALS)
         if asked.options.get("up", True):
             if not asked.present:
                 yield from self.consent()
@@ -378,29 +380,29 @@ class Authenticator:
         return self.first(asked, found)
 
     def get_options(self, asked: Asked) -> None:
-        """Refuses options that aren't served, or can't be."""
+        """Refuses unsupported and invalid options."""
         if asked.options.get("uv") and not self.traits.built_in_uv:
-            raise Refused(INVALID_OPTION)
+            raise RequestError(INVALID_OPTION)
         if "rk" in asked.options:
-            raise Refused(UNSUPPORTED)
+            raise RequestError(UNSUPPORTED)
 
     def get_wants_user(self, asked: Asked) -> None:
-        """Refuses a sign-in without a verified user where each has to have one."""
+        """Refuses a sign-in without user verification if it is required."""
         without = 6 not in asked.item and not asked.options.get("uv")
         if self.traits.always_uv and without and asked.options.get("up", True):
-            raise Refused(PIN_REQUIRED)
+            raise RequestError(PIN_REQUIRED)
 
     def named(self, listed: List[Dict[str, Any]], one: Credential) -> bool:
-        """Says whether a list names a credential."""
+        """Returns whether a list has a credential."""
         return any(entry["type"] == "public-key" and entry["id"] == one.id for entry in listed)
 
     def of_rp(self, rp: str) -> List[Credential]:
-        """Returns the credentials of an RP, the newest first."""
+        """Returns the credentials of an RP, newest first."""
         found = [one for one in self.credentials if one.rp == rp]
         return found if self.traits.oldest_first else found[::-1]
 
     def applicable(self, asked: Asked) -> List[Credential]:
-        """Returns the credentials that may sign: those of the list, or those that are discoverable."""
+        """Returns the credentials that may sign: those of the list, or the discoverable ones."""
         listed = asked.item.get(3)
         found = self.of_rp(asked.item[1])
         if listed:
@@ -410,11 +412,11 @@ class Authenticator:
         return [one for one in found if self.shown(asked, one, bool(listed))]
 
     def shown(self, asked: Asked, one: Credential, listed: bool) -> bool:
-        """Says whether credential protection lets a credential be found."""
+        """Returns whether credProtect permits to use a credential."""
         return asked.verified or one.protection < (3 if listed else 2)
 
     def first(self, asked: Asked, found: List[Credential]) -> Dict[int, Any]:
-        """Signs by the first of some credentials; the others wait where there was no list."""
+        """Signs with the first credential; without a list the others are pending."""
         listed = bool(asked.item.get(3))
         if listed and not self.traits.number_with_list:
             found = found[-1:] if self.traits.last_of_list else found[:1]
@@ -430,7 +432,7 @@ class Authenticator:
         return answer
 
     def user(self, asked: Asked, one: Credential) -> Dict[str, Any]:
-        """Returns the user as an assertion shows it: names to a verified user alone."""
+        """Returns the user entity of an assertion: names only with user verification."""
         return dict(one.user) if asked.verified else {"id": one.user["id"]}
 
     def assertion(self, asked: Asked, one: Credential, listed: bool) -> Dict[int, Any]:
@@ -447,7 +449,7 @@ class Authenticator:
         return answer
 
     def sign(self, one: Credential, data: bytes) -> bytes:
-        """Signs by a credential."""
+        """Signs with a credential."""
         return one.sign(data)
 
     def next(self, at: int, channel: int) -> Dict[int, Any]:
@@ -455,9 +457,9 @@ class Authenticator:
         pending = self.pending
         if pending is None or not pending.left or self.transport.at - pending.at > self.traits.pending_time:
             self.pending = None
-            raise Refused(NOT_ALLOWED)
+            raise RequestError(NOT_ALLOWED)
         if channel != pending.asked.channel and not self.traits.one_state:
-            raise Refused(NOT_ALLOWED)
+            raise RequestError(NOT_ALLOWED)
         pending.at = self.transport.at
         return self.assertion(pending.asked, pending.left.pop(0), False)
 
@@ -466,13 +468,13 @@ class Authenticator:
     def reset(self, at: int) -> Any:
         """Serves authenticatorReset."""
         if at > RESET_TIME and not self.traits.display:
-            raise Refused(NOT_ALLOWED)
+            raise RequestError(NOT_ALLOWED)
         yield from self.consent(TIMEOUT)
         self.forget()
         return {}
 
     def forget(self) -> None:
-        """Forgets credentials and the PIN."""
+        """Deletes credentials and the PIN."""
         self.credentials = []
         self.pending = None
         self.pin = self.new_pin("")

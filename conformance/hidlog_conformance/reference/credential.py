@@ -1,4 +1,4 @@
-"""Holds the credentials of the reference authenticator, and signs by them."""
+"""Credentials of the reference authenticator, and their signatures."""
 
 from __future__ import annotations
 
@@ -17,13 +17,13 @@ RAW = (serialization.Encoding.Raw, serialization.PublicFormat.Raw)
 
 
 def new_key(algorithm: int) -> Any:
-    """Makes a private key of an algorithm."""
+    """Makes a private key."""
     return ed25519.Ed25519PrivateKey.generate() if algorithm == EDDSA else ec.generate_private_key(ec.SECP256R1())
 
 
 @dataclass
 class Credential:
-    """Holds a credential."""
+    """A credential."""
 
     id: bytes
     rp: str
@@ -35,7 +35,7 @@ class Credential:
     protection: int = 1
     blob: Optional[bytes] = None
     blob_key: Optional[bytes] = None
-    # The keys of hmac-secret: without a verified user, and with one.
+    # The keys of hmac-secret, without and with user verification.
     random: bytes = field(default_factory=lambda: os.urandom(32))
     random_verified: bytes = field(default_factory=lambda: os.urandom(32))
 
@@ -53,19 +53,19 @@ class Credential:
 
 
 def signed(private: Any, algorithm: int, data: bytes) -> bytes:
-    """Signs by a private key."""
+    """Signs with a private key."""
     found = private.sign(data) if algorithm == EDDSA else private.sign(data, ec.ECDSA(hashes.SHA256()))
     return bytes(found)
 
 
 class Attestor:
-    """Holds the key and the certificate by which an authenticator attests."""
+    """The attestation key and certificate."""
 
     def __init__(self) -> None:
         self.private = ec.generate_private_key(ec.SECP256R1())
         parts = ((NameOID.COUNTRY_NAME, "SE"), (NameOID.ORGANIZATION_NAME, "Reference"))
         more = ((NameOID.ORGANIZATIONAL_UNIT_NAME, "Authenticator Attestation"), (NameOID.COMMON_NAME, "Reference"))
-        name = x509.Name([x509.NameAttribute(kind, said) for kind, said in parts + more])
+        name = x509.Name([x509.NameAttribute(kind, value) for kind, value in parts + more])
         day = datetime.datetime(2026, 1, 1)
         builder = x509.CertificateBuilder(name, name, self.private.public_key(), 1, day, day.replace(year=2056))
         builder = builder.add_extension(x509.BasicConstraints(False, None), True)

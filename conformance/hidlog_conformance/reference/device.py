@@ -1,4 +1,4 @@
-"""Plays the reference authenticator in this process, with the moments of the log as its clock."""
+"""The reference authenticator as a device under test in this process, with the time of the log."""
 
 from __future__ import annotations
 
@@ -7,19 +7,19 @@ from typing import Any, Callable, Deque, Optional
 
 from hidlog_conformance.devices import Device
 from hidlog_conformance.reference.authenticator import Authenticator
-from hidlog_conformance.reference.traits import Traits
+from hidlog_conformance.reference.traits import DeviceTraits
 
 Change = Callable[[Authenticator], None]
 
 
 class ReferenceDevice(Device):
-    """Takes packets and moments."""
+    """The reference authenticator in this process."""
 
     virtual = True
     fresh = True
-    offers = ("touch", "reset", "denial", "exact time", "two channels", "capacity 64", "power cycle")
+    features = ("touch", "reset", "denial", "exact time", "two channels", "capacity 64", "power cycle")
 
-    def __init__(self, traits: Traits, change: Optional[Change] = None) -> None:
+    def __init__(self, traits: DeviceTraits, change: Optional[Change] = None) -> None:
         self.traits = traits
         self.change = change
         self.packets: Deque[bytes] = deque()
@@ -35,7 +35,7 @@ class ReferenceDevice(Device):
         self.base = 0
 
     def power_cycle(self, at: int) -> None:
-        """Switches it off and on again."""
+        """Power cycles the authenticator."""
         self.authenticator.power_cycle()
         if self.change is not None:
             self.change(self.authenticator)
@@ -43,16 +43,16 @@ class ReferenceDevice(Device):
         self.base = at
 
     def do(self, call: Callable[..., None], *words: Any) -> None:
-        """Lets the authenticator do something; an exception of Python is its end."""
+        """Calls the authenticator; any exception ends it."""
         try:
             call(*words)
         except Exception as fault:
-            raise OSError(f"the authenticator ended: {fault!r}") from None
+            raise OSError(f"the authenticator failed: {fault!r}") from None
         self.packets += self.authenticator.transport.out
         self.authenticator.transport.out.clear()
 
     def send(self, at: int, packet: bytes) -> None:
-        """Hands the authenticator a packet."""
+        """Sends a packet to the authenticator."""
         self.do(self.authenticator.transport.packet, at - self.base, packet)
 
     def tick(self, at: int) -> None:
@@ -60,12 +60,12 @@ class ReferenceDevice(Device):
         self.do(self.authenticator.transport.tick, at - self.base)
 
     def presence(self, at: int, word: str) -> None:
-        """Lets the user touch, refuse or be too slow."""
+        """Lets the user touch, deny or time out."""
         at -= self.base
         if word == "granted":
             self.authenticator.u2f.touched = at
         self.do(self.authenticator.transport.touch, at, word)
 
     def read(self, seconds: float) -> Optional[bytes]:
-        """Returns the next packet that is there."""
+        """Returns the next packet, if any."""
         return self.packets.popleft() if self.packets else None

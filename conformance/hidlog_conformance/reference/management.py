@@ -14,7 +14,7 @@ from hidlog_conformance.reference.pin import (
     MANAGE,
     MISSING,
     NOT_ALLOWED,
-    Refused,
+    RequestError,
 )
 
 if TYPE_CHECKING:
@@ -39,7 +39,7 @@ class Management:
     def serve(self, asked: Dict[int, Any]) -> Dict[int, Any]:
         """Serves a subcommand."""
         if 1 not in asked:
-            raise Refused(MISSING)
+            raise RequestError(MISSING)
         if asked[1] == NEXT_RP:
             return self.next_rp()
         if asked[1] == NEXT_OF_RP:
@@ -47,24 +47,24 @@ class Management:
         served = {METADATA: self.metadata, RPS: self.first_rp, OF_RP: self.first_of_rp, DELETE: self.delete}
         served[UPDATE] = self.update
         if asked[1] not in served:
-            raise Refused(INVALID_SUBCOMMAND)
+            raise RequestError(INVALID_SUBCOMMAND)
         self.authorize(asked)
         return served[asked[1]](asked.get(2, {}))
 
     def authorize(self, asked: Dict[int, Any]) -> None:
-        """Refuses a request without a token that may manage."""
+        """Refuses a request without a token with the permission cm."""
         if 4 not in asked:
-            raise Refused(PIN_REQUIRED)
+            raise RequestError(PIN_REQUIRED)
         pin = self.authenticator.pin
         protocol = pin.protocol(asked, 3)
         data = bytes([asked[1]]) + (encode(asked[2]) if 2 in asked else b"")
         if not self.authenticator.protected or not pin.verified(protocol, data, asked[4]):
-            raise Refused(AUTH_INVALID)
+            raise RequestError(AUTH_INVALID)
         if not pin.permissions & MANAGE or not self.of_token(asked[1], asked.get(2, {}), pin.rp):
-            raise Refused(AUTH_INVALID)
+            raise RequestError(AUTH_INVALID)
 
     def of_token(self, command: int, asked: Dict[int, Any], rp: str) -> bool:
-        """Says whether a token that is for one RP may do this: nothing about all RPs, and nothing about others."""
+        """Returns whether the token's RP ID permits this: a token for one RP may only manage that RP."""
         if not rp or command in (METADATA, RPS):
             return not rp
         if command == OF_RP:
@@ -73,36 +73,36 @@ class Management:
         return all(one.rp == rp for one in self.stored() if one.id == named)
 
     def metadata(self, asked: Dict[int, Any]) -> Dict[int, Any]:
-        """Answers how many credentials are stored, and how many more fit."""
+        """Returns the number of stored credentials, and the remaining capacity."""
         return {1: len(self.stored()), 2: self.authenticator.traits.capacity - len(self.authenticator.credentials)}
 
     def first_rp(self, asked: Dict[int, Any]) -> Dict[int, Any]:
-        """Answers the first RP and how many there are."""
+        """Returns the first RP, and the total."""
         self.rps = list(dict.fromkeys(one.rp for one in self.stored()))
         if not self.rps:
-            raise Refused(NO_CREDENTIALS)
+            raise RequestError(NO_CREDENTIALS)
         return {**self.next_rp(), 5: len(self.rps) + 1}
 
     def next_rp(self) -> Dict[int, Any]:
-        """Answers the next RP."""
+        """Returns the next RP."""
         if not self.rps:
-            raise Refused(NOT_ALLOWED)
+            raise RequestError(NOT_ALLOWED)
         rp = self.rps.pop(0)
         return {3: {"id": rp}, 4: hashlib.sha256(rp.encode()).digest()}
 
     def first_of_rp(self, asked: Dict[int, Any]) -> Dict[int, Any]:
-        """Answers the first credential of an RP and how many there are."""
+        """Returns the first credential of an RP, and the total."""
         if 1 not in asked:
-            raise Refused(MISSING)
+            raise RequestError(MISSING)
         self.left = [one for one in self.stored() if hashlib.sha256(one.rp.encode()).digest() == asked[1]]
         if not self.left:
-            raise Refused(NO_CREDENTIALS)
+            raise RequestError(NO_CREDENTIALS)
         return {**self.next_of_rp(), 9: len(self.left) + 1}
 
     def next_of_rp(self) -> Dict[int, Any]:
-        """Answers the next credential."""
+        """Returns the next credential."""
         if not self.left:
-            raise Refused(NOT_ALLOWED)
+            raise RequestError(NOT_ALLOWED)
         one = self.left.pop(0)
         descriptor = {"id": one.id, "type": "public-key"}
         found = {6: one.user, 7: descriptor, 8: one.cose(), 10: one.protection}
@@ -111,13 +111,13 @@ class Management:
         return found
 
     def named(self, asked: Dict[int, Any]) -> Credential:
-        """Returns the credential that a request names."""
+        """Returns the credential of a request."""
         if not isinstance(asked.get(2), dict) or "id" not in asked[2]:
-            raise Refused(MISSING)
+            raise RequestError(MISSING)
         for one in self.stored():
             if one.id == asked[2]["id"]:
                 return one
-        raise Refused(NO_CREDENTIALS)
+        raise RequestError(NO_CREDENTIALS)
 
     def delete(self, asked: Dict[int, Any]) -> Dict[int, Any]:
         """Removes a credential."""
@@ -125,9 +125,9 @@ class Management:
         return {}
 
     def update(self, asked: Dict[int, Any]) -> Dict[int, Any]:
-        """Changes the names of a credential's user."""
+        """Updates the user information of a credential."""
         one = self.named(asked)
         if not isinstance(asked.get(3), dict) or asked[3].get("id") != one.user["id"]:
-            raise Refused(INVALID_PARAMETER)
+            raise RequestError(INVALID_PARAMETER)
         one.user = dict(asked[3])
         return {}

@@ -18,11 +18,13 @@ NOT_ALLOWED, INVALID_SUBCOMMAND = 0x30, 0x3E
 USER_INVALID, USER_BLOCKED, USER_TIMEOUT = 0x3F, 0x3C, 0x2F
 MAKE, GET, MANAGE, WRITE = 0x01, 0x02, 0x04, 0x10
 RETRIES, IN_A_ROW, USER_RETRIES = 8, 3, 5
-# The subcommand that exchanges a verified user for a token, and that which says how often it may fail.
+# The minimum length of a PIN in characters, unless getInfo has another.
+SHORTEST_PIN = 4
+# The subcommands getPinUvAuthTokenUsingUvWithPermissions and getUVRetries.
 USER_TOKEN, GET_USER_RETRIES = 6, 7
 
 
-class Refused(Exception):
+class RequestError(Exception):
     """Ends a request with a status."""
 
     def __init__(self, status: int) -> None:
@@ -36,29 +38,29 @@ def cipher(key: bytes, vector: bytes) -> Any:
 
 
 def cose_of(private: Any) -> Dict[int, Any]:
-    """Returns a key's public half for key agreement."""
+    """Returns the public key agreement key."""
     public = private.public_key().public_numbers()
     return {1: 2, 3: -25, -1: 1, -2: public.x.to_bytes(32, "big"), -3: public.y.to_bytes(32, "big")}
 
 
 class Protocol:
-    """Holds one PIN/UV auth protocol: key agreement, encryption, authentication."""
+    """One PIN/UV auth protocol: key agreement, encryption, authentication."""
 
     def __init__(self, number: int) -> None:
         self.number = number
         self.private = ec.generate_private_key(ec.SECP256R1())
 
     def renew(self) -> None:
-        """Makes a new key for key agreement."""
+        """Makes a new key agreement key."""
         self.private = ec.generate_private_key(ec.SECP256R1())
 
     def shared(self, peer: Any) -> bytes:
-        """Returns the secret that is shared with a peer: one key, or those of HMAC and AES one after the other."""
+        """Returns the shared secret: one key, or the HMAC and AES keys joined."""
         try:
             x, y = int.from_bytes(peer[-2], "big"), int.from_bytes(peer[-3], "big")
             public = ec.EllipticCurvePublicNumbers(x, y, ec.SECP256R1()).public_key()
         except (KeyError, TypeError, ValueError):
-            raise Refused(INVALID_PARAMETER) from None
+            raise RequestError(INVALID_PARAMETER) from None
         z = self.private.exchange(ec.ECDH(), public)
         if self.number == 1:
             return hashlib.sha256(z).digest()
@@ -75,24 +77,27 @@ class Protocol:
         """Decrypts whole blocks."""
         vector, rest = (bytes(16), data) if self.number == 1 else (data[:16], data[16:])
         if len(rest) % 16 or len(vector) != 16:
-            raise Refused(INVALID_PARAMETER)
+            raise RequestError(INVALID_PARAMETER)
         return bytes(cipher(key[-32:], vector).decryptor().update(rest))
 
     def authenticate(self, key: bytes, data: bytes) -> bytes:
-        """Returns the authentication of a message."""
+        """Returns the pinUvAuthParam of a message."""
         whole = hmac.new(key[:32], data, hashlib.sha256).digest()
         return whole[:16] if self.number == 1 else whole
 
-    def verify(self, key: bytes, data: bytes, given: bytes) -> bool:
-        """Says whether a message is authentic."""
-        return hmac.compare_digest(self.authenticate(key, data), given)
+    def verify(self, key: bytes, data: bytes, param: bytes) -> bool:
+        """Returns whether a message's pinUvAuthParam is right."""
+        return hmac.compare_digest(self.authenticate(key, data), param)
 
 
 class Pin:
-    """Holds the PIN and the tokens that it was exchanged for."""
+    """The PIN, its retries, and the token."""
 
-    def __init__(self, numbers: Tuple[int, ...], pin: str, permitted: int = MAKE | GET | MANAGE) -> None:
+    def __init__(
+        self, numbers: Tuple[int, ...], pin: str, permitted: int = MAKE | GET | MANAGE, shortest: int = SHORTEST_PIN
+    ) -> None:
         self.permitted = permitted
+        self.shortest = shortest
         self.protocols = {number: Protocol(number) for number in numbers}
         self.hash = hashlib.sha256(pin.encode()).digest()[:16] if pin else b""
         self.retries = RETRIES
@@ -101,63 +106,63 @@ class Pin:
         self.token = os.urandom(32)
         self.permissions = 0
         self.rp = ""
-        # Whether the user was there when the token was made, and it wasn't used yet.
+        # Whether the token still carries user presence.
         self.present = False
 
     def protocol(self, asked: Dict[int, Any], key: int) -> Protocol:
-        """Returns the protocol that a request names."""
+        """Returns the protocol of a request."""
         if key not in asked:
-            raise Refused(MISSING)
+            raise RequestError(MISSING)
         found = self.protocols.get(asked[key]) if isinstance(asked[key], int) else None
         if found is None:
-            raise Refused(INVALID_PARAMETER)
+            raise RequestError(INVALID_PARAMETER)
         return found
 
     def needed(self, asked: Dict[int, Any], *keys: int) -> None:
-        """Refuses where a parameter is missing."""
+        """Refuses missing parameters."""
         if any(key not in asked for key in keys):
-            raise Refused(MISSING)
+            raise RequestError(MISSING)
 
     def serve(self, asked: Dict[int, Any]) -> Dict[int, Any]:
         """Serves authenticatorClientPIN."""
         self.needed(asked, 2)
         served = {1: self.get_retries, 2: self.agree, 3: self.set, 4: self.change, 5: self.old_token, 9: self.new_token}
         if asked[2] not in served:
-            raise Refused(INVALID_SUBCOMMAND)
+            raise RequestError(INVALID_SUBCOMMAND)
         return served[asked[2]](asked)
 
     def get_retries(self, asked: Dict[int, Any]) -> Dict[int, Any]:
-        """Answers how many wrong PINs are left."""
+        """Returns the PIN retries."""
         return {3: self.retries, 4: self.in_a_row >= IN_A_ROW}
 
     def agree(self, asked: Dict[int, Any]) -> Dict[int, Any]:
-        """Answers the key for key agreement."""
+        """Returns the key agreement key."""
         return {1: cose_of(self.protocol(asked, 1).private)}
 
     def new_pin(self, protocol: Protocol, key: bytes, encrypted: bytes) -> None:
-        """Takes a new PIN, of 4 letters and at most 63 bytes."""
+        """Sets a new PIN, of at least minPINLength characters and at most 63 bytes."""
         padded = protocol.decrypt(key, encrypted)
         if len(padded) != 64:
-            raise Refused(INVALID_PARAMETER)
+            raise RequestError(INVALID_PARAMETER)
         pin = padded.rstrip(b"\0")
         if not self.long_enough(pin):
-            raise Refused(POLICY)
+            raise RequestError(POLICY)
         self.hash = hashlib.sha256(pin).digest()[:16]
         self.retries, self.in_a_row = RETRIES, 0
 
     def long_enough(self, pin: bytes) -> bool:
-        """Says whether a PIN is long enough, and not too long."""
-        return len(pin.decode("utf-8", "replace")) >= 4 and len(pin) <= 63
+        """Returns whether a PIN has a valid length."""
+        return len(pin.decode("utf-8", "replace")) >= self.shortest and len(pin) <= 63
 
     def set(self, asked: Dict[int, Any]) -> Dict[int, Any]:
         """Sets the first PIN."""
         protocol = self.protocol(asked, 1)
         self.needed(asked, 3, 4, 5)
         if self.hash:
-            raise Refused(AUTH_INVALID)
+            raise RequestError(AUTH_INVALID)
         key = protocol.shared(asked[3])
         if not protocol.verify(key, asked[5], asked[4]):
-            raise Refused(AUTH_INVALID)
+            raise RequestError(AUTH_INVALID)
         self.new_pin(protocol, key, asked[5])
         return {}
 
@@ -168,35 +173,35 @@ class Pin:
         self.unblocked()
         key = protocol.shared(asked[3])
         if not protocol.verify(key, asked[5] + asked[6], asked[4]):
-            raise Refused(AUTH_INVALID)
+            raise RequestError(AUTH_INVALID)
         self.compare(protocol, key, asked[6])
         self.new_pin(protocol, key, asked[5])
         self.token = os.urandom(32)
         return {}
 
     def unblocked(self) -> None:
-        """Refuses where no PIN is set, or where too many were wrong."""
+        """Refuses if no PIN is set, or the PIN is blocked."""
         if not self.hash:
-            raise Refused(NOT_SET)
+            raise RequestError(NOT_SET)
         if not self.retries:
-            raise Refused(PIN_BLOCKED)
+            raise RequestError(PIN_BLOCKED)
         if self.in_a_row >= IN_A_ROW:
-            raise Refused(AUTH_BLOCKED)
+            raise RequestError(AUTH_BLOCKED)
 
     def compare(self, protocol: Protocol, key: bytes, encrypted: bytes) -> None:
-        """Compares a PIN; each wrong one costs a retry and the key for key agreement."""
+        """Compares a PIN; a wrong one decrements the retries and renews the key agreement key."""
         self.retries -= 1
         if not self.same(protocol.decrypt(key, encrypted)):
             protocol.renew()
             self.in_a_row += 1
             if not self.retries:
-                raise Refused(PIN_BLOCKED)
-            raise Refused(AUTH_BLOCKED if self.in_a_row >= IN_A_ROW else PIN_INVALID)
+                raise RequestError(PIN_BLOCKED)
+            raise RequestError(AUTH_BLOCKED if self.in_a_row >= IN_A_ROW else PIN_INVALID)
         self.retries, self.in_a_row = RETRIES, 0
 
-    def same(self, given: bytes) -> bool:
-        """Says whether a PIN's hash is that of the PIN."""
-        return hmac.compare_digest(given, self.hash)
+    def same(self, param: bytes) -> bool:
+        """Returns whether a hash is that of the PIN."""
+        return hmac.compare_digest(param, self.hash)
 
     def grant(self, protocol: Protocol, key: bytes, permissions: int, rp: str) -> Dict[int, Any]:
         """Returns a new token."""
@@ -205,18 +210,18 @@ class Pin:
         return {2: protocol.encrypt(key, self.token)}
 
     def old_token(self, asked: Dict[int, Any]) -> Dict[int, Any]:
-        """Exchanges the PIN for a token that may register and sign in."""
+        """getPinToken: returns a token for registrations and sign-ins."""
         protocol = self.protocol(asked, 1)
         self.needed(asked, 3, 6)
         if 9 in asked or 10 in asked:
-            raise Refused(INVALID_PARAMETER)
+            raise RequestError(INVALID_PARAMETER)
         self.unblocked()
         key = protocol.shared(asked[3])
         self.compare(protocol, key, asked[6])
         return self.grant(protocol, key, MAKE | GET, "")
 
     def new_token(self, asked: Dict[int, Any]) -> Dict[int, Any]:
-        """Exchanges the PIN for a token with permissions."""
+        """getPinUvAuthTokenUsingPinWithPermissions: returns a token with permissions."""
         protocol = self.protocol(asked, 1)
         self.needed(asked, 3, 6, 9)
         self.permissible(asked)
@@ -226,21 +231,21 @@ class Pin:
         return self.grant(protocol, key, asked[9], asked.get(10, ""))
 
     def permissible(self, asked: Dict[int, Any]) -> None:
-        """Refuses permissions that there aren't, or that need an RP."""
+        """Refuses unknown permissions, and those that need an RP ID without one."""
         permissions = asked[9]
         if not permissions or permissions & (MAKE | GET) and 10 not in asked:
-            raise Refused(INVALID_PARAMETER if not permissions else MISSING)
+            raise RequestError(INVALID_PARAMETER if not permissions else MISSING)
         if permissions & ~self.permitted:
-            raise Refused(UNAUTHORIZED)
+            raise RequestError(UNAUTHORIZED)
 
     def user_token(self, asked: Dict[int, Any]) -> Generator[None, str, Dict[int, Any]]:
-        """Exchanges a user whom the device verifies for a token with permissions."""
+        """getPinUvAuthTokenUsingUvWithPermissions: returns a token after built-in user verification."""
         protocol = self.protocol(asked, 1)
         self.needed(asked, 3, 9)
         self.permissible(asked)
         key = protocol.shared(asked[3])
         if not self.user_retries:
-            raise Refused(USER_BLOCKED)
+            raise RequestError(USER_BLOCKED)
         reply = yield
         self.user_seen(reply)
         answer = self.grant(protocol, key, asked[9], asked.get(10, ""))
@@ -248,27 +253,27 @@ class Pin:
         return answer
 
     def user_seen(self, reply: str) -> None:
-        """Counts how often a user wasn't verified; one who is brings the retries back."""
+        """Decrements the user verification retries on failure, and restores them on success."""
         if reply == "timeout":
-            raise Refused(USER_TIMEOUT)
+            raise RequestError(USER_TIMEOUT)
         if reply != "granted":
             self.user_retries -= 1
-            raise Refused(USER_INVALID if self.user_retries else USER_BLOCKED)
+            raise RequestError(USER_INVALID if self.user_retries else USER_BLOCKED)
         self.user_retries = USER_RETRIES
 
     def get_user_retries(self, asked: Dict[int, Any]) -> Dict[int, Any]:
-        """Answers how often a user may still fail to be verified."""
+        """Returns the user verification retries."""
         return {5: self.user_retries}
 
-    def check(self, protocol: Protocol, data: bytes, given: bytes, permission: int, rp: str) -> None:
-        """Refuses a request whose token doesn't verify, or doesn't permit it at this RP."""
-        if not self.verified(protocol, data, given):
-            raise Refused(AUTH_INVALID)
+    def check(self, protocol: Protocol, data: bytes, param: bytes, permission: int, rp: str) -> None:
+        """Refuses a request with a wrong pinUvAuthParam, or whose token lacks the permission or RP ID."""
+        if not self.verified(protocol, data, param):
+            raise RequestError(AUTH_INVALID)
         if not self.permissions & permission or (self.rp and rp and self.rp != rp):
-            raise Refused(AUTH_INVALID)
+            raise RequestError(AUTH_INVALID)
         if not self.rp and rp:
             self.rp = rp
 
-    def verified(self, protocol: Protocol, data: bytes, given: bytes) -> bool:
-        """Says whether a request has the token's authentication."""
-        return protocol.verify(self.token, data, given)
+    def verified(self, protocol: Protocol, data: bytes, param: bytes) -> bool:
+        """Returns whether a request has the right pinUvAuthParam."""
+        return protocol.verify(self.token, data, param)

@@ -1,16 +1,16 @@
-"""Reads the parameters of requests for the reference authenticator."""
+"""Parses requests for the reference authenticator."""
 
 from __future__ import annotations
 
 from typing import Any, Dict, List, Optional, Tuple
 
 from hidlog_conformance import ctap_cbor
-from hidlog_conformance.reference.pin import MISSING, Refused
-from hidlog_conformance.reference.traits import Traits
+from hidlog_conformance.reference.pin import MISSING, RequestError
+from hidlog_conformance.reference.traits import DeviceTraits
 
 INVALID_LENGTH, UNEXPECTED_TYPE = 0x03, 0x11
 Types = Dict[int, Tuple[type, bool]]
-# The parameters of each command: their types, and whether they have to be there.
+# The parameters of each command: type, and whether required.
 MAKE: Types = {
     1: (bytes, True),
     2: (dict, True),
@@ -47,14 +47,14 @@ BLOBS.update({5: (bytes, False), 6: (int, False)})
 
 
 class LooseReader(ctap_cbor.Reader):
-    """Takes items that aren't canonical where they can be read."""
+    """Decodes well-formed items that are not canonical."""
 
     def read_head(self) -> Tuple[int, int, int]:
-        """Returns an item's head, also where a shorter one would do."""
+        """Returns an item's head, which may be too long."""
         return self.read_any_head()
 
     def read(self, level: int = 1) -> Any:
-        """Returns the next item; of a tag its content, of a float nothing."""
+        """Returns the next item: a tag's content, or None for a float."""
         start = self.place
         major, _, _ = self.read_head()
         if major == 6:
@@ -65,25 +65,25 @@ class LooseReader(ctap_cbor.Reader):
         return super().read(level)
 
     def text(self, start: int, length: int) -> str:
-        """Returns a text, with what isn't UTF-8 replaced."""
+        """Returns a text string, with invalid UTF-8 replaced."""
         return self.take(length).decode("utf-8", "replace")
 
     def map(self, count: int, level: int) -> Dict[Any, Any]:
-        """Returns a map in any order, of which the last of equal keys counts."""
+        """Returns a map in any order; the last of equal keys counts."""
         found: Dict[Any, Any] = {}
         for _ in range(count):
             key = self.read(level + 1)
             value = self.read(level + 1)
             if isinstance(key, (list, dict)):
-                raise ctap_cbor.CborFault("a key that is an array or a map")
+                raise ctap_cbor.CborError("a key that is an array or a map")
             found[key] = value
         return found
 
 
 class Requests:
-    """Reads and checks parameters."""
+    """Decodes and checks parameters."""
 
-    def __init__(self, traits: Traits) -> None:
+    def __init__(self, traits: DeviceTraits) -> None:
         self.traits = traits
 
     def decode(self, data: bytes) -> Any:
@@ -92,30 +92,30 @@ class Requests:
             if self.traits.takes_all_cbor:
                 return LooseReader(data).read()
             return ctap_cbor.decode(data)
-        except (ctap_cbor.CborFault, RecursionError, MemoryError):
-            raise Refused(self.traits.malformed) from None
+        except (ctap_cbor.CborError, RecursionError, MemoryError):
+            raise RequestError(self.traits.malformed) from None
 
     def read(self, data: bytes, types: Types) -> Dict[Any, Any]:
-        """Returns the parameters, each of its type; what isn't known is passed over."""
+        """Returns the parameters, with their types checked; ignores unknown ones."""
         item = self.decode(data)
         if not isinstance(item, dict):
-            raise Refused(self.traits.wrong_type)
+            raise RequestError(self.traits.wrong_type)
         for key, (kind, _) in types.items():
             if key in item:
                 self.typed(item[key], kind)
         self.inside(item, types)
         if any(needed and key not in item for key, (_, needed) in types.items()):
-            raise Refused(MISSING)
+            raise RequestError(MISSING)
         return item
 
     def typed(self, value: Any, kind: type) -> Any:
-        """Returns a value of a type, or refuses it."""
+        """Returns a value of a type, or refuses the request."""
         if not isinstance(value, kind) or kind is int and isinstance(value, bool):
-            raise Refused(self.traits.wrong_type)
+            raise RequestError(self.traits.wrong_type)
         return value
 
     def inside(self, item: Dict[Any, Any], types: Types) -> None:
-        """Checks what is inside of the parameters of registrations and sign-ins: types first, then what is missing."""
+        """Checks the members within parameters: types first, then required ones."""
         entities: List[Tuple[int, Dict[str, type], Tuple[str, ...]]] = []
         lists: List[Tuple[int, Dict[str, type], Tuple[str, ...]]] = []
         descriptor: Dict[str, type] = {"id": bytes, "type": str, "transports": list}
@@ -134,10 +134,10 @@ class Requests:
             for entry in item.get(key, []):
                 missing = self.entity(self.typed(entry, dict), kinds, needed) or missing
         if missing:
-            raise Refused(MISSING)
+            raise RequestError(MISSING)
 
     def entity(self, value: Optional[Dict[Any, Any]], kinds: Dict[str, type], needed: Tuple[str, ...]) -> bool:
-        """Checks the types of a map's members; returns whether one is missing."""
+        """Checks the types of a map's members; returns whether a required one is missing."""
         if value is None:
             return False
         for name, kind in kinds.items():

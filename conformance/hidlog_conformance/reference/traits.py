@@ -1,4 +1,4 @@
-"""Holds what may differ between lawful authenticators."""
+"""What may differ between conforming authenticators."""
 
 from __future__ import annotations
 
@@ -10,10 +10,10 @@ AAGUID = bytes.fromhex("7265666572656e6365206b6579202e20")
 
 
 @dataclass
-class Traits:
-    """Says how an authenticator uses the freedom that the standard leaves."""
+class DeviceTraits:
+    """The choices of an authenticator where the standard leaves one."""
 
-    # What getInfo says.
+    # getInfo.
     versions: Tuple[str, ...] = ("U2F_V2", "FIDO_2_0", "FIDO_2_1")
     extensions: Tuple[str, ...] = ("credBlob", "credProtect", "hmac-secret", "largeBlobKey")
     aaguid: bytes = AAGUID
@@ -25,10 +25,11 @@ class Traits:
     says_algorithms: bool = True
     more_info: Dict[int, Any] = field(default_factory=dict)
     more_options: Dict[str, bool] = field(default_factory=dict)
-    # What it serves.
+    # Supported features.
     rk: bool = True
     has_pin: bool = True
     pin: str = ""
+    shortest_pin: int = 4
     built_in_uv: bool = False
     always_uv: bool = False
     make_without_uv: bool = False
@@ -41,7 +42,7 @@ class Traits:
     wink: bool = False
     display: bool = False
     capacity: int = 100
-    # How it answers.
+    # Responses.
     id_length: int = 32
     format: str = "packed"
     flags: int = 0
@@ -51,10 +52,10 @@ class Traits:
     user_with_any: bool = False
     last_of_list: bool = False
     oldest_first: bool = False
-    # What 2.0's text does otherwise.
+    # Differences of CTAP 2.0.
     touch_before_none: bool = False
     number_with_list: bool = False
-    # Which status answers what the standard names none for, or another than most do.
+    # Statuses that the standard does not define, or that differ from most devices'.
     wrong_type: int = 0x11
     malformed: int = 0x12
     wrong_length: int = 0x03

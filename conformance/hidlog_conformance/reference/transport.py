@@ -1,10 +1,10 @@
-"""Speaks CTAPHID for the reference authenticator: packets and moments in, packets out."""
+"""CTAPHID of the reference authenticator: packets and timestamps in, packets out."""
 
 from __future__ import annotations
 
 from typing import Callable, Dict, Generator, List, Optional
 
-from hidlog_conformance.reference.traits import Traits
+from hidlog_conformance.reference.traits import DeviceTraits
 
 PING, MSG, LOCK, INIT, WINK, CBOR, CANCEL, KEEPALIVE, ERROR = 1, 3, 4, 6, 8, 16, 17, 59, 63
 BROADCAST = 0xFFFFFFFF
@@ -12,13 +12,12 @@ INVALID_COMMAND, INVALID_LENGTH, INVALID_SEQUENCE, TIMEOUT, BUSY, OTHER, INVALID
 CANCELLED = 0x2D
 LONGEST = 7609
 
-# A request at work: each yield asks for the user, and is answered by what came of it: granted, denied or
-# timeout. It returns its answer.
+# A request in progress: each yield requests a touch, and evaluates to granted, denied or timeout. Returns the response.
 Work = Generator[None, str, bytes]
 
 
 class Transaction:
-    """A message that comes in, and then the request at work."""
+    """An incoming message, and then the request in progress."""
 
     def __init__(self, channel: int, command: int, length: int, at: int) -> None:
         self.channel = channel
@@ -33,9 +32,9 @@ class Transaction:
 
 
 class Transport:
-    """Serves hosts. What a fault changes is a method of its own."""
+    """The transport. Each behavior that a mutant changes is a method."""
 
-    def __init__(self, traits: Traits, serve: Callable[[int, int, bytes], Work]) -> None:
+    def __init__(self, traits: DeviceTraits, serve: Callable[[int, int, bytes], Work]) -> None:
         self.traits = traits
         self.serve = serve
         self.serve_message: Callable[[int, bytes], bytes] = lambda at, data: b"\x6d\0"
@@ -61,7 +60,7 @@ class Transport:
         self.send(channel, ERROR, bytes([code]))
 
     def packet(self, at: int, packet: bytes) -> None:
-        """Takes a packet."""
+        """Processes a packet."""
         self.tick(at)
         channel = int.from_bytes(packet[:4], "big")
         if packet[4] & 0x80:
@@ -70,7 +69,7 @@ class Transport:
             self.go_on(channel, packet[4], packet[5:])
 
     def go_on(self, channel: int, sequence: int, data: bytes) -> None:
-        """Takes a continuation packet; without an open message it is ignored."""
+        """Processes a continuation packet; ignored outside any message."""
         now = self.now
         if now is None or now.work is not None or now.channel != channel:
             return
@@ -84,7 +83,7 @@ class Transport:
         self.whole(now)
 
     def begin(self, channel: int, command: int, length: int, data: bytes) -> None:
-        """Takes an initialization packet."""
+        """Processes an initialization packet."""
         if command == CANCEL:
             self.cancel(channel)
         elif channel != BROADCAST and channel not in self.channels:
@@ -104,11 +103,11 @@ class Transport:
             self.take(channel, command, length, data)
 
     def serves(self, command: int) -> bool:
-        """Says whether a command is served."""
+        """Returns whether a command is supported."""
         return command in (PING, CBOR) or command == MSG and self.traits.u2f or command == WINK and self.traits.wink
 
     def take(self, channel: int, command: int, length: int, data: bytes) -> None:
-        """Takes the first packet of a message that may be served."""
+        """Processes the first packet of an acceptable message."""
         self.now = None
         if not self.serves(command):
             self.error(channel, INVALID_COMMAND)
@@ -120,16 +119,16 @@ class Transport:
             self.whole(self.now)
 
     def nonce_answer(self, nonce: bytes, channel: int) -> bytes:
-        """Returns the answer of INIT."""
+        """Returns the INIT response."""
         capabilities = 0x04 | (0x01 if self.traits.wink else 0) | (0 if self.traits.u2f else 0x08)
         return nonce + channel.to_bytes(4, "big") + b"\2" + self.traits.version_bytes + bytes([capabilities])
 
     def new_channel(self) -> int:
-        """Returns a channel that wasn't given out."""
+        """Returns a channel that was not allocated before."""
         return (self.traits.first_channel + len(self.channels) * self.traits.channel_step) & 0xFFFFFFFF
 
     def init(self, channel: int, length: int, nonce: bytes) -> None:
-        """Allocates a channel, or begins anew on one."""
+        """Allocates a channel, or starts over on one."""
         if length != 8:
             self.error(channel, INVALID_LENGTH)
         elif channel != BROADCAST:
@@ -144,12 +143,12 @@ class Transport:
             self.send(BROADCAST, INIT, self.nonce_answer(nonce, new))
 
     def cancel(self, channel: int) -> None:
-        """Ends the request that waits on a channel; else it is ignored."""
+        """Cancels the pending request on a channel, if any."""
         if self.now is not None and self.now.channel == channel and self.now.work is not None:
             self.finish(bytes([CANCELLED]))
 
     def whole(self, now: Transaction) -> None:
-        """Serves a message once all its bytes are there."""
+        """Processes a complete message."""
         if len(now.data) < now.length:
             return
         data = now.data[: now.length]
@@ -177,7 +176,7 @@ class Transport:
             self.error(channel, INVALID_LENGTH)
 
     def work_on(self, reply: str = "") -> None:
-        """Lets the request work until it asks for the user or is done."""
+        """Runs the request until it requests a touch or is done."""
         assert self.now is not None and self.now.work is not None
         try:
             if reply:
@@ -191,19 +190,19 @@ class Transport:
             self.send(self.now.channel, KEEPALIVE, b"\2")
 
     def finish(self, answer: bytes) -> None:
-        """Sends the answer of the request at work."""
+        """Sends the response of the request in progress."""
         assert self.now is not None
         channel, self.now = self.now.channel, None
         self.send(channel, CBOR, answer)
 
     def touch(self, at: int, reply: str = "granted") -> None:
-        """Takes the user's touch; without a request that asks for it it is none."""
+        """Processes a touch, if one was requested."""
         self.tick(at)
         if self.now is not None and self.now.work is not None:
             self.work_on(reply)
 
     def tick(self, at: int) -> None:
-        """Ends what took too long, and shows that a request is at work."""
+        """Handles timeouts, and sends KEEPALIVEs."""
         self.at = max(at, self.at)
         now = self.now
         if now is None:

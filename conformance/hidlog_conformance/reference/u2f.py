@@ -1,4 +1,4 @@
-"""U2F of the reference authenticator: registrations and sign-ins of CTAP1 in CTAPHID_MSG."""
+"""U2F of the reference authenticator: CTAP1 registrations and sign-ins in CTAPHID_MSG."""
 
 from __future__ import annotations
 
@@ -12,7 +12,7 @@ if TYPE_CHECKING:
 
 OK, NOT_SATISFIED, WRONG_DATA, WRONG_LENGTH = b"\x90\0", b"\x69\x85", b"\x6a\x80", b"\x67\0"
 NO_CLASS, NO_INSTRUCTION = b"\x6e\0", b"\x6d\0"
-# For how many milliseconds a touch counts.
+# Milliseconds for which a touch counts.
 RECENT = 10000
 
 
@@ -24,13 +24,13 @@ class U2f:
         self.touched = -RECENT
 
     def present(self, at: int) -> bool:
-        """Says whether the user touched; a touch counts once."""
+        """Returns whether the user touched; a touch counts once."""
         recent = at - self.touched < RECENT
         self.touched = -RECENT
         return recent
 
     def serve(self, at: int, apdu: bytes) -> bytes:
-        """Serves an APDU with a length of three bytes, or without data."""
+        """Processes an APDU with a three-byte length, or without data."""
         if len(apdu) < 4:
             return WRONG_LENGTH
         if apdu[0]:
@@ -60,7 +60,7 @@ class U2f:
         return b"\5" + point + bytes([len(new.id)]) + new.id + attestor.certificate + signature + OK
 
     def found(self, data: bytes) -> Tuple[bool, Credential]:
-        """Returns the credential that a request names, where there is one."""
+        """Returns the credential of a request, if any."""
         handle = data[65 : 65 + data[64]]
         for one in self.authenticator.credentials:
             if one.id == handle and one.rp == data[32:64].hex():
@@ -68,7 +68,7 @@ class U2f:
         return False, Credential(b"", "", {}, False, ES256, None)
 
     def sign(self, at: int, control: int, data: bytes) -> bytes:
-        """Signs, or says whether it could."""
+        """Signs, or returns whether it could."""
         if len(data) < 66:
             return WRONG_LENGTH
         there, one = self.found(data)

@@ -1,0 +1,59 @@
+#!/usr/bin/env python3
+"""Runs the conformance tests against conforming variants of the reference authenticator: none may violate a MUST.
+
+    conformance/conforming_variants.py [--jobs N] [WORD ..]    the variants whose names contain a word
+"""
+
+from __future__ import annotations
+
+import argparse
+import multiprocessing
+import os
+import sys
+from typing import List, Tuple
+
+HERE = os.path.dirname(os.path.abspath(__file__))
+sys.path.insert(0, os.path.join(HERE, "variants"))
+
+from variant_list import VARIANTS  # noqa: E402
+
+from hidlog_conformance import report  # noqa: E402
+from hidlog_conformance.device_info import DeviceInfo  # noqa: E402
+from hidlog_conformance.outcome import Outcome  # noqa: E402
+from hidlog_conformance.reference.device import ReferenceDevice  # noqa: E402
+from hidlog_conformance.run import all_sessions, play_one, parse_options  # noqa: E402
+
+
+def played(name: str) -> Tuple[str, List[Outcome]]:
+    """Runs all cases against a variant."""
+    variant = VARIANTS[name]
+    device = ReferenceDevice(variant.traits)
+    display = ["--display"] if variant.traits.display else []
+    options = parse_options(["--device", "reference", "--touch", "--reset", *display])
+    device_info = DeviceInfo.ask(device, True, variant.traits.display)
+    return name, [play_one(device, session, options, device_info) for session in all_sessions()]
+
+
+def main(arguments: List[str]) -> int:
+    """Runs the chosen variants."""
+    parser = argparse.ArgumentParser(description="Run the conformance tests against conforming authenticators.")
+    parser.add_argument("--jobs", type=int, default=2, help="number of processes (default: 2)")
+    parser.add_argument("words", nargs="*", metavar="WORD", help="the variants whose names contain a word")
+    options = parser.parse_args(arguments)
+    chosen = [name for name in VARIANTS if not options.words or any(word in name for word in options.words)]
+    good = 0
+    with multiprocessing.get_context("fork").Pool(options.jobs) as pool:
+        for name, outcomes in pool.imap(played, chosen):
+            failed = [outcome for outcome in outcomes if outcome.status == "not ok"]
+            good += not failed
+            print(
+                f"{'conforming' if not failed else 'FAILED'}  {name}: {VARIANTS[name].says} {report.totals(outcomes)}"
+            )
+            for outcome in failed[:12]:
+                print(f"        {outcome.session.name}: {outcome.expected}; actual: {outcome.actual}"[:200])
+    print(f"{good} passed, {len(chosen) - good} failed")
+    return 0 if chosen and good == len(chosen) else 1
+
+
+if __name__ == "__main__":
+    sys.exit(main(sys.argv[1:]))

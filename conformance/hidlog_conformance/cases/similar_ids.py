@@ -1,0 +1,230 @@
+"""Cases about similar IDs, state that must not outlast a request, long requests, algorithms and capabilities."""
+
+from __future__ import annotations
+
+from typing import Any, Dict, List
+
+from hidlog_conformance import hid_packets as hid
+from hidlog_conformance.cases.corpus import KIND, NEXT, RESET, Case, descriptor
+from hidlog_conformance.cases.flows import ANEW, EMPTY, RISES, TOUCH, three, user
+from hidlog_conformance.quantity import quantity
+
+EDDSA: Dict[str, Any] = {"needs": ["touch"], "uses": ["algorithm -8"]}
+BOTH: Dict[str, Any] = {"needs": ["touch"], "uses": ["algorithm -7", "algorithm -8"]}
+LONG: Dict[str, Any] = {"needs": ["touch"], "uses": ["messages of 2048"]}
+NOBODY = {"id": "nobody.example", "name": "x"}
+VERSION = bytes([0, 3, 0, 0])
+
+
+def alike() -> List[Case]:
+    """IDs similar to those of credentials."""
+    cases = []
+    for kind in ("changed", "longer", "shorter"):
+        case = Case(f"lists/allow_{kind}", "get", f"A {kind} credential ID matches no credential.", **TOUCH)
+        case.greet().register(1)
+        cases.append(case.get(p3=[case.alike(1, kind)]).expect("status 2e").alive())
+        case = Case(f"lists/exclude_{kind}", "make", f"A {kind} credential ID does not exclude.", **TOUCH)
+        case.greet().register(1)
+        cases.append(case.register(2, p5=[case.alike(1, kind)]))
+    case = Case("lists/allow_alike_and_one", "get", "Similar IDs do not hide the right one.", **TOUCH)
+    case.greet().register(1)
+    found = [case.alike(1, kind) for kind in ("changed", "longer", "shorter")]
+    cases.append(case.get(p3=[*found, descriptor(1)]).asserted(RISES))
+    for count in (1, 3):
+        case = Case(
+            f"lists/allow_{count}_of_another_type",
+            "get",
+            "An allow list with only unknown types is not treated as absent.",
+            **EMPTY,
+        )
+        case.greet().register(1, rk=True)
+        cases.append(case.get(p3=[descriptor(number, "other") for number in range(1, 1 + count)]).expect("status 2e"))
+    return cases
+
+
+def outlasting() -> List[Case]:
+    """State that must not outlast its request."""
+    cases = []
+    case = three(Case("next/after_reset", "next", "After a reset nothing is pending.", **EMPTY))
+    cases.append(case.cbor(RESET).presence().expect("status 00").cbor(NEXT).expect("status 30"))
+    case = three(
+        Case(
+            "next/after_failed_sign_in", "next", "A sign-in without a credential discards pending assertions.", **EMPTY
+        )
+    )
+    cases.append(case.get(p1="nobody.example").expect("status 2e").cbor(NEXT).expect("status 30"))
+    case = three(
+        Case("next/after_cancelled_sign_in", "next", "A cancelled sign-in discards pending assertions.", **EMPTY)
+    )
+    case.get().expect("keepalive 02").send(1, hid.CANCEL).expect("status 2d")
+    cases.append(case.cbor(NEXT).expect("status 30"))
+    case = three(
+        Case("next/after_registration", "next", "A registration discards pending assertions.", **EMPTY, level="should")
+    )
+    cases.append(case.register(4, p2=NOBODY).cbor(NEXT).expect("status 30"))
+    kinds: Dict[str, Dict[str, Any]] = {"make": {}, "make_discoverable": {"p7": {"rk": True}}}
+    for name, request in kinds.items():
+        uses = ["rk"] if request else []
+        case = Case(
+            f"make/touch_before_{name}", "make", "A touch before the request does not count.", **ANEW, uses=uses
+        )
+        case.greet().presence().expect("silence").tick(100).make(**request).expect("keepalive 02").tick(100)
+        cases.append(case.expect("nothing").send(1, hid.CANCEL).expect("status 2d"))
+    case = Case("get/touch_before", "get", "A touch before the request does not count.", **TOUCH)
+    case.greet().register(1).presence().expect("silence").tick(100).get(p3=[descriptor(1)]).expect("keepalive 02")
+    cases.append(case.tick(100).expect("nothing").send(1, hid.CANCEL).expect("status 2d"))
+    case = Case("get/touch_counts_once", "get", "The touch of one request does not count for the next.", **TOUCH)
+    case.greet().register(1).get(p3=[descriptor(1)]).asserted(RISES).get(p3=[descriptor(1)]).expect("keepalive 02")
+    cases.append(case.tick(100).expect("nothing").send(1, hid.CANCEL).expect("status 2d"))
+    return cases
+
+
+def counters() -> List[Case]:
+    """Counters of further assertions, and of several credentials."""
+    cases = []
+    case = Case("next/counter_rises", "next", "The counters of further assertions rise, too.", **EMPTY)
+    case.greet().register(1, rk=True, p3=user(1)).register(2, rk=True, p3=user(2))
+    for _ in range(3):
+        case.get().asserted(f"{RISES} user 02 number 2").cbor(NEXT).asserted(f"{RISES} user 01", presence=False)
+    cases.append(case)
+    case = Case("get/counters_of_two", "get", "Each credential's counter rises.", **TOUCH)
+    case.greet().register(1).register(2)
+    for number in (1, 2, 2, 1):
+        case.get(p3=[descriptor(number)]).asserted(RISES)
+    cases.append(case)
+    case = Case(
+        "get/counter_rises_without_touch", "get", "The counter rises without a touch, too.", **TOUCH, uses=["up"]
+    )
+    case.greet().register(1)
+    for _ in range(3):
+        case.get(p3=[descriptor(1)], p5={"up": False}).asserted("no-up counter-rises", presence=False)
+    mixed = Case(
+        "get/counter_rises_with_and_without_touch",
+        "get",
+        "The counter rises with and without touches in turn.",
+        **TOUCH,
+        uses=["up"],
+    )
+    mixed.greet().register(1)
+    for word, options in (("up", {}), ("no-up", {"up": False}), ("up", {}), ("no-up", {"up": False})):
+        mixed.get(p3=[descriptor(1)], p5=options or None).asserted(f"{word} counter-rises", presence=word == "up")
+    return cases + [case, mixed]
+
+
+def whole() -> List[Case]:
+    """Unchanged user IDs, long requests, and many credentials."""
+    cases = []
+    for length in (16, 33, 64):
+        case = Case(
+            f"get/user_id_of_{length}",
+            "get",
+            f"A user.id of {quantity(length, 'byte')} is returned unchanged.",
+            **EMPTY,
+        )
+        identity = bytes((7 * number + 3) % 256 for number in range(length))
+        case.greet().register(1, rk=True, p3={"id": identity, "name": "x", "displayName": "x"})
+        cases.append(case.get().asserted(f"{RISES} user {identity.hex()}"))
+    case = Case("make/user_id_in_no_id", "make", "The credential ID does not contain the user ID.", **TOUCH)
+    known = {"id": b"somebody@example.com", "name": "x", "displayName": "x"}
+    cases.append(case.greet().register(1, p3=known).register(2, p3={**known, "id": b"somebody-else@example.com"}))
+    case = Case("make/long_request", "make", "A request of 2000 bytes is accepted if maxMsgSize allows it.", **LONG)
+    cases.append(case.greet().register(1, p2={"id": "example.com", "name": "x" * 1800}))
+    case = Case("get/long_request", "get", "A sign-in of 1800 bytes is accepted if maxMsgSize allows it.", **LONG)
+    case.greet().register(1).get(p3=[descriptor(1)], p4={"unknown": "x" * 1600})
+    cases.append(case.asserted(RISES))
+    for name, rk, more in (("by_list", False, " no-name"), ("discoverable_by_list", True, " no-name")):
+        uses = ["rk"] if rk else []
+        case = Case(
+            f"get/names_{name}",
+            "get",
+            "User names are not returned without user verification, also with an allow list.",
+            **ANEW,
+            uses=uses,
+        )
+        cases.append(case.greet().register(1, rk=rk).get(p3=[descriptor(1)]).asserted(RISES + more))
+    case = Case("get/discoverable_replaces_no_hidden", "get", "A non-discoverable credential is not replaced.", **EMPTY)
+    case.greet().register(1).register(2, rk=True)
+    cases.append(case.get(p3=[descriptor(1)]).asserted(RISES).get(p3=[descriptor(2)]).asserted(RISES))
+    case = Case("get/other_user_replaces_nothing", "get", "A credential of another user is not replaced.", **EMPTY)
+    case.greet().register(1, rk=True, p3=user(1)).register(2, rk=True, p3=user(2))
+    cases.append(case.get(p3=[descriptor(1)]).asserted(RISES).get(p3=[descriptor(2)]).asserted(RISES))
+    case = Case("make/many_stay", "make", "If the device is full, the status is 28, and no credential is lost.")
+    case.comment("needs: reset")
+    case.comment("needs: capacity 64")
+    case.comment("uses: rk")
+    case.greet()
+    for number in range(70):
+        case.make(p7={"rk": True}, p3=user(number)).presence().key(number).sign().expect("made up or 28")
+    cases.append(case.get(p3=[descriptor(0)]).asserted("up counter-rises user 00"))
+    return cases + [all_of_many("", 1), all_of_many("_of_two_rps", 2)]
+
+
+def all_of_many(name: str, rps: int) -> Case:
+    """Fills the device with credentials of `rps` RPs, and signs in with all of one RP, newest first."""
+    case = Case(f"get/newest_of_many{name}", "get", "On a full device all registered credentials sign, newest first.")
+    for line in ("needs: reset", "needs: capacity 64", "uses: rk"):
+        case.comment(line)
+    case.greet()
+    for number in range(66):
+        rp = {"id": ("example.com", "example.org")[number % rps], "name": "x"}
+        case.make(p2=rp, p7={"rk": True}, p3=user(number)).presence().key(number).sign().expect("made up or 28")
+    return case.get().asserted("up counter-rises newest")
+
+
+def algorithms() -> List[Case]:
+    """Algorithms in getInfo."""
+    cases = []
+    eddsa, es256 = {"alg": -8, "type": KIND}, {"alg": -7, "type": KIND}
+    case = Case("make/eddsa", "make", "EdDSA works if getInfo has it.", **EDDSA)
+    cases.append(case.greet().register(1, p4=[eddsa]).get(p3=[descriptor(1)]).asserted(RISES))
+    case = Case("make/eddsa_twice", "make", "Each EdDSA credential has a new key pair.", **EDDSA)
+    cases.append(case.greet().register(1, p4=[eddsa]).register(2, p4=[eddsa]).get(p3=[descriptor(2)]).asserted(RISES))
+    for name, listed in (("es256", [es256, eddsa]), ("eddsa", [eddsa, es256])):
+        case = Case(f"make/first_is_{name}", "make", "The first supported algorithm of the request is chosen.", **BOTH)
+        cases.append(case.greet().register(1, p4=listed).get(p3=[descriptor(1)]).asserted(RISES))
+        unknown = {"alg": -65535, "type": KIND}
+        case = Case(f"make/first_known_is_{name}", "make", "Unknown algorithms before it are ignored.", **BOTH)
+        cases.append(case.greet().register(1, p4=[unknown, *listed]))
+    case = Case("make/es256_twice_listed", "make", "A duplicate algorithm is accepted.", **TOUCH)
+    cases.append(case.greet().register(1, p4=[es256, es256]))
+    case = Case("make/other_type_first", "make", "An entry with an unknown type is ignored.", **TOUCH)
+    cases.append(case.greet().register(1, p4=[{"alg": -8, "type": "other"}, es256]))
+    return cases
+
+
+def capabilities() -> List[Case]:
+    """Capabilities of INIT's response, and errors."""
+    cases = []
+    case = Case("commands/msg_version", "msg", "Without the capability NMSG, CTAPHID_MSG is supported.", uses=["msg"])
+    cases.append(case.greet().send(1, hid.MSG, VERSION + bytes(3)).expect("message 03 5532465f56329000").alive())
+    case = Case("commands/msg_unknown", "msg", "An unknown instruction gets its own status.", uses=["msg"])
+    cases.append(case.greet().send(1, hid.MSG, bytes([0, 0x70, 0, 0, 0, 0, 0])).expect("message 03 6d00").alive())
+    case = Case("commands/msg_class", "msg", "An unknown class gets its own status.", uses=["msg"])
+    cases.append(case.greet().send(1, hid.MSG, bytes([0x60, 3, 0, 0, 0, 0, 0])).expect("message 03 6e00").alive())
+    for count in (1, 2):
+        case = Case(
+            f"commands/wink_{count}", "wink", "With the capability WINK, CTAPHID_WINK is supported.", uses=["wink"]
+        )
+        case.greet()
+        for _ in range(count):
+            case.send(1, hid.WINK).expect("message 08")
+        cases.append(case.alive())
+    for name, channel, command in (("unknown", 1, 0x02), ("strange", 9, hid.PING)):
+        case = Case(
+            f"commands/zeros_behind_{name}", "packets", "Unused bytes of an ERROR should be zero.", level="should"
+        )
+        expected = "error 01" if name == "unknown" else "error 0b on 9"
+        cases.append(case.greet().send(channel, command, b"a").expect(expected, "zeros").alive())
+    case = Case(
+        "ping/zeros_behind_after_a_long_one",
+        "packets",
+        "Padding should not contain bytes of other messages.",
+        level="should",
+    )
+    case.greet().send(1, hid.PING, b"\xee" * 57).expect("echo").send(1, hid.PING, b"a").expect("echo", "zeros")
+    return cases + [case]
+
+
+def cases() -> List[Case]:
+    """Returns the cases of this file."""
+    return alike() + outlasting() + counters() + whole() + algorithms() + capabilities()

@@ -1,0 +1,13 @@
+"""Paths of the data: beside the package in the repository, inside it if installed."""
+
+from __future__ import annotations
+
+import os
+
+PACKAGE = os.path.dirname(os.path.abspath(__file__))
+INSTALLED = os.path.isdir(os.path.join(PACKAGE, "sessions"))
+# The folder of clients/, fuzzed/ and recorded/; session_cache.py has sessions/.
+DATA = PACKAGE if INSTALLED else os.path.dirname(PACKAGE)
+CLIENTS = os.path.join(DATA, "clients")
+# The repository's program; an installed package has none.
+PROGRAM = os.path.join(DATA, "..", "release", "hidlog")

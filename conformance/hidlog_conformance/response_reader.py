@@ -1,0 +1,308 @@
+"""Sends the host's side of a session to a device, and reads its responses."""
+
+from __future__ import annotations
+
+import time
+from typing import Dict, List, Optional, Set, Tuple
+
+from hidlog_conformance import answers, ctap_cbor
+from hidlog_conformance import hid_packets as hid
+from hidlog_conformance.answers import Credential, Mismatch, DeviceFacts, check
+from hidlog_conformance.devices import Device
+from hidlog_conformance.init_response import is_valid_keepalive
+from hidlog_conformance.hid_packets import Message
+from hidlog_conformance.check_credential_management import Listing
+from hidlog_conformance.outcome import derived
+from hidlog_conformance.platform_side import Platform
+from hidlog_conformance.quantity import quantity
+from hidlog_conformance.session_file import Session, Step
+from hidlog_conformance.credential_reuse import CredentialReuse, with_rp
+
+# Expectations of any session.
+GOES_ON = "a device that keeps running"
+IN_TIME = "the end of the case before its deadline"
+# The base of channels that sessions use without having allocated them.
+STRANGE = 0x7EAD0000
+
+# Seconds to wait for a response: the first one, since the device may be starting; later ones; and if a person must
+# touch. Each KEEPALIVE restarts the wait.
+START, ANSWER, PERSON = 30.0, 3.0, 40.0
+# The time limit of a case in seconds, beyond its own timestamps; and the maximum number of packets from the device.
+CASE_SECONDS, MAX_PACKETS = 60.0, 5000
+# Seconds to read from a real-time device after a case.
+REST = 0.1
+# Each device has at least this number of channels.
+MIN_CHANNELS = 4
+
+
+class ResponseReader:
+    """The state of one session with a device."""
+
+    def __init__(
+        self,
+        device: Device,
+        session: Session,
+        strict: bool,
+        facts: Optional[DeviceFacts] = None,
+        seconds: float = CASE_SECONDS,
+        reuse: Optional[CredentialReuse] = None,
+        front: str = "",
+    ) -> None:
+        # Credentials of other cases, and a prefix of each RP ID that keeps this case apart from them.
+        self.reuse, self.front = reuse, front
+        # The number of reused credentials by request, and the request whose credential other cases may reuse.
+        self.taken: Dict[bytes, int] = {}
+        self.keeps = b""
+        self.device = device
+        self.facts = facts or DeviceFacts()
+        self.session = session
+        self.strict = strict
+        self.platform = Platform(self.facts.min_pin_length)
+        self.listing = Listing()
+        self.most_retries = 0
+        self.user_retries = 0
+        # The RP ID hash whose credentials are being enumerated.
+        self.listed_rp = b""
+        self.deadline = time.monotonic() + seconds + (session.steps[-1].at if session.steps else 0) / 1000
+        # Messages that came early, the channels in use, and whether the device asked for a touch.
+        self.early: List[Message] = []
+        self.used: Set[int] = {hid.BROADCAST}
+        self.nonces: Set[bytes] = set()
+        self.asked_user = False
+        # Whether the user touched since the last request, and the time of the current step.
+        self.touched = False
+        self.at = 0
+        # The number of packets from the device, and of those for other hosts.
+        self.packets = 0
+        self.others = 0
+        self.allocated: List[int] = []
+        # The channels before the last power cycle.
+        self.former: List[int] = []
+        self.known: Dict[bytes, Credential] = {}
+        self.name = b""
+        self.sent: Dict[int, Message] = {}
+        # The last request by channel and command.
+        self.asked: Dict[Tuple[int, int], bytes] = {}
+        # The number of pending requests by channel, and the command of its last message.
+        self.working: Dict[int, int] = {}
+        self.newest: Dict[int, int] = {}
+        self.host = hid.Collector(of_host=True)
+        self.guest = hid.Collector()
+        self.last: Optional[Message] = None
+        # The current expectation, and what came.
+        self.expected = ""
+        self.actual: Optional[Message] = None
+        # The packets so far, as lines of a log.
+        self.log: List[str] = []
+        # The last request by channel, and the last of all.
+        self.requests: Dict[int, bytes] = {}
+        self.request = b""
+        self.cancelled = False
+        self.patience = START
+        self.has_answered = False
+
+    def channel(self, number: int) -> int:
+        """Returns the device's channel for a channel of the session."""
+        if number in (0, hid.BROADCAST):
+            return number
+        if number <= len(self.allocated):
+            return self.allocated[number - 1]
+        if not self.allocated and number <= len(self.former):
+            return self.former[number - 1]
+        strange = STRANGE + number
+        return strange if strange not in self.allocated else strange + 0x100
+
+    def do(self, step: Step) -> None:
+        """Plays an input."""
+        self.at = step.at
+        if step.kind != ">":
+            self.log.append("# power cycle" if step.kind == "power" else f"t {step.at}")
+        if step.kind == ">":
+            self.send(step)
+        elif step.kind == "power":
+            self.switch_on_again(step.at)
+        elif step.kind == "t":
+            self.device.tick(step.at)
+        elif step.kind == "p":
+            self.until_asked()
+            self.touched = True
+            self.patience = PERSON
+            self.device.presence(step.at, step.words[0])
+        elif step.kind == "k":
+            self.name = bytes.fromhex(step.words[0]) if step.words != ["no"] else b""
+            self.device.key(step.at, step.words)
+        else:
+            self.device.signature(step.at, step.words)
+
+    def until_asked(self) -> None:
+        """Waits until a real-time device asks for a touch; keeps responses that come before."""
+        if self.device.virtual:
+            return
+        end = time.monotonic() + ANSWER
+        while any(self.working.values()) and not self.asked_user and not self.early:
+            message = self.message(end - time.monotonic())
+            if message is None:
+                return
+            if not self.is_expected_keepalive(message):
+                self.early.append(message)
+            end = time.monotonic() + ANSWER
+
+    def switch_on_again(self, at: int) -> None:
+        """Power cycles the device; nothing is pending afterwards."""
+        self.device.power_cycle(at)
+        self.has_answered = False
+        self.former, self.allocated = self.allocated or self.former, []
+        self.host, self.guest = hid.Collector(of_host=True), hid.Collector()
+        self.sent.clear()
+        self.working.clear()
+        self.newest.clear()
+        self.requests.clear()
+
+    def send(self, step: Step) -> None:
+        """Sends packets, with the session's channels and credential IDs replaced by the device's."""
+        self.patience = ANSWER if self.has_answered else START
+        self.asked_user = self.touched = False
+        packets = self.renamed([packet for _, packet in step.packets])
+        for number, packet in enumerate(packets):
+            moment = step.packets[min(number, len(step.packets) - 1)][0]
+            channel = self.channel(int.from_bytes(packet[:4], "big"))
+            packet = channel.to_bytes(4, "big") + packet[4:]
+            self.used.add(channel)
+            if packet[4] & 0x80:
+                self.newest[channel] = packet[4] & 0x7F
+            message = self.host.feed(packet)
+            if message is not None and not message.problem:
+                self.note(message)
+            self.log.append(f"> {moment} {packet.hex()}")
+            self.device.send(moment, packet)
+
+    def recording(self) -> str:
+        """Returns the packets so far, as a log with the session's times."""
+        return "".join(line + "\n" for line in self.log)
+
+    def note(self, message: Message) -> None:
+        """Records a request of the host."""
+        self.sent[message.channel] = message
+        if message.command == hid.INIT:
+            self.nonces.add(message.data)
+        self.cancelled = message.command == hid.CANCEL
+        if message.command == hid.CBOR:
+            self.request = self.requests[message.channel] = message.data
+            self.working[message.channel] = self.working.get(message.channel, 0) + 1
+            if message.data:
+                self.asked[message.channel, message.data[0]] = message.data
+
+    def renamed(self, packets: List[bytes]) -> List[bytes]:
+        """Replaces the credential IDs of a complete CBOR message by the device's."""
+        collector = hid.Collector()
+        messages = [message for message in map(collector.feed, packets) if message]
+        if len(messages) != 1 or messages[0].problem or messages[0].command != hid.CBOR:
+            return packets
+        data = messages[0].data
+        for name, identity in self.names():
+            data = data.replace(ctap_cbor.encode(name), ctap_cbor.encode(identity))
+        data = self.platform.fill(data)
+        data = with_rp(data, self.front) if self.front else data
+        if data == messages[0].data:
+            return packets
+        return hid.packets_of(messages[0].channel, hid.CBOR, data)
+
+    def names(self) -> List[Tuple[bytes, bytes]]:
+        """Returns pairs of the session's credential IDs and the device's, including derived IDs."""
+        found = [(name, credential.id) for name, credential in self.known.items()]
+        for name, (kind, origin) in self.session.derived.items():
+            if origin in self.known:
+                found.append((name, derived(kind, self.known[origin].id)))
+        return found
+
+    def is_expected_keepalive(self, message: Message) -> bool:
+        """Returns whether a message is a valid KEEPALIVE of a pending request."""
+        if message.command != hid.KEEPALIVE or message.problem or not self.working.get(message.channel):
+            return False
+        return is_valid_keepalive(message.data)
+
+    def message(self, seconds: float) -> Optional[Message]:
+        """Returns the next message of the device."""
+        if self.early:
+            self.actual = self.early.pop(0)
+            return self.actual
+        end = min(time.monotonic() + seconds, self.deadline)
+        self.actual = None
+        while self.actual is None:
+            packet = self.device.read(max(0.0, end - time.monotonic()))
+            self.in_time()
+            if packet is None:
+                return None
+            self.packets += 1
+            self.log.append("< " + packet.hex())
+            check(self.packets <= MAX_PACKETS, IN_TIME, f"more than {MAX_PACKETS} packets")
+            if self.for_others(packet):
+                self.others += 1
+                continue
+            self.actual = self.guest.feed(packet)
+        self.asked_user = self.asked_user or (self.actual.command == hid.KEEPALIVE and self.actual.data == b"\2")
+        return self.actual
+
+    def in_time(self) -> None:
+        """Raises an exception once the deadline is over."""
+        if not self.device.virtual and time.monotonic() >= self.deadline:
+            actual = "KEEPALIVEs without a response" if self.asked_user else "no end"
+            raise Mismatch(IN_TIME, f"{actual} after {quantity(self.packets, 'packet')}")
+
+    def for_others(self, packet: bytes) -> bool:
+        """Returns whether a packet is for another host of a shared device."""
+        if not self.device.lasting or len(packet) != 64:
+            return False
+        channel = int.from_bytes(packet[:4], "big")
+        if channel == hid.BROADCAST and packet[4] == 0x80 | hid.INIT:
+            return packet[7:15] not in self.nonces
+        return channel not in self.used and channel not in self.allocated
+
+    def nothing(self) -> str:
+        """Describes that no response came."""
+        if not self.others:
+            return "nothing"
+        return f"nothing (skipped {quantity(self.others, 'packet')} for other hosts)"
+
+    def answer(self, expected: str) -> Message:
+        """Returns the next message that is not an expected KEEPALIVE."""
+        end = time.monotonic() + self.patience
+        while True:
+            message = self.message(end - time.monotonic())
+            if message is None:
+                raise Mismatch(expected, self.nothing())
+            if self.is_expected_keepalive(message):
+                if message.data == b"\1" or self.touched:
+                    end = max(end, time.monotonic() + ANSWER)
+                elif self.may_touch_first(expected):
+                    self.touch()
+                continue
+            self.last = message
+            self.has_answered = True
+            self.count(message)
+            check(not message.problem, expected, message.shown())
+            return message
+
+    def may_touch_first(self, expected: str) -> bool:
+        """Returns whether a device may ask for a touch before it refuses: if the expectation says so, and without a
+        credential if it supports only FIDO_2_0."""
+        if expected.endswith(" or touch"):
+            return True
+        return self.facts.old and not self.strict and expected.startswith("status 2e") and self.request[:1] == b"\2"
+
+    def touch(self) -> None:
+        """Lets the user touch."""
+        self.touched = True
+        self.patience = PERSON
+        self.device.presence(self.at, "granted")
+
+    def count(self, message: Message) -> None:
+        """Counts a channel's pending requests."""
+        left = self.working.get(message.channel, 0)
+        if message.command == hid.INIT:
+            left = 0
+        elif message.command == hid.CBOR or (
+            message.command == hid.ERROR and self.newest.get(message.channel) == hid.CBOR
+        ):
+            left = max(0, left - 1)
+        self.working[message.channel] = left

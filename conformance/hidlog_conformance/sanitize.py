@@ -1,0 +1,19 @@
+"""Escapes text of devices and clients for terminals and XML."""
+
+from __future__ import annotations
+
+import unicodedata
+
+# Unicode categories of invisible characters, and of those that change how others are displayed.
+HIDDEN = ("Cc", "Cf", "Cs", "Co", "Cn", "Zl", "Zp")
+
+
+def clean(text: str) -> str:
+    """Returns the text with control and invisible characters escaped."""
+    parts = []
+    for letter in text:
+        if unicodedata.category(letter) in HIDDEN:
+            parts.append(f"\\u{ord(letter):04x}" if ord(letter) < 0x10000 else f"\\U{ord(letter):08x}")
+        else:
+            parts.append(letter)
+    return "".join(parts)

@@ -1,0 +1,59 @@
+"""Runs the conformance tests against mutants of the reference authenticator."""
+
+from __future__ import annotations
+
+from typing import Dict, Iterator, List, Tuple
+
+from mutant import Mutant
+from answer_mutants import ANSWERS
+from credential_mutants import CREDENTIALS
+from management_mutants import MORE
+from pin_mutants import PINS
+from wire_mutants import WIRE
+
+from hidlog_conformance.device_info import DeviceInfo
+from hidlog_conformance.outcome import Outcome
+from hidlog_conformance.reference.device import ReferenceDevice
+from hidlog_conformance.run import all_sessions, play_one, parse_options
+
+MUTANTS: Dict[str, Mutant] = {fault.name: fault for fault in CREDENTIALS + ANSWERS + WIRE + PINS + MORE}
+assert len(MUTANTS) == len(CREDENTIALS + ANSWERS + WIRE + PINS + MORE), "a mutant's name is not unique"
+
+
+def outcomes_of(device: ReferenceDevice, section: str) -> Iterator[Outcome]:
+    """Yields the outcomes of all cases, those of the section first, without --profile-choices and
+    --warnings-as-errors."""
+    options = parse_options(["--device", "reference", "--touch", "--reset"])
+    device_info = DeviceInfo.ask(device, True)
+    sessions = sorted(all_sessions(), key=lambda session: bool(session.section != section))
+    return (play_one(device, session, options, device_info) for session in sessions)
+
+
+def judged(name: str, whole: bool = False) -> Tuple[bool, str]:
+    """Runs one mutant until two cases detect it by its section, or all; returns whether it was detected, and a
+    report."""
+    fault = MUTANTS[name]
+    text = f"{name} ({fault.section}): {fault.says}"
+    failed: List[Outcome] = []
+    try:
+        for outcome in outcomes_of(ReferenceDevice(fault.traits, fault.change), fault.section):
+            if outcome.status == "not ok":
+                failed.append(outcome)
+            if not whole and sum(one.broken == fault.section for one in failed) > 1:
+                break
+    except OSError as ended:
+        return True, f"found   {text}\n        before the first case: {ended}"
+    own = [outcome for outcome in failed if outcome.broken == fault.section]
+    good = not own if fault.missed else len(own) > 1
+    word = "found " if own else "listed" if good else "MISSED"
+    for outcome in (own or failed)[:1]:
+        text += f"\n        by {outcome.session.name}: {outcome.expected}; actual: {outcome.actual}"[:208]
+    if fault.missed:
+        text += f"\n        not found: {fault.missed}"
+    if len(own) == 1:
+        text += "\n        only one case detects it"
+    counts: Dict[str, int] = {}
+    for outcome in failed:
+        counts[outcome.broken] = counts.get(outcome.broken, 0) + 1
+    violated = ", ".join(f"{rule}: {count}" for rule, count in sorted(counts.items()))
+    return good, f"{word}  {text}" + (f"\n        failed cases by rule: {violated or 'none'}" if whole else "")

@@ -1,0 +1,114 @@
+"""Tests that an interrupted run leaves a whole report with the cases so far, and no processes."""
+
+from __future__ import annotations
+
+import json
+import os
+import signal
+import subprocess
+import sys
+import tempfile
+import time
+import xml.etree.ElementTree as xml
+from typing import Dict, List, Set, Tuple
+
+from trying import HERE, Test, odd
+
+RUN = [sys.executable, os.path.join(HERE, "..", "run.py")]
+CLIENT = os.path.join(HERE, "..", "clients", "python_fido2.py")
+# A word in the arguments of this test's devices, by which it finds those that are left.
+MARK = "an_interrupted_run"
+ENDED = 130
+
+
+def commands_of(process: "subprocess.Popen[str]") -> Set[str]:
+    """Returns the IDs of a process's commands that are running."""
+    return set(
+        subprocess.run(["ps", "--ppid", str(process.pid), "-o", "pid="], capture_output=True, text=True).stdout.split()
+    )
+
+
+def interrupt(words: List[str], commands: int, number: int = signal.SIGINT) -> Tuple[int, str, str]:
+    """Runs the tests, and sends a signal twice once they started this number of commands. Returns the exit status,
+    standard output and standard error."""
+    with tempfile.TemporaryFile("w+") as out, tempfile.TemporaryFile("w+") as heard:
+        process = subprocess.Popen([*RUN, *words], stdout=out, stderr=heard, text=True, start_new_session=True)
+        seen: Set[str] = set()
+        while len(seen) < commands and process.poll() is None:
+            seen |= commands_of(process)
+        if process.poll() is not None:
+            heard.seek(0)
+            raise AssertionError(f"ended too early: {heard.read()}")
+        for _ in range(2):
+            # As Ctrl-C does: to all processes of the group.
+            os.killpg(process.pid, number)
+            time.sleep(0.02)
+        process.wait(120)
+        out.seek(0)
+        heard.seek(0)
+        return process.returncode, out.read(), heard.read()
+
+
+def left() -> str:
+    """Returns the running commands of this test's devices."""
+    lines = subprocess.run(["ps", "-eo", "args"], capture_output=True, text=True, check=True).stdout.splitlines()
+    return "\n".join(line for line in lines if line.endswith(MARK))
+
+
+def check_none_left() -> None:
+    """Checks that no command is left; one that was just starting ends at the end of its input."""
+    end = time.monotonic() + 60
+    while left() and time.monotonic() < end:
+        time.sleep(0.2)
+    assert not left(), left()
+
+
+def text() -> None:
+    """The text report of an interrupted run has the cases so far, none of which failed."""
+    for number in (signal.SIGINT, signal.SIGTERM):
+        status, out, heard = interrupt([*odd(f"plain {MARK}"), "--jobs", "2", "--only", "ping/"], 9, number)
+        assert status == ENDED and "Traceback" not in heard, (status, heard)
+        passed, _, rest = out.splitlines()[-1].partition(" passed, 0 failed, 0 warned, ")
+        assert int(passed) >= 5 and rest == "0 skipped", out
+        assert f"\ninterrupted: after {passed} of 30 cases\n" in out, out
+        check_none_left()
+    print("interrupted runs: a whole report in text")
+
+
+def formats() -> None:
+    """The JSON and JUnit reports of an interrupted run are whole; so is that of this repository's program."""
+    no_device: List[str] = []
+    for device in (odd(f"plain {MARK}"), no_device):
+        status, out, heard = interrupt([*device, "--report", "json"], 4)
+        report = json.loads(out)
+        assert status == ENDED and report["interrupted"].startswith(f"after {len(report['cases'])} of "), heard
+        assert not report["totals"]["failed"] and not report["totals"]["unstable"], report["totals"]
+    status, out, heard = interrupt([*odd(f"plain {MARK}"), "--report", "junit", "--only", "ping/"], 7)
+    suite = xml.fromstring(out)
+    assert status == ENDED and suite.get("failures") == "0" and suite.findall("testcase"), heard
+    check_none_left()
+    print("interrupted runs: whole reports in JSON and JUnit")
+
+
+def before() -> None:
+    """A run that is interrupted before its first case has a report without cases."""
+    status, out, heard = interrupt(["--device", "sleep 29.4321"], 1)
+    assert status == ENDED and "Traceback" not in heard, (status, heard)
+    assert "\ninterrupted: after 0 of 1129 cases\n" in out and "\n0 passed, 0 failed" in out, out
+    print("interrupted runs: a report before the first case")
+
+
+def of_client() -> None:
+    """The report of an interrupted run of a client has the cases so far."""
+    status, out, heard = interrupt(["--client", f"{sys.executable} {CLIENT}", "--report", "json"], 7)
+    report = json.loads(out)
+    assert status == ENDED and report["interrupted"].startswith(f"after {len(report['cases'])} of "), heard
+    print("interrupted runs: a whole report on a client")
+
+
+TESTS: Dict[str, Test] = {
+    "interrupted/text": text,
+    "interrupted/formats": formats,
+    "interrupted/before": before,
+    "interrupted/client": of_client,
+}

@@ -1,0 +1,147 @@
+"""Conforming variants of the reference authenticator: what differs, and where the standard allows it."""
+
+from __future__ import annotations
+
+from typing import Any, Dict, NamedTuple
+
+from hidlog_conformance.reference.traits import EDDSA, ES256, DeviceTraits
+
+
+class Variant(NamedTuple):
+    """Sends a variant."""
+
+    says: str
+    traits: DeviceTraits
+
+
+def of(says: str, **traits: Any) -> Variant:
+    """Returns a variant."""
+    return Variant(says, DeviceTraits(**traits))
+
+
+WITHOUT: Dict[str, Any] = {"extensions": (), "management": False, "large_blobs": False}
+OLD: Dict[str, Any] = {"versions": ("U2F_V2", "FIDO_2_0"), "selection": False, **WITHOUT}
+BARE: Dict[str, Any] = {"has_pin": False, "u2f": False, **WITHOUT}
+
+USERS: Dict[str, Variant] = {
+    "plain": of("The reference authenticator as it is."),
+    "no_pin": of("It has no PIN (6.5 is optional).", has_pin=False, management=False, extensions=("credProtect",)),
+    "pin_set": of("A PIN is set (6.1.2, step 8).", pin="1234"),
+    "pin_set_make_without": of("A PIN is set, makeCredUvNotRqd.", pin="1234", make_without_uv=True),
+    "always_uv": of("alwaysUv with a PIN (6.1.2, step 6).", pin="1234", always_uv=True),
+    "always_uv_no_pin_yet": of("alwaysUv, and no PIN is set yet.", always_uv=True),
+    "fingerprint": of("Built-in user verification (6.1.2, step 8).", built_in_uv=True),
+    "fingerprint_make_without": of("The same with makeCredUvNotRqd.", built_in_uv=True, make_without_uv=True),
+    "fingerprint_and_pin": of("A fingerprint and a PIN.", built_in_uv=True, pin="123456"),
+    "fingerprint_and_touch": of("A touch for a token counts for what comes.", built_in_uv=True, present_by_token=True),
+    "fingerprint_without_pin": of("A fingerprint without PINs.", built_in_uv=True, has_pin=False, management=False),
+    "fingerprint_always": of("A fingerprint with alwaysUv.", built_in_uv=True, always_uv=True),
+    "pin_of_6": of("A PIN has at least six characters (6.4, minPINLength).", shortest_pin=6),
+    "pin_of_63": of("A PIN has 63 characters.", shortest_pin=63),
+    "protocol_1": of("PIN protocol 1 alone.", protocols=(1,)),
+    "protocol_2": of("PIN protocol 2 alone.", protocols=(2,)),
+    "protocol_1_first": of("Protocol 1 is preferred.", protocols=(1, 2)),
+    "ep_served": of("Enterprise attestation can be enabled.", more_options={"ep": False}),
+    "display": of("Accounts are chosen on a display (6.2.2); reset at any time (6.6).", display=True),
+    "no_selection": of("authenticatorSelection is not supported, as in 2.0.", selection=False),
+    "patient": of("It waits for a touch for two minutes.", patience=120000),
+    "impatient": of("It waits for a touch for ten seconds.", patience=10000),
+    "works_first": of("KEEPALIVE 01 comes before 02 (11.2.9.1.7).", works_first=True),
+    "one_touch_state": of("Assertions of other channels go on (6.3 names none).", one_state=True),
+    "pending_outlasts": of("Other commands leave assertions pending.", pending_outlasts_commands=True),
+    "oldest_first_by_list": of("The last of the list's credentials signs.", last_of_list=True),
+    "user_with_any": of("The user is named for every credential.", user_with_any=True),
+}
+ANSWERS: Dict[str, Variant] = {
+    "protect_unasked_1": of("credProtect is returned unasked (WebAuthn 9).", unasked_protection=1),
+    "protect_unasked_2": of("The same with level 2.", unasked_protection=2, **{"extensions": ("credProtect",)}),
+    "no_extensions": of("No extensions.", extensions=()),
+    "blob_key_alone": of("largeBlobKey alone.", extensions=("largeBlobKey",)),
+    "blob_key_first": of("largeBlobKey is looked at before the touch.", blob_key_first=True),
+    "no_large_blobs": of("No large blobs.", large_blobs=False, extensions=("credBlob", "credProtect", "hmac-secret")),
+    "no_management": of("No credential management.", management=False),
+    "array_of_1024": of("1,024 bytes of large blobs.", largest_array=1024),
+    "array_of_8192": of("8,192 bytes of large blobs.", largest_array=8192),
+    "blobs_in_small_pieces": of("Large blobs with messages of 1,200 bytes.", longest_message=1200),
+    "protect_alone": of("credProtect alone.", extensions=("credProtect",)),
+    "secret_alone": of("hmac-secret alone.", extensions=("hmac-secret",)),
+    "blob_alone": of("credBlob alone.", extensions=("credBlob",)),
+    "attestation_none": of("Attestation none (6.1.2: any format).", format="none"),
+    "attestation_x5c": of("Packed attestation by a certificate.", format="x5c"),
+    "attestation_x5c_eddsa": of("The same with EdDSA credentials first.", format="x5c", algorithms=(EDDSA, ES256)),
+    "es256_alone": of("ES256 alone.", algorithms=(ES256,)),
+    "eddsa_first": of("EdDSA is named first.", algorithms=(EDDSA, ES256)),
+    "no_algorithms_named": of("A 2.0 key needn't name algorithms.", says_algorithms=False, algorithms=(ES256,), **OLD),
+    "ids_of_16": of("IDs of 16 bytes.", id_length=16),
+    "ids_of_48": of("IDs of 48 bytes.", id_length=48),
+    "ids_of_64": of("IDs of 64 bytes.", id_length=64),
+    "ids_of_128": of("IDs of 128 bytes.", id_length=128),
+    "ids_of_255": of("IDs of 255 bytes.", id_length=255),
+    "ids_of_256": of("IDs of 256 bytes.", id_length=256),
+    "ids_of_500": of("IDs of 500 bytes.", id_length=500, longest_id=500),
+    "ids_of_1023": of("IDs of 1023 bytes.", id_length=1023, longest_id=1023),
+    "backup_eligible": of("Flag BE is set.", flags=0x08),
+    "backed_up": of("Flags BE and BS are set.", flags=0x18),
+    "counter_of_all": of("One counter for all credentials.", counter="all"),
+    "counter_in_steps": of("A counter that rises by more than one.", counter="steps"),
+    "counter_none": of("No counter: it stays 0.", counter="none"),
+    "counter_begins_late": of("Counters begin at 1000.", first_counter=1000),
+    "counter_of_all_late": of("One counter, from 70,000.", counter="all", first_counter=70000),
+    "no_rk": of("No discoverable credentials.", rk=False, management=False),
+    "capacity_of_25": of("25 credentials fit.", capacity=25),
+    "capacity_of_8": of("8 credentials fit.", capacity=8),
+    "aaguid_zero": of("An AAGUID of zeros.", aaguid=bytes(16)),
+}
+INFOS: Dict[str, Variant] = {
+    "old": of("FIDO_2_0 alone, by 2.0's text.", **OLD),
+    "old_touch_first": of("2.0: a touch comes before 2E.", touch_before_none=True, **OLD),
+    "old_number_with_list": of("2.0: a number with an allow list.", number_with_list=True, **OLD),
+    "old_both": of("2.0: both.", touch_before_none=True, number_with_list=True, **OLD),
+    "old_pin_set": of("2.0 with a PIN that is set.", pin="1234", **OLD),
+    "between": of("FIDO_2_1_PRE.", versions=("FIDO_2_0", "FIDO_2_1_PRE"), u2f=False),
+    "newer": of("FIDO_2_2 too.", versions=("FIDO_2_0", "FIDO_2_1", "FIDO_2_2")),
+    "newest_alone": of("FIDO_2_1 alone.", versions=("FIDO_2_1",), u2f=False),
+    "list_of_8": of("maxCredentialCountInList 8.", longest_list=8),
+    "list_of_1": of("maxCredentialCountInList 1.", longest_list=1),
+    "no_list_limit": of("No maxCredentialCountInList.", longest_list=None, longest_id=None),
+    "messages_of_1024": of("maxMsgSize 1024.", longest_message=1024),
+    "messages_of_1200": of("maxMsgSize 1200.", longest_message=1200),
+    "messages_of_2048": of("maxMsgSize 2048.", longest_message=2048),
+    "more_info": of(
+        "getInfo's other members.",
+        largest_array=1024,
+        more_info={11: 1024, 12: False, 13: 4, 14: 0x050403, 16: 1, 17: 3, 18: 2, 19: {"FIDO": 1}, 20: 99, 21: [1]},
+    ),
+    "unknown_info": of(
+        "Members and options that are not known.", more_info={96: [1, {"a": 2}]}, more_options={"zz": True}
+    ),
+    "transports": of("Several transports.", more_info={9: ["nfc", "usb"]}),
+    "platform": of("Option plat true.", more_options={"plat": True}),
+    "bare": of("The minimum.", **BARE),
+    "bare_old": of("The minimum, FIDO_2_0.", **{**BARE, "versions": ("FIDO_2_0",), "selection": False}),
+    "configured": of("authnrCfg is named.", more_options={"authnrCfg": True}),
+}
+WIRE: Dict[str, Variant] = {
+    "time_out_100": of("A timeout of 100 ms.", time_out=100),
+    "time_out_250": of("A timeout of 250 ms.", time_out=250),
+    "time_out_3000": of("A timeout of three seconds.", time_out=3000),
+    "time_out_silent": of("A timeout that nobody hears of (11.2.5.2).", silent_time_out=True),
+    "keepalive_20": of("A KEEPALIVE every 20 ms.", keepalive=20),
+    "keepalive_75": of("A KEEPALIVE every 75 ms.", keepalive=75),
+    "channels_4": of("Four channels.", channels=4),
+    "channels_high": of("Channels from the top.", first_channel=0xFFFFFF00, channel_step=-3),
+    "channels_in_a_row": of("Channels from 2.", first_channel=2, channel_step=1),
+    "version_bytes": of("Other version bytes.", version_bytes=b"\xff\0\x7f"),
+    "wink": of("WINK is served.", wink=True),
+    "u2f_not": of("No U2F, and the capabilities say so.", u2f=False),
+    "empty_cbor_status": of("A CBOR message of length 0 has a status.", empty_cbor_status=0x12),
+    "empty_cbor_length": of("The same with 03.", empty_cbor_status=0x03),
+    "begins_anew": of("A host may start over without INIT.", begins_anew=True),
+    "padding": of("Padding is not zero (a SHOULD).", padding=0xA5),
+    "all_cbor": of("It takes CBOR that isn't canonical (a SHOULD).", takes_all_cbor=True),
+    "wrong_type_12": of("A wrong type is refused with 12.", wrong_type=0x12),
+    "wrong_type_02": of("A wrong type is refused with 02.", wrong_type=0x02),
+    "malformed_01": of("Malformed CBOR is refused with 10.", malformed=0x10),
+    "length_02": of("A wrong length is refused with 02.", wrong_length=0x02),
+}
+VARIANTS: Dict[str, Variant] = {**USERS, **ANSWERS, **INFOS, **WIRE}
