@@ -8,27 +8,27 @@ import (
 	"encoding/binary"
 )
 
-// Browser does what a page's navigator.credentials does, at an origin.
+// Browser registers and signs in as a page's navigator.credentials does, at an origin.
 type Browser struct {
 	key    *SecurityKey
 	origin string
-	// Account is the index of the account that signs in if there are several, the newest first.
+	// Account is the index of the account to sign in with, newest first, if there are several.
 	Account int
 }
 
-// DOMError is what a page would see: Name is NotAllowedError, InvalidStateError and so on.
+// DOMError is the error a page would see. Name is, for example, NotAllowedError or InvalidStateError.
 type DOMError struct{ Name, Message string }
 
 // Error returns the name and the message.
 func (e *DOMError) Error() string { return e.Name + ": " + e.Message }
 
 // Browser returns a browser at an origin, such as https://example.com or http://localhost:5000.
-func (it *SecurityKey) Browser(origin string) *Browser {
-	return &Browser{key: it, origin: origin}
+func (k *SecurityKey) Browser(origin string) *Browser {
+	return &Browser{key: k, origin: origin}
 }
 
-// Create registers: it takes PublicKeyCredentialCreationOptionsJSON, and returns RegistrationResponseJSON. What a page
-// would see as an error is a *DOMError. It refuses what Chromium refuses.
+// Create registers: it takes PublicKeyCredentialCreationOptionsJSON, and returns RegistrationResponseJSON. Errors a
+// page would see are *DOMError. It rejects the same options as Chromium.
 func (b *Browser) Create(optionsJSON []byte) ([]byte, error) {
 	return b.call(createCeremony, optionsJSON)
 }
@@ -38,31 +38,35 @@ func (b *Browser) Get(optionsJSON []byte) ([]byte, error) {
 	return b.call(getCeremony, optionsJSON)
 }
 
-func (b *Browser) call(of ceremony, options []byte) ([]byte, error) {
-	c := newClient(of, options, b.origin)
-	request, err := c.request()
+func (b *Browser) call(kind ceremony, options []byte) ([]byte, error) {
+	c := newClient(kind, options, b.origin)
+	request, err := c.buildRequest()
 	if err != nil {
 		return nil, err
 	}
 	response, err := b.exchange(request)
-	for account := 0; err == nil && response[0] == 0 && of == getCeremony && account < b.Account; account++ {
+	for account := 0; err == nil && response[0] == 0 && kind == getCeremony && account < b.Account; account++ {
 		response, err = b.exchange([]byte{getNextAssertion})
 	}
 	if err != nil {
 		return nil, err
 	}
 	if response[0] == 0 {
-		if response, err = b.withFaults(of, request, response); err != nil {
+		if response, err = b.applyFaults(kind, request, response); err != nil {
 			return nil, err
 		}
 	}
-	return c.response(response)
+	credential, err := c.buildCredential(response)
+	if refused, is := err.(*DOMError); is && response[0] != 0 {
+		refused.Message += b.key.causeSuffix()
+	}
+	return credential, err
 }
 
 // getNextAssertion is authenticatorGetNextAssertion (CTAP 2.1, section 6.3).
 const getNextAssertion = 0x08
 
-// exchange sends a request, and returns the response with its status.
+// exchange sends a request, and returns the response with its status byte.
 func (b *Browser) exchange(request []byte) ([]byte, error) {
 	data, err := b.key.Exchange(request)
 	if status, is := err.(Status); is {
@@ -74,17 +78,17 @@ func (b *Browser) exchange(request []byte) ([]byte, error) {
 	return append([]byte{0}, data...), nil
 }
 
-// signedResponse is a response's authenticator data and signature, and the credential that made it.
+// signedResponse is the authenticator data and signature of a response, and the credential that signed it.
 type signedResponse struct {
-	id              ID
+	id              CredentialID
 	data, signature []byte
-	// clientDataHash is the request's.
+	// clientDataHash of the request.
 	clientDataHash []byte
 }
 
-// withFaults returns a response as the faults that are on change it, and notes its signature counter.
-func (b *Browser) withFaults(of ceremony, request, response []byte) ([]byte, error) {
-	asked, err := decodeMembers(request[1:])
+// applyFaults applies the enabled faults to a response, and remembers its signature counter.
+func (b *Browser) applyFaults(kind ceremony, request, response []byte) ([]byte, error) {
+	parameters, err := decodeMembers(request[1:])
 	if err != nil {
 		return nil, err
 	}
@@ -94,31 +98,31 @@ func (b *Browser) withFaults(of ceremony, request, response []byte) ([]byte, err
 	}
 	var signed signedResponse
 	signed.data, _ = members[2].([]byte)
-	if of == createCeremony {
+	if kind == createCeremony {
 		statement, _ := members[3].(map[any]any)
 		signed.signature, _ = statement["sig"].([]byte)
-		signed.clientDataHash, _ = asked[1].([]byte)
+		signed.clientDataHash, _ = parameters[1].([]byte)
 		if len(signed.data) < 164 {
 			return nil, errCBOR
 		}
-		signed.id = *(*ID)(signed.data[55:87])
+		signed.id = *(*CredentialID)(signed.data[55:87])
 	} else {
 		credential, _ := members[1].(map[any]any)
 		id, _ := credential["id"].([]byte)
 		signed.signature, _ = members[3].([]byte)
-		signed.clientDataHash, _ = asked[2].([]byte)
+		signed.clientDataHash, _ = parameters[2].([]byte)
 		if len(id) != 32 || len(signed.data) < 37 {
 			return nil, errCBOR
 		}
-		signed.id = *(*ID)(id)
+		signed.id = *(*CredentialID)(id)
 	}
-	if err := b.alter(&signed); err != nil {
+	if err := b.injectFaults(&signed); err != nil {
 		return nil, err
 	}
-	return append([]byte{0}, encode(responseEntries(of, members, signed))...), nil
+	return append([]byte{0}, encode(buildResponse(kind, members, signed))...), nil
 }
 
-// decodeMembers returns the members of a map.
+// decodeMembers decodes a CBOR map.
 func decodeMembers(from []byte) (map[any]any, error) {
 	item, rest, err := decode(from)
 	members, isMap := item.(map[any]any)
@@ -128,9 +132,9 @@ func decodeMembers(from []byte) (map[any]any, error) {
 	return members, nil
 }
 
-// responseEntries returns a response's members in their order, with the authenticator data and the signature.
-func responseEntries(of ceremony, members map[any]any, signed signedResponse) []entry {
-	if of == createCeremony {
+// buildResponse returns the members of a response, in canonical order, with this authenticator data and signature.
+func buildResponse(kind ceremony, members map[any]any, signed signedResponse) []entry {
+	if kind == createCeremony {
 		statement := []entry{{"alg", -7}, {"sig", signed.signature}}
 		return []entry{{1, "packed"}, {2, signed.data}, {3, statement}}
 	}
@@ -142,32 +146,32 @@ func responseEntries(of ceremony, members map[any]any, signed signedResponse) []
 	return found
 }
 
-// alter applies the faults that are on to the authenticator data and the signature.
-func (b *Browser) alter(signed *signedResponse) error {
+// injectFaults injects the enabled faults into the authenticator data and the signature.
+func (b *Browser) injectFaults(signed *signedResponse) error {
 	faults, data := &b.key.Faults, clone(signed.data)
-	if last, isKnown := b.key.last[signed.id]; faults.CounterStays && isKnown {
+	if last, isKnown := b.key.last[signed.id]; faults.StaleSignCount && isKnown {
 		binary.BigEndian.PutUint32(data[33:], last)
 	}
 	b.key.last[signed.id] = binary.BigEndian.Uint32(data[33:])
-	if faults.OtherRP != "" {
-		other := sha256.Sum256([]byte(faults.OtherRP))
+	if faults.WrongRPID != "" {
+		other := sha256.Sum256([]byte(faults.WrongRPID))
 		copy(data, other[:])
 	}
-	pair := b.key.PrivateKey(signed.id)
-	if faults.WrongSignature {
+	privateKey := b.key.PrivateKey(signed.id)
+	if faults.BadSignature {
 		var err error
-		if pair, err = ecdsa.GenerateKey(elliptic.P256(), rand.Reader); err != nil {
+		if privateKey, err = ecdsa.GenerateKey(elliptic.P256(), rand.Reader); err != nil {
 			return err
 		}
 	}
-	if faults.WrongSignature || string(data) != string(signed.data) {
+	if faults.BadSignature || string(data) != string(signed.data) {
 		var err error
-		if signed.signature, err = sign(pair, append(clone(data), signed.clientDataHash...)); err != nil {
+		if signed.signature, err = sign(privateKey, append(clone(data), signed.clientDataHash...)); err != nil {
 			return err
 		}
 	}
-	if faults.CutShort > 0 {
-		data = data[:max(0, len(data)-faults.CutShort)]
+	if faults.TruncateBy > 0 {
+		data = data[:max(0, len(data)-faults.TruncateBy)]
 	}
 	signed.data = data
 	return nil

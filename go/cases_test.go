@@ -16,9 +16,9 @@ import (
 	"cogtzil.example/hidlog"
 )
 
-// The table of registrations and sign-ins whose results Chromium's own authenticator gave
-// (tests/python/browser_cases.json of the repository). HIDLOG_CASES names its folder.
-func casesFolder() string {
+// findCasesFolder returns the folder of browser_cases.json: registrations and sign-ins, with the results of Chromium's
+// own authenticator. It is tests/python of the repository, or $HIDLOG_CASES.
+func findCasesFolder() string {
 	if folder := os.Getenv("HIDLOG_CASES"); folder != "" {
 		return folder
 	}
@@ -34,9 +34,9 @@ type caseTable struct {
 
 func readJSON(t *testing.T, name string, to any) {
 	t.Helper()
-	text, err := os.ReadFile(filepath.Join(casesFolder(), name))
+	text, err := os.ReadFile(filepath.Join(findCasesFolder(), name))
 	if os.IsNotExist(err) {
-		t.Skip("the table of cases is not in this module")
+		t.Skip("the test cases are not part of this module")
 	}
 	if err == nil {
 		err = json.Unmarshal(text, to)
@@ -46,8 +46,8 @@ func readJSON(t *testing.T, name string, to any) {
 	}
 }
 
-// filled returns options with the ids of earlier registrations, and with long values written out.
-func filled(value any, ids []string) any {
+// expand returns options with the IDs of earlier registrations and with long values inserted.
+func expand(value any, ids []string) any {
 	switch value := value.(type) {
 	case object:
 		if count, is := value["$bytes"].(float64); is {
@@ -63,13 +63,13 @@ func filled(value any, ids []string) any {
 		}
 		found := object{}
 		for name, inner := range value {
-			found[name] = filled(inner, ids)
+			found[name] = expand(inner, ids)
 		}
 		return found
 	case []any:
 		found := []any{}
 		for _, inner := range value {
-			found = append(found, filled(inner, ids))
+			found = append(found, expand(inner, ids))
 		}
 		return found
 	case string:
@@ -81,7 +81,7 @@ func filled(value any, ids []string) any {
 	return value
 }
 
-func merged(base, more object) object {
+func mergeObjects(base, more object) object {
 	text, _ := json.Marshal(base)
 	found := object{}
 	_ = json.Unmarshal(text, &found)
@@ -91,8 +91,8 @@ func merged(base, more object) object {
 	return found
 }
 
-// optionsOf returns the options of a case.
-func optionsOf(table caseTable, c object, ids []string) any {
+// buildOptions returns the options of a case.
+func buildOptions(table caseTable, c object, ids []string) any {
 	if raw, is := c["raw"].(object); is {
 		return object{"publicKey": raw["publicKey"]}
 	}
@@ -101,7 +101,7 @@ func optionsOf(table caseTable, c object, ids []string) any {
 		base = table.Creation
 	}
 	more, _ := c["options"].(object)
-	made := merged(base, filled(more, ids).(object))
+	made := mergeObjects(base, expand(more, ids).(object))
 	if path, is := c["without"].([]any); is {
 		inner := made
 		for _, name := range path[:len(path)-1] {
@@ -115,10 +115,10 @@ func optionsOf(table caseTable, c object, ids []string) any {
 	return made
 }
 
-// seen returns what is compared of a credential: all but what each run draws anew.
-func seen(t *testing.T, credential object, ids []string) object {
+// selectStableMembers returns the parts of a credential that are the same in each run.
+func selectStableMembers(t *testing.T, credential object, ids []string) object {
 	t.Helper()
-	response := merged(credential["response"].(object), nil)
+	response := mergeObjects(credential["response"].(object), nil)
 	data, err := base64.RawURLEncoding.DecodeString(response["authenticatorData"].(string))
 	if err != nil {
 		t.Fatal(err)
@@ -142,7 +142,7 @@ func seen(t *testing.T, credential object, ids []string) object {
 	if data[32]&0x40 != 0 {
 		response["idBytes"] = float64(int(data[53])<<8 | int(data[54]))
 	}
-	found := merged(credential, object{"response": response, "id": "new", "clientData": clientData})
+	found := mergeObjects(credential, object{"response": response, "id": "new", "clientData": clientData})
 	for index, id := range ids {
 		if credential["id"] == id {
 			found["id"] = float64(index)
@@ -157,7 +157,7 @@ func seen(t *testing.T, credential object, ids []string) object {
 	return found
 }
 
-// TestChromiumCases runs each case that a key without user verification can run, and compares its end with Chromium's.
+// TestChromiumCases runs each case that needs no user verification, and compares the result with Chromium's.
 func TestChromiumCases(t *testing.T) {
 	var table caseTable
 	var recorded map[string]object
@@ -172,10 +172,10 @@ func TestChromiumCases(t *testing.T) {
 		}
 		count++
 		t.Run(name, func(t *testing.T) {
-			if found := endOf(t, table, c); !reflect.DeepEqual(found, expected) {
-				shown, _ := json.Marshal(found)
-				wanted, _ := json.Marshal(expected)
-				t.Errorf("found    %s\nexpected %s", shown, wanted)
+			if actual := runCase(t, table, c); !reflect.DeepEqual(actual, expected) {
+				actualJSON, _ := json.Marshal(actual)
+				expectedJSON, _ := json.Marshal(expected)
+				t.Errorf("actual   %s\nexpected %s", actualJSON, expectedJSON)
 			}
 		})
 	}
@@ -184,14 +184,14 @@ func TestChromiumCases(t *testing.T) {
 	}
 }
 
-// endOf makes the calls of a case, and returns how the last one ends.
-func endOf(t *testing.T, table caseTable, c object) object {
+// runCase makes the calls of a case, and returns the result of the last one.
+func runCase(t *testing.T, table caseTable, c object) object {
 	t.Helper()
 	browser := newKey(t).Browser("http://localhost:5000")
 	var ids []string
 	before, _ := c["before"].([]any)
 	for _, options := range before {
-		text, _ := json.Marshal(merged(table.Creation, options.(object)))
+		text, _ := json.Marshal(mergeObjects(table.Creation, options.(object)))
 		made, err := browser.Create(text)
 		if err != nil {
 			t.Fatal(err)
@@ -202,7 +202,7 @@ func endOf(t *testing.T, table caseTable, c object) object {
 		}
 		ids = append(ids, credential["id"].(string))
 	}
-	text, err := json.Marshal(optionsOf(table, c, ids))
+	text, err := json.Marshal(buildOptions(table, c, ids))
 	if err != nil {
 		t.Fatal(err)
 	}
@@ -222,5 +222,5 @@ func endOf(t *testing.T, table caseTable, c object) object {
 	if err := json.Unmarshal(made, &credential); err != nil {
 		t.Fatal(err)
 	}
-	return object{"seen": seen(t, credential, ids)}
+	return object{"seen": selectStableMembers(t, credential, ids)}
 }

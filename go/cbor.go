@@ -6,42 +6,42 @@ import (
 	"fmt"
 )
 
-// entry is one of a map. Maps are written in the order that they have, which has to be that of CTAP 2.1, section 8.
+// entry is a key and value of a map. Maps are encoded in slice order, which must be canonical (CTAP 2.1, section 8).
 type entry struct{ key, value any }
 
-var errCBOR = errors.New("hidlog: the answer is no CBOR of CTAP 2.1")
+var errCBOR = errors.New("hidlog: invalid CBOR in the response")
 
-// encode returns an item: of int, []byte, string, bool, []any and []entry.
+// encode encodes an item: int, []byte, string, bool, []any or []entry.
 func encode(item any) []byte {
-	switch it := item.(type) {
+	switch value := item.(type) {
 	case int:
-		if it < 0 {
-			return head(1, uint64(-1-it))
+		if value < 0 {
+			return head(1, uint64(-1-value))
 		}
-		return head(0, uint64(it))
+		return head(0, uint64(value))
 	case []byte:
-		return append(head(2, uint64(len(it))), it...)
+		return append(head(2, uint64(len(value))), value...)
 	case string:
-		return append(head(3, uint64(len(it))), it...)
+		return append(head(3, uint64(len(value))), value...)
 	case bool:
-		if it {
+		if value {
 			return []byte{0xF5}
 		}
 		return []byte{0xF4}
 	case []any:
-		out := head(4, uint64(len(it)))
-		for _, each := range it {
-			out = append(out, encode(each)...)
+		out := head(4, uint64(len(value)))
+		for _, element := range value {
+			out = append(out, encode(element)...)
 		}
 		return out
 	case []entry:
-		out := head(5, uint64(len(it)))
-		for _, each := range it {
-			out = append(append(out, encode(each.key)...), encode(each.value)...)
+		out := head(5, uint64(len(value)))
+		for _, element := range value {
+			out = append(append(out, encode(element.key)...), encode(element.value)...)
 		}
 		return out
 	default:
-		panic(fmt.Sprintf("hidlog: no item of CBOR: %T", item))
+		panic(fmt.Sprintf("hidlog: cannot encode %T as CBOR", item))
 	}
 }
 
@@ -56,7 +56,7 @@ func head(major byte, argument uint64) []byte {
 	}
 }
 
-// decode reads an item, and returns what is behind it. Maps are map[any]any.
+// decode decodes an item, and returns the bytes after value. Maps are map[any]any.
 func decode(from []byte) (item any, rest []byte, err error) {
 	if len(from) == 0 {
 		return nil, nil, errCBOR
@@ -99,8 +99,8 @@ func decodeHead(from []byte) (major byte, argument uint64, rest []byte, err erro
 	if short > 26 || len(rest) < size {
 		return 0, 0, nil, errCBOR
 	}
-	for _, each := range rest[:size] {
-		argument = argument<<8 | uint64(each)
+	for _, b := range rest[:size] {
+		argument = argument<<8 | uint64(b)
 	}
 	return major, argument, rest[size:], nil
 }

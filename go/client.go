@@ -17,10 +17,10 @@ const (
 	getCeremony    ceremony = C.HIDLOG_CLIENT_GET
 )
 
-// clientAbilities: a USB key that makes discoverable credentials and verifies no user.
+// clientAbilities describes a USB key with discoverable credentials and without user verification.
 const clientAbilities = C.HIDLOG_CLIENT_RESIDENT_KEY
 
-// The most bytes of a request, and of a credential's JSON.
+// Maximum lengths of a request and of a credential's JSON.
 const (
 	requestCapacity    = longestMessage
 	credentialCapacity = 16384
@@ -37,41 +37,41 @@ var domErrorNames = map[C.int64_t]string{
 	C.HIDLOG_CLIENT_SYNTAX_ERROR:        "SyntaxError",
 }
 
-// client is a call of navigator.credentials by the C library (hidlog.h), which checks the options, and writes the
-// request and the credential's JSON.
+// client is a call of navigator.credentials. The C library (hidlog.h) checks the options, and writes the request and
+// the credential's JSON.
 type client struct {
 	ceremony          ceremony
 	options, origin   []byte
 	mediation, suffix []byte
 }
 
-func newClient(of ceremony, options []byte, origin string) *client {
-	return &client{ceremony: of, options: options, origin: []byte(origin), mediation: []byte("optional")}
+func newClient(kind ceremony, options []byte, origin string) *client {
+	return &client{ceremony: kind, options: options, origin: []byte(origin), mediation: []byte("optional")}
 }
 
-// request checks the options and returns the request for the key: the command's byte, then CBOR.
-func (c *client) request() ([]byte, error) {
+// buildRequest checks the options and returns the request for the key: the command byte, then CBOR.
+func (c *client) buildRequest() ([]byte, error) {
 	out := make([]byte, requestCapacity)
 	var report C.struct_hidlog_client_report
-	length := C.hidlog_client_request(C.uint32_t(c.ceremony), pointer(c.options), C.size_t(len(c.options)),
-		pointer(c.mediation), C.size_t(len(c.mediation)), pointer(c.origin), C.size_t(len(c.origin)), pointer(c.suffix),
-		C.size_t(len(c.suffix)), clientAbilities, &report, pointer(out), C.size_t(len(out)))
-	return clientResult(length, report, out)
+	length := C.hidlog_client_request(C.uint32_t(c.ceremony), firstByte(c.options), C.size_t(len(c.options)),
+		firstByte(c.mediation), C.size_t(len(c.mediation)), firstByte(c.origin), C.size_t(len(c.origin)), firstByte(c.suffix),
+		C.size_t(len(c.suffix)), clientAbilities, &report, firstByte(out), C.size_t(len(out)))
+	return readResult(length, report, out)
 }
 
-// response returns the credential as JSON, from the key's response: a status, then CBOR.
-func (c *client) response(from []byte) ([]byte, error) {
+// buildCredential returns the credential as JSON. It takes the key's response: a status byte, then CBOR.
+func (c *client) buildCredential(from []byte) ([]byte, error) {
 	out := make([]byte, credentialCapacity)
 	var report C.struct_hidlog_client_report
-	length := C.hidlog_client_response(C.uint32_t(c.ceremony), pointer(c.options), C.size_t(len(c.options)),
-		pointer(c.mediation), C.size_t(len(c.mediation)), pointer(c.origin), C.size_t(len(c.origin)), pointer(c.suffix),
-		C.size_t(len(c.suffix)), clientAbilities, pointer(from), C.size_t(len(from)), &report, pointer(out),
+	length := C.hidlog_client_response(C.uint32_t(c.ceremony), firstByte(c.options), C.size_t(len(c.options)),
+		firstByte(c.mediation), C.size_t(len(c.mediation)), firstByte(c.origin), C.size_t(len(c.origin)), firstByte(c.suffix),
+		C.size_t(len(c.suffix)), clientAbilities, firstByte(from), C.size_t(len(from)), &report, firstByte(out),
 		C.size_t(len(out)))
-	return clientResult(length, report, out)
+	return readResult(length, report, out)
 }
 
-// clientResult returns what a call wrote, or its error.
-func clientResult(length C.int64_t, report C.struct_hidlog_client_report, out []byte) ([]byte, error) {
+// readResult returns the output of a library call, or its error.
+func readResult(length C.int64_t, report C.struct_hidlog_client_report, out []byte) ([]byte, error) {
 	if length >= 0 {
 		return out[:length], nil
 	}
@@ -83,10 +83,10 @@ func clientResult(length C.int64_t, report C.struct_hidlog_client_report, out []
 	return nil, &DOMError{name, strings.TrimPrefix(string(member)+": "+string(reason), ": ")}
 }
 
-// pointer returns where bytes begin; never nil, as hidlog.h asks.
-func pointer(of []byte) *C.uint8_t {
-	if len(of) == 0 {
-		of = make([]byte, 1)
+// firstByte returns a pointer to the first byte; never nil, as hidlog.h requires.
+func firstByte(from []byte) *C.uint8_t {
+	if len(from) == 0 {
+		from = make([]byte, 1)
 	}
-	return (*C.uint8_t)(unsafe.Pointer(&of[0]))
+	return (*C.uint8_t)(unsafe.Pointer(&from[0]))
 }

@@ -8,85 +8,86 @@ import (
 	"unsafe"
 )
 
-// Credentials returns the credentials that the key holds, the oldest first.
-func (it *Key) Credentials() []Credential {
-	it.mutex.Lock()
-	defer it.mutex.Unlock()
-	if it.key == nil {
+// Credentials returns the credentials, oldest first.
+func (a *Authenticator) Credentials() []Credential {
+	a.mutex.Lock()
+	defer a.mutex.Unlock()
+	if a.key == nil {
 		return nil
 	}
 	var found []Credential
 	var row C.struct_hidlog_credential
-	for place := C.size_t(0); C.hidlog_key_credential(it.key, place, &row) == 0; place++ {
-		credential := Credential{Discoverable: row.discoverable == 1, Counter: uint32(row.counter)}
-		copy(credential.RP[:], C.GoBytes(unsafe.Pointer(&row.rp), 32))
+	for index := C.size_t(0); C.hidlog_key_get_credential(a.key, index, &row) == 0; index++ {
+		credential := Credential{Discoverable: row.discoverable == 1, SignCount: uint32(row.sign_count)}
+		copy(credential.RPIDHash[:], C.GoBytes(unsafe.Pointer(&row.rp_id_hash), 32))
 		copy(credential.ID[:], C.GoBytes(unsafe.Pointer(&row.id), 32))
 		copy(credential.X[:], C.GoBytes(unsafe.Pointer(&row.x), 32))
 		copy(credential.Y[:], C.GoBytes(unsafe.Pointer(&row.y), 32))
-		credential.User = C.GoBytes(unsafe.Pointer(&row.user), C.int(row.user_len))
-		credential.Name = string(C.GoBytes(unsafe.Pointer(&row.name), C.int(row.name_len)))
+		credential.UserID = C.GoBytes(unsafe.Pointer(&row.user_id), C.int(row.user_id_len))
+		credential.UserName = string(C.GoBytes(unsafe.Pointer(&row.user_name), C.int(row.user_name_len)))
 		found = append(found, credential)
 	}
 	return found
 }
 
-// change changes the credentials while nothing waits, which is a start anew: a recording begins.
-func (it *Key) change(what string, call func() C.int32_t) error {
-	it.mutex.Lock()
-	defer it.mutex.Unlock()
-	if it.key == nil {
+// updateCredentials changes the credentials, if no request is in progress. The authenticator is power-cycled, and a new
+// recording begins.
+func (a *Authenticator) updateCredentials(what string, call func() C.int32_t) error {
+	a.mutex.Lock()
+	defer a.mutex.Unlock()
+	if a.key == nil {
 		return ErrClosed
 	}
-	if err := failure(what, call()); err != nil {
+	if err := toError(what, call()); err != nil {
 		return err
 	}
-	it.parts = append(it.parts, Recording{Snapshot: it.snapshot()})
+	a.recordings = append(a.recordings, Recording{Snapshot: a.takeSnapshot()})
 	return nil
 }
 
-// Add puts a credential in, in the place of one with the same id.
-func (it *Key) Add(credential Credential) error {
-	if len(credential.User) > 64 || len(credential.Name) > 64 {
-		return fmt.Errorf("hidlog: a user handle and a name have at most 64 bytes")
+// Add adds a credential, and replaces one with the same ID.
+func (a *Authenticator) Add(credential Credential) error {
+	if len(credential.UserID) > 64 || len(credential.UserName) > 64 {
+		return fmt.Errorf("hidlog: UserID and UserName must have at most 64 bytes")
 	}
 	var row C.struct_hidlog_credential
 	set := func(to *C.uint8_t, from []byte) { copy(unsafe.Slice((*byte)(unsafe.Pointer(to)), len(from)), from) }
-	set(&row.rp[0], credential.RP[:])
+	set(&row.rp_id_hash[0], credential.RPIDHash[:])
 	set(&row.id[0], credential.ID[:])
 	set(&row.x[0], credential.X[:])
 	set(&row.y[0], credential.Y[:])
-	set(&row.user[0], credential.User)
-	set(&row.name[0], []byte(credential.Name))
-	row.user_len, row.name_len = C.uint32_t(len(credential.User)), C.uint32_t(len(credential.Name))
-	row.counter = C.uint32_t(credential.Counter)
+	set(&row.user_id[0], credential.UserID)
+	set(&row.user_name[0], []byte(credential.UserName))
+	row.user_id_len, row.user_name_len = C.uint32_t(len(credential.UserID)), C.uint32_t(len(credential.UserName))
+	row.sign_count = C.uint32_t(credential.SignCount)
 	if credential.Discoverable {
 		row.discoverable = 1
 	}
-	return it.change("add", func() C.int32_t { return C.hidlog_key_add(it.key, 0, &row) })
+	return a.updateCredentials("add", func() C.int32_t { return C.hidlog_key_add_credential(a.key, 0, &row) })
 }
 
-// Remove takes the credential with this id out.
-func (it *Key) Remove(id ID) error {
-	return it.change("remove", func() C.int32_t { return C.hidlog_key_remove(it.key, 0, first(id[:])) })
+// Remove removes the credential with this ID.
+func (a *Authenticator) Remove(id CredentialID) error {
+	return a.updateCredentials("remove", func() C.int32_t { return C.hidlog_key_remove_credential(a.key, 0, firstByte(id[:])) })
 }
 
-// Clear takes all credentials out.
-func (it *Key) Clear() error {
-	return it.change("clear", func() C.int32_t { return C.hidlog_key_clear(it.key, 0) })
+// Clear removes all credentials.
+func (a *Authenticator) Clear() error {
+	return a.updateCredentials("clear", func() C.int32_t { return C.hidlog_key_clear_credentials(a.key, 0) })
 }
 
-// snapshot returns a snapshot; the key is locked.
-func (it *Key) snapshot() []byte {
-	out := make([]byte, C.HIDLOG_SNAPSHOT_LONGEST)
-	return out[:C.hidlog_key_save(it.key, first(out), C.size_t(len(out)))]
+// takeSnapshot returns a snapshot; the caller holds the mutex.
+func (a *Authenticator) takeSnapshot() []byte {
+	out := make([]byte, C.HIDLOG_SNAPSHOT_MAX_LEN)
+	return out[:C.hidlog_key_save_snapshot(a.key, firstByte(out), C.size_t(len(out)))]
 }
 
-// Snapshot returns the credentials as NewKey and `hidlog --load` take them. Private keys aren't in it.
-func (it *Key) Snapshot() ([]byte, error) {
-	it.mutex.Lock()
-	defer it.mutex.Unlock()
-	if it.key == nil {
+// Snapshot returns the credentials as a snapshot for NewAuthenticator and `hidlog --load`, without the private keys.
+func (a *Authenticator) Snapshot() ([]byte, error) {
+	a.mutex.Lock()
+	defer a.mutex.Unlock()
+	if a.key == nil {
 		return nil, ErrClosed
 	}
-	return it.snapshot(), nil
+	return a.takeSnapshot(), nil
 }

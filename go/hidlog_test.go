@@ -15,6 +15,7 @@ import (
 	"os"
 	"os/exec"
 	"path/filepath"
+	"strings"
 	"sync"
 	"testing"
 
@@ -29,26 +30,26 @@ var create = []byte(`{"rp": {"id": "example.com", "name": "Example"}, "challenge
 	"authenticatorSelection": {"residentKey": "required"}}`)
 var get = []byte(`{"publicKey": {"challenge": "AAECAwQFBgcICQoLDA0ODw", "rpId": "example.com"}}`)
 
-// response is what a service reads of a page's JSON.
-type response struct {
+// publicKeyCredential is the part of a credential's JSON that a service reads.
+type publicKeyCredential struct {
 	ID       string
 	Response struct {
 		ClientDataJSON, AuthenticatorData, Signature, PublicKey, AttestationObject, UserHandle string
 	}
 }
 
-func parsed(t *testing.T, from []byte, err error) (it response) {
+func parseCredential(t *testing.T, from []byte, err error) (credential publicKeyCredential) {
 	t.Helper()
 	if err == nil {
-		err = json.Unmarshal(from, &it)
+		err = json.Unmarshal(from, &credential)
 	}
 	if err != nil {
 		t.Fatal(err)
 	}
-	return it
+	return credential
 }
 
-func decoded(t *testing.T, text string) []byte {
+func decodeBase64URL(t *testing.T, text string) []byte {
 	t.Helper()
 	found, err := base64.RawURLEncoding.DecodeString(text)
 	if err != nil {
@@ -63,67 +64,67 @@ func newKey(t *testing.T) *hidlog.SecurityKey {
 	if err != nil {
 		t.Fatal(err)
 	}
-	t.Cleanup(func() { checkRecordings(t, key.Key); key.Close() })
+	t.Cleanup(func() { checkRecordings(t, key.Authenticator); key.Close() })
 	return key
 }
 
-// checkRecordings has the program compare each part, where it is there.
-func checkRecordings(t *testing.T, key *hidlog.Key) {
+// checkRecordings runs `hidlog check` on each recording, if the program is found.
+func checkRecordings(t *testing.T, key *hidlog.Authenticator) {
 	t.Helper()
-	program := os.Getenv("HIDLOG")
+	program := os.Getenv("HIDLOG_PROGRAM")
 	if program == "" {
 		program = "../release/hidlog"
 	}
 	if _, err := os.Stat(program); err != nil {
-		t.Logf("recordings aren't checked: %v", err)
+		t.Logf("recordings are not checked: %v", err)
 		return
 	}
-	for _, part := range key.Recordings() {
-		words := []string{"check"}
-		if len(part.Snapshot) > 0 {
+	for _, recording := range key.Recordings() {
+		args := []string{"check"}
+		if len(recording.Snapshot) > 0 {
 			path := filepath.Join(t.TempDir(), "snapshot")
-			if err := os.WriteFile(path, part.Snapshot, 0o600); err != nil {
+			if err := os.WriteFile(path, recording.Snapshot, 0o600); err != nil {
 				t.Fatal(err)
 			}
-			words = append(words, "--load", path)
+			args = append(args, "--load", path)
 		}
-		command := exec.Command(program, words...)
-		command.Stdin = bytes.NewReader(part.Log)
-		if said, err := command.CombinedOutput(); err != nil || !bytes.HasPrefix(said, []byte("same ")) {
-			t.Errorf("hidlog check: %v %s", err, said)
+		command := exec.Command(program, args...)
+		command.Stdin = bytes.NewReader(recording.Log)
+		if output, err := command.CombinedOutput(); err != nil || !bytes.HasPrefix(output, []byte("same ")) {
+			t.Errorf("hidlog check: %v %s", err, output)
 		}
 	}
 }
 
-// isVerified returns whether the service would take a sign-in, by the public key that it was sent.
-func isVerified(t *testing.T, made, used response) bool {
+// isVerified returns whether a sign-in is valid for the registered public key.
+func isVerified(t *testing.T, made, used publicKeyCredential) bool {
 	t.Helper()
-	public, err := x509.ParsePKIXPublicKey(decoded(t, made.Response.PublicKey))
+	public, err := x509.ParsePKIXPublicKey(decodeBase64URL(t, made.Response.PublicKey))
 	if err != nil {
 		t.Fatal(err)
 	}
-	hash := sha256.Sum256(decoded(t, used.Response.ClientDataJSON))
-	digest := sha256.Sum256(append(decoded(t, used.Response.AuthenticatorData), hash[:]...))
-	return ecdsa.VerifyASN1(public.(*ecdsa.PublicKey), digest[:], decoded(t, used.Response.Signature))
+	hash := sha256.Sum256(decodeBase64URL(t, used.Response.ClientDataJSON))
+	digest := sha256.Sum256(append(decodeBase64URL(t, used.Response.AuthenticatorData), hash[:]...))
+	return ecdsa.VerifyASN1(public.(*ecdsa.PublicKey), digest[:], decodeBase64URL(t, used.Response.Signature))
 }
 
-func counter(t *testing.T, used response) uint32 {
+func signCount(t *testing.T, used publicKeyCredential) uint32 {
 	t.Helper()
-	return binary.BigEndian.Uint32(decoded(t, used.Response.AuthenticatorData)[33:])
+	return binary.BigEndian.Uint32(decodeBase64URL(t, used.Response.AuthenticatorData)[33:])
 }
 
 func TestRegisterAndSignIn(t *testing.T) {
 	key := newKey(t)
 	browser := key.Browser(origin)
 	made, err := browser.Create(create)
-	registered := parsed(t, made, err)
+	registered := parseCredential(t, made, err)
 	rp := sha256.Sum256([]byte("example.com"))
-	if data := decoded(t, registered.Response.AuthenticatorData); !bytes.Equal(data[:32], rp[:]) || data[32] != 0x41 {
+	if data := decodeBase64URL(t, registered.Response.AuthenticatorData); !bytes.Equal(data[:32], rp[:]) || data[32] != 0x41 {
 		t.Fatalf("authenticator data %x", data)
 	}
 	// {"fmt": "packed", "attStmt": {"alg": -7, "sig": a signature over the authenticator data and the hash}, ..}
 	front := []byte("\xa3\x63fmt\x66packed\x67attStmt\xa2\x63alg\x26\x63sig\x58")
-	attestation := decoded(t, registered.Response.AttestationObject)
+	attestation := decodeBase64URL(t, registered.Response.AttestationObject)
 	if !bytes.HasPrefix(attestation, front) {
 		t.Fatalf("attestation %x", attestation)
 	}
@@ -135,15 +136,15 @@ func TestRegisterAndSignIn(t *testing.T) {
 	}
 	for expected := uint32(1); expected < 4; expected++ {
 		used, err := browser.Get(get)
-		signedIn := parsed(t, used, err)
+		signedIn := parseCredential(t, used, err)
 		if signedIn.ID != registered.ID || signedIn.Response.UserHandle != "YW5u" {
 			t.Fatalf("another account: %s", used)
 		}
-		if !isVerified(t, registered, signedIn) || counter(t, signedIn) != expected {
+		if !isVerified(t, registered, signedIn) || signCount(t, signedIn) != expected {
 			t.Fatalf("sign-in %d: %s", expected, used)
 		}
 		var data struct{ Type, Challenge, Origin string }
-		if err := json.Unmarshal(decoded(t, signedIn.Response.ClientDataJSON), &data); err != nil {
+		if err := json.Unmarshal(decodeBase64URL(t, signedIn.Response.ClientDataJSON), &data); err != nil {
 			t.Fatal(err)
 		}
 		if data.Type != "webauthn.get" || data.Challenge != "AAECAwQFBgcICQoLDA0ODw" || data.Origin != origin {
@@ -155,25 +156,25 @@ func TestRegisterAndSignIn(t *testing.T) {
 func TestPresence(t *testing.T) {
 	key := newKey(t)
 	browser := key.Browser(origin)
-	key.Presence = []hidlog.Presence{hidlog.Denied, hidlog.TimedOut, hidlog.Granted}
-	for _, isTaken := range []bool{false, false, true, true} {
-		if _, err := browser.Create(create); (err == nil) != isTaken || err != nil && !isDOM(err, "NotAllowedError") {
-			t.Fatal(isTaken, err)
+	key.Presence = []hidlog.Presence{hidlog.PresenceDenied, hidlog.PresenceTimedOut, hidlog.PresenceGranted}
+	for _, isAccepted := range []bool{false, false, true, true} {
+		if _, err := browser.Create(create); (err == nil) != isAccepted || err != nil && !isDOMError(err, "NotAllowedError") {
+			t.Fatal(isAccepted, err)
 		}
 	}
 }
 
-func isDOM(err error, name string) bool {
+func isDOMError(err error, name string) bool {
 	var found *hidlog.DOMError
 	return errors.As(err, &found) && found.Name == name
 }
 
-func TestWrongCallsAreRefused(t *testing.T) {
+func TestInvalidCallsAreRejected(t *testing.T) {
 	key := newKey(t)
 	browser := key.Browser(origin)
 	used, err := browser.Create(create)
-	made := parsed(t, used, err)
-	// options returns complete options for a registration, with these members changed.
+	made := parseCredential(t, used, err)
+	// options returns complete registration options with these members replaced.
 	options := func(rp, user, rest string) string {
 		return fmt.Sprintf(`{"rp": {%s"name": "Example"}, "challenge": "AAECAwQFBgcICQoLDA0ODw",
 			"user": {"id": "%s", "name": "a", "displayName": "A"}, "pubKeyCredParams": [{"type": "public-key", "alg": -7}]%s}`,
@@ -181,7 +182,7 @@ func TestWrongCallsAreRefused(t *testing.T) {
 	}
 	excluded := options(`"id": "example.com", `, "AA",
 		fmt.Sprintf(`, "excludeCredentials": [{"type": "public-key", "id": "%s"}]`, made.ID))
-	for _, it := range []struct {
+	for _, test := range []struct {
 		origin, options, name string
 		isGet                 bool
 	}{
@@ -190,7 +191,7 @@ func TestWrongCallsAreRefused(t *testing.T) {
 		{origin, options(`"id": "com", `, "AA", ""), "SecurityError", false},
 		{"http://example.com", options("", "AA", ""), "SecurityError", false},
 		{"https://127.0.0.1", options("", "AA", ""), "SecurityError", false},
-		// What a laxer client took: options without rp, user or parameters, which browsers refuse.
+		// Options without rp, user or parameters, which browsers reject.
 		{origin, `{"challenge": "AAECAwQFBgcICQoLDA0ODw"}`, "TypeError", false},
 		{origin, `{"rp": {"id": "example.com"}, "challenge": "AA", "user": {"id": "AA", "name": "a"}}`, "TypeError", false},
 		{origin, `{"rp": {"id": "example.com"}, "user": {"id": "AA"}}`, "TypeError", false},
@@ -200,12 +201,12 @@ func TestWrongCallsAreRefused(t *testing.T) {
 		{origin, `{"challenge": "AA", "rpId": "example.com", "userVerification": "required"}`, "NotAllowedError", true},
 		{origin, `{"challenge": "AA", "rpId": "login.example.com"}`, "NotAllowedError", true},
 	} {
-		browser, call := key.Browser(it.origin), (*hidlog.Browser).Create
-		if it.isGet {
+		browser, call := key.Browser(test.origin), (*hidlog.Browser).Create
+		if test.isGet {
 			call = (*hidlog.Browser).Get
 		}
-		if _, err := call(browser, []byte(it.options)); !isDOM(err, it.name) {
-			t.Errorf("%s: %v", it.options, err)
+		if _, err := call(browser, []byte(test.options)); !isDOMError(err, test.name) {
+			t.Errorf("%s: %v", test.options, err)
 		}
 	}
 }
@@ -214,36 +215,36 @@ func TestFaults(t *testing.T) {
 	key := newKey(t)
 	browser := key.Browser(origin)
 	text, err := browser.Create(create)
-	made := parsed(t, text, err)
-	signIn := func() response {
+	made := parseCredential(t, text, err)
+	signIn := func() publicKeyCredential {
 		text, err := browser.Get(get)
-		return parsed(t, text, err)
+		return parseCredential(t, text, err)
 	}
-	before := counter(t, signIn())
-	key.Faults = hidlog.Faults{CounterStays: true}
-	if used := signIn(); counter(t, used) != before || !isVerified(t, made, used) {
-		t.Fatal("the counter should stay, signed")
+	before := signCount(t, signIn())
+	key.Faults = hidlog.Faults{StaleSignCount: true}
+	if used := signIn(); signCount(t, used) != before || !isVerified(t, made, used) {
+		t.Fatal("the counter should be stale, with a valid signature")
 	}
-	key.Faults = hidlog.Faults{WrongSignature: true}
+	key.Faults = hidlog.Faults{BadSignature: true}
 	if isVerified(t, made, signIn()) {
-		t.Fatal("the signature should be another key's")
+		t.Fatal("the signature should be invalid")
 	}
-	key.Faults = hidlog.Faults{OtherRP: "example.org"}
+	key.Faults = hidlog.Faults{WrongRPID: "example.org"}
 	rp, used := sha256.Sum256([]byte("example.org")), signIn()
-	if !bytes.HasPrefix(decoded(t, used.Response.AuthenticatorData), rp[:]) || !isVerified(t, made, used) {
-		t.Fatal("the RP should be another, signed")
+	if !bytes.HasPrefix(decodeBase64URL(t, used.Response.AuthenticatorData), rp[:]) || !isVerified(t, made, used) {
+		t.Fatal("the RP ID hash should be example.org's, with a valid signature")
 	}
-	key.Faults = hidlog.Faults{CutShort: 4}
-	if used := signIn(); len(decoded(t, used.Response.AuthenticatorData)) != 33 {
-		t.Fatal("four bytes should be missing")
+	key.Faults = hidlog.Faults{TruncateBy: 4}
+	if used := signIn(); len(decodeBase64URL(t, used.Response.AuthenticatorData)) != 33 {
+		t.Fatal("the authenticator data should be four bytes short")
 	}
 	key.Faults = hidlog.Faults{Status: 0x30}
-	if _, err := browser.Get(get); !isDOM(err, "NotAllowedError") {
+	if _, err := browser.Get(get); !isDOMError(err, "NotAllowedError") {
 		t.Fatal(err)
 	}
 	key.Faults = hidlog.Faults{}
-	if used := signIn(); !isVerified(t, made, used) || counter(t, used) < before+5 {
-		t.Fatal("without a fault all should be right")
+	if used := signIn(); !isVerified(t, made, used) || signCount(t, used) < before+5 {
+		t.Fatal("without faults the sign-in should be valid")
 	}
 }
 
@@ -254,44 +255,47 @@ func TestCredentials(t *testing.T) {
 		t.Fatal(err)
 	}
 	rp := sha256.Sum256([]byte("example.com"))
-	bob := hidlog.Credential{RP: rp, ID: hidlog.ID{7}, User: []byte("bob"), Name: "Bob", Discoverable: true, Counter: 41}
-	if err := key.AddPair(bob, pair); err != nil {
+	bob := hidlog.Credential{RPIDHash: rp, ID: hidlog.CredentialID{7}, UserID: []byte("bob"), UserName: "Bob",
+		Discoverable: true, SignCount: 41}
+	if err := key.AddWithPrivateKey(bob, pair); err != nil {
 		t.Fatal(err)
 	}
 	text, err := key.Browser(origin).Get(get)
-	if used := parsed(t, text, err); counter(t, used) != 42 || string(decoded(t, used.Response.UserHandle)) != "bob" {
+	if used := parseCredential(t, text, err); signCount(t, used) != 42 || string(decodeBase64URL(t, used.Response.UserHandle)) != "bob" {
 		t.Fatal(string(text))
 	}
-	held := key.Credentials()
-	if len(held) != 1 || held[0].Name != "Bob" || held[0].Counter != 42 || string(held[0].User) != "bob" {
-		t.Fatal(held)
+	credentials := key.Credentials()
+	if len(credentials) != 1 || credentials[0].UserName != "Bob" || credentials[0].SignCount != 42 ||
+		string(credentials[0].UserID) != "bob" {
+		t.Fatal(credentials)
 	}
 	snapshot, err := key.Snapshot()
 	if err != nil {
 		t.Fatal(err)
 	}
-	again, err := hidlog.NewKey(snapshot)
+	again, err := hidlog.NewAuthenticator(snapshot)
 	if err != nil || len(again.Credentials()) != 1 {
 		t.Fatal(err)
 	}
 	again.Close()
 	if _, err := again.Tick(1); err != hidlog.ErrClosed || again.Add(bob) != hidlog.ErrClosed || again.Need().Kind != 0 {
-		t.Fatal("a closed key should say so")
+		t.Fatal("calls on a closed authenticator should return ErrClosed")
 	}
-	if err := key.Add(hidlog.Credential{ID: hidlog.ID{8}, RP: rp, User: []byte("bob"), Discoverable: true}); err == nil {
-		t.Fatal("two discoverable credentials of one user should clash")
+	second := hidlog.Credential{ID: hidlog.CredentialID{8}, RPIDHash: rp, UserID: []byte("bob"), Discoverable: true}
+	if err := key.Add(second); err == nil {
+		t.Fatal("a second discoverable credential for the user should be rejected")
 	}
-	if err := key.Add(hidlog.Credential{User: make([]byte, 65)}); err == nil {
-		t.Fatal("a long user handle should be refused")
+	if err := key.Add(hidlog.Credential{UserID: make([]byte, 65)}); err == nil {
+		t.Fatal("a user handle of 65 bytes should be rejected")
 	}
-	if err := key.Remove(hidlog.ID{9}); err == nil {
-		t.Fatal("no such credential")
+	if err := key.Remove(hidlog.CredentialID{9}); err == nil {
+		t.Fatal("removing a missing credential should fail")
 	}
 	if err := key.Clear(); err != nil || len(key.Credentials()) != 0 || len(key.Recordings()) != 3 {
 		t.Fatal(err)
 	}
-	if _, err := hidlog.NewKey([]byte{1}); err == nil {
-		t.Fatal("this is no snapshot")
+	if _, err := hidlog.NewAuthenticator([]byte{1}); err == nil {
+		t.Fatal("an invalid snapshot should be rejected")
 	}
 }
 
@@ -307,47 +311,73 @@ func TestAccounts(t *testing.T) {
 	for account, user := range []string{"Yw", "Yg", "YQ"} {
 		browser.Account = account
 		text, err := browser.Get(get)
-		if used := parsed(t, text, err); used.Response.UserHandle != user {
+		if used := parseCredential(t, text, err); used.Response.UserHandle != user {
 			t.Fatal(account, used)
 		}
 	}
 	browser.Account = 3
-	if _, err := browser.Get(get); !isDOM(err, "NotAllowedError") {
+	if _, err := browser.Get(get); !isDOMError(err, "NotAllowedError") {
 		t.Fatal(err)
 	}
 }
 
-// The packets of a key without a user: what it needs is asked, and time passes.
+// Errors of a rejected request end with the library's reason; that of an injected status has none.
+func TestCauses(t *testing.T) {
+	key := newKey(t)
+	browser := key.Browser(origin)
+	ends := func(call func([]byte) ([]byte, error), options []byte, cause string) {
+		t.Helper()
+		_, err := call(options)
+		if !isDOMError(err, "NotAllowedError") || !strings.HasSuffix(err.Error(), ": "+cause) || key.Cause() != cause {
+			t.Fatalf("%v; cause %q, expected %q", err, key.Cause(), cause)
+		}
+	}
+	ends(browser.Get, get, "no discoverable credential of this RP on this key")
+	key.Presence = []hidlog.Presence{hidlog.PresenceDenied}
+	ends(browser.Create, create, "the user refused")
+	key.Presence = []hidlog.Presence{hidlog.PresenceGranted}
+	if _, err := browser.Create(create); err != nil || key.Cause() != "" {
+		t.Fatal(err, key.Cause())
+	}
+	key.Faults = hidlog.Faults{Status: 0x30}
+	key.Presence = []hidlog.Presence{hidlog.PresenceDenied}
+	if _, err := browser.Get(get); !isDOMError(err, "NotAllowedError") || strings.Contains(err.Error(), "the user") {
+		t.Fatal(err)
+	}
+}
+
+// An authenticator without a simulated user: packets, needs and time.
 func TestPackets(t *testing.T) {
-	key, err := hidlog.NewKey(nil)
+	key, err := hidlog.NewAuthenticator(nil)
 	if err != nil {
 		t.Fatal(err)
 	}
-	// INIT of the broadcast channel (CTAP 2.1, section 11.2.9.1.3): the nonce, a channel, version 2, capabilities.
+	// INIT on the broadcast channel (CTAP 2.1, section 11.2.9.1.3): the nonce, a channel, version 2, capabilities.
 	packet := hidlog.Packet{0xff, 0xff, 0xff, 0xff, 0x86, 0, 8, 1, 2, 3, 4, 5, 6, 7, 8}
-	sent, err := key.Packet(0, packet)
-	wanted := hidlog.Packet{0xff, 0xff, 0xff, 0xff, 0x86, 0, 17, 1, 2, 3, 4, 5, 6, 7, 8, 0, 0, 0, 1, 2, 1, 0, 0, 0x0c}
-	if err != nil || len(sent) != 1 || sent[0] != wanted {
+	sent, err := key.HandlePacket(0, packet)
+	expected := hidlog.Packet{0xff, 0xff, 0xff, 0xff, 0x86, 0, 17, 1, 2, 3, 4, 5, 6, 7, 8, 0, 0, 0, 1, 2, 1, 0, 0, 0x0c}
+	if err != nil || len(sent) != 1 || sent[0] != expected {
 		t.Fatal(err, sent)
 	}
 	// authenticatorSelection waits for presence, with a KEEPALIVE after 100 ms; then its status is 0x27.
-	if _, err = key.Packet(10, hidlog.Packet{0, 0, 0, 1, 0x90, 0, 1, 0x0b}); err != nil || key.Need().Kind != hidlog.NeedPresence {
+	selection := hidlog.Packet{0, 0, 0, 1, 0x90, 0, 1, 0x0b}
+	if _, err = key.HandlePacket(10, selection); err != nil || key.Need().Kind != hidlog.NeedPresence {
 		t.Fatal(err, key.Need())
 	}
 	if sent, err = key.Tick(200); err != nil || len(sent) != 1 || sent[0][4] != 0xbb || sent[0][7] != 2 {
 		t.Fatal(err, sent)
 	}
-	if sent, err = key.Presence(250, hidlog.Denied); err != nil || len(sent) != 1 || sent[0][7] != 0x27 {
+	if sent, err = key.ProvidePresence(250, hidlog.PresenceDenied); err != nil || len(sent) != 1 || sent[0][7] != 0x27 {
 		t.Fatal(err, sent)
 	}
-	if _, err = key.Presence(300, 3); err == nil {
-		t.Fatal("there is no such presence")
+	if _, err = key.ProvidePresence(300, 3); err == nil {
+		t.Fatal("presence 3 should be rejected")
 	}
-	if _, err = key.Signature(300, make([]byte, 73)); err == nil {
-		t.Fatal("a signature has at most 72 bytes")
+	if _, err = key.ProvideSignature(300, make([]byte, 73)); err == nil {
+		t.Fatal("a signature of 73 bytes should be rejected")
 	}
-	if _, err = key.Refuse(300, hidlog.NeedPresence); err == nil {
-		t.Fatal("presence is denied, not refused")
+	if _, err = key.Reject(300, hidlog.NeedPresence); err == nil {
+		t.Fatal("Reject(NeedPresence) should fail")
 	}
 	checkRecordings(t, key)
 }

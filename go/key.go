@@ -1,6 +1,6 @@
 package hidlog
 
-// /* The module has the library in lib; in a clone of the repository it is in release. */
+// /* The module has the library in lib; a clone of the repository has it in release. */
 // #cgo CFLAGS: -I${SRCDIR}/lib -I${SRCDIR}/../release
 // #cgo linux,amd64 LDFLAGS: -L${SRCDIR}/lib/amd64 -L${SRCDIR}/../release -l:libhidlog.a
 // #cgo linux,arm64 LDFLAGS: -L${SRCDIR}/lib/arm64 -L${SRCDIR}/../release/aarch64 -l:libhidlog.a
@@ -9,8 +9,6 @@ package hidlog
 import "C"
 
 import (
-	"bytes"
-	"encoding/hex"
 	"errors"
 	"fmt"
 	"runtime"
@@ -18,246 +16,255 @@ import (
 	"unsafe"
 )
 
-// textMost is enough for what one line of a log is answered with.
-const textMost = 18000
+// causeCapacity is the maximum length of a cause in bytes (hidlog.h).
+const causeCapacity = 160
 
-// PacketSize is how many bytes a packet has.
+// PacketSize is the length of a packet in bytes.
 const PacketSize = 64
 
-// ID is the name of a credential.
-type ID [32]byte
+// CredentialID is a credential ID.
+type CredentialID [32]byte
 
-// Packet is a packet of CTAPHID.
+// Packet is a CTAPHID packet.
 type Packet [PacketSize]byte
 
-// Presence is what the user says where the key asks for a touch.
+// Presence is the user's reaction when the authenticator asks for a touch.
 type Presence int
 
-// The user touches the key, says no, or does nothing.
+// The user touches the key, refuses, or does nothing.
 const (
-	Granted Presence = iota
-	Denied
-	TimedOut
+	PresenceGranted Presence = iota
+	PresenceDenied
+	PresenceTimedOut
 )
 
-// String returns the word of a log.
-func (it Presence) String() string {
-	return [...]string{"granted", "denied", "timeout"}[it]
+// String returns the presence as written in a session log: granted, denied or timeout.
+func (p Presence) String() string {
+	return [...]string{"granted", "denied", "timeout"}[p]
 }
 
-// NeedKind says what a key needs before its work goes on.
+// NeedKind is what an authenticator needs to continue its request.
 type NeedKind int
 
-// A key needs nothing, a touch, a new key pair, or a signature.
+// An authenticator needs nothing, user presence, a new key pair, or a signature.
 const (
-	NeedNothing NeedKind = iota
+	NeedNone NeedKind = iota
 	NeedPresence
-	NeedKey
+	NeedKeyPair
 	NeedSignature
 )
 
-// Need is what a key needs of its caller. At NeedSignature, ID is the credential and Signed the bytes to sign: ECDSA
-// with SHA-256, in DER.
+// Need is what an authenticator needs from its caller. For NeedSignature, ID is the credential and ToSign the bytes to
+// sign with ECDSA and SHA-256 (DER).
 type Need struct {
 	Kind   NeedKind
-	ID     ID
-	Signed []byte
+	ID     CredentialID
+	ToSign []byte
 }
 
-// Credential is what a key knows of a credential, without its private key.
+// Credential is a credential without its private key.
 type Credential struct {
-	RP           [32]byte // the SHA-256 hash of the RP id
-	ID           ID
-	X, Y         [32]byte
-	User         []byte
-	Name         string
+	RPIDHash     [32]byte // SHA-256 of the RP ID
+	ID           CredentialID
+	X, Y         [32]byte // the public key on P-256
+	UserID       []byte   // the user handle, at most 64 bytes
+	UserName     string   // at most 64 bytes
 	Discoverable bool
-	Counter      uint32
+	SignCount    uint32
 }
 
-// Recording is a log and the snapshot that it begins with: `hidlog check --load SNAPSHOT LOG`, where there is one.
+// Recording is a session log and the credential snapshot it starts with, if any: `hidlog check --load SNAPSHOT LOG`.
 type Recording struct {
 	Snapshot []byte
 	Log      []byte
 }
 
-// Key is a security key: its moments are milliseconds, and all that comes is recorded. Its methods may be called from
-// several goroutines. An input that fails leaves the key as it was.
-type Key struct {
-	mutex sync.Mutex
-	key   *C.struct_hidlog_key
-	text  []byte
-	parts []Recording
+// Authenticator is the authenticator alone: packets and replies in, packets out. Times are in milliseconds, and every
+// input is recorded. Its methods may be called from several goroutines. An input that fails leaves it unchanged.
+type Authenticator struct {
+	mutex      sync.Mutex
+	key        *C.struct_hidlog_key
+	recordings []Recording
 }
 
-// ErrClosed is returned of a key that was closed.
+// ErrClosed is returned by methods of a closed Authenticator.
 var ErrClosed = errors.New("hidlog: the key is closed")
 
-var faults = map[C.int32_t]string{
-	C.HIDLOG_KEY_NOT_MADE:      "the key isn't made",
-	C.HIDLOG_KEY_PACKETS_WAIT:  "packets wait to be taken",
-	C.HIDLOG_KEY_BAD_ARGUMENT:  "there is no such credential, or a text is longer than 64 bytes or no UTF-8",
-	C.HIDLOG_KEY_WORK_WAITS:    "the key's work waits for its caller",
-	C.HIDLOG_KEY_CLASHES:       "another discoverable credential has the same RP and user",
-	C.HIDLOG_KEY_NOT_SNAPSHOT:  "the bytes are no snapshot",
-	C.HIDLOG_KEY_TOO_MANY_ROWS: "a key has capacity for 64 credentials",
-	C.HIDLOG_KEY_ROW_BROKEN:    "a credential of the snapshot is broken",
+var errorTexts = map[C.int32_t]string{
+	C.HIDLOG_KEY_ERR_NOT_INITIALIZED:  "the key is not initialized",
+	C.HIDLOG_KEY_ERR_PACKETS_QUEUED:   "packets are queued: read them first",
+	C.HIDLOG_KEY_ERR_INVALID_ARGUMENT: "no such credential, or a text is longer than 64 bytes or not UTF-8",
+	C.HIDLOG_KEY_ERR_BUSY:             "the key is busy",
+	C.HIDLOG_KEY_ERR_DUPLICATE_USER:   "another discoverable credential has the same RP and user",
+	C.HIDLOG_KEY_ERR_NOT_A_SNAPSHOT:   "the bytes are not a snapshot",
+	C.HIDLOG_KEY_ERR_FULL:             "the key is full: its capacity is 64 credentials",
+	C.HIDLOG_KEY_ERR_BAD_CREDENTIAL:   "the snapshot has an invalid credential",
 }
 
-// failure returns the error of a number that the library returned, or nil.
-func failure(what string, status C.int32_t) error {
+// toError returns the error for a return value of the library, or nil.
+func toError(what string, status C.int32_t) error {
 	if status >= 0 {
 		return nil
 	}
-	text := faults[status]
+	text := errorTexts[status]
 	if text == "" {
-		text = fmt.Sprintf("fault %d", status)
+		text = fmt.Sprintf("error %d", status)
 	}
 	return fmt.Errorf("hidlog: %s: %s", what, text)
 }
 
-// NewKey makes a key with the credentials of a snapshot; nil is a key without any. Close it, or leave it to the
-// collector.
-func NewKey(snapshot []byte) (*Key, error) {
-	it := &Key{text: make([]byte, textMost), parts: []Recording{{Snapshot: clone(snapshot)}}}
-	it.key = (*C.struct_hidlog_key)(C.calloc(1, C.sizeof_struct_hidlog_key))
-	it.key.memory = C.aligned_alloc(16, (C.hidlog_key_size()+15)/16*16)
+// NewAuthenticator returns an authenticator with the credentials of a snapshot, or without any if it is nil. Close it,
+// or leave it to the garbage collector.
+func NewAuthenticator(snapshot []byte) (*Authenticator, error) {
+	a := &Authenticator{recordings: []Recording{{Snapshot: clone(snapshot)}}}
+	a.key = (*C.struct_hidlog_key)(C.calloc(1, C.sizeof_struct_hidlog_key))
+	a.key.memory = C.aligned_alloc(16, (C.hidlog_key_size()+15)/16*16)
 	var aaguid [16]C.uint8_t
-	status := C.hidlog_key_make(it.key, &aaguid[0], 0, first(snapshot), C.size_t(len(snapshot)))
-	if err := failure("a new key", status); err != nil {
-		it.release()
+	status := C.hidlog_key_init(a.key, &aaguid[0], 0, firstByte(snapshot), C.size_t(len(snapshot)))
+	if err := toError("new authenticator", status); err != nil {
+		a.free()
 		return nil, err
 	}
-	runtime.SetFinalizer(it, (*Key).Close)
-	return it, nil
+	runtime.SetFinalizer(a, (*Authenticator).Close)
+	return a, nil
 }
 
 func clone(from []byte) []byte {
 	return append([]byte(nil), from...)
 }
 
-// first returns the first of some bytes for C, which wants a pointer also where there are none.
-func first(from []byte) *C.uint8_t {
-	if len(from) == 0 {
-		from = []byte{0}
-	}
-	return (*C.uint8_t)(unsafe.Pointer(&from[0]))
+func (a *Authenticator) free() {
+	C.free(a.key.memory)
+	C.free(unsafe.Pointer(a.key))
+	a.key = nil
 }
 
-func (it *Key) release() {
-	C.free(it.key.memory)
-	C.free(unsafe.Pointer(it.key))
-	it.key = nil
-}
-
-// Close ends the key. Its recordings stay.
-func (it *Key) Close() {
-	it.mutex.Lock()
-	defer it.mutex.Unlock()
-	if it.key != nil {
-		C.hidlog_key_free(it.key)
-		it.release()
+// Close destroys the authenticator. Its recordings remain.
+func (a *Authenticator) Close() {
+	a.mutex.Lock()
+	defer a.mutex.Unlock()
+	if a.key != nil {
+		C.hidlog_key_destroy(a.key)
+		a.free()
 	}
 }
 
-// play plays a line of a log, and returns the packets that the key sends.
-func (it *Key) play(kind byte, at uint64, words string) ([]Packet, error) {
-	it.mutex.Lock()
-	defer it.mutex.Unlock()
-	if it.key == nil {
+// handleInput makes a call of the library with an input, records the input's log line, and returns the packets that the
+// authenticator sends.
+func (a *Authenticator) handleInput(line string, call func() C.int32_t) ([]Packet, error) {
+	a.mutex.Lock()
+	defer a.mutex.Unlock()
+	if a.key == nil {
 		return nil, ErrClosed
 	}
-	line := []byte(fmt.Sprintf("%c %d%s\n", kind, at, words))
-	var outcome C.struct_hidlog_outcome
-	status := C.hidlog_key_lines(it.key, first(line), C.size_t(len(line)), first(it.text), textMost, &outcome)
-	if status != C.HIDLOG_DONE {
-		return nil, fmt.Errorf("hidlog: the key refuses the line %q", line)
+	if err := toError("input", call()); err != nil {
+		return nil, err
 	}
-	text := it.text[:outcome.written]
-	part := &it.parts[len(it.parts)-1]
-	part.Log = append(part.Log, text...)
-	return packetsIn(text)
-}
-
-// packetsIn returns the packets that are sent in lines of a log.
-func packetsIn(text []byte) (found []Packet, err error) {
-	for _, line := range bytes.Split(text, []byte{'\n'}) {
-		if len(line) == 2+2*PacketSize && line[0] == '<' {
-			var packet Packet
-			if _, err = hex.Decode(packet[:], line[2:]); err != nil {
-				return nil, err
-			}
-			found = append(found, packet)
-		}
+	recording := &a.recordings[len(a.recordings)-1]
+	recording.Log = append(append(recording.Log, line...), '\n')
+	var sent []Packet
+	var packet Packet
+	for C.hidlog_key_read_packet(a.key, firstByte(packet[:])) >= 0 {
+		recording.Log = fmt.Appendf(recording.Log, "< %x\n", packet)
+		sent = append(sent, packet)
 	}
-	return found, nil
+	return sent, nil
 }
 
-// Packet hands in a packet of a host, and returns what the key sends.
-func (it *Key) Packet(at uint64, packet Packet) ([]Packet, error) {
-	return it.play('>', at, " "+hex.EncodeToString(packet[:]))
+// HandlePacket handles a packet from the host, and returns the packets sent in response.
+func (a *Authenticator) HandlePacket(timeMs uint64, packet Packet) ([]Packet, error) {
+	return a.handleInput(fmt.Sprintf("> %d %x", timeMs, packet), func() C.int32_t {
+		return C.hidlog_key_write_packet(a.key, C.uint64_t(timeMs), firstByte(packet[:]))
+	})
 }
 
-// Tick lets time pass.
-func (it *Key) Tick(at uint64) ([]Packet, error) {
-	return it.play('t', at, "")
+// Tick advances the time, and returns the packets sent.
+func (a *Authenticator) Tick(timeMs uint64) ([]Packet, error) {
+	return a.handleInput(fmt.Sprintf("t %d", timeMs), func() C.int32_t {
+		return C.hidlog_key_tick(a.key, C.uint64_t(timeMs))
+	})
 }
 
-// Presence says what the user does.
-func (it *Key) Presence(at uint64, presence Presence) ([]Packet, error) {
-	if presence < Granted || presence > TimedOut {
-		return nil, fmt.Errorf("hidlog: presence %d: it has to be Granted, Denied or TimedOut", int(presence))
+// ProvidePresence reports what the user did.
+func (a *Authenticator) ProvidePresence(timeMs uint64, presence Presence) ([]Packet, error) {
+	if presence < PresenceGranted || presence > PresenceTimedOut {
+		return nil, fmt.Errorf("hidlog: presence must be PresenceGranted, PresenceDenied or PresenceTimedOut, not %d",
+			int(presence))
 	}
-	return it.play('p', at, " "+presence.String())
+	return a.handleInput(fmt.Sprintf("p %d %s", timeMs, presence), func() C.int32_t {
+		return C.hidlog_key_provide_presence(a.key, C.uint64_t(timeMs), C.uint32_t(presence))
+	})
 }
 
-// NewPair hands in a new key pair: the credential's id and the point on P-256.
-func (it *Key) NewPair(at uint64, id ID, x, y [32]byte) ([]Packet, error) {
-	return it.play('k', at, fmt.Sprintf(" %x %x %x", id, x, y))
+// ProvideKeyPair provides a new key pair: the credential ID and the public key on P-256.
+func (a *Authenticator) ProvideKeyPair(timeMs uint64, id CredentialID, x, y [32]byte) ([]Packet, error) {
+	return a.handleInput(fmt.Sprintf("k %d %x %x %x", timeMs, id, x, y), func() C.int32_t {
+		return C.hidlog_key_provide_key_pair(a.key, C.uint64_t(timeMs), firstByte(id[:]), firstByte(x[:]), firstByte(y[:]))
+	})
 }
 
-// Signature hands in a signature of 1 to 72 bytes, in DER.
-func (it *Key) Signature(at uint64, signature []byte) ([]Packet, error) {
+// ProvideSignature provides a signature, 1 to 72 bytes of DER.
+func (a *Authenticator) ProvideSignature(timeMs uint64, signature []byte) ([]Packet, error) {
 	if len(signature) == 0 || len(signature) > 72 {
-		return nil, fmt.Errorf("hidlog: a signature has 1 to 72 bytes, not %d", len(signature))
+		return nil, fmt.Errorf("hidlog: a signature must have 1 to 72 bytes, not %d", len(signature))
 	}
-	return it.play('s', at, " "+hex.EncodeToString(signature))
+	return a.handleInput(fmt.Sprintf("s %d %x", timeMs, signature), func() C.int32_t {
+		return C.hidlog_key_provide_signature(a.key, C.uint64_t(timeMs), firstByte(signature), C.size_t(len(signature)))
+	})
 }
 
-// Refuse says that there is no key pair, or no signature.
-func (it *Key) Refuse(at uint64, need NeedKind) ([]Packet, error) {
+// Reject reports that there is no key pair (NeedKeyPair), or no signature (NeedSignature).
+func (a *Authenticator) Reject(timeMs uint64, need NeedKind) ([]Packet, error) {
 	switch need {
-	case NeedKey:
-		return it.play('k', at, " no")
+	case NeedKeyPair:
+		return a.handleInput(fmt.Sprintf("k %d no", timeMs), func() C.int32_t {
+			return C.hidlog_key_refuse_key_pair(a.key, C.uint64_t(timeMs))
+		})
 	case NeedSignature:
-		return it.play('s', at, " no")
+		return a.handleInput(fmt.Sprintf("s %d no", timeMs), func() C.int32_t {
+			return C.hidlog_key_refuse_signature(a.key, C.uint64_t(timeMs))
+		})
 	default:
-		return nil, errors.New("hidlog: only NeedKey and NeedSignature can be refused; Presence has Denied")
+		return nil, errors.New("hidlog: only NeedKeyPair and NeedSignature can be rejected; use PresenceDenied")
 	}
 }
 
-// Need returns what the key needs now.
-func (it *Key) Need() Need {
-	it.mutex.Lock()
-	defer it.mutex.Unlock()
-	if it.key == nil {
+// Cause returns why the authenticator rejected its last input, as a sentence without a full stop: with an ERROR packet,
+// or with a status other than 0. It is empty if the input was not rejected, and after power-up.
+func (a *Authenticator) Cause() string {
+	a.mutex.Lock()
+	defer a.mutex.Unlock()
+	if a.key == nil {
+		return ""
+	}
+	var cause C.struct_hidlog_cause
+	text := make([]byte, causeCapacity)
+	length := C.hidlog_key_cause(a.key, 1, &cause, firstByte(text), causeCapacity)
+	return string(text[:max(0, int(length))])
+}
+
+// Need returns what the authenticator needs now.
+func (a *Authenticator) Need() Need {
+	a.mutex.Lock()
+	defer a.mutex.Unlock()
+	if a.key == nil {
 		return Need{}
 	}
 	var need C.struct_hidlog_need
-	C.hidlog_key_need(it.key, &need)
+	C.hidlog_key_get_need(a.key, &need)
 	found := Need{Kind: NeedKind(need.kind)}
 	copy(found.ID[:], C.GoBytes(unsafe.Pointer(&need.id), 32))
-	found.Signed = C.GoBytes(unsafe.Pointer(&need.signed_bytes), C.int(need.signed_len))
+	found.ToSign = C.GoBytes(unsafe.Pointer(&need.to_sign), C.int(need.to_sign_len))
 	return found
 }
 
-// Recordings returns what was recorded: a part for each change of the credentials by hand.
-func (it *Key) Recordings() []Recording {
-	it.mutex.Lock()
-	defer it.mutex.Unlock()
-	found := make([]Recording, 0, len(it.parts))
-	for _, part := range it.parts {
-		found = append(found, Recording{clone(part.Snapshot), clone(part.Log)})
+// Recordings returns what was recorded. A new recording begins at each Add, Remove and Clear.
+func (a *Authenticator) Recordings() []Recording {
+	a.mutex.Lock()
+	defer a.mutex.Unlock()
+	found := make([]Recording, 0, len(a.recordings))
+	for _, recording := range a.recordings {
+		found = append(found, Recording{clone(recording.Snapshot), clone(recording.Log)})
 	}
 	return found
 }

@@ -13,113 +13,119 @@ import (
 	"time"
 )
 
-// Commands of CTAPHID, with the bit of an initialization packet (CTAP 2.1, section 11.2.4).
+// CTAPHID commands, with the bit of initialization packets set (CTAP 2.1, section 11.2.4).
 const (
-	commandInit = 0x80 | hidINIT
-	commandCBOR = 0x80 | hidCBOR
-	keepalive   = 0x80 | hidKEEPALIVE
-	hidError    = 0x80 | hidERROR
+	commandInit      = 0x80 | hidINIT
+	commandCBOR      = 0x80 | hidCBOR
+	commandKeepalive = 0x80 | hidKEEPALIVE
+	commandError     = 0x80 | hidERROR
 )
 
-// Faults are what a service has to survive. The key stays as it is: they are made outside of it, so that its recording
-// replays as before.
+// Faults are injected into responses, to test how a service handles them. They are injected outside the authenticator,
+// so that its recordings still replay.
 type Faults struct {
-	// Status, where it isn't 0, is the answer to each request.
+	// Status, if not 0, is the response to every request.
 	Status byte
-	// WrongSignature has signatures made by another private key.
-	WrongSignature bool
-	// CounterStays sends the signature counter of the last answer again, signed.
-	CounterStays bool
-	// OtherRP, where it isn't empty, is an RP id of which the authenticator data is, signed.
-	OtherRP string
-	// CutShort is how many bytes are missing at the end of each authenticator data.
-	CutShort int
+	// BadSignature signs with a different private key.
+	BadSignature bool
+	// StaleSignCount repeats the signature counter of the previous response, with a valid signature.
+	StaleSignCount bool
+	// WrongRPID, if not empty, is the RP ID whose hash the authenticator data has, with a valid signature.
+	WrongRPID string
+	// TruncateBy is the number of bytes to remove from the end of the authenticator data.
+	TruncateBy int
 }
 
-// SecurityKey is a key with its private keys and its user, for a client that sends messages. Its methods are called from
-// one goroutine at a time.
+// SecurityKey is an authenticator with private keys and a simulated user, for clients that send messages. Its methods
+// must not be called concurrently.
 type SecurityKey struct {
-	*Key
-	// Presence is what the user does at each touch in turn. The last one stays; none is Granted.
+	*Authenticator
+	// Presence is what the user does each time the key asks for a touch. The last one is repeated; if empty, every touch
+	// is granted.
 	Presence []Presence
-	// Faults are those that are on.
+	// Faults are the faults to inject.
 	Faults Faults
 
-	mutex   sync.Mutex
-	begun   time.Time
-	pairs   map[ID]*ecdsa.PrivateKey
-	channel [4]byte
-	last    map[ID]uint32 // the counter that was sent last
+	mutex       sync.Mutex
+	poweredUp   time.Time
+	privateKeys map[CredentialID]*ecdsa.PrivateKey
+	channel     [4]byte
+	last        map[CredentialID]uint32 // signature counter of the previous response
 }
 
-// Status is the status of CTAP with which a key refused a request.
+// Status is the CTAP status code with which a key rejected a request.
 type Status byte
 
-// Error returns the status as a text.
+// Error returns the status code and its name.
 func (s Status) Error() string {
-	return strings.TrimSpace(fmt.Sprintf("hidlog: the key answered with status %02x %s", byte(s), statusNames[s]))
+	return strings.TrimSpace(fmt.Sprintf("hidlog: the key returned status %02x %s", byte(s), statusNames[s]))
 }
 
-// NewSecurityKey makes a key without credentials.
+// NewSecurityKey returns a key without credentials.
 func NewSecurityKey() (*SecurityKey, error) {
-	key, err := NewKey(nil)
+	authenticator, err := NewAuthenticator(nil)
 	if err != nil {
 		return nil, err
 	}
-	return &SecurityKey{Key: key, begun: time.Now(), pairs: map[ID]*ecdsa.PrivateKey{}, last: map[ID]uint32{}}, nil
+	return &SecurityKey{
+		Authenticator: authenticator,
+		poweredUp:     time.Now(),
+		privateKeys:   map[CredentialID]*ecdsa.PrivateKey{},
+		last:          map[CredentialID]uint32{},
+	}, nil
 }
 
-func (k *SecurityKey) now() uint64 {
-	return uint64(time.Since(k.begun).Milliseconds())
+func (k *SecurityKey) nowMs() uint64 {
+	return uint64(time.Since(k.poweredUp).Milliseconds())
 }
 
 // PrivateKey returns the private key of a credential, or nil.
-func (k *SecurityKey) PrivateKey(id ID) *ecdsa.PrivateKey {
-	return k.pairs[id]
+func (k *SecurityKey) PrivateKey(id CredentialID) *ecdsa.PrivateKey {
+	return k.privateKeys[id]
 }
 
-// AddPair puts a credential with its private key in. X and Y of the credential are those of the key.
-func (k *SecurityKey) AddPair(credential Credential, pair *ecdsa.PrivateKey) error {
-	if pair == nil || pair.Curve != elliptic.P256() {
-		return errors.New("hidlog: the private key has to be one on P-256")
+// AddWithPrivateKey adds a credential with its private key, from which X and Y are set.
+func (k *SecurityKey) AddWithPrivateKey(credential Credential, privateKey *ecdsa.PrivateKey) error {
+	if privateKey == nil || privateKey.Curve != elliptic.P256() {
+		return errors.New("hidlog: the private key must be on P-256")
 	}
-	pair.X.FillBytes(credential.X[:])
-	pair.Y.FillBytes(credential.Y[:])
+	privateKey.X.FillBytes(credential.X[:])
+	privateKey.Y.FillBytes(credential.Y[:])
 	if err := k.Add(credential); err != nil {
 		return err
 	}
-	k.pairs[credential.ID] = pair
+	k.privateKeys[credential.ID] = privateKey
 	k.channel = [4]byte{}
 	return nil
 }
 
-// Remove takes the credential with this id out.
-func (k *SecurityKey) Remove(id ID) error {
+// Remove removes the credential with this ID.
+func (k *SecurityKey) Remove(id CredentialID) error {
 	k.channel = [4]byte{}
-	return k.Key.Remove(id)
+	return k.Authenticator.Remove(id)
 }
 
-// Clear takes all credentials out.
+// Clear removes all credentials.
 func (k *SecurityKey) Clear() error {
 	k.channel = [4]byte{}
-	return k.Key.Clear()
+	return k.Authenticator.Clear()
 }
 
-// user returns what the user does now.
-func (k *SecurityKey) user() Presence {
+// nextPresence returns what the user does at this touch.
+func (k *SecurityKey) nextPresence() Presence {
 	if len(k.Presence) == 0 {
-		return Granted
+		return PresenceGranted
 	}
-	now := k.Presence[0]
+	next := k.Presence[0]
 	if len(k.Presence) > 1 {
 		k.Presence = k.Presence[1:]
 	}
-	return now
+	return next
 }
 
-func (k *SecurityKey) givePair() ([]Packet, error) {
-	var id ID
-	pair, err := ecdsa.GenerateKey(elliptic.P256(), rand.Reader)
+func (k *SecurityKey) provideKeyPair() ([]Packet, error) {
+	var id CredentialID
+	privateKey, err := ecdsa.GenerateKey(elliptic.P256(), rand.Reader)
 	if err == nil {
 		_, err = rand.Read(id[:])
 	}
@@ -127,41 +133,41 @@ func (k *SecurityKey) givePair() ([]Packet, error) {
 		return nil, err
 	}
 	var x, y [32]byte
-	pair.X.FillBytes(x[:])
-	pair.Y.FillBytes(y[:])
-	k.pairs[id] = pair
-	return k.NewPair(k.now(), id, x, y)
+	privateKey.X.FillBytes(x[:])
+	privateKey.Y.FillBytes(y[:])
+	k.privateKeys[id] = privateKey
+	return k.ProvideKeyPair(k.nowMs(), id, x, y)
 }
 
-func (k *SecurityKey) giveSignature(need Need) ([]Packet, error) {
-	pair := k.pairs[need.ID]
-	if pair == nil {
-		return k.Refuse(k.now(), NeedSignature)
+func (k *SecurityKey) provideSignature(need Need) ([]Packet, error) {
+	privateKey := k.privateKeys[need.ID]
+	if privateKey == nil {
+		return k.Reject(k.nowMs(), NeedSignature)
 	}
-	signature, err := sign(pair, need.Signed)
+	signature, err := sign(privateKey, need.ToSign)
 	if err != nil {
 		return nil, err
 	}
-	return k.Signature(k.now(), signature)
+	return k.ProvideSignature(k.nowMs(), signature)
 }
 
-func sign(pair *ecdsa.PrivateKey, signed []byte) ([]byte, error) {
-	digest := sha256.Sum256(signed)
-	return ecdsa.SignASN1(rand.Reader, pair, digest[:])
+func sign(privateKey *ecdsa.PrivateKey, toSign []byte) ([]byte, error) {
+	digest := sha256.Sum256(toSign)
+	return ecdsa.SignASN1(rand.Reader, privateKey, digest[:])
 }
 
-// serve hands the key what it needs until it needs nothing, and returns what it sends.
-func (k *SecurityKey) serve(sent []Packet, err error) ([]Packet, error) {
+// provideNeeds provides what the authenticator needs until it needs nothing, and returns the packets it sent.
+func (k *SecurityKey) provideNeeds(sent []Packet, err error) ([]Packet, error) {
 	for err == nil {
 		var more []Packet
 		need := k.Need()
 		switch need.Kind {
 		case NeedPresence:
-			more, err = k.Key.Presence(k.now(), k.user())
-		case NeedKey:
-			more, err = k.givePair()
+			more, err = k.ProvidePresence(k.nowMs(), k.nextPresence())
+		case NeedKeyPair:
+			more, err = k.provideKeyPair()
 		case NeedSignature:
-			more, err = k.giveSignature(need)
+			more, err = k.provideSignature(need)
 		default:
 			return sent, nil
 		}
@@ -170,64 +176,64 @@ func (k *SecurityKey) serve(sent []Packet, err error) ([]Packet, error) {
 	return nil, err
 }
 
-// message sends a message on a channel, and returns the command and the data of its answer.
-func (k *SecurityKey) message(channel [4]byte, command byte, data []byte) (byte, []byte, error) {
+// transact sends a message on a channel, and returns the command and the data of the response.
+func (k *SecurityKey) transact(channel [4]byte, command byte, data []byte) (byte, []byte, error) {
 	var sent []Packet
-	for _, packet := range packetsOf(channel, command, data) {
-		more, err := k.serve(k.Packet(k.now(), packet))
+	for _, packet := range fragment(channel, command, data) {
+		more, err := k.provideNeeds(k.HandlePacket(k.nowMs(), packet))
 		if err != nil {
 			return 0, nil, err
 		}
 		sent = append(sent, more...)
 	}
-	return answerIn(channel, sent)
+	return reassemble(channel, sent)
 }
 
-// packetsOf returns the packets of a message.
-func packetsOf(channel [4]byte, command byte, data []byte) []Packet {
+// fragment returns the packets of a message.
+func fragment(channel [4]byte, command byte, data []byte) []Packet {
 	var packet Packet
 	copy(packet[:], channel[:])
 	packet[4] = command
 	binary.BigEndian.PutUint16(packet[5:], uint16(len(data)))
 	rest := data[copy(packet[7:], data):]
 	found := []Packet{packet}
-	for number := byte(0); len(rest) > 0; number++ {
+	for sequence := byte(0); len(rest) > 0; sequence++ {
 		packet = Packet{}
 		copy(packet[:], channel[:])
-		packet[4] = number
+		packet[4] = sequence
 		rest = rest[copy(packet[5:], rest):]
 		found = append(found, packet)
 	}
 	return found
 }
 
-// answerIn returns the message on a channel that isn't a KEEPALIVE.
-func answerIn(channel [4]byte, sent []Packet) (command byte, data []byte, err error) {
-	wanted := -1
+// reassemble returns the message sent on a channel, skipping KEEPALIVE.
+func reassemble(channel [4]byte, sent []Packet) (command byte, data []byte, err error) {
+	length := -1
 	for _, packet := range sent {
 		switch {
-		case *(*[4]byte)(packet[:4]) != channel || packet[4] == keepalive:
+		case *(*[4]byte)(packet[:4]) != channel || packet[4] == commandKeepalive:
 			continue
 		case packet[4]&0x80 != 0:
-			command, wanted = packet[4], int(binary.BigEndian.Uint16(packet[5:]))
+			command, length = packet[4], int(binary.BigEndian.Uint16(packet[5:]))
 			data = append([]byte(nil), packet[7:]...)
 		default:
 			data = append(data, packet[5:]...)
 		}
 	}
-	if wanted < 0 || len(data) < wanted {
-		return 0, nil, errors.New("hidlog: the key sent no whole answer")
+	if length < 0 || len(data) < length {
+		return 0, nil, errors.New("hidlog: incomplete response from the key")
 	}
-	return command, data[:wanted], nil
+	return command, data[:length], nil
 }
 
-// open allocates a channel.
-func (k *SecurityKey) open() error {
+// openChannel allocates a channel.
+func (k *SecurityKey) openChannel() error {
 	var nonce [8]byte
 	if _, err := rand.Read(nonce[:]); err != nil {
 		return err
 	}
-	_, data, err := k.message([4]byte{255, 255, 255, 255}, commandInit, nonce[:])
+	_, data, err := k.transact([4]byte{255, 255, 255, 255}, commandInit, nonce[:])
 	if err != nil {
 		return err
 	}
@@ -235,25 +241,36 @@ func (k *SecurityKey) open() error {
 	return nil
 }
 
-// Exchange sends an authenticator command with its parameters in CBOR, and returns the answer behind the status. A
-// status that isn't 0 is a Status.
+// causeSuffix returns the text that says in an error message why the key rejected its last request.
+func (k *SecurityKey) causeSuffix() string {
+	if cause := k.Cause(); cause != "" && k.Faults.Status == 0 {
+		return ": " + cause
+	}
+	return ""
+}
+
+// Exchange sends an authenticator command and its CBOR parameters, and returns the response after the status byte. The
+// error is a Status if the status is not 0; Cause says why.
 func (k *SecurityKey) Exchange(request []byte) ([]byte, error) {
 	k.mutex.Lock()
 	defer k.mutex.Unlock()
 	if len(request) == 0 || len(request) > longestMessage {
-		return nil, fmt.Errorf("hidlog: a request has 1 to %d bytes, not %d", longestMessage, len(request))
+		return nil, fmt.Errorf("hidlog: a request must have 1 to %d bytes, not %d", longestMessage, len(request))
 	}
 	if k.channel == [4]byte{} {
-		if err := k.open(); err != nil {
+		if err := k.openChannel(); err != nil {
 			return nil, err
 		}
 	}
-	command, data, err := k.message(k.channel, commandCBOR, request)
+	command, data, err := k.transact(k.channel, commandCBOR, request)
 	if err != nil {
 		return nil, err
 	}
-	if command == hidError || len(data) == 0 {
-		return nil, fmt.Errorf("hidlog: the key answered with the error %x of the transport", data)
+	if command == commandError {
+		return nil, fmt.Errorf("hidlog: the key returned a CTAPHID_ERROR: %x", data)
+	}
+	if len(data) == 0 {
+		return nil, errors.New("hidlog: the key returned an empty response")
 	}
 	if k.Faults.Status != 0 {
 		return nil, Status(k.Faults.Status)

@@ -1,19 +1,19 @@
-//! Links the static library of this processor, or that of the folder that HIDLOG_LIBRARY_FOLDER names.
+//! Links the static library for the target's architecture, from HIDLOG_LIBRARY_FOLDER if it is set.
 
 use std::env::var;
 
 fn main() {
     println!("cargo:rerun-if-env-changed=HIDLOG_LIBRARY_FOLDER");
     let (system, processor) = (var("CARGO_CFG_TARGET_OS").unwrap(), var("CARGO_CFG_TARGET_ARCH").unwrap());
-    // The crate has the library in lib; in a clone of the repository it is in release.
+    // The crate has the library in lib; a clone of the repository has it in release.
     let crate_folder = var("CARGO_MANIFEST_DIR").unwrap();
     let release = if processor == "x86_64" { "" } else { &processor };
     let folders = [format!("{crate_folder}/lib/{processor}"), format!("{crate_folder}/../../release/{release}")];
-    let has_library = |it: &&String| std::path::Path::new(it).join("libhidlog.a").exists();
+    let has_library = |folder: &&String| std::path::Path::new(folder).join("libhidlog.a").exists();
     let found = folders.iter().find(has_library).unwrap_or(&folders[0]).clone();
     let folder = var("HIDLOG_LIBRARY_FOLDER").unwrap_or(found);
     if system != "linux" || !std::path::Path::new(&folder).join("libhidlog.a").exists() {
-        panic!("hidlog-sys has no library for {system} on {processor}: it has Linux on x86_64 and aarch64");
+        panic!("hidlog-sys has no library for {system} on {processor}; supported: Linux on x86_64 and aarch64");
     }
     println!("cargo:rustc-link-search=native={folder}");
     println!("cargo:rustc-link-lib=static=hidlog");

@@ -1,18 +1,18 @@
-//! The calls of `hidlog.h`, which documents each of them (`lib/hidlog.h`). Use the crate `hidlog`, which is safe.
+//! Bindings of `hidlog.h`, which documents each function (`lib/hidlog.h`). The crate `hidlog` is the safe API.
 #![no_std]
 #![allow(non_camel_case_types)]
 #![allow(clippy::missing_safety_doc)]
 
 use core::ffi::c_void;
 
-/// A command was done to its end (`enum hidlog_status`).
-pub const HIDLOG_DONE: u32 = 0;
-/// No snapshot is longer.
-pub const HIDLOG_SNAPSHOT_LONGEST: usize = 18125;
+/// The command completed (`enum hidlog_status`).
+pub const HIDLOG_OK: u32 = 0;
+/// Maximum length of a snapshot.
+pub const HIDLOG_SNAPSHOT_MAX_LEN: usize = 18125;
 /// `enum hidlog_need_kind`.
-pub const HIDLOG_NEED_NOTHING: u32 = 0;
+pub const HIDLOG_NEED_NONE: u32 = 0;
 pub const HIDLOG_NEED_PRESENCE: u32 = 1;
-pub const HIDLOG_NEED_KEY: u32 = 2;
+pub const HIDLOG_NEED_KEY_PAIR: u32 = 2;
 pub const HIDLOG_NEED_SIGNATURE: u32 = 3;
 
 /// `struct hidlog_key`.
@@ -22,12 +22,12 @@ pub struct hidlog_key {
     pub state: u32,
 }
 
-/// `struct hidlog_outcome`.
+/// `struct hidlog_result`.
 #[repr(C)]
 #[derive(Clone, Copy, Debug, Default)]
-pub struct hidlog_outcome {
+pub struct hidlog_result {
     pub status: u32,
-    pub fault: u32,
+    pub error: u32,
     pub line: u64,
     pub packet: u64,
     pub written: u64,
@@ -38,9 +38,9 @@ pub struct hidlog_outcome {
 #[derive(Clone, Copy)]
 pub struct hidlog_need {
     pub kind: u32,
-    pub signed_len: u32,
+    pub to_sign_len: u32,
     pub id: [u8; 32],
-    pub signed_bytes: [u8; 196],
+    pub to_sign: [u8; 196],
 }
 
 /// `struct hidlog_cause`.
@@ -57,29 +57,29 @@ pub struct hidlog_cause {
 #[repr(C)]
 #[derive(Clone, Copy)]
 pub struct hidlog_credential {
-    pub rp: [u8; 32],
+    pub rp_id_hash: [u8; 32],
     pub id: [u8; 32],
     pub x: [u8; 32],
     pub y: [u8; 32],
-    pub user: [u8; 64],
-    pub name: [u8; 64],
-    pub user_len: u32,
-    pub name_len: u32,
+    pub user_id: [u8; 64],
+    pub user_name: [u8; 64],
+    pub user_id_len: u32,
+    pub user_name_len: u32,
     pub discoverable: u32,
-    pub counter: u32,
+    pub sign_count: u32,
 }
 
-/// `struct hidlog_meters`.
+/// `struct hidlog_stats`.
 #[repr(C)]
 #[derive(Clone, Copy, Debug, Default, PartialEq, Eq)]
-pub struct hidlog_meters {
+pub struct hidlog_stats {
     pub requests: u64,
     pub bytes: u64,
     pub steps: u64,
-    pub held: u32,
-    pub rows: u32,
-    pub pending: u32,
-    pub zero: u32,
+    pub peak_message_bytes: u32,
+    pub peak_credentials: u32,
+    pub peak_pending: u32,
+    pub reserved: u32,
 }
 
 /// `enum hidlog_client_ceremony`.
@@ -100,8 +100,8 @@ pub struct hidlog_client_report {
 
 macro_rules! commands {
     ($($name:ident)*) => { extern "C" { $(
-        pub fn $name(log: *const u8, log_len: usize, snapshot: *const u8, snapshot_len: usize, out: *mut u8, room: usize,
-            outcome: *mut hidlog_outcome);
+        pub fn $name(log: *const u8, log_len: usize, snapshot: *const u8, snapshot_len: usize, out: *mut u8,
+            out_cap: usize, result: *mut hidlog_result);
     )* } };
 }
 
@@ -113,43 +113,54 @@ extern "C" {
         log_len: usize,
         explain: u32,
         out: *mut u8,
-        room: usize,
-        outcome: *mut hidlog_outcome,
+        out_cap: usize,
+        result: *mut hidlog_result,
     );
     pub fn hidlog_transactions(
         log: *const u8,
         log_len: usize,
         out: *mut u8,
-        room: usize,
-        outcome: *mut hidlog_outcome,
+        out_cap: usize,
+        result: *mut hidlog_result,
     );
-    pub fn hidlog_fault_text(outcome: *const hidlog_outcome, out: *mut u8, room: usize) -> usize;
+    pub fn hidlog_result_message(result: *const hidlog_result, out: *mut u8, out_cap: usize) -> usize;
     pub fn hidlog_key_size() -> usize;
-    pub fn hidlog_key_make(
+    pub fn hidlog_key_init(
         key: *mut hidlog_key,
         aaguid: *const u8,
-        at: u64,
+        now_ms: u64,
         snapshot: *const u8,
         snapshot_len: usize,
     ) -> i32;
-    pub fn hidlog_key_free(key: *mut hidlog_key) -> i32;
-    pub fn hidlog_key_packet(key: *mut hidlog_key, at: u64, packet: *const u8) -> i32;
-    pub fn hidlog_key_tick(key: *mut hidlog_key, at: u64) -> i32;
-    pub fn hidlog_key_presence(key: *mut hidlog_key, at: u64, presence: u32) -> i32;
-    pub fn hidlog_key_new_key(key: *mut hidlog_key, at: u64, id: *const u8, x: *const u8, y: *const u8) -> i32;
-    pub fn hidlog_key_no_key(key: *mut hidlog_key, at: u64) -> i32;
-    pub fn hidlog_key_signature(key: *mut hidlog_key, at: u64, signature: *const u8, signature_len: usize) -> i32;
-    pub fn hidlog_key_no_signature(key: *mut hidlog_key, at: u64) -> i32;
-    pub fn hidlog_key_waiting(key: *mut hidlog_key) -> i32;
-    pub fn hidlog_key_next(key: *mut hidlog_key, packet: *mut u8) -> i32;
-    pub fn hidlog_key_need(key: *mut hidlog_key, need: *mut hidlog_need) -> i32;
-    pub fn hidlog_key_credentials(key: *mut hidlog_key) -> i32;
-    pub fn hidlog_key_credential(key: *mut hidlog_key, place: usize, credential: *mut hidlog_credential) -> i32;
-    pub fn hidlog_key_add(key: *mut hidlog_key, at: u64, credential: *const hidlog_credential) -> i32;
-    pub fn hidlog_key_remove(key: *mut hidlog_key, at: u64, id: *const u8) -> i32;
-    pub fn hidlog_key_clear(key: *mut hidlog_key, at: u64) -> i32;
-    pub fn hidlog_key_save(key: *mut hidlog_key, out: *mut u8, room: usize) -> i32;
-    pub fn hidlog_key_pending(key: *mut hidlog_key) -> i32;
+    pub fn hidlog_key_destroy(key: *mut hidlog_key) -> i32;
+    pub fn hidlog_key_write_packet(key: *mut hidlog_key, now_ms: u64, packet: *const u8) -> i32;
+    pub fn hidlog_key_tick(key: *mut hidlog_key, now_ms: u64) -> i32;
+    pub fn hidlog_key_provide_presence(key: *mut hidlog_key, now_ms: u64, presence: u32) -> i32;
+    pub fn hidlog_key_provide_key_pair(
+        key: *mut hidlog_key,
+        now_ms: u64,
+        id: *const u8,
+        x: *const u8,
+        y: *const u8,
+    ) -> i32;
+    pub fn hidlog_key_refuse_key_pair(key: *mut hidlog_key, now_ms: u64) -> i32;
+    pub fn hidlog_key_provide_signature(
+        key: *mut hidlog_key,
+        now_ms: u64,
+        signature: *const u8,
+        signature_len: usize,
+    ) -> i32;
+    pub fn hidlog_key_refuse_signature(key: *mut hidlog_key, now_ms: u64) -> i32;
+    pub fn hidlog_key_queued_packets(key: *mut hidlog_key) -> i32;
+    pub fn hidlog_key_read_packet(key: *mut hidlog_key, packet: *mut u8) -> i32;
+    pub fn hidlog_key_get_need(key: *mut hidlog_key, need: *mut hidlog_need) -> i32;
+    pub fn hidlog_key_credential_count(key: *mut hidlog_key) -> i32;
+    pub fn hidlog_key_get_credential(key: *mut hidlog_key, index: usize, credential: *mut hidlog_credential) -> i32;
+    pub fn hidlog_key_add_credential(key: *mut hidlog_key, now_ms: u64, credential: *const hidlog_credential) -> i32;
+    pub fn hidlog_key_remove_credential(key: *mut hidlog_key, now_ms: u64, id: *const u8) -> i32;
+    pub fn hidlog_key_clear_credentials(key: *mut hidlog_key, now_ms: u64) -> i32;
+    pub fn hidlog_key_save_snapshot(key: *mut hidlog_key, out: *mut u8, out_cap: usize) -> i32;
+    pub fn hidlog_key_pending_assertions(key: *mut hidlog_key) -> i32;
     pub fn hidlog_key_cause(
         key: *mut hidlog_key,
         which: u32,
@@ -157,14 +168,14 @@ extern "C" {
         out: *mut u8,
         out_cap: usize,
     ) -> i32;
-    pub fn hidlog_key_meters(key: *mut hidlog_key, meters: *mut hidlog_meters) -> i32;
-    pub fn hidlog_key_lines(
+    pub fn hidlog_key_get_stats(key: *mut hidlog_key, stats: *mut hidlog_stats) -> i32;
+    pub fn hidlog_key_replay_lines(
         key: *mut hidlog_key,
         log: *const u8,
         log_len: usize,
         out: *mut u8,
-        room: usize,
-        outcome: *mut hidlog_outcome,
+        out_cap: usize,
+        result: *mut hidlog_result,
     ) -> i32;
     pub fn hidlog_client_request(
         ceremony: u32,

@@ -1,22 +1,22 @@
 //! base64url without padding (RFC 4648, section 5).
 
-const LETTERS: &[u8; 64] = b"ABCDEFGHIJKLMNOPQRSTUVWXYZabcdefghijklmnopqrstuvwxyz0123456789-_";
+const ALPHABET: &[u8; 64] = b"ABCDEFGHIJKLMNOPQRSTUVWXYZabcdefghijklmnopqrstuvwxyz0123456789-_";
 
-/// Returns the text of bytes.
+/// Encodes bytes.
 pub(crate) fn encode(bytes: &[u8]) -> String {
     let mut text = String::new();
     for chunk in bytes.chunks(3) {
         let number = (0..3).fold(0usize, |sum, index| sum << 8 | usize::from(*chunk.get(index).unwrap_or(&0)));
-        text.extend((0..=chunk.len()).map(|index| LETTERS[number >> (18 - 6 * index) & 63] as char));
+        text.extend((0..=chunk.len()).map(|index| ALPHABET[number >> (18 - 6 * index) & 63] as char));
     }
     text
 }
 
-/// Returns the bytes of a text, or `None` if it isn't base64url.
+/// Decodes a text; `None` if it is not base64url.
 pub(crate) fn decode(text: &str) -> Option<Vec<u8>> {
     let (mut bytes, mut number, mut bits) = (Vec::new(), 0u32, 0);
-    for letter in text.bytes() {
-        let value = LETTERS.iter().position(|other| *other == letter)?;
+    for character in text.bytes() {
+        let value = ALPHABET.iter().position(|other| *other == character)?;
         number = (number << 6 | value as u32) & 0xffff;
         bits += 6;
         if bits >= 8 {
@@ -29,9 +29,9 @@ pub(crate) fn decode(text: &str) -> Option<Vec<u8>> {
 
 #[cfg(test)]
 mod tests {
-    /// The table of RFC 4648, section 10, without padding.
+    /// The test vectors of RFC 4648, section 10, without padding.
     #[test]
-    fn the_standards_table() {
+    fn matches_rfc_4648() {
         let rows = [("", ""), ("f", "Zg"), ("fo", "Zm8"), ("foo", "Zm9v"), ("foob", "Zm9vYg"), ("fooba", "Zm9vYmE")];
         for (text, encoded) in rows {
             assert_eq!(super::encode(text.as_bytes()), encoded);

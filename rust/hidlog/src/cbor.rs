@@ -1,6 +1,6 @@
-//! As much of CBOR as CTAP 2.1 needs.
+//! The subset of CBOR that CTAP 2.1 uses.
 
-/// An item. Maps are written in the order that they have, which has to be that of CTAP 2.1, section 8.
+/// An item. Maps are encoded in `Vec` order, which must be canonical (CTAP 2.1, section 8).
 #[derive(Clone, Debug, PartialEq, Eq)]
 pub enum Item {
     Number(i64),
@@ -12,65 +12,65 @@ pub enum Item {
 }
 
 impl Item {
-    pub fn text(it: &str) -> Item {
-        Item::Text(it.into())
+    pub fn from_text(text: &str) -> Item {
+        Item::Text(text.into())
     }
 
-    pub fn map<const N: usize>(it: [(&str, Item); N]) -> Item {
-        Item::Map(it.into_iter().map(|(key, value)| (Item::text(key), value)).collect())
+    pub fn from_entries<const N: usize>(entries: [(&str, Item); N]) -> Item {
+        Item::Map(entries.into_iter().map(|(key, value)| (Item::from_text(key), value)).collect())
     }
 
-    /// Returns a member of a map.
+    /// Returns the value of a key, if this is a map that has it.
     pub fn get(&self, key: &Item) -> Option<&Item> {
         match self {
-            Item::Map(entries) => entries.iter().find(|it| it.0 == *key).map(|it| &it.1),
+            Item::Map(entries) => entries.iter().find(|entry| entry.0 == *key).map(|entry| &entry.1),
             _ => None,
         }
     }
 
-    /// Returns bytes that are a member of a map.
-    pub fn bytes(&self, key: &Item) -> Option<&[u8]> {
+    /// Returns the value of a key, if it is a byte string.
+    pub fn get_bytes(&self, key: &Item) -> Option<&[u8]> {
         match self.get(key) {
-            Some(Item::Bytes(it)) => Some(it),
+            Some(Item::Bytes(bytes)) => Some(bytes),
             _ => None,
         }
     }
 
     pub fn encode(&self, to: &mut Vec<u8>) {
         match self {
-            Item::Number(it) if *it < 0 => head(1, (-1 - it) as u64, to),
-            Item::Number(it) => head(0, *it as u64, to),
-            Item::Bytes(it) => {
-                head(2, it.len() as u64, to);
-                to.extend_from_slice(it);
+            Item::Number(number) if *number < 0 => write_head(1, (-1 - number) as u64, to),
+            Item::Number(number) => write_head(0, *number as u64, to),
+            Item::Bytes(bytes) => {
+                write_head(2, bytes.len() as u64, to);
+                to.extend_from_slice(bytes);
             }
-            Item::Text(it) => {
-                head(3, it.len() as u64, to);
-                to.extend_from_slice(it.as_bytes());
+            Item::Text(text) => {
+                write_head(3, text.len() as u64, to);
+                to.extend_from_slice(text.as_bytes());
             }
-            Item::Array(it) => {
-                head(4, it.len() as u64, to);
-                it.iter().for_each(|each| each.encode(to));
+            Item::Array(items) => {
+                write_head(4, items.len() as u64, to);
+                items.iter().for_each(|item| item.encode(to));
             }
-            Item::Map(it) => {
-                head(5, it.len() as u64, to);
-                for (key, value) in it {
+            Item::Map(entries) => {
+                write_head(5, entries.len() as u64, to);
+                for (key, value) in entries {
                     key.encode(to);
                     value.encode(to);
                 }
             }
-            Item::Bool(it) => to.push(if *it { 0xf5 } else { 0xf4 }),
+            Item::Bool(value) => to.push(if *value { 0xf5 } else { 0xf4 }),
         }
     }
 
-    /// Reads an item that is the whole text.
+    /// Decodes bytes that are exactly one item.
     pub fn decode(mut from: &[u8]) -> Option<Item> {
-        let item = read(&mut from)?;
+        let item = read_item(&mut from)?;
         from.is_empty().then_some(item)
     }
 }
 
-fn head(major: u8, argument: u64, to: &mut Vec<u8>) {
+fn write_head(major: u8, argument: u64, to: &mut Vec<u8>) {
     if argument < 24 {
         to.push(major << 5 | argument as u8);
     } else if argument < 0x100 {
@@ -81,27 +81,27 @@ fn head(major: u8, argument: u64, to: &mut Vec<u8>) {
     }
 }
 
-fn take<'a>(from: &mut &'a [u8], len: usize) -> Option<&'a [u8]> {
+fn take_bytes<'a>(from: &mut &'a [u8], len: usize) -> Option<&'a [u8]> {
     let (front, rest) = (from.get(..len)?, from.get(len..)?);
     *from = rest;
     Some(front)
 }
 
-fn read(from: &mut &[u8]) -> Option<Item> {
-    let first = take(from, 1)?[0];
+fn read_item(from: &mut &[u8]) -> Option<Item> {
+    let first = take_bytes(from, 1)?[0];
     let argument = match first & 31 {
         short @ 0..=23 => u64::from(short),
-        long @ 24..=26 => take(from, 1 << (long - 24))?.iter().fold(0, |sum, it| sum << 8 | u64::from(*it)),
+        long @ 24..=26 => take_bytes(from, 1 << (long - 24))?.iter().fold(0, |sum, byte| sum << 8 | u64::from(*byte)),
         _ => return None,
     };
     let len = argument as usize;
     Some(match first >> 5 {
         0 => Item::Number(argument as i64),
         1 => Item::Number(-1 - argument as i64),
-        2 => Item::Bytes(take(from, len)?.to_vec()),
-        3 => Item::Text(String::from_utf8(take(from, len)?.to_vec()).ok()?),
-        4 => Item::Array((0..len).map(|_| read(from)).collect::<Option<_>>()?),
-        5 => Item::Map((0..len).map(|_| Some((read(from)?, read(from)?))).collect::<Option<_>>()?),
+        2 => Item::Bytes(take_bytes(from, len)?.to_vec()),
+        3 => Item::Text(String::from_utf8(take_bytes(from, len)?.to_vec()).ok()?),
+        4 => Item::Array((0..len).map(|_| read_item(from)).collect::<Option<_>>()?),
+        5 => Item::Map((0..len).map(|_| Some((read_item(from)?, read_item(from)?))).collect::<Option<_>>()?),
         7 => Item::Bool(argument == 21),
         _ => return None,
     })

@@ -1,21 +1,20 @@
-//! A call of `navigator.credentials` by the C library, which checks the options, and writes the request and the
-//! credential's JSON.
+//! Calls of `navigator.credentials`. The C library checks the options, and writes requests and the credential's JSON.
 use crate::standard::LONGEST_MESSAGE;
 use crate::Error;
 use hidlog_sys as sys;
 
-/// A credential's JSON has at most so many bytes.
+/// Maximum length of a credential's JSON.
 const CREDENTIAL_CAPACITY: usize = 16384;
 const MEDIATION: &[u8] = b"optional";
 
-/// A call of `navigator.credentials`.
+/// The method of `navigator.credentials`.
 #[derive(Clone, Copy, PartialEq, Eq)]
 pub(crate) enum Ceremony {
     Create,
     Get,
 }
 
-/// A ceremony with its options and its origin.
+/// A ceremony with its options and origin.
 pub(crate) struct Client<'a> {
     pub(crate) ceremony: Ceremony,
     pub(crate) options: &'a str,
@@ -23,21 +22,21 @@ pub(crate) struct Client<'a> {
 }
 
 impl Client<'_> {
-    fn ceremony(&self) -> u32 {
+    fn ceremony_code(&self) -> u32 {
         match self.ceremony {
             Ceremony::Create => sys::HIDLOG_CLIENT_CREATE,
             Ceremony::Get => sys::HIDLOG_CLIENT_GET,
         }
     }
 
-    /// Checks the options, and returns the request for the key: the command's byte, then CBOR.
-    pub(crate) fn request(&self) -> Result<Vec<u8>, Error> {
+    /// Checks the options, and returns the request for the key: the command byte, then CBOR.
+    pub(crate) fn build_request(&self) -> Result<Vec<u8>, Error> {
         let mut report = sys::hidlog_client_report::default();
         let mut out = vec![0; LONGEST_MESSAGE];
-        // SAFETY: each pointer is beside its length, and `out` and `report` overlap nothing.
+        // SAFETY: each length is that of its pointer, and `out` and `report` do not overlap anything.
         let length = unsafe {
             sys::hidlog_client_request(
-                self.ceremony(),
+                self.ceremony_code(),
                 self.options.as_ptr(),
                 self.options.len(),
                 MEDIATION.as_ptr(),
@@ -52,17 +51,17 @@ impl Client<'_> {
                 out.len(),
             )
         };
-        written(length, &report, out)
+        read_output(length, &report, out)
     }
 
-    /// Returns the credential as JSON, from the key's response: a status, then CBOR.
-    pub(crate) fn response(&self, response: &[u8]) -> Result<String, Error> {
+    /// Returns the credential as JSON. `response` is the key's: a status byte, then CBOR.
+    pub(crate) fn build_credential(&self, response: &[u8]) -> Result<String, Error> {
         let mut report = sys::hidlog_client_report::default();
         let mut out = vec![0; CREDENTIAL_CAPACITY];
-        // SAFETY: each pointer is beside its length, and `out` and `report` overlap nothing.
+        // SAFETY: each length is that of its pointer, and `out` and `report` do not overlap anything.
         let length = unsafe {
             sys::hidlog_client_response(
-                self.ceremony(),
+                self.ceremony_code(),
                 self.options.as_ptr(),
                 self.options.len(),
                 MEDIATION.as_ptr(),
@@ -79,12 +78,12 @@ impl Client<'_> {
                 out.len(),
             )
         };
-        String::from_utf8(written(length, &report, out)?).map_err(|_| Error::Answer)
+        String::from_utf8(read_output(length, &report, out)?).map_err(|_| Error::InvalidResponse)
     }
 }
 
-/// Returns what a call wrote, or its error.
-fn written(length: i64, report: &sys::hidlog_client_report, mut out: Vec<u8>) -> Result<Vec<u8>, Error> {
+/// Returns the output of a library call, or its error.
+fn read_output(length: i64, report: &sys::hidlog_client_report, mut out: Vec<u8>) -> Result<Vec<u8>, Error> {
     if let Ok(length) = usize::try_from(length) {
         out.truncate(length);
         return Ok(out);
@@ -98,7 +97,7 @@ fn written(length: i64, report: &sys::hidlog_client_report, mut out: Vec<u8>) ->
         -6 => "NotAllowedError",
         -7 => "InvalidStateError",
         -8 => "SyntaxError",
-        _ => return Err(Error::Argument("the request or the credential is too long")),
+        _ => return Err(Error::InvalidArgument("the request or the credential is too long")),
     };
     let (member, reason) = (report.member_len as usize, report.reason_len as usize);
     let text = |from: &[u8]| String::from_utf8_lossy(from).into_owned();

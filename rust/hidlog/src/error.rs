@@ -1,46 +1,46 @@
 use crate::standard::status_name;
 use std::fmt;
 
-/// What is wrong with a call, or with what came of it.
+/// An error of this crate.
 #[derive(Clone, Debug, PartialEq, Eq)]
 #[non_exhaustive]
 pub enum Error {
-    /// A call of the core: its number in `hidlog.h`, and what it means.
+    /// An error of the C library: its number in `hidlog.h`, and its meaning.
     Core(i32, &'static str),
-    /// An argument that isn't as it has to be.
-    Argument(&'static str),
-    /// The status of CTAP with which the key refused a request.
+    /// An invalid argument.
+    InvalidArgument(&'static str),
+    /// The CTAP status code with which the key rejected a request.
     Status(u8),
-    /// What a page would see: the name, such as NotAllowedError, and a text.
+    /// The error a page would see: its name, such as `NotAllowedError`, and message.
     Dom(&'static str, String),
-    /// The answer isn't one of CTAP 2.1.
-    Answer,
-    /// OpenSSL made no key or no signature.
-    Openssl,
+    /// The response is not valid CTAP 2.1.
+    InvalidResponse,
+    /// OpenSSL could not generate a key or sign.
+    OpenSsl,
 }
 
 impl Error {
-    /// Returns the name that a page would see, where it would see one.
-    pub fn name(&self) -> Option<&'static str> {
+    /// Returns the name of the error a page would see, if it is one ([`Error::Dom`]).
+    pub fn dom_name(&self) -> Option<&'static str> {
         match self {
             Error::Dom(name, _) => Some(name),
             _ => None,
         }
     }
 
-    pub(crate) fn of(number: i32) -> Error {
+    pub(crate) fn from_code(number: i32) -> Error {
         Error::Core(
             number,
             match number {
-                -1 => "the key isn't made",
-                -3 => "packets wait to be taken",
-                -5 => "there is no such credential, or a text is longer than 64 bytes or no UTF-8",
-                -7 => "the key's work waits for its caller",
+                -1 => "the key is not initialized",
+                -3 => "packets are queued: read them first",
+                -5 => "no such credential, or a text is longer than 64 bytes or not UTF-8",
+                -7 => "the key is busy",
                 -8 => "another discoverable credential has the same RP and user",
-                -17 => "the bytes are no snapshot",
-                -18 => "a key has capacity for 64 credentials",
-                -19 => "a credential of the snapshot is broken",
-                _ => "a fault of the call",
+                -17 => "the bytes are not a snapshot",
+                -18 => "the key is full: its capacity is 64 credentials",
+                -19 => "the snapshot has an invalid credential",
+                _ => "unknown error",
             },
         )
     }
@@ -50,14 +50,14 @@ impl fmt::Display for Error {
     fn fmt(&self, to: &mut fmt::Formatter<'_>) -> fmt::Result {
         match self {
             Error::Core(number, text) => write!(to, "hidlog: {text} ({number})"),
-            Error::Argument(text) => write!(to, "hidlog: {text}"),
+            Error::InvalidArgument(text) => write!(to, "hidlog: {text}"),
             Error::Status(status) => match status_name(*status) {
-                Some(name) => write!(to, "hidlog: the key answered with status {status:02x} {name}"),
-                None => write!(to, "hidlog: the key answered with status {status:02x}"),
+                Some(name) => write!(to, "hidlog: the key returned status {status:02x} {name}"),
+                None => write!(to, "hidlog: the key returned status {status:02x}"),
             },
             Error::Dom(name, text) => write!(to, "{name}: {text}"),
-            Error::Answer => write!(to, "hidlog: the answer isn't one of CTAP 2.1"),
-            Error::Openssl => write!(to, "hidlog: OpenSSL made no key or no signature"),
+            Error::InvalidResponse => write!(to, "hidlog: invalid response from the key"),
+            Error::OpenSsl => write!(to, "hidlog: OpenSSL could not generate a key or sign"),
         }
     }
 }

@@ -1,284 +1,312 @@
 use crate::Error;
 use hidlog_sys as sys;
-use std::fmt::Write;
+use std::fmt::{self, Write};
 
-/// A packet of CTAPHID.
+/// A CTAPHID packet.
 pub type Packet = [u8; 64];
-/// The name of a credential.
+/// A credential ID.
 pub type Id = [u8; 32];
 
-/// What one line of a log is answered with is no longer.
-const TEXT_MOST: usize = 18000;
+/// Maximum length of a cause in bytes (`hidlog.h`).
+const CAUSE_CAPACITY: usize = 160;
 
-/// What the user says where the key asks for a touch.
+/// The user's reaction when the authenticator asks for a touch.
 #[derive(Clone, Copy, Debug, PartialEq, Eq)]
 pub enum Presence {
     /// The user touches the key.
     Granted,
-    /// The user says no.
+    /// The user refuses.
     Denied,
     /// The user does nothing.
     TimedOut,
 }
 
-/// What a key needs of its caller before its work goes on.
+/// What an authenticator needs from its caller to continue its request.
 #[derive(Clone, Debug, PartialEq, Eq)]
 pub enum Need {
-    /// Nothing: it waits for packets.
-    Nothing,
-    /// A touch: [`Key::presence`].
+    /// Nothing: it is ready for packets.
+    None,
+    /// User presence: [`Authenticator::provide_presence`].
     Presence,
-    /// A new key pair: [`Key::new_pair`].
-    Pair,
-    /// A signature over these bytes by this credential's private key: ECDSA with SHA-256, in DER.
+    /// A new key pair: [`Authenticator::provide_key_pair`].
+    KeyPair,
+    /// A signature over these bytes with this credential's private key: ECDSA with SHA-256 (DER).
     Signature(Id, Vec<u8>),
 }
 
-/// What a key knows of a credential, without its private key.
+/// A credential without its private key.
 #[derive(Clone, Debug, Default, PartialEq, Eq)]
 pub struct Credential {
-    /// The SHA-256 hash of the RP id.
-    pub rp: [u8; 32],
-    /// The credential's id.
+    /// SHA-256 of the RP ID.
+    pub rp_id_hash: [u8; 32],
+    /// The credential ID.
     pub id: Id,
-    /// The public key's point on P-256.
+    /// The x coordinate of the public key on P-256.
     pub x: [u8; 32],
-    /// Its other coordinate.
+    /// The y coordinate.
     pub y: [u8; 32],
-    /// The user handle, of at most 64 bytes.
-    pub user: Vec<u8>,
-    /// The user's name, of at most 64 bytes.
-    pub name: String,
-    /// Whether it is found without its id.
+    /// The user handle, at most 64 bytes.
+    pub user_id: Vec<u8>,
+    /// The user's name, at most 64 bytes.
+    pub user_name: String,
+    /// Whether the credential is discoverable.
     pub discoverable: bool,
     /// The signature counter.
-    pub counter: u32,
+    pub sign_count: u32,
 }
 
-/// A log, and the snapshot that it begins with: `hidlog check --load SNAPSHOT LOG`, where there is one.
+/// A session log and the credential snapshot it starts with, if any: `hidlog check --load SNAPSHOT LOG`.
 #[derive(Clone, Debug, Default, PartialEq, Eq)]
 pub struct Recording {
-    /// The credentials at its beginning; empty where there were none.
+    /// The credentials at the start; empty if none.
     pub snapshot: Vec<u8>,
     /// The log.
     pub log: Vec<u8>,
 }
 
-/// A security key: packets and replies in, packets out. Moments are milliseconds, and all that comes is recorded. An
-/// input that fails leaves the key as it was.
-pub struct Key {
-    // The library has pointers to both while the key is made, so they are neither moved nor looked at.
+/// The authenticator alone: packets and replies in, packets out. Times are in milliseconds. Each input is recorded; one
+/// that fails changes nothing.
+pub struct Authenticator {
+    // The library has pointers to both while the key is initialized, so they are not moved or accessed.
     key: Box<sys::hidlog_key>,
     _memory: Vec<u128>,
-    text: Vec<u8>,
     recordings: Vec<Recording>,
 }
 
-// SAFETY: a key belongs to no thread; calls on it are made one at a time, since each takes &mut or reads under &mut.
-unsafe impl Send for Key {}
+// SAFETY: a key is not tied to a thread, and calls on it are exclusive: each takes &mut or reads what &mut wrote.
+unsafe impl Send for Authenticator {}
 
-impl Key {
-    /// Makes a key with the credentials of a snapshot; of no bytes, without any.
-    pub fn new(snapshot: &[u8]) -> Result<Key, Error> {
+impl Authenticator {
+    /// Returns an authenticator with the credentials of a snapshot, or without any if it is empty.
+    pub fn new(snapshot: &[u8]) -> Result<Authenticator, Error> {
         // SAFETY: it takes no argument.
         let size = unsafe { sys::hidlog_key_size() };
         let mut memory = vec![0u128; (size + 15) / 16];
         let mut key = Box::new(sys::hidlog_key { memory: memory.as_mut_ptr().cast(), state: 0 });
         let aaguid = [0u8; 16];
-        // SAFETY: no pointer is null, also that of an empty slice; the memory is as long as the library says, aligned to
-        // 16, and stays in its place on the heap.
-        let status = unsafe { sys::hidlog_key_make(&mut *key, aaguid.as_ptr(), 0, snapshot.as_ptr(), snapshot.len()) };
+        // SAFETY: no pointer is null, not even that of an empty slice; the memory has the size the library asks for, is
+        // aligned to 16, and stays in place on the heap.
+        let status = unsafe { sys::hidlog_key_init(&mut *key, aaguid.as_ptr(), 0, snapshot.as_ptr(), snapshot.len()) };
         if status < 0 {
-            return Err(Error::of(status));
+            return Err(Error::from_code(status));
         }
         let recordings = vec![Recording { snapshot: snapshot.to_vec(), log: Vec::new() }];
-        Ok(Key { key, _memory: memory, text: vec![0; TEXT_MOST], recordings })
+        Ok(Authenticator { key, _memory: memory, recordings })
     }
 
-    /// Plays a line of a log, and returns the packets that the key sends.
-    fn play(&mut self, line: &str) -> Result<Vec<Packet>, Error> {
-        let mut outcome = sys::hidlog_outcome::default();
-        // SAFETY: the key is made, and the lengths are those of the buffers.
-        let status = unsafe {
-            let out = self.text.as_mut_ptr();
-            sys::hidlog_key_lines(&mut *self.key, line.as_ptr(), line.len(), out, TEXT_MOST, &mut outcome)
-        };
-        if status != sys::HIDLOG_DONE as i32 {
-            return Err(Error::Argument("the key refuses the line"));
+    /// Makes a call of the library with an input, records the input's log line, and returns the packets sent.
+    fn handle_input(
+        &mut self,
+        line: fmt::Arguments<'_>,
+        call: impl FnOnce(&mut sys::hidlog_key) -> i32,
+    ) -> Result<Vec<Packet>, Error> {
+        let status = call(&mut self.key);
+        if status < 0 {
+            return Err(Error::from_code(status));
         }
-        let text = &self.text[..outcome.written as usize];
-        self.recordings.last_mut().expect("there is always one").log.extend_from_slice(text);
-        Ok(text.split(|it| *it == b'\n').filter_map(packet_of).collect())
+        let log = &mut self.recordings.last_mut().expect("never empty").log;
+        log.extend_from_slice(format!("{line}\n").as_bytes());
+        let mut sent = Vec::new();
+        let mut packet = [0; 64];
+        // SAFETY: the key is initialized, and a packet has 64 bytes.
+        while unsafe { sys::hidlog_key_read_packet(&mut *self.key, packet.as_mut_ptr()) } >= 0 {
+            log.extend_from_slice(format!("< {}\n", to_hex(&packet)).as_bytes());
+            sent.push(packet);
+        }
+        Ok(sent)
     }
 
-    /// Hands in a packet of a host.
-    pub fn packet(&mut self, at: u64, packet: &Packet) -> Result<Vec<Packet>, Error> {
-        self.play(&format!("> {at} {}\n", hex(packet)))
+    /// Handles a packet from the host, and returns the packets sent in response.
+    pub fn handle_packet(&mut self, time_ms: u64, packet: &Packet) -> Result<Vec<Packet>, Error> {
+        // SAFETY: the key is initialized, and a packet has 64 bytes.
+        self.handle_input(format_args!("> {time_ms} {}", to_hex(packet)), |key| unsafe {
+            sys::hidlog_key_write_packet(key, time_ms, packet.as_ptr())
+        })
     }
 
-    /// Lets time pass.
-    pub fn tick(&mut self, at: u64) -> Result<Vec<Packet>, Error> {
-        self.play(&format!("t {at}\n"))
+    /// Advances the time, and returns the packets sent.
+    pub fn tick(&mut self, time_ms: u64) -> Result<Vec<Packet>, Error> {
+        // SAFETY: the key is initialized.
+        self.handle_input(format_args!("t {time_ms}"), |key| unsafe { sys::hidlog_key_tick(key, time_ms) })
     }
 
-    /// Says what the user does.
-    pub fn presence(&mut self, at: u64, presence: Presence) -> Result<Vec<Packet>, Error> {
-        let word = match presence {
-            Presence::Granted => "granted",
-            Presence::Denied => "denied",
-            Presence::TimedOut => "timeout",
+    /// Reports what the user did.
+    pub fn provide_presence(&mut self, time_ms: u64, presence: Presence) -> Result<Vec<Packet>, Error> {
+        let (word, number) = match presence {
+            Presence::Granted => ("granted", 0),
+            Presence::Denied => ("denied", 1),
+            Presence::TimedOut => ("timeout", 2),
         };
-        self.play(&format!("p {at} {word}\n"))
+        // SAFETY: the key is initialized.
+        self.handle_input(format_args!("p {time_ms} {word}"), |key| unsafe {
+            sys::hidlog_key_provide_presence(key, time_ms, number)
+        })
     }
 
-    /// Hands in a new key pair: the credential's id and the point on P-256.
-    pub fn new_pair(&mut self, at: u64, id: &Id, x: &[u8; 32], y: &[u8; 32]) -> Result<Vec<Packet>, Error> {
-        self.play(&format!("k {at} {} {} {}\n", hex(id), hex(x), hex(y)))
+    /// Provides a new key pair: the credential ID and the public key on P-256.
+    pub fn provide_key_pair(
+        &mut self,
+        time_ms: u64,
+        id: &Id,
+        x: &[u8; 32],
+        y: &[u8; 32],
+    ) -> Result<Vec<Packet>, Error> {
+        // SAFETY: the key is initialized, and each pointer is to 32 bytes.
+        self.handle_input(format_args!("k {time_ms} {} {} {}", to_hex(id), to_hex(x), to_hex(y)), |key| unsafe {
+            sys::hidlog_key_provide_key_pair(key, time_ms, id.as_ptr(), x.as_ptr(), y.as_ptr())
+        })
     }
 
-    /// Says that there is no key pair.
-    pub fn no_pair(&mut self, at: u64) -> Result<Vec<Packet>, Error> {
-        self.play(&format!("k {at} no\n"))
+    /// Reports that there is no key pair.
+    pub fn reject_key_pair(&mut self, time_ms: u64) -> Result<Vec<Packet>, Error> {
+        // SAFETY: the key is initialized.
+        self.handle_input(format_args!("k {time_ms} no"), |key| unsafe {
+            sys::hidlog_key_refuse_key_pair(key, time_ms)
+        })
     }
 
-    /// Hands in a signature of 1 to 72 bytes, in DER.
-    pub fn signature(&mut self, at: u64, signature: &[u8]) -> Result<Vec<Packet>, Error> {
+    /// Provides a signature, 1 to 72 bytes of DER.
+    pub fn provide_signature(&mut self, time_ms: u64, signature: &[u8]) -> Result<Vec<Packet>, Error> {
         if signature.is_empty() || signature.len() > 72 {
-            return Err(Error::Argument("a signature has 1 to 72 bytes"));
+            return Err(Error::InvalidArgument("a signature must have 1 to 72 bytes"));
         }
-        self.play(&format!("s {at} {}\n", hex(signature)))
+        // SAFETY: the key is initialized, and the length is that of the signature.
+        self.handle_input(format_args!("s {time_ms} {}", to_hex(signature)), |key| unsafe {
+            sys::hidlog_key_provide_signature(key, time_ms, signature.as_ptr(), signature.len())
+        })
     }
 
-    /// Says that there is no signature.
-    pub fn no_signature(&mut self, at: u64) -> Result<Vec<Packet>, Error> {
-        self.play(&format!("s {at} no\n"))
+    /// Reports that there is no signature.
+    pub fn reject_signature(&mut self, time_ms: u64) -> Result<Vec<Packet>, Error> {
+        // SAFETY: the key is initialized.
+        self.handle_input(format_args!("s {time_ms} no"), |key| unsafe {
+            sys::hidlog_key_refuse_signature(key, time_ms)
+        })
     }
 
-    /// Returns what the key needs now.
+    /// Returns why the authenticator rejected its last input, as a sentence without a full stop: with an ERROR packet,
+    /// or with a status other than 0. Empty if the input was not rejected, and after power-up.
+    pub fn cause(&mut self) -> String {
+        let mut cause = sys::hidlog_cause::default();
+        let mut text = vec![0; CAUSE_CAPACITY];
+        // SAFETY: the key is initialized, and the length is that of the buffer.
+        let len = unsafe { sys::hidlog_key_cause(&mut *self.key, 1, &mut cause, text.as_mut_ptr(), CAUSE_CAPACITY) };
+        text.truncate(usize::try_from(len).unwrap_or(0));
+        String::from_utf8_lossy(&text).into_owned()
+    }
+
+    /// Returns what the authenticator needs now.
     pub fn need(&mut self) -> Need {
-        let mut need = sys::hidlog_need { kind: 0, signed_len: 0, id: [0; 32], signed_bytes: [0; 196] };
-        // SAFETY: the key is made.
-        unsafe { sys::hidlog_key_need(&mut *self.key, &mut need) };
+        let mut need = sys::hidlog_need { kind: 0, to_sign_len: 0, id: [0; 32], to_sign: [0; 196] };
+        // SAFETY: the key is initialized.
+        unsafe { sys::hidlog_key_get_need(&mut *self.key, &mut need) };
         match need.kind {
             sys::HIDLOG_NEED_PRESENCE => Need::Presence,
-            sys::HIDLOG_NEED_KEY => Need::Pair,
-            sys::HIDLOG_NEED_SIGNATURE => {
-                Need::Signature(need.id, need.signed_bytes[..need.signed_len as usize].to_vec())
-            }
-            _ => Need::Nothing,
+            sys::HIDLOG_NEED_KEY_PAIR => Need::KeyPair,
+            sys::HIDLOG_NEED_SIGNATURE => Need::Signature(need.id, need.to_sign[..need.to_sign_len as usize].to_vec()),
+            _ => Need::None,
         }
     }
 
-    /// Returns the credentials, the oldest first.
+    /// Returns the credentials, oldest first.
     pub fn credentials(&mut self) -> Vec<Credential> {
-        let mut row = row_of(&Credential::default());
-        // SAFETY: the key is made.
+        let mut row = to_row(&Credential::default());
+        // SAFETY: the key is initialized.
         let mut next =
-            |place| unsafe { sys::hidlog_key_credential(&mut *self.key, place, &mut row) == 0 }.then_some(row);
-        (0..).map_while(&mut next).map(|row| credential_of(&row)).collect()
+            |index| unsafe { sys::hidlog_key_get_credential(&mut *self.key, index, &mut row) == 0 }.then_some(row);
+        (0..).map_while(&mut next).map(|row| from_row(&row)).collect()
     }
 
-    /// Begins a recording after a change of the credentials, which is a start anew.
-    fn changed(&mut self, status: i32) -> Result<(), Error> {
+    /// Begins a new recording after a change of the credentials, which power-cycles the key.
+    fn restart_recording(&mut self, status: i32) -> Result<(), Error> {
         if status < 0 {
-            return Err(Error::of(status));
+            return Err(Error::from_code(status));
         }
         let snapshot = self.snapshot();
         self.recordings.push(Recording { snapshot, log: Vec::new() });
         Ok(())
     }
 
-    /// Puts a credential in, in the place of one with the same id.
+    /// Adds a credential, and replaces one with the same ID.
     pub fn add(&mut self, credential: &Credential) -> Result<(), Error> {
-        if credential.user.len() > 64 || credential.name.len() > 64 {
-            return Err(Error::Argument("a user handle and a name have at most 64 bytes"));
+        if credential.user_id.len() > 64 || credential.user_name.len() > 64 {
+            return Err(Error::InvalidArgument("user_id and user_name must have at most 64 bytes"));
         }
-        // SAFETY: the key is made.
-        let status = unsafe { sys::hidlog_key_add(&mut *self.key, 0, &row_of(credential)) };
-        self.changed(status)
+        // SAFETY: the key is initialized.
+        let status = unsafe { sys::hidlog_key_add_credential(&mut *self.key, 0, &to_row(credential)) };
+        self.restart_recording(status)
     }
 
-    /// Takes the credential with this id out.
+    /// Removes the credential with this ID.
     pub fn remove(&mut self, id: &Id) -> Result<(), Error> {
-        // SAFETY: the key is made.
-        let status = unsafe { sys::hidlog_key_remove(&mut *self.key, 0, id.as_ptr()) };
-        self.changed(status)
+        // SAFETY: the key is initialized.
+        let status = unsafe { sys::hidlog_key_remove_credential(&mut *self.key, 0, id.as_ptr()) };
+        self.restart_recording(status)
     }
 
-    /// Takes all credentials out.
+    /// Removes all credentials.
     pub fn clear(&mut self) -> Result<(), Error> {
-        // SAFETY: the key is made.
-        let status = unsafe { sys::hidlog_key_clear(&mut *self.key, 0) };
-        self.changed(status)
+        // SAFETY: the key is initialized.
+        let status = unsafe { sys::hidlog_key_clear_credentials(&mut *self.key, 0) };
+        self.restart_recording(status)
     }
 
-    /// Returns the credentials as [`Key::new`] and `hidlog --load` take them. Private keys aren't in it.
+    /// Returns the credentials as a snapshot for [`Authenticator::new`] and `hidlog --load`, without the private keys.
     pub fn snapshot(&mut self) -> Vec<u8> {
-        let mut out = vec![0; sys::HIDLOG_SNAPSHOT_LONGEST];
-        // SAFETY: the key is made, and the length is that of the buffer.
-        let len = unsafe { sys::hidlog_key_save(&mut *self.key, out.as_mut_ptr(), out.len()) };
+        let mut out = vec![0; sys::HIDLOG_SNAPSHOT_MAX_LEN];
+        // SAFETY: the key is initialized, and the length is that of the buffer.
+        let len = unsafe { sys::hidlog_key_save_snapshot(&mut *self.key, out.as_mut_ptr(), out.len()) };
         out.truncate(len.max(0) as usize);
         out
     }
 
-    /// Returns what was recorded: a part for each change of the credentials by hand.
+    /// Returns what was recorded. A new recording begins at each `add`, `remove` and `clear`.
     pub fn recordings(&self) -> &[Recording] {
         &self.recordings
     }
 }
 
-impl Drop for Key {
+impl Drop for Authenticator {
     fn drop(&mut self) {
-        // SAFETY: the key is made, and isn't used after this.
-        unsafe { sys::hidlog_key_free(&mut *self.key) };
+        // SAFETY: the key is initialized, and not used after this.
+        unsafe { sys::hidlog_key_destroy(&mut *self.key) };
     }
 }
 
-fn hex(bytes: &[u8]) -> String {
-    bytes.iter().fold(String::with_capacity(2 * bytes.len()), |mut text, it| {
-        write!(text, "{it:02x}").expect("a text grows");
+fn to_hex(bytes: &[u8]) -> String {
+    bytes.iter().fold(String::with_capacity(2 * bytes.len()), |mut text, byte| {
+        write!(text, "{byte:02x}").expect("writing to a String");
         text
     })
 }
 
-/// Returns the packet of a line that the key sends.
-fn packet_of(line: &[u8]) -> Option<Packet> {
-    let digits = line.strip_prefix(b"< ")?;
-    let digit = |it: u8| (it as char).to_digit(16).unwrap_or(0) as u8;
-    let mut packet = [0; 64];
-    for (byte, pair) in packet.iter_mut().zip(digits.chunks_exact(2)) {
-        *byte = digit(pair[0]) << 4 | digit(pair[1]);
-    }
-    Some(packet)
-}
-
-fn row_of(credential: &Credential) -> sys::hidlog_credential {
-    let (mut user, mut name) = ([0; 64], [0; 64]);
-    user[..credential.user.len()].copy_from_slice(&credential.user);
-    name[..credential.name.len()].copy_from_slice(credential.name.as_bytes());
+fn to_row(credential: &Credential) -> sys::hidlog_credential {
+    let (mut user_id, mut user_name) = ([0; 64], [0; 64]);
+    user_id[..credential.user_id.len()].copy_from_slice(&credential.user_id);
+    user_name[..credential.user_name.len()].copy_from_slice(credential.user_name.as_bytes());
     sys::hidlog_credential {
-        rp: credential.rp,
+        rp_id_hash: credential.rp_id_hash,
         id: credential.id,
         x: credential.x,
         y: credential.y,
-        user,
-        name,
-        user_len: credential.user.len() as u32,
-        name_len: credential.name.len() as u32,
+        user_id,
+        user_name,
+        user_id_len: credential.user_id.len() as u32,
+        user_name_len: credential.user_name.len() as u32,
         discoverable: credential.discoverable.into(),
-        counter: credential.counter,
+        sign_count: credential.sign_count,
     }
 }
 
-fn credential_of(row: &sys::hidlog_credential) -> Credential {
+fn from_row(row: &sys::hidlog_credential) -> Credential {
     Credential {
-        rp: row.rp,
+        rp_id_hash: row.rp_id_hash,
         id: row.id,
         x: row.x,
         y: row.y,
-        user: row.user[..row.user_len as usize].to_vec(),
-        name: String::from_utf8_lossy(&row.name[..row.name_len as usize]).into_owned(),
+        user_id: row.user_id[..row.user_id_len as usize].to_vec(),
+        user_name: String::from_utf8_lossy(&row.user_name[..row.user_name_len as usize]).into_owned(),
         discoverable: row.discoverable == 1,
-        counter: row.counter,
+        sign_count: row.sign_count,
     }
 }

@@ -1,29 +1,28 @@
-//! A FIDO2 security key as software, for tests: the device side of CTAP 2.1 over USB HID, proved, with sessions that
-//! replay exactly.
+//! A formally verified FIDO2 security key for tests, with recorded sessions that replay exactly.
 //!
-//! A [`Browser`] registers and signs in, with what a page would send to a service:
+//! A [`Browser`] registers and signs in, as a page does:
 //!
 //! ```
 //! # #[cfg(feature = "openssl")]
 //! # fn main() -> Result<(), Box<dyn std::error::Error>> {
-//! use hidlog::{Browser, Creation, Presence, Request, SecurityKey};
+//! use hidlog::{Browser, CreationOptions, Presence, RequestOptions, SecurityKey};
 //!
 //! let mut browser = Browser::new("https://example.com", SecurityKey::new()?);
-//! let made = browser.create(&Creation::new(b"challenge", b"ann", "Ann"))?;
-//! println!("send it to your service: {}", made.to_json());
-//! let used = browser.get(&Request::new(b"another challenge"))?;
-//! assert_eq!(used.id, made.id);
+//! let registration = browser.create(&CreationOptions::new(b"challenge", b"ann", "Ann"))?;
+//! println!("send it to your service: {}", registration.to_json());
+//! let assertion = browser.get(&RequestOptions::new(b"another challenge"))?;
+//! assert_eq!(assertion.id, registration.id);
 //!
 //! browser.key.presence = vec![Presence::Denied]; // from now on the user refuses
-//! assert_eq!(browser.get(&Request::new(b"a third")).unwrap_err().name(), Some("NotAllowedError"));
+//! assert_eq!(browser.get(&RequestOptions::new(b"a third")).unwrap_err().dom_name(), Some("NotAllowedError"));
 //! # Ok(())
 //! # }
 //! # #[cfg(not(feature = "openssl"))]
 //! # fn main() {}
 //! ```
 //!
-//! A [`Key`] is the core alone: packets and replies in, packets out. Its recordings are logs that `hidlog check`
-//! compares. Private keys are in clear text: it is for tests alone.
+//! An [`Authenticator`] is the verified core alone: packets and replies in, packets out. Its recordings are logs for
+//! `hidlog check`. Private keys are stored in clear text: use this crate for tests only.
 #![warn(missing_docs)]
 
 mod error;
@@ -44,10 +43,10 @@ mod private_keys;
 mod security_key;
 
 pub use error::Error;
-pub use key::{Credential, Id, Key, Need, Packet, Presence, Recording};
+pub use key::{Authenticator, Credential, Id, Need, Packet, Presence, Recording};
 
 #[cfg(feature = "openssl")]
-pub use browser::{Assertion, Browser, Creation, Registration, Request};
+pub use browser::{AuthenticationResponse, Browser, CreationOptions, RegistrationResponse, RequestOptions};
 #[cfg(feature = "openssl")]
 pub use private_keys::{sha256, PrivateKey};
 #[cfg(feature = "openssl")]

@@ -1,4 +1,4 @@
-//! Private keys by the system's OpenSSL 3.
+//! Private keys, by the system's OpenSSL 3.
 use crate::Error;
 use std::os::raw::{c_char, c_int, c_uchar, c_void};
 use std::ptr::{null, null_mut};
@@ -9,7 +9,7 @@ extern "C" {
         key: *const c_void,
         name: *const c_char,
         out: *mut c_uchar,
-        room: usize,
+        capacity: usize,
         len: *mut usize,
     ) -> c_int;
     fn EVP_PKEY_free(key: *mut c_void);
@@ -39,98 +39,98 @@ extern "C" {
 /// Returns the SHA-256 hash.
 pub fn sha256(text: &[u8]) -> [u8; 32] {
     let mut out = [0; 32];
-    // SAFETY: it reads as many bytes as there are, and writes 32.
+    // SAFETY: it reads `text.len()` bytes and writes 32.
     unsafe { SHA256(text.as_ptr(), text.len(), out.as_mut_ptr()) };
     out
 }
 
 /// Returns random bytes.
-pub(crate) fn random<const N: usize>() -> Result<[u8; N], Error> {
+pub(crate) fn random_bytes<const N: usize>() -> Result<[u8; N], Error> {
     let mut out = [0; N];
-    // SAFETY: it writes as many bytes as there are.
+    // SAFETY: it writes N bytes.
     match unsafe { RAND_bytes(out.as_mut_ptr(), N as c_int) } {
         1 => Ok(out),
-        _ => Err(Error::Openssl),
+        _ => Err(Error::OpenSsl),
     }
 }
 
 /// A private key on P-256.
 pub struct PrivateKey(*mut c_void);
 
-// SAFETY: OpenSSL's keys belong to no thread, and calls read them alone.
+// SAFETY: OpenSSL's keys are not tied to a thread, and calls only read them.
 unsafe impl Send for PrivateKey {}
 
 impl PrivateKey {
-    /// Makes a new one.
+    /// Generates a new private key.
     pub fn new() -> Result<PrivateKey, Error> {
-        // SAFETY: the texts end with zeros; of EC the name of the curve follows.
+        // SAFETY: the strings are NUL-terminated; for EC the curve name follows.
         let key = unsafe { EVP_PKEY_Q_keygen(null_mut(), null(), b"EC\0".as_ptr().cast(), b"P-256\0".as_ptr()) };
         if key.is_null() {
-            return Err(Error::Openssl);
+            return Err(Error::OpenSsl);
         }
         Ok(PrivateKey(key))
     }
 
-    /// Returns the public key's point.
+    /// Returns the coordinates of the public key.
     pub fn point(&self) -> Result<([u8; 32], [u8; 32]), Error> {
         let (mut out, mut len) = ([0u8; 65], 0);
-        // SAFETY: the key isn't null, and the length is that of the buffer.
+        // SAFETY: the key is not null, and the length is that of the buffer.
         let status = unsafe {
             let name = b"pub\0".as_ptr().cast();
             EVP_PKEY_get_octet_string_param(self.0, name, out.as_mut_ptr(), out.len(), &mut len)
         };
-        // A point that isn't compressed begins with 4.
+        // An uncompressed point begins with 4.
         if status != 1 || len != 65 || out[0] != 4 {
-            return Err(Error::Openssl);
+            return Err(Error::OpenSsl);
         }
         let (x, y) = out[1..].split_at(32);
         Ok((x.try_into().expect("32 bytes"), y.try_into().expect("32 bytes")))
     }
 
-    /// Returns the public key as a SubjectPublicKeyInfo, which WebAuthn's `getPublicKey` is.
+    /// Returns the public key as a SubjectPublicKeyInfo, as WebAuthn's `getPublicKey()` does.
     pub fn public_key(&self) -> Result<Vec<u8>, Error> {
-        // RFC 5480: ecPublicKey of prime256v1, and a bit string of a point.
-        const FRONT: [u8; 27] = [
+        // RFC 5480: ecPublicKey, prime256v1, and the point as a bit string.
+        const SPKI_PREFIX: [u8; 27] = [
             0x30, 0x59, 0x30, 0x13, 0x06, 0x07, 0x2a, 0x86, 0x48, 0xce, 0x3d, 0x02, 0x01, 0x06, 0x08, 0x2a, 0x86, 0x48,
             0xce, 0x3d, 0x03, 0x01, 0x07, 0x03, 0x42, 0x00, 0x04,
         ];
         let (x, y) = self.point()?;
-        Ok([&FRONT[..], &x, &y].concat())
+        Ok([&SPKI_PREFIX[..], &x, &y].concat())
     }
 
-    /// Returns a signature in DER: ECDSA with SHA-256.
+    /// Signs a text with ECDSA and SHA-256 (DER).
     pub fn sign(&self, text: &[u8]) -> Result<Vec<u8>, Error> {
         let (mut out, mut len) = (vec![0; 72], 72);
-        // SAFETY: the key isn't null, and lengths are those of the buffers. A signature on P-256 has at most 72 bytes.
+        // SAFETY: the key is not null, and lengths are those of the buffers. A signature on P-256 has at most 72 bytes.
         let is_signed = unsafe {
             let context = EVP_MD_CTX_new();
-            let is_begun = EVP_DigestSignInit(context, null_mut(), EVP_sha256(), null_mut(), self.0) == 1;
+            let is_initialized = EVP_DigestSignInit(context, null_mut(), EVP_sha256(), null_mut(), self.0) == 1;
             let is_signed =
-                is_begun && EVP_DigestSign(context, out.as_mut_ptr(), &mut len, text.as_ptr(), text.len()) == 1;
+                is_initialized && EVP_DigestSign(context, out.as_mut_ptr(), &mut len, text.as_ptr(), text.len()) == 1;
             EVP_MD_CTX_free(context);
             is_signed
         };
         out.truncate(len);
-        is_signed.then_some(out).ok_or(Error::Openssl)
+        is_signed.then_some(out).ok_or(Error::OpenSsl)
     }
 
-    /// Returns whether a signature is by this key.
-    pub fn verifies(&self, text: &[u8], signature: &[u8]) -> bool {
-        // SAFETY: as for signing.
+    /// Returns whether a signature is valid for this key.
+    pub fn verify(&self, text: &[u8], signature: &[u8]) -> bool {
+        // SAFETY: as in `sign`.
         unsafe {
             let context = EVP_MD_CTX_new();
-            let is_begun = EVP_DigestVerifyInit(context, null_mut(), EVP_sha256(), null_mut(), self.0) == 1;
+            let is_initialized = EVP_DigestVerifyInit(context, null_mut(), EVP_sha256(), null_mut(), self.0) == 1;
             let (bytes, len) = (signature.as_ptr(), signature.len());
-            let is_right = is_begun && EVP_DigestVerify(context, bytes, len, text.as_ptr(), text.len()) == 1;
+            let is_valid = is_initialized && EVP_DigestVerify(context, bytes, len, text.as_ptr(), text.len()) == 1;
             EVP_MD_CTX_free(context);
-            is_right
+            is_valid
         }
     }
 }
 
 impl Drop for PrivateKey {
     fn drop(&mut self) {
-        // SAFETY: nobody else has it.
+        // SAFETY: this is the only owner.
         unsafe { EVP_PKEY_free(self.0) };
     }
 }

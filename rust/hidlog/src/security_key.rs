@@ -1,96 +1,96 @@
-use crate::private_keys::{random, PrivateKey};
+use crate::private_keys::{random_bytes, PrivateKey};
 use crate::standard::{self, CONTINUATION_DATA, INITIALIZATION_DATA, LONGEST_MESSAGE};
-use crate::{Credential, Error, Id, Key, Need, Packet, Presence, Recording};
+use crate::{Authenticator, Credential, Error, Id, Need, Packet, Presence, Recording};
 use std::collections::HashMap;
 use std::time::Instant;
 
-// Commands with the bit of an initialization packet (CTAP 2.1, section 11.2.4).
-const INIT: u8 = 0x80 | standard::INIT;
-const CBOR: u8 = 0x80 | standard::CBOR;
-const KEEPALIVE: u8 = 0x80 | standard::KEEPALIVE;
+// CTAPHID commands, with the bit of initialization packets set (CTAP 2.1, section 11.2.4).
+const COMMAND_INIT: u8 = 0x80 | standard::INIT;
+const COMMAND_CBOR: u8 = 0x80 | standard::CBOR;
+const COMMAND_KEEPALIVE: u8 = 0x80 | standard::KEEPALIVE;
 
-/// What a service has to survive. The key stays as it is: faults are made outside of it, so that its recording replays
-/// as before.
+/// Faults to inject into responses, to test how a service handles them. They are injected outside the authenticator, so
+/// that its recordings still replay.
 #[derive(Clone, Debug, Default, PartialEq, Eq)]
 pub struct Faults {
-    /// The answer to each request.
+    /// The response to every request.
     pub status: Option<u8>,
-    /// Signatures are by another private key.
-    pub wrong_signature: bool,
-    /// The signature counter of the last answer is sent again, signed.
-    pub counter_stays: bool,
-    /// The authenticator data is of this RP, signed.
-    pub other_rp: Option<String>,
-    /// So many bytes are missing at the end of the authenticator data.
-    pub cut_short: usize,
+    /// Signs with a different private key.
+    pub bad_signature: bool,
+    /// Repeats the signature counter of the previous response, with a valid signature.
+    pub stale_sign_count: bool,
+    /// The RP ID whose hash the authenticator data has, with a valid signature.
+    pub wrong_rp_id: Option<String>,
+    /// The number of bytes to remove from the end of the authenticator data.
+    pub truncate_by: usize,
 }
 
-/// A key with its private keys and its user, for a client that sends messages.
+/// An authenticator with private keys and a simulated user, for clients that send messages.
 pub struct SecurityKey {
-    key: Key,
-    /// What the user does at each touch in turn. The last one stays; none is granted.
+    authenticator: Authenticator,
+    /// What the user does each time the key asks for a touch. The last one is repeated [default: granted].
     pub presence: Vec<Presence>,
-    /// The faults that are on.
+    /// The faults to inject.
     pub faults: Faults,
-    begun: Instant,
-    pairs: HashMap<Id, PrivateKey>,
+    powered_up: Instant,
+    private_keys: HashMap<Id, PrivateKey>,
     channel: Option<[u8; 4]>,
 }
 
 impl SecurityKey {
-    /// Makes a key without credentials.
+    /// Returns a key without credentials.
     pub fn new() -> Result<SecurityKey, Error> {
         Ok(SecurityKey {
-            key: Key::new(&[])?,
+            authenticator: Authenticator::new(&[])?,
             presence: Vec::new(),
             faults: Faults::default(),
-            begun: Instant::now(),
-            pairs: HashMap::new(),
+            powered_up: Instant::now(),
+            private_keys: HashMap::new(),
             channel: None,
         })
     }
 
-    fn now(&self) -> u64 {
-        self.begun.elapsed().as_millis() as u64
+    fn now_ms(&self) -> u64 {
+        self.powered_up.elapsed().as_millis() as u64
     }
 
     /// Returns the private key of a credential.
     pub fn private_key(&self, id: &Id) -> Option<&PrivateKey> {
-        self.pairs.get(id)
+        self.private_keys.get(id)
     }
 
-    /// Returns the credentials, the oldest first.
+    /// Returns the credentials, oldest first.
     pub fn credentials(&mut self) -> Vec<Credential> {
-        self.key.credentials()
+        self.authenticator.credentials()
     }
 
-    /// Puts a credential with its private key in. Its point is that of the key.
-    pub fn add(&mut self, credential: &Credential, pair: PrivateKey) -> Result<(), Error> {
-        let (x, y) = pair.point()?;
-        self.key.add(&Credential { x, y, ..credential.clone() })?;
-        self.pairs.insert(credential.id, pair);
+    /// Adds a credential with its private key, from which `x` and `y` are set.
+    pub fn add(&mut self, credential: &Credential, private_key: PrivateKey) -> Result<(), Error> {
+        let (x, y) = private_key.point()?;
+        self.authenticator.add(&Credential { x, y, ..credential.clone() })?;
+        self.private_keys.insert(credential.id, private_key);
         self.channel = None;
         Ok(())
     }
 
-    /// Takes the credential with this id out.
+    /// Removes the credential with this ID.
     pub fn remove(&mut self, id: &Id) -> Result<(), Error> {
         self.channel = None;
-        self.key.remove(id)
+        self.authenticator.remove(id)
     }
 
-    /// Takes all credentials out.
+    /// Removes all credentials.
     pub fn clear(&mut self) -> Result<(), Error> {
         self.channel = None;
-        self.key.clear()
+        self.authenticator.clear()
     }
 
-    /// Returns what was recorded: a part for each change of the credentials by hand.
+    /// Returns what was recorded. A new recording begins at each `add`, `remove` and `clear`.
     pub fn recordings(&self) -> &[Recording] {
-        self.key.recordings()
+        self.authenticator.recordings()
     }
 
-    fn user(&mut self) -> Presence {
+    fn next_presence(&mut self) -> Presence {
         match self.presence.len() {
             0 => Presence::Granted,
             1 => self.presence[0],
@@ -98,79 +98,84 @@ impl SecurityKey {
         }
     }
 
-    fn give_pair(&mut self) -> Result<Vec<Packet>, Error> {
-        let (pair, id) = (PrivateKey::new()?, random()?);
-        let (x, y) = pair.point()?;
-        self.pairs.insert(id, pair);
-        self.key.new_pair(self.now(), &id, &x, &y)
+    fn provide_key_pair(&mut self) -> Result<Vec<Packet>, Error> {
+        let (private_key, id) = (PrivateKey::new()?, random_bytes()?);
+        let (x, y) = private_key.point()?;
+        self.private_keys.insert(id, private_key);
+        self.authenticator.provide_key_pair(self.now_ms(), &id, &x, &y)
     }
 
-    fn give_signature(&mut self, id: &Id, signed: &[u8]) -> Result<Vec<Packet>, Error> {
-        match self.pairs.get(id) {
-            Some(pair) => self.key.signature(self.now(), &pair.sign(signed)?),
-            None => self.key.no_signature(self.now()),
+    fn provide_signature(&mut self, id: &Id, to_sign: &[u8]) -> Result<Vec<Packet>, Error> {
+        match self.private_keys.get(id) {
+            Some(private_key) => self.authenticator.provide_signature(self.now_ms(), &private_key.sign(to_sign)?),
+            None => self.authenticator.reject_signature(self.now_ms()),
         }
     }
 
-    /// Hands the key a packet, and what it needs until it needs nothing. Returns what it sends.
-    fn serve(&mut self, packet: &Packet) -> Result<Vec<Packet>, Error> {
-        let mut sent = self.key.packet(self.now(), packet)?;
+    /// Sends a packet, and provides what the authenticator needs until it needs nothing. Returns the packets it sent.
+    fn serve_packet(&mut self, packet: &Packet) -> Result<Vec<Packet>, Error> {
+        let mut sent = self.authenticator.handle_packet(self.now_ms(), packet)?;
         loop {
-            let more = match self.key.need() {
-                Need::Nothing => return Ok(sent),
+            let more = match self.authenticator.need() {
+                Need::None => return Ok(sent),
                 Need::Presence => {
-                    let presence = self.user();
-                    self.key.presence(self.now(), presence)
+                    let presence = self.next_presence();
+                    self.authenticator.provide_presence(self.now_ms(), presence)
                 }
-                Need::Pair => self.give_pair(),
-                Need::Signature(id, signed) => self.give_signature(&id, &signed),
+                Need::KeyPair => self.provide_key_pair(),
+                Need::Signature(id, to_sign) => self.provide_signature(&id, &to_sign),
             };
             sent.extend(more?);
         }
     }
 
-    /// Sends a message on a channel, and returns the command and the data of its answer.
-    fn message(&mut self, channel: [u8; 4], command: u8, data: &[u8]) -> Result<(u8, Vec<u8>), Error> {
+    /// Sends a message on a channel, and returns the command and the data of the response.
+    fn transact(&mut self, channel: [u8; 4], command: u8, data: &[u8]) -> Result<(u8, Vec<u8>), Error> {
         let mut sent = Vec::new();
-        for packet in packets_of(channel, command, data) {
-            sent.extend(self.serve(&packet)?);
+        for packet in fragment(channel, command, data) {
+            sent.extend(self.serve_packet(&packet)?);
         }
-        answer_in(channel, &sent).ok_or(Error::Answer)
+        reassemble(channel, &sent).ok_or(Error::InvalidResponse)
     }
 
-    fn open(&mut self) -> Result<[u8; 4], Error> {
+    fn open_channel(&mut self) -> Result<[u8; 4], Error> {
         if let Some(channel) = self.channel {
             return Ok(channel);
         }
-        let (_, data) = self.message([0xff; 4], INIT, &random::<8>()?)?;
-        let channel = data.get(8..12).and_then(|it| it.try_into().ok()).ok_or(Error::Answer)?;
+        let (_, data) = self.transact([0xff; 4], COMMAND_INIT, &random_bytes::<8>()?)?;
+        let channel = data.get(8..12).and_then(|bytes| bytes.try_into().ok()).ok_or(Error::InvalidResponse)?;
         self.channel = Some(channel);
         Ok(channel)
     }
 
-    /// Sends an authenticator command with its parameters in CBOR, and returns the answer behind the status.
+    /// Returns why the key rejected its last request, as a sentence without a full stop; empty if it did not.
+    pub fn cause(&mut self) -> String {
+        self.authenticator.cause()
+    }
+
+    /// Sends an authenticator command and its CBOR parameters, and returns the response after the status byte.
     pub fn exchange(&mut self, request: &[u8]) -> Result<Vec<u8>, Error> {
         if request.is_empty() || request.len() > LONGEST_MESSAGE {
-            return Err(Error::Argument("a request has 1 to 7609 bytes"));
+            return Err(Error::InvalidArgument("a request must have 1 to 7609 bytes"));
         }
-        let channel = self.open()?;
-        let (command, data) = self.message(channel, CBOR, request)?;
+        let channel = self.open_channel()?;
+        let (command, data) = self.transact(channel, COMMAND_CBOR, request)?;
         match (self.faults.status, data.first()) {
             (Some(status), _) => Err(Error::Status(status)),
-            (None, Some(0)) if command == CBOR => Ok(data[1..].to_vec()),
-            (None, Some(status)) if command == CBOR => Err(Error::Status(*status)),
-            _ => Err(Error::Answer),
+            (None, Some(0)) if command == COMMAND_CBOR => Ok(data[1..].to_vec()),
+            (None, Some(status)) if command == COMMAND_CBOR => Err(Error::Status(*status)),
+            _ => Err(Error::InvalidResponse),
         }
     }
 }
 
-/// Returns the packets of a message.
-fn packets_of(channel: [u8; 4], command: u8, data: &[u8]) -> Vec<Packet> {
+/// Splits a message into packets.
+fn fragment(channel: [u8; 4], command: u8, data: &[u8]) -> Vec<Packet> {
     let (front, rest) = data.split_at(data.len().min(INITIALIZATION_DATA));
     let length = (data.len() as u16).to_be_bytes();
     let first = [&channel[..], &[command], &length, front].concat();
     let others =
-        rest.chunks(CONTINUATION_DATA).zip(0u8..).map(|(part, number)| [&channel[..], &[number], part].concat());
+        rest.chunks(CONTINUATION_DATA).zip(0u8..).map(|(data, sequence)| [&channel[..], &[sequence], data].concat());
     std::iter::once(first)
         .chain(others)
         .map(|bytes| {
@@ -181,19 +186,19 @@ fn packets_of(channel: [u8; 4], command: u8, data: &[u8]) -> Vec<Packet> {
         .collect()
 }
 
-/// Returns the message on a channel that isn't a KEEPALIVE.
-fn answer_in(channel: [u8; 4], sent: &[Packet]) -> Option<(u8, Vec<u8>)> {
-    let (mut command, mut wanted, mut data) = (None, 0, Vec::new());
-    for packet in sent.iter().filter(|it| it[..4] == channel && it[4] != KEEPALIVE) {
+/// Returns the message sent on a channel, skipping KEEPALIVE.
+fn reassemble(channel: [u8; 4], sent: &[Packet]) -> Option<(u8, Vec<u8>)> {
+    let (mut command, mut length, mut data) = (None, 0, Vec::new());
+    for packet in sent.iter().filter(|packet| packet[..4] == channel && packet[4] != COMMAND_KEEPALIVE) {
         if packet[4] & 0x80 != 0 {
             command = Some(packet[4]);
-            wanted = usize::from(u16::from_be_bytes([packet[5], packet[6]]));
+            length = usize::from(u16::from_be_bytes([packet[5], packet[6]]));
             data = packet[7..].to_vec();
         } else {
             data.extend_from_slice(&packet[5..]);
         }
     }
-    let command = command.filter(|_| data.len() >= wanted)?;
-    data.truncate(wanted);
+    let command = command.filter(|_| data.len() >= length)?;
+    data.truncate(length);
     Some((command, data))
 }
