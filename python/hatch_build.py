@@ -1,4 +1,4 @@
-"""What hatchling adds to the wheel and the sdist: the files of release_files.py."""
+"""Build hook for hatchling: adds the files of release_files.py to the wheel and the sdist."""
 
 from __future__ import annotations
 
@@ -9,10 +9,10 @@ from typing import Any
 
 from hatchling.builders.hooks.plugin.interface import BuildHookInterface
 
-# hatchling runs this file from anywhere.
+# hatchling may run this file from any directory.
 sys.path.insert(0, str(Path(__file__).resolve().parent))
 
-from release_files import TAG, processor_here, sdist_files, version, wheel_files
+from release_files import TAG, detect_processor, list_sdist_files, list_wheel_files, version
 
 __all__ = ["CustomBuildHook", "version"]
 
@@ -21,14 +21,14 @@ class CustomBuildHook(BuildHookInterface[Any]):
     """Adds the files of the release."""
 
     def initialize(self, version: str, build_data: dict[str, Any]) -> None:
-        """Names the files that the target has beside the sources."""
+        """Adds the target's files that are not sources."""
         added: dict[Path, str] = {}
         if self.target_name == "sdist":
-            added = sdist_files()
+            added = list_sdist_files()
         elif version != "editable":
             self._folder = tempfile.TemporaryDirectory()
-            processor = processor_here()
-            added = wheel_files(processor, Path(self._folder.name))
+            processor = detect_processor()
+            added = list_wheel_files(processor, Path(self._folder.name))
             if processor is not None:
                 build_data["pure_python"], build_data["tag"] = False, TAG.format(processor)
         build_data["force_include"].update({str(path): name for path, name in added.items()})

@@ -1,7 +1,7 @@
 #!/usr/bin/env python3
-"""Makes the wheel of the package by the standard library and pip's own modules alone: wheel.py FOLDER
+"""Builds the wheel with only the standard library and pip's own modules: wheel.py DIR
 
-action.yml uses it, so that nothing is fetched to build the package. python/build.sh makes the wheels of a release, by
+Used by action.yml, so that building the package downloads nothing. python/build.sh builds the wheels of a release with
 hatchling, and tests/outside.sh compares the two. Prints the wheel's path.
 """
 
@@ -16,12 +16,12 @@ from importlib import import_module
 from pathlib import Path
 from typing import Any
 
-from release_files import TAG, TOP, processor_here, version, wheel_files
+from release_files import TAG, TOP, detect_processor, list_wheel_files, version
 
 LICENCES = ("LICENSE-APACHE", "LICENSE-MIT", "NOTICE")
 
 
-def project() -> dict[str, Any]:
+def read_project() -> dict[str, Any]:
     """Returns the table [project] of pyproject.toml."""
     try:
         toml = import_module("tomllib")
@@ -31,7 +31,7 @@ def project() -> dict[str, Any]:
     return table
 
 
-def metadata(table: dict[str, Any]) -> str:
+def make_metadata(table: dict[str, Any]) -> str:
     """Returns the file METADATA."""
     lines = ["Metadata-Version: 2.1", f"Name: {table['name']}", f"Version: {version()}"]
     lines += [f"Summary: {table['description']}", f"Requires-Python: {table['requires-python']}"]
@@ -42,7 +42,7 @@ def metadata(table: dict[str, Any]) -> str:
     return "\n".join(lines) + "\n"
 
 
-def entry_points(table: dict[str, Any]) -> str:
+def make_entry_points(table: dict[str, Any]) -> str:
     """Returns the file entry_points.txt."""
     groups = {"console_scripts": table["scripts"], **table["entry-points"]}
     return "\n".join(
@@ -51,16 +51,16 @@ def entry_points(table: dict[str, Any]) -> str:
     )
 
 
-def contents(tag: str, folder: Path) -> dict[str, tuple[bytes, int]]:
+def list_contents(tag: str, folder: Path) -> dict[str, tuple[bytes, int]]:
     """Returns the wheel's files, with their modes, without RECORD."""
     sources = {path: str(path.relative_to(TOP / "src")) for path in (TOP / "src" / "hidlog").rglob("*")}
-    files = {**sources, **wheel_files(processor_here(), folder)}
+    files = {**sources, **list_wheel_files(detect_processor(), folder)}
     found = {
         name: (path.read_bytes(), path.stat().st_mode)
         for path, name in files.items()
         if path.is_file() and "__pycache__" not in path.parts
     }
-    table, info = project(), f"hidlog-{version()}.dist-info"
+    table, info = read_project(), f"hidlog-{version()}.dist-info"
     tags = [f"Tag: py3-none-{platform}" for platform in tag.split("-")[2].split(".")]
     wheel = [
         "Wheel-Version: 1.0",
@@ -68,30 +68,34 @@ def contents(tag: str, folder: Path) -> dict[str, tuple[bytes, int]]:
         "Root-Is-Purelib: " + str(tag.endswith("-any")).lower(),
         *tags,
     ]
-    texts = {"METADATA": metadata(table), "WHEEL": "\n".join(wheel) + "\n", "entry_points.txt": entry_points(table)}
+    texts = {
+        "METADATA": make_metadata(table),
+        "WHEEL": "\n".join(wheel) + "\n",
+        "entry_points.txt": make_entry_points(table),
+    }
     found.update({f"{info}/{name}": (text.encode(), 0o100644) for name, text in texts.items()})
     found.update({f"{info}/licenses/{name}": ((TOP / name).read_bytes(), 0o100644) for name in LICENCES})
     return found
 
 
-def write(to: Path) -> Path:
-    """Writes the wheel into a folder, and returns its path."""
-    processor = processor_here()
+def write_wheel(to: Path) -> Path:
+    """Writes the wheel to a directory, and returns its path."""
+    processor = detect_processor()
     tag = "py3-none-any" if processor is None else TAG.format(processor)
     path = to / f"hidlog-{version()}-{tag}.whl"
     record = f"hidlog-{version()}.dist-info/RECORD"
     lines = []
     with tempfile.TemporaryDirectory() as folder, zipfile.ZipFile(path, "w", zipfile.ZIP_DEFLATED) as archive:
-        for name, (data, mode) in sorted(contents(tag, Path(folder)).items()):
+        for name, (data, mode) in sorted(list_contents(tag, Path(folder)).items()):
             digest = base64.urlsafe_b64encode(hashlib.sha256(data).digest()).decode().rstrip("=")
             lines.append(f"{name},sha256={digest},{len(data)}\n")
-            add(archive, name, data, mode)
-        add(archive, record, ("".join(lines) + f"{record},,\n").encode(), 0o100644)
+            add_file(archive, name, data, mode)
+        add_file(archive, record, ("".join(lines) + f"{record},,\n").encode(), 0o100644)
     return path
 
 
-def add(archive: zipfile.ZipFile, name: str, data: bytes, mode: int) -> None:
-    """Adds a file, with its right to be run."""
+def add_file(archive: zipfile.ZipFile, name: str, data: bytes, mode: int) -> None:
+    """Adds a file, with its mode."""
     entry = zipfile.ZipInfo(name)
     entry.external_attr, entry.compress_type = mode << 16, zipfile.ZIP_DEFLATED
     archive.writestr(entry, data)
@@ -101,7 +105,7 @@ def main() -> int:
     if len(sys.argv) != 2 or not Path(sys.argv[1]).is_dir():
         print((__doc__ or "").strip(), file=sys.stderr)
         return 2
-    print(write(Path(sys.argv[1])))
+    print(write_wheel(Path(sys.argv[1])))
     return 0
 
 

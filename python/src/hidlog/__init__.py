@@ -1,16 +1,16 @@
-"""A FIDO2 security key as software, proved, for the tests of sign-in services.
+"""A formally verified FIDO2 security key in software, for tests of sign-in services and FIDO clients.
 
     from hidlog import SecurityKey
 
     with SecurityKey() as key:
         browser = key.browser("https://example.com")
-        answer = browser.create(options)      # options, answer: the JSON that your service sends and takes
+        response = browser.create(options)      # JSON from your service, and JSON for your service
 
-The commands on logs (replay, check, quiet, live, show) need nothing else; a key needs the package cryptography.
+The functions on logs (replay, check, quiet, live, show) have no dependencies; a key needs the package cryptography.
 """
 
 TYPE_CHECKING = False
-if TYPE_CHECKING:  # nothing is imported before it is asked for, not even typing: each test run pays for it
+if TYPE_CHECKING:  # modules are imported on first use, to keep `import hidlog` fast
     from typing import Any
 
     from .browser import Browser
@@ -23,21 +23,21 @@ if TYPE_CHECKING:  # nothing is imported before it is asked for, not even typing
         ArgumentTypeError,
         CtapError,
         HidlogError,
-        KeyBusy,
-        KeyEnded,
-        KeyForked,
-        KeyLost,
+        InvalidChannelError,
+        KeyBusyError,
+        KeyClosedError,
+        KeyForkedError,
+        KeyTimeoutError,
         LogError,
-        MissingPart,
-        NoAnswer,
-        ReplayDiffers,
-        ScriptEnded,
+        MissingDependencyError,
+        PresenceExhaustedError,
+        ReplayMismatchError,
         SnapshotError,
-        UnknownName,
+        UnknownNameError,
     )
-    from .many import Checked, check_many
-    from .logs import Result, check, live, quiet, replay, show
-    from .verifying import Signature, signatures
+    from .batch_check import CheckResult, check_many
+    from .logs import LogResult, check, live, quiet, replay, show
+    from .signature_checks import SignatureCheck, verify_signatures
     from .webauthn_errors import (
         AbortError,
         EncodingError,
@@ -58,31 +58,31 @@ __all__ = [
     "ArgumentError",
     "ArgumentTypeError",
     "Browser",
-    "Checked",
+    "CheckResult",
     "Client",
     "Credential",
     "CtapError",
     "EncodingError",
     "HidlogError",
+    "InvalidChannelError",
     "InvalidStateError",
-    "KeyBusy",
-    "KeyEnded",
-    "KeyForked",
-    "KeyLost",
+    "KeyBusyError",
+    "KeyClosedError",
+    "KeyForkedError",
+    "KeyTimeoutError",
     "LogError",
-    "MissingPart",
-    "NoAnswer",
+    "LogResult",
+    "MissingDependencyError",
     "NotAllowedError",
     "NotSupportedError",
+    "PresenceExhaustedError",
     "Recording",
-    "ReplayDiffers",
-    "Result",
-    "ScriptEnded",
+    "ReplayMismatchError",
     "SecurityError",
     "SecurityKey",
-    "Signature",
+    "SignatureCheck",
     "SnapshotError",
-    "UnknownName",
+    "UnknownNameError",
     "WebAuthnError",
     "WebAuthnRangeError",
     "WebAuthnSyntaxError",
@@ -93,9 +93,9 @@ __all__ = [
     "quiet",
     "replay",
     "show",
-    "signatures",
+    "verify_signatures",
 ]
-# The module that has each name.
+# Exported names by module.
 _MODULES = {
     "browser": ("Browser",),
     "client": ("Client",),
@@ -105,22 +105,22 @@ _MODULES = {
         "ArgumentTypeError",
         "CtapError",
         "HidlogError",
-        "KeyBusy",
-        "KeyEnded",
-        "KeyForked",
-        "KeyLost",
+        "InvalidChannelError",
+        "KeyBusyError",
+        "KeyClosedError",
+        "KeyForkedError",
+        "KeyTimeoutError",
         "LogError",
-        "MissingPart",
-        "NoAnswer",
-        "ReplayDiffers",
-        "ScriptEnded",
+        "MissingDependencyError",
+        "PresenceExhaustedError",
+        "ReplayMismatchError",
         "SnapshotError",
-        "UnknownName",
+        "UnknownNameError",
     ),
     "key": ("SecurityKey",),
-    "many": ("Checked", "check_many"),
-    "verifying": ("Signature", "signatures"),
-    "logs": ("Result", "check", "live", "quiet", "replay", "show"),
+    "batch_check": ("CheckResult", "check_many"),
+    "signature_checks": ("SignatureCheck", "verify_signatures"),
+    "logs": ("LogResult", "check", "live", "quiet", "replay", "show"),
     "session": ("Recording",),
     "webauthn_errors": (
         "AbortError",
@@ -135,27 +135,49 @@ _MODULES = {
         "WebAuthnTypeError",
     ),
 }
-_LATER = {name: module for module, names in _MODULES.items() for name in names}
+_MODULE_OF = {name: module for module, names in _MODULES.items() for name in names}
+# Old names, up to version 0.2. They work with a DeprecationWarning for one version.
+_RENAMED = {
+    "Checked": "CheckResult",
+    "KeyBusy": "KeyBusyError",
+    "KeyEnded": "KeyClosedError",
+    "KeyForked": "KeyForkedError",
+    "KeyLost": "InvalidChannelError",
+    "MissingPart": "MissingDependencyError",
+    "NoAnswer": "KeyTimeoutError",
+    "ReplayDiffers": "ReplayMismatchError",
+    "Result": "LogResult",
+    "ScriptEnded": "PresenceExhaustedError",
+    "Signature": "SignatureCheck",
+    "UnknownName": "UnknownNameError",
+    "signatures": "verify_signatures",
+}
 
 
 def __getattr__(name: str) -> "Any":
-    """Loads what is asked for: the package's names, and its version."""
+    """Imports an exported name, or returns the version."""
     from importlib import import_module
 
+    if name in _RENAMED:
+        import warnings
+
+        new = _RENAMED[name]
+        warnings.warn(f"hidlog.{name} is now hidlog.{new}", DeprecationWarning, stacklevel=2)
+        return globals().get(new) or __getattr__(new)
     if name in ("__version__", "version"):
         function = import_module(".version", __name__).version
-        globals()["version"] = function  # the function, and not its module
-        found: "Any" = function() if name == "__version__" else function
-    elif name in _LATER:
-        found = getattr(import_module(f".{_LATER[name]}", __name__), name)
+        globals()["version"] = function  # instead of the submodule
+        value: "Any" = function() if name == "__version__" else function
+    elif name in _MODULE_OF:
+        value = getattr(import_module(f".{_MODULE_OF[name]}", __name__), name)
     elif name in (*_MODULES, "core"):
-        found = import_module(f".{name}", __name__)
+        value = import_module(f".{name}", __name__)
     else:
         raise AttributeError(f"module 'hidlog' has no attribute {name!r}")
-    globals()[name] = found
-    return found
+    globals()[name] = value
+    return value
 
 
 def __dir__() -> "list[str]":
-    """Returns the names that there are, also of what wasn't asked for yet."""
+    """Returns all names, including those not imported yet."""
     return sorted({*globals(), *__all__, "__version__"})

@@ -1,7 +1,7 @@
-"""The command `hidlog` of the package, also as `python -m hidlog`: it has the words of every package's `hidlog`.
+"""The command `hidlog` of the package, also as `python -m hidlog`.
 
-`COMMANDS` are the package's own. All other words are the program's; without a program, as on other processors than its
-wheels', the library serves those that need no more, and help is `help.txt`, which the program wrote.
+`COMMANDS` are implemented by the package, all others by the program. If there is no program for the processor, the
+library provides the commands on logs, and `--help` prints `help.txt`, which the program wrote.
 """
 
 from __future__ import annotations
@@ -14,75 +14,75 @@ from pathlib import Path
 from typing import NamedTuple
 
 from . import entry_point
-from .errors import HidlogError, MissingPart
-from .process import program
+from .errors import HidlogError, MissingDependencyError
+from .subprocess_key import find_program
 
 
 class Command(NamedTuple):
-    """A command of the package: its module, the function that takes the words behind it, and what it does."""
+    """A command of the package: its module, its function, which takes the arguments, and a summary."""
 
     module: str
     function: str
     summary: str
 
 
-# By its word. packages/command.sh and packages/npm/cli.mjs have the words too; tests/one_command.py compares them.
+# By name. packages/command.sh and packages/npm/cli.mjs have the same list; tests/one_command.py compares them.
 COMMANDS = {
-    "webdriver": Command(
-        "webdriver.command", "main", "Serves WebDriver's virtual authenticators, in front of any driver"
+    "webdriver": Command("webdriver.command", "main", "WebDriver proxy that provides virtual authenticators"),
+    "browser": Command("browser_process", "main", "Registrations and sign-ins over JSON lines"),
+    "import": Command(
+        "captures.commands", "import_capture", "Convert a USB capture or client debug log to a session log"
     ),
-    "browser": Command("browser_process", "main", "Serves registrations and sign-ins as JSON lines, at an origin"),
-    "import": Command("captures.commands", "import_capture", "Makes logs of captures of real keys"),
-    "export": Command("captures.commands", "export_log", "Writes a log as a capture that Wireshark reads"),
-    "judge": Command("judge", "main", "Says which rules of CTAP 2.1 a session breaks"),
-    "shrink": Command("shrink", "main", "Cuts a log down while a command fails on it in the same way"),
-    "check-many": Command("many_command", "check_many_command", "Checks many logs, several at a time"),
-    "mermaid": Command("mermaid", "main", "Writes a session as a sequence diagram"),
+    "export": Command("captures.commands", "export_log", "Convert a session log to pcapng for Wireshark"),
+    "judge": Command("judge", "main", "Check a session against CTAP 2.1"),
+    "shrink": Command("shrink", "main", "Minimize a log that makes a command fail"),
+    "check-many": Command("batch_check_cli", "check_many_command", "Check many logs in parallel"),
+    "mermaid": Command("mermaid", "main", "Print a session as a Mermaid sequence diagram"),
 }
-CHECK_SIGNATURES = Command("verifying", "main", "Verifies each signature with the log's public keys")
+CHECK_SIGNATURES = Command("signature_checks", "main", "Check logs and verify each signature")
 HELP_WORDS = (["--help"], ["-h"], ["help"])
 
 
 def main() -> int:
-    """Runs a command of the package, or becomes the program, with the words that this was started with."""
-    words = sys.argv[1:]
-    if len(words) > 1 and words[0] == "help" and words[1] in COMMANDS:
-        words = [words[1], "--help"]
-    command = COMMANDS.get(words[0]) if words else None
-    if words[:1] == ["check"] and "--signatures" in words:
+    """Runs a command of the package, or becomes the program, with the arguments of this process."""
+    args = sys.argv[1:]
+    if len(args) > 1 and args[0] == "help" and args[1] in COMMANDS:
+        args = [args[1], "--help"]
+    command = COMMANDS.get(args[0]) if args else None
+    if args[:1] == ["check"] and "--signatures" in args:
         command = CHECK_SIGNATURES
     if command is None:
-        return entry_point.run("hidlog", lambda: _become_program(words))
+        return entry_point.run("hidlog", lambda: _become_program(args))
     run = _load(command)
-    return entry_point.run(f"hidlog {words[0]}", lambda: run(words[1:]))
+    return entry_point.run(f"hidlog {args[0]}", lambda: run(args[1:]))
 
 
 def _load(command: Command) -> Callable[[list[str]], int]:
-    """Returns a command that loads its module when it is run."""
+    """Returns a command, which imports its module when it runs."""
 
-    def run(words: list[str]) -> int:
+    def run(args: list[str]) -> int:
         module = importlib.import_module(f".{command.module}", __package__)
-        return int(getattr(module, command.function)(words))
+        return int(getattr(module, command.function)(args))
 
     return run
 
 
-def _become_program(words: list[str]) -> int:
+def _become_program(args: list[str]) -> int:
     try:
-        path = program()
-    except MissingPart:
-        if "HIDLOG" not in os.environ and words in HELP_WORDS:
+        path = find_program()
+    except MissingDependencyError:
+        if "HIDLOG_PROGRAM" not in os.environ and args in HELP_WORDS:
             sys.stdout.write(Path(__file__).with_name("help.txt").read_text(encoding="utf-8"))
             return 0
-        by_library = importlib.import_module(".by_library", __package__)  # where there is a program it isn't loaded
-        if "HIDLOG" in os.environ or not by_library.takes(words):
+        library_cli = importlib.import_module(".library_cli", __package__)  # not loaded if there is a program
+        if "HIDLOG_PROGRAM" in os.environ or not library_cli.is_supported(args):
             raise
-        return entry_point.run_as_program(lambda: int(by_library.run(words)))
+        return entry_point.run_as_program(lambda: int(library_cli.run(args)))
     entry_point.restore_signals()
     try:
-        os.execv(path, ["hidlog", *words])
+        os.execv(path, ["hidlog", *args])
     except OSError as error:
-        raise HidlogError(f"{path} can't be started here: {error.strerror}") from None
+        raise HidlogError(f"{path} cannot be started: {error.strerror}") from None
 
 
 if __name__ == "__main__":

@@ -1,6 +1,6 @@
-"""`hidlog browser --origin URL`: a browser and its key as one process, JSON lines in and JSON lines out.
+"""`hidlog browser --origin URL`: a browser and its key in one process, with JSON lines as input and output.
 
-For languages that have neither. docs/use/WEBDRIVER.md has the lines; `npx hidlog browser` serves the same.
+For tests in any language. docs/use/WEBDRIVER.md describes the protocol, which `npx hidlog browser` also serves.
 """
 
 from __future__ import annotations
@@ -18,27 +18,27 @@ from cryptography.hazmat.primitives.serialization import Encoding, NoEncryption,
 
 from . import entry_point
 from .credentials import Credential
-from .entry_point import FAILED
+from .entry_point import STATUS_FAILED
 from .errors import ArgumentError, HidlogError
 from .files import open_input
 from .key import SecurityKey
 from .webauthn_errors import WebAuthnError
-from .webauthn_json import data_of, text_of
+from .webauthn_json import b64url_decode, b64url_encode
 
 Json = dict[str, Any]
-# A line has at most so many bytes, without its line feed.
-LINE_MOST = 1 << 20
-_PIECE = 1 << 16
+# Maximum length of a line in bytes, without its newline.
+MAX_LINE = 1 << 20
+_READ_BYTES = 1 << 16
 _PRESENCE = ("granted", "denied", "timeout")
 _FAULTS = {
     "status": "status",
     "delay": "delay",
-    "cutShort": "cut_short",
-    "wrongSignature": "wrong_signature",
-    "counterStays": "counter_stays",
-    "otherRp": "other_rp",
+    "truncateBy": "truncate_by",
+    "badSignature": "bad_signature",
+    "staleSignCount": "stale_sign_count",
+    "wrongRpId": "wrong_rp_id",
 }
-_ABILITIES = {
+_OPTIONS = {
     "hasResidentKey": "has_resident_key",
     "defaultBackupEligibility": "default_backup_eligibility",
     "defaultBackupState": "default_backup_state",
@@ -46,198 +46,210 @@ _ABILITIES = {
 _ATTACHMENTS = {"usb": "cross-platform", "internal": "platform"}
 
 
-def _one_of(name: str, value: Any, words: Any) -> Any:
+def _check_choice(name: str, value: Any, words: Any) -> Any:
     if value not in words:
-        raise ArgumentError(f"{name} is {json.dumps(value)}; it has to be one of {', '.join(map(str, words))}")
+        raise ArgumentError(f"{name} is {json.dumps(value)}; it must be one of {', '.join(map(str, words))}")
     return value
 
 
-def _refused(text: str) -> str:
-    """Returns the answer to a line that isn't read."""
+def _make_error_response(text: str) -> str:
+    """Returns the response to a line that is not read."""
     return json.dumps({"error": "SyntaxError", "message": text})
 
 
 def _refuse_constant(name: str) -> Any:
-    raise ArgumentError(f"{name} is no number of JSON")
+    raise ArgumentError(f"{name} is not a JSON number")
 
 
-def _object(name: str, value: Any) -> Json:
+def _check_object(name: str, value: Any) -> Json:
     if not isinstance(value, dict):
-        raise ArgumentError(f"{name} has to be an object")
+        raise ArgumentError(f"{name} must be an object")
     return value
 
 
 class Process:
-    """A key and its browser, and the commands that lines name."""
+    """A key and its browser, and the commands of the protocol."""
 
     def __init__(self, origin: str):
         self.key = SecurityKey()
         self.browser = self.key.browser(origin)
         host = urlsplit(origin).hostname or ""
-        # The key knows relying parties by the hashes of their ids alone.
+        # RP IDs by their hashes, which is all that the key has.
         self._rp_ids = {sha256(host.encode()).digest(): host}
         self._account: Any = 0
 
     def commands(self) -> Mapping[str, Callable[[Any, Json], Any]]:
-        """Returns the commands by their names."""
+        """Returns the commands by name."""
         return {
             "create": self._create,
-            "get": lambda given, more: self.browser.get(given, self._account, **more),
-            "presence": lambda word, _: setattr(self.key, "presence", _one_of("presence", word, _PRESENCE)),
-            "authenticator": lambda given, _: self._set_abilities(_object("authenticator", given)),
-            "userVerified": lambda given, _: self._set_verified(_one_of("userVerified", given, (True, False))),
-            "account": lambda given, _: setattr(self, "_account", given),
-            "faults": lambda given, _: self._set_faults(_object("faults", given)),
+            "get": lambda options, more: self.browser.get(options, self._account, **more),
+            "setPresence": lambda word, _: setattr(self.key, "presence", _check_choice("setPresence", word, _PRESENCE)),
+            "setAuthenticatorOptions": lambda value, _: self._set_options(
+                _check_object("setAuthenticatorOptions", value)
+            ),
+            "setUserVerified": lambda value, _: self._set_verified(
+                _check_choice("setUserVerified", value, (True, False))
+            ),
+            "selectAccount": lambda value, _: setattr(self, "_account", value),
+            "setFaults": lambda value, _: self._set_faults(_check_object("setFaults", value)),
             "clearFaults": lambda *_: self.key.faults.clear(),
-            "credentials": lambda *_: [self._shown(credential) for credential in self.key.credentials],
-            "addCredential": lambda given, _: self._add(_object("addCredential", given)),
-            "removeCredential": lambda given, _: self.key.credentials.remove(self._data(given, "credentialId")),
+            "getCredentials": lambda *_: [self._describe_credential(credential) for credential in self.key.credentials],
+            "addCredential": lambda value, _: self._add_credential(_check_object("addCredential", value)),
+            "removeCredential": lambda value, _: self.key.credentials.remove(
+                self._decode_base64url(value, "credentialId")
+            ),
             "clearCredentials": lambda *_: self.key.credentials.clear(),
-            "log": lambda *_: self.key.log.decode(),
-            "recordings": lambda *_: [
-                {"snapshot": text_of(snapshot), "log": log.decode()} for snapshot, log in self.key.recordings
+            "getLog": lambda *_: self.key.log.decode(),
+            "getRecordings": lambda *_: [
+                {"snapshot": b64url_encode(snapshot), "log": log.decode()} for snapshot, log in self.key.recordings
             ],
         }
 
-    def _know(self, rp_id: Any) -> None:
+    def _remember_rp_id(self, rp_id: Any) -> None:
         if isinstance(rp_id, str):
             self._rp_ids[sha256(rp_id.encode()).digest()] = rp_id
 
-    def _create(self, given: Any, more: Json) -> Json:
-        options = given.get("publicKey", given) if isinstance(given, dict) else {}
+    def _create(self, value: Any, more: Json) -> Json:
+        options = value.get("publicKey", value) if isinstance(value, dict) else {}
         rp = options.get("rp") if isinstance(options, dict) else None
-        self._know(rp.get("id") if isinstance(rp, dict) else None)
-        return self.browser.create(given, **more)
+        self._remember_rp_id(rp.get("id") if isinstance(rp, dict) else None)
+        return self.browser.create(value, **more)
 
     def _set_verified(self, is_verified: bool) -> None:
         if self.key.verification == "none" and is_verified:
-            raise ArgumentError("userVerified is true; this key verifies no users, unless hasUserVerification is true")
+            raise ArgumentError("setUserVerified is true; it needs an authenticator with hasUserVerification")
         if self.key.verification != "none":
             self.key.is_user_verified = is_verified
 
-    def _set_abilities(self, given: Json) -> None:
-        known = ("hasUserVerification", "isUserVerified", "transport", *_ABILITIES)
-        for name, value in given.items():
-            _one_of("a member of authenticator", name, known)
-            _one_of(name, value, _ATTACHMENTS if name == "transport" else (True, False))
-        has = given.get("hasUserVerification", self.key.verification != "none")
-        is_verified = given.get("isUserVerified", self.key.verification == "verified")
+    def _set_options(self, options: Json) -> None:
+        known = ("hasUserVerification", "isUserVerified", "transport", *_OPTIONS)
+        for name, value in options.items():
+            _check_choice("a member of setAuthenticatorOptions", name, known)
+            _check_choice(name, value, _ATTACHMENTS if name == "transport" else (True, False))
+        has = options.get("hasUserVerification", self.key.verification != "none")
+        is_verified = options.get("isUserVerified", self.key.verification == "verified")
         if is_verified and not has:
-            raise ArgumentError("isUserVerified is true; it has to be false, unless hasUserVerification is true")
+            raise ArgumentError("isUserVerified needs hasUserVerification")
         self.key.verification = "none" if not has else "verified" if is_verified else "failed"
-        self.key.attachment = _ATTACHMENTS[given["transport"]] if "transport" in given else self.key.attachment
-        for name in set(given) & set(_ABILITIES):
-            setattr(self.key, _ABILITIES[name], given[name])
+        self.key.attachment = _ATTACHMENTS[options["transport"]] if "transport" in options else self.key.attachment
+        for name in set(options) & set(_OPTIONS):
+            setattr(self.key, _OPTIONS[name], options[name])
 
-    def _set_faults(self, given: Json) -> None:
-        for name in given:
-            _one_of("a fault", name, _FAULTS)
-        for name, value in given.items():
+    def _set_faults(self, faults: Json) -> None:
+        for name in faults:
+            _check_choice("a fault", name, _FAULTS)
+        for name, value in faults.items():
             setattr(self.key.faults, _FAULTS[name], value)
 
-    def _data(self, value: Any, name: str) -> bytes:
+    def _decode_base64url(self, value: Any, name: str) -> bytes:
         if not isinstance(value, str):
-            raise ArgumentError(f"{name} has to be base64url in a text")
-        return data_of(value.rstrip("="), name)
+            raise ArgumentError(f"{name} must be a base64url string")
+        return b64url_decode(value.rstrip("="), name)
 
-    def _shown(self, credential: Credential) -> Json:
+    def _describe_credential(self, credential: Credential) -> Json:
         private = self.key.private_keys[self.key.core_id(credential.id)]
         pkcs8 = private.private_bytes(Encoding.DER, PrivateFormat.PKCS8, NoEncryption())
         return {
-            "credentialId": text_of(credential.id),
+            "credentialId": b64url_encode(credential.id),
             "isResidentCredential": credential.discoverable,
             "rpId": self._rp_ids.get(credential.rp_id_hash),
-            "privateKey": text_of(pkcs8),
-            "userHandle": text_of(credential.user_id),
+            "privateKey": b64url_encode(pkcs8),
+            "userHandle": b64url_encode(credential.user_id),
             "userName": credential.user_name,
-            "signCount": credential.counter,
+            "signCount": credential.sign_count,
             "backupEligibility": credential.backup_eligibility,
             "backupState": credential.backup_state,
         }
 
-    def _add(self, given: Json) -> Json:
+    def _add_credential(self, credential: Json) -> Json:
         known = ("credentialId", "isResidentCredential", "rpId", "privateKey", "userHandle", "userName", "signCount")
-        for name in given:
-            _one_of("a member of a credential", name, (*known, "userDisplayName", "backupEligibility", "backupState"))
-        rp_id = given.get("rpId")
+        for name in credential:
+            _check_choice(
+                "a member of a credential", name, (*known, "userDisplayName", "backupEligibility", "backupState")
+            )
+        rp_id = credential.get("rpId")
         if not isinstance(rp_id, str) or not rp_id:
-            raise ArgumentError("rpId has to be the id of a relying party")
-        identifier, private = given.get("credentialId"), given.get("privateKey")
+            raise ArgumentError("rpId must be an RP ID")
+        identifier, private = credential.get("credentialId"), credential.get("privateKey")
         made = self.key.credentials.add(
             rp_id,
-            self._data(given.get("userHandle", ""), "userHandle"),
-            given.get("userName", ""),
-            discoverable=given.get("isResidentCredential", False),
-            counter=given.get("signCount", 0),
-            credential_id=None if identifier is None else self._data(identifier, "credentialId"),
-            private_key=None if private is None else self._data(private, "privateKey"),
-            backup_eligibility=given.get("backupEligibility", self.key.default_backup_eligibility),
-            backup_state=given.get("backupState", self.key.default_backup_state),
+            self._decode_base64url(credential.get("userHandle", ""), "userHandle"),
+            credential.get("userName", ""),
+            discoverable=credential.get("isResidentCredential", False),
+            sign_count=credential.get("signCount", 0),
+            credential_id=None if identifier is None else self._decode_base64url(identifier, "credentialId"),
+            private_key=None if private is None else self._decode_base64url(private, "privateKey"),
+            backup_eligibility=credential.get("backupEligibility", self.key.default_backup_eligibility),
+            backup_state=credential.get("backupState", self.key.default_backup_state),
         )
-        self._know(rp_id)
-        return self._shown(made)
+        self._remember_rp_id(rp_id)
+        return self._describe_credential(made)
 
-    def answer(self, line: bytes) -> str:
-        """Returns the answer to a line, as a line."""
-        if len(line) > LINE_MOST:
-            return _refused(f"a line has more than {LINE_MOST} bytes")
+    def respond(self, line: bytes) -> str:
+        """Returns the response line to a line."""
+        if len(line) > MAX_LINE:
+            return _make_error_response(f"the line has more than {MAX_LINE} bytes")
         try:
-            return json.dumps(self._answer(line))
+            return json.dumps(self._respond(line))
         except RecursionError:
-            return _refused("a line is nested too deeply")
+            return _make_error_response("the line is nested too deeply")
 
-    def _answer(self, line: bytes) -> Json:
+    def _respond(self, line: bytes) -> Json:
         made: Json = {}
         try:
-            asked = json.loads(line.decode(), parse_constant=_refuse_constant)
-            made = {"id": asked["id"]} if isinstance(asked, dict) and "id" in asked else {}
-            return {**made, "value": self._serve(asked)}
+            request = json.loads(line.decode(), parse_constant=_refuse_constant)
+            made = {"id": request["id"]} if isinstance(request, dict) and "id" in request else {}
+            return {**made, "value": self._serve(request)}
         except WebAuthnError as error:
             return {**made, "error": error.name, "message": str(error)}
         except (json.JSONDecodeError, UnicodeDecodeError) as error:
-            return {**made, "error": "SyntaxError", "message": f"a line is an object of JSON: {error}"}
+            return {**made, "error": "SyntaxError", "message": f"a line must be a JSON object: {error}"}
         except (HidlogError, ValueError, TypeError) as error:
             return {**made, "error": "TypeError", "message": str(error)}
         except RecursionError:
             raise
-        except Exception as error:  # a mistake of this package: the process goes on, since it holds the keys
+        except Exception as error:  # a bug in this package: the process continues, because it has the keys
             return {**made, "error": "UnknownError", "message": f"{type(error).__name__}: {error}"}
 
-    def _serve(self, asked: Any) -> Any:
+    def _serve(self, request: Any) -> Any:
         commands = self.commands()
-        found = [name for name in asked if name not in ("id", "mediation")] if isinstance(asked, dict) else []
+        found = [name for name in request if name not in ("id", "mediation")] if isinstance(request, dict) else []
         if len(found) != 1 or found[0] not in commands:
-            text = 'a line is an object with one command, such as {"get": {..}}; there are '
+            text = 'a line must be an object with one command, such as {"get": {..}}; commands: '
             raise ArgumentError(text + ", ".join(commands))
-        if asked.get("mediation") == "conditional":
-            raise ArgumentError("mediation is conditional; a process without a page has nobody who picks an account")
-        more = {"mediation": asked["mediation"]} if "mediation" in asked else {}
-        return commands[found[0]](asked[found[0]], more)
+        if request.get("mediation") == "conditional":
+            raise ArgumentError(
+                "conditional mediation is not supported: there is no user interface to select an account"
+            )
+        more = {"mediation": request["mediation"]} if "mediation" in request else {}
+        return commands[found[0]](request[found[0]], more)
 
 
-def main(words: list[str] | None = None) -> int:
+def main(args: list[str] | None = None) -> int:
     """Serves lines until standard input ends."""
-    parser = argparse.ArgumentParser(prog="hidlog browser", description="A browser and its key, as JSON lines.")
-    parser.add_argument("--origin", required=True, help="the page's, such as https://example.com")
-    options = parser.parse_args(words)
+    parser = argparse.ArgumentParser(
+        prog="hidlog browser", description="A browser with a security key, driven by JSON lines."
+    )
+    parser.add_argument("--origin", required=True, help="origin of the page, such as https://example.com")
+    options = parser.parse_args(args)
     try:
         process = Process(options.origin)
     except HidlogError as error:
         print(f"hidlog: {error}", file=sys.stderr)
-        return FAILED
+        return STATUS_FAILED
     with process.key, open_input("-") as file:
-        for line in _lines_of(file):
+        for line in _read_lines(file):
             if line.strip():
-                print(process.answer(line), flush=True)
+                print(process.respond(line), flush=True)
     return 0
 
 
-def _lines_of(file: BufferedReader) -> Iterator[bytes]:
-    """Returns the lines as they come. Of one that is too long only the front, which shows that it is."""
+def _read_lines(file: BufferedReader) -> Iterator[bytes]:
+    """Yields the lines as they arrive. A line that is too long is cut, but stays too long."""
     rest = b""
-    while piece := file.read1(_PIECE):
+    while piece := file.read1(_READ_BYTES):
         first, *more = piece.split(b"\n")
-        rest = (rest + first)[: LINE_MOST + 1]
+        rest = (rest + first)[: MAX_LINE + 1]
         if more:
             yield from (rest, *more[:-1])
             rest = more[-1]

@@ -1,30 +1,30 @@
-"""CTAP2 canonical CBOR (CTAP 2.1, "Message Encoding"), as far as keys send and store it."""
+"""CTAP2 canonical CBOR (CTAP 2.1, section 8), as far as keys send and store it."""
 
 from __future__ import annotations
 
 from collections.abc import Callable
 from typing import Any
 
-from .errors import ArgumentError, ArgumentTypeError, bytes_of
+from .errors import ArgumentError, ArgumentTypeError, check_bytes
 
 _SIMPLE = {20: False, 21: True, 22: None}
 _LENGTHS = {24: 1, 25: 2, 26: 4, 27: 8}
-# CTAP 2.1, "Message Encoding", allows 4 levels; attestation objects of others have more.
-_MOST_LEVELS = 16
+# CTAP 2.1, section 8, allows 4 levels; attestation objects of other authenticators have more.
+_MAX_LEVELS = 16
 
 
 class CborError(ArgumentError):
-    """Bytes that are no CBOR, or a value that has none here."""
+    """Bytes that are not CBOR, or a value that cannot be encoded."""
 
 
-def head(major: int, number: int) -> bytes:
+def encode_head(major: int, number: int) -> bytes:
     """Returns the shortest head of a major type with its argument."""
     if number < 24:
         return bytes([major << 5 | number])
     for code, length in _LENGTHS.items():
         if number < 1 << 8 * length:
             return bytes([major << 5 | code]) + number.to_bytes(length, "big")
-    raise CborError(f"{number} doesn't fit into 64 bits")
+    raise CborError(f"{number} does not fit into 64 bits")
 
 
 def encode(value: Any) -> bytes:
@@ -33,35 +33,35 @@ def encode(value: Any) -> bytes:
 
 
 def _encode(value: Any, level: int) -> bytes:
-    """Returns the canonical encoding of a value that is so many levels deep in others."""
-    if level > _MOST_LEVELS:
-        raise CborError(f"the value has more than {_MOST_LEVELS} levels")
-    encoder = _ENCODERS.get(type(value)) or _encoder_of(value)
+    """Returns the canonical encoding of a value at a nesting level."""
+    if level > _MAX_LEVELS:
+        raise CborError(f"the value has more than {_MAX_LEVELS} levels")
+    encoder = _ENCODERS.get(type(value)) or _find_encoder(value)
     return encoder(value, level)
 
 
 def _encode_number(value: int, _: int) -> bytes:
-    return head(0, value) if value >= 0 else head(1, -1 - value)
+    return encode_head(0, value) if value >= 0 else encode_head(1, -1 - value)
 
 
 def _encode_bytes(value: Any, _: int) -> bytes:
     data = bytes(value)
-    return head(2, len(data)) + data
+    return encode_head(2, len(data)) + data
 
 
 def _encode_items(value: Any, level: int) -> bytes:
-    return head(4, len(value)) + b"".join([_encode(item, level + 1) for item in value])
+    return encode_head(4, len(value)) + b"".join([_encode(item, level + 1) for item in value])
 
 
 def _encode_map(value: dict[Any, Any], level: int) -> bytes:
     pairs = [(_encode(key, level + 1), _encode(member, level + 1)) for key, member in value.items()]
     if len(pairs) > 1:
-        pairs.sort(key=_order)
-    return head(5, len(pairs)) + b"".join([part for pair in pairs for part in pair])
+        pairs.sort(key=_sort_key)
+    return encode_head(5, len(pairs)) + b"".join([part for pair in pairs for part in pair])
 
 
-def _order(pair: tuple[bytes, bytes]) -> tuple[int, int, bytes]:
-    """Returns what keys are ordered by: the major type, the length, the bytes."""
+def _sort_key(pair: tuple[bytes, bytes]) -> tuple[int, int, bytes]:
+    """Sort key of a map's keys: major type, length, bytes."""
     return pair[0][0] >> 5, len(pair[0]), pair[0]
 
 
@@ -69,8 +69,8 @@ def _encode_text(value: str, _: int) -> bytes:
     try:
         data = value.encode()
     except UnicodeEncodeError:
-        raise CborError(f"{value[:20]!r} has half of a surrogate pair, and UTF-8 none") from None
-    return head(3, len(data)) + data
+        raise CborError(f"{value[:20]!r} has an unpaired surrogate, which UTF-8 cannot encode") from None
+    return encode_head(3, len(data)) + data
 
 
 def _encode_simple(value: bool | None, _: int) -> bytes:
@@ -92,34 +92,34 @@ _ENCODERS: dict[type, _Encoder] = {
 }
 
 
-def _encoder_of(value: Any) -> _Encoder:
-    """Returns the encoder of a class that is made of one of these."""
+def _find_encoder(value: Any) -> _Encoder:
+    """Returns the encoder of a subclass of an encodable type."""
     for kind, encoder in _ENCODERS.items():
         if isinstance(value, kind):
             return encoder
-    raise ArgumentTypeError(f"{type(value).__name__} has no CBOR encoding here")
+    raise ArgumentTypeError(f"cannot encode {type(value).__name__} as CBOR")
 
 
 def decode(data: bytes) -> Any:
-    """Returns the value that these bytes encode, all of them."""
-    given = bytes_of("CBOR", data)
-    value, at = _read(given, 0, 0)
-    if at != len(given):
-        raise CborError(f"{len(given) - at} bytes come after the CBOR item")
+    """Decodes one CBOR item, which must be all of the data."""
+    item = check_bytes("CBOR", data)
+    value, at = _read_item(item, 0, 0)
+    if at != len(item):
+        raise CborError(f"{len(item) - at} trailing bytes after the CBOR item")
     return value
 
 
 def decode_first(data: bytes) -> tuple[Any, bytes]:
-    """Returns the first value that these bytes encode, and the bytes after it."""
-    given = bytes_of("CBOR", data)
-    value, at = _read(given, 0, 0)
-    return value, given[at:]
+    """Decodes the first CBOR item. Returns its value, and the bytes after it."""
+    item = check_bytes("CBOR", data)
+    value, at = _read_item(item, 0, 0)
+    return value, item[at:]
 
 
-def _read(data: bytes, at: int, level: int) -> tuple[Any, int]:
-    """Returns the value at a place, which is so many levels deep in others, and the place after it."""
+def _read_item(data: bytes, at: int, level: int) -> tuple[Any, int]:
+    """Returns the value at an offset and nesting level, and the offset after it."""
     if at >= len(data):
-        raise CborError("the CBOR item is cut short")
+        raise CborError("the CBOR item is truncated")
     major, number = data[at] >> 5, data[at] & 31
     at += 1
     if number >= 24:
@@ -128,8 +128,8 @@ def _read(data: bytes, at: int, level: int) -> tuple[Any, int]:
         return number, at
     if major in (2, 3):
         return _read_text(data, at, major, number)
-    if major in (4, 5) and level == _MOST_LEVELS:
-        raise CborError(f"the CBOR item has more than {_MOST_LEVELS} levels")
+    if major in (4, 5) and level == _MAX_LEVELS:
+        raise CborError(f"the CBOR item has more than {_MAX_LEVELS} levels")
     if major == 4:
         return _read_items(data, at, number, level + 1)
     if major == 5:
@@ -137,32 +137,32 @@ def _read(data: bytes, at: int, level: int) -> tuple[Any, int]:
     if major == 7 and number in _SIMPLE:
         return _SIMPLE[number], at
     if major > 1:
-        raise CborError(f"CBOR of major type {major} with {number} isn't read here")
+        raise CborError(f"CBOR major type {major} with {number} is not supported")
     return -1 - number, at
 
 
 def _read_argument(data: bytes, at: int, major: int, code: int) -> tuple[int, int]:
-    """Returns the argument of an item behind its first byte, and the place after it."""
+    """Returns the argument after an item's first byte, and the offset after it."""
     length = _LENGTHS.get(code)
     if length is None or len(data) < at + length or major == 7:
-        raise CborError("the CBOR item is cut short, or of a kind that isn't read here")
+        raise CborError("the CBOR item is truncated or of an unsupported kind")
     return int.from_bytes(data[at : at + length], "big"), at + length
 
 
 def _read_text(data: bytes, at: int, major: int, length: int) -> tuple[Any, int]:
     end = at + length
     if len(data) < end:
-        raise CborError("the CBOR item is cut short")
+        raise CborError("the CBOR item is truncated")
     try:
         return (data[at:end] if major == 2 else data[at:end].decode()), end
     except UnicodeDecodeError as error:
-        raise CborError(f"a text of CBOR isn't UTF-8: {error}") from None
+        raise CborError(f"a CBOR text string is not UTF-8: {error}") from None
 
 
 def _read_items(data: bytes, at: int, count: int, level: int) -> tuple[list[Any], int]:
     listed = []
     for _ in range(count):
-        value, at = _read(data, at, level)
+        value, at = _read_item(data, at, level)
         listed.append(value)
     return listed, at
 
@@ -172,4 +172,4 @@ def _read_map(data: bytes, at: int, count: int, level: int) -> tuple[dict[Any, A
     try:
         return dict(zip(listed[::2], listed[1::2])), at
     except TypeError:
-        raise CborError("a map of CBOR has a list or a map among its keys") from None
+        raise CborError("a CBOR map has an array or a map as a key") from None

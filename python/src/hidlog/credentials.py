@@ -1,4 +1,4 @@
-"""The credentials of a key: what it knows of each, and snapshots of all of them."""
+"""The credentials of a key, and snapshots of them."""
 
 from __future__ import annotations
 
@@ -9,134 +9,141 @@ from functools import wraps
 from hashlib import sha256
 from typing import TYPE_CHECKING, Any, Protocol, TypeVar, cast, overload
 
-from . import cbor, names, private_keys
-from .errors import ArgumentError, SnapshotError, bytes_of, number_of, one_of, utf8
-from .outside import CORE_ID, ID_MOST, Backup, Outside
+from . import cbor, private_keys, suggestions
+from .errors import ArgumentError, SnapshotError, check_bytes, check_choice, check_int, encode_utf8
+from .credential_metadata import CORE_ID, MAX_ID, Backup, CredentialMetadata
 
 if TYPE_CHECKING:
-    from .held import HeldKey
+    from .in_process_key import InProcessKey
 
-_COUNTER_MOST = 2**32 - 1
-_CHANGED = ("counter", "user_name", "user_id", "discoverable", "backup_eligibility", "backup_state")
+_MAX_SIGN_COUNT = 2**32 - 1
+_OLD_NAMES = {"counter": "sign_count", "is_for": "belongs_to", "x": "public_key_x", "y": "public_key_y"}
+_OLD_METHODS = {"change": "update", "of": "for_rp"}
+_CHANGEABLE_MEMBERS = ("sign_count", "user_name", "user_id", "discoverable", "backup_eligibility", "backup_state")
 
 
 def rp_hash(rp_id: str) -> bytes:
-    """Returns the SHA-256 hash of an RP id, by which keys know a relying party."""
-    return sha256(utf8("the RP id", rp_id)).digest()
+    """Returns the SHA-256 hash of an RP ID."""
+    return sha256(encode_utf8("the RP ID", rp_id)).digest()
 
 
 @dataclass(frozen=True)
 class Credential:
     """A credential without its private key.
 
-    rp_id_hash     the SHA-256 hash of the RP id.
-    id             its id, 32 bytes where the key made it, and 1 to 1023 where a test did.
-    x, y           the coordinates of its public key on P-256, 32 bytes each.
-    user_id        the user handle, up to 64 bytes.
-    user_name      the user's name, up to 64 bytes of UTF-8.
+    rp_id_hash     SHA-256 of the RP ID.
+    id             credential ID: 32 bytes if created by the key, 1 to 1023 if added by a test.
+    public_key_x, public_key_y   coordinates of the public key on P-256, 32 bytes each.
+    user_id        user handle, up to 64 bytes.
+    user_name      user name, up to 64 bytes of UTF-8.
     discoverable   whether a sign-in without an allow list finds it.
-    counter        its signature counter.
-    backup_eligibility, backup_state   the flags BE and BS of what a browser returns for it.
+    sign_count     signature counter.
+    backup_eligibility, backup_state   the flags BE and BS in what a browser returns for it.
     """
 
     rp_id_hash: bytes
     id: bytes
-    x: bytes
-    y: bytes
+    public_key_x: bytes
+    public_key_y: bytes
     user_id: bytes = b""
     user_name: str = ""
     discoverable: bool = True
-    counter: int = 0
+    sign_count: int = 0
     backup_eligibility: bool = False
     backup_state: bool = False
 
     def __post_init__(self) -> None:
-        for name in ("rp_id_hash", "x", "y"):
-            bytes_of(name, getattr(self, name), 32)
-        if not 1 <= len(bytes_of("id", self.id)) <= ID_MOST:
-            raise ArgumentError(f"id has {len(self.id)} bytes; it has 1 to {ID_MOST}")
-        if len(bytes_of("user_id", self.user_id)) > 64:
-            raise ArgumentError(f"user_id has {len(self.user_id)} bytes; it has at most 64")
-        length = len(utf8("user_name", self.user_name))
+        for name in ("rp_id_hash", "public_key_x", "public_key_y"):
+            check_bytes(name, getattr(self, name), 32)
+        if not 1 <= len(check_bytes("id", self.id)) <= MAX_ID:
+            raise ArgumentError(f"id has {len(self.id)} bytes; it must have 1 to {MAX_ID}")
+        if len(check_bytes("user_id", self.user_id)) > 64:
+            raise ArgumentError(f"user_id has {len(self.user_id)} bytes; it must have at most 64")
+        length = len(encode_utf8("user_name", self.user_name))
         if length > 64:
-            raise ArgumentError(f"user_name has {length} bytes; it has at most 64")
+            raise ArgumentError(f"user_name has {length} bytes; it must have at most 64")
         for name in ("discoverable", "backup_eligibility", "backup_state"):
-            one_of(name, getattr(self, name), (True, False))
-        number_of("counter", self.counter, 0, _COUNTER_MOST)
+            check_choice(name, getattr(self, name), (True, False))
+        check_int("sign_count", self.sign_count, 0, _MAX_SIGN_COUNT)
+
+    if not TYPE_CHECKING:
+
+        def __getattr__(self, name: str) -> Any:
+            return suggestions.get_renamed(self, name, _OLD_NAMES)
 
     @property
     def backup(self) -> Backup:
-        """The flags of its backup."""
+        """The flags BE and BS."""
         return Backup(self.backup_eligibility, self.backup_state)
 
     @classmethod
     def of_core(cls, members: dict[str, Any]) -> Credential:
-        """Returns a credential of the core, whose members need no check. Each may be left out that has a default."""
+        """Returns a credential of the core, without checks. Members with defaults may be left out."""
         made = object.__new__(cls)
         made.__dict__.update(_DEFAULTS, **members)
         return made
 
-    def is_for(self, rp_id: str) -> bool:
-        """Returns whether it belongs to the relying party with this id."""
+    def belongs_to(self, rp_id: str) -> bool:
+        """Returns whether it belongs to the relying party with this ID."""
         return self.rp_id_hash == rp_hash(rp_id)
 
 
 _DEFAULTS = {field.name: field.default for field in fields(Credential)}
 
 
-def _row(credential: Credential) -> bytes:
-    """Returns a row of a snapshot of version 2: a map of the members 1 to 8, in canonical CBOR."""
-    head, user, name = cbor.head, credential.user_id, credential.user_name.encode()
+def _encode_row(credential: Credential) -> bytes:
+    """Returns a row of a version 2 snapshot: a canonical CBOR map of the members 1 to 8."""
+    head, user, name = cbor.encode_head, credential.user_id, credential.user_name.encode()
     return b"".join(
         (
             b"\xa8\x01\x58\x20" + credential.rp_id_hash + b"\x02\x58\x20" + credential.id,
-            b"\x03\x58\x20" + credential.x + b"\x04\x58\x20" + credential.y,
+            b"\x03\x58\x20" + credential.public_key_x + b"\x04\x58\x20" + credential.public_key_y,
             b"\x05" + head(2, len(user)) + user,
             b"\x06\xf5\x07" if credential.discoverable else b"\x06\xf4\x07",
-            head(0, credential.counter) + b"\x08" + head(3, len(name)) + name,
+            head(0, credential.sign_count) + b"\x08" + head(3, len(name)) + name,
         )
     )
 
 
 def write_snapshot(listed: Sequence[Credential]) -> bytes:
-    """Returns a snapshot (version 2, docs/use/PROFILE.md) with these credentials, the newest last."""
+    """Returns a snapshot of these credentials, newest last (version 2, docs/use/PROFILE.md)."""
     if not listed:
         return b""
     if any(len(credential.id) != CORE_ID for credential in listed):
-        raise ArgumentError(f"a snapshot holds ids of {CORE_ID} bytes")
-    return b"\xa2\x01\x02\x02" + cbor.head(4, len(listed)) + b"".join(map(_row, listed))
+        raise ArgumentError(f"credential IDs in a snapshot must have {CORE_ID} bytes")
+    return b"\xa2\x01\x02\x02" + cbor.encode_head(4, len(listed)) + b"".join(map(_encode_row, listed))
 
 
 def read_snapshot(data: bytes) -> list[Credential]:
-    """Returns the credentials in a snapshot of version 1 or 2, the newest last."""
+    """Returns the credentials in a snapshot of version 1 or 2, newest last."""
     if not data:
         return []
     try:
-        held = _map_of("it", cbor.decode(data), (1, 2))
-        one_of("its version", held[1], (1, 2))
+        held = _check_map("it", cbor.decode(data), (1, 2))
+        check_choice("its version", held[1], (1, 2))
         if not isinstance(held[2], list):
-            raise ArgumentError("its credentials are no list of CBOR")
-        return [_credential_of(f"credential {number}", row) for number, row in enumerate(held[2], 1)]
+            raise ArgumentError("its credentials are not a CBOR array")
+        return [_read_credential(f"credential {number}", row) for number, row in enumerate(held[2], 1)]
     except ArgumentError as error:
-        raise SnapshotError(f"this is no snapshot: {error}") from None
+        raise SnapshotError(f"not a snapshot: {error}") from None
 
 
-def _map_of(name: str, value: Any, members: Iterable[int]) -> dict[int, Any]:
-    """Returns a map of CBOR that has these members."""
+def _check_map(name: str, value: Any, members: Iterable[int]) -> dict[int, Any]:
+    """Returns the value, which must be a CBOR map with these members."""
     if not isinstance(value, dict):
-        raise ArgumentError(f"{name} is no map of CBOR")
+        raise ArgumentError(f"{name} is not a CBOR map")
     for member in members:
         if member not in value:
             raise ArgumentError(f"{name} has no member {member}")
     return value
 
 
-def _credential_of(name: str, row: Any) -> Credential:
-    """Returns the credential of a row. Rows of version 1 have no user name."""
-    members = _map_of(name, row, range(1, 8))
-    rp, credential_id, x, y, user, discoverable, counter = (members[number] for number in range(1, 8))
+def _read_credential(name: str, row: Any) -> Credential:
+    """Returns the credential in a row. Rows of version 1 have no user name."""
+    members = _check_map(name, row, range(1, 8))
+    rp, credential_id, x, y, user, discoverable, sign_count = (members[number] for number in range(1, 8))
     try:
-        return Credential(rp, credential_id, x, y, user, members.get(8, ""), discoverable, counter)
+        return Credential(rp, credential_id, x, y, user, members.get(8, ""), discoverable, sign_count)
     except ArgumentError as error:
         raise ArgumentError(f"{name}: {error}") from None
 
@@ -145,110 +152,115 @@ _Call = TypeVar("_Call", bound=Callable[..., Any])
 
 
 def _alone(call: _Call) -> _Call:
-    """Makes a change while no other thread registers, signs in or changes the credentials."""
+    """Runs a change while no other thread registers, signs in or changes credentials."""
 
     @wraps(call)
-    def changed(self: Credentials, *given: Any, **members: Any) -> Any:
+    def changed(self: Credentials, *args: Any, **members: Any) -> Any:
         with self._key.ceremony():
-            return call(self, *given, **members)
+            return call(self, *args, **members)
 
     return cast(_Call, changed)
 
 
-class _Holder(Protocol):
-    """What a list of credentials needs of its key."""
+class _CredentialHolder(Protocol):
+    """What Credentials needs from its key."""
 
     private_keys: dict[bytes, private_keys.PrivateKey]
 
-    _outside: Outside
+    _metadata: CredentialMetadata
 
     def _held(self) -> list[Credential]:
-        """Returns the credentials of the core, the newest last."""
+        """Returns the core's credentials, newest last."""
 
     def _find(self, core_id: bytes) -> Credential | None:
-        """Returns the credential of the core with this id, where there is one."""
+        """Returns the core's credential with this ID, or None."""
 
     @property
     def capacity(self) -> int:
-        """How many credentials the key has capacity for."""
+        """Number of credentials the key can hold."""
 
     def snapshot(self) -> bytes:
         """Returns a snapshot of the credentials."""
 
-    def _change_held(self, change: Callable[[HeldKey], bool]) -> bool:
-        """Has the key that is held start with other credentials. Returns whether it could; else it is as it was."""
+    def _update_in_process(self, change: Callable[[InProcessKey], bool]) -> bool:
+        """Changes the credentials of a key in this process. Returns False, with nothing changed, if it can't."""
 
     def _count(self) -> int:
-        """Returns how many there are."""
+        """Returns the number of credentials."""
 
     def ceremony(self) -> AbstractContextManager[Any]:
-        """Has the key serve nobody else meanwhile."""
+        """Returns a lock for a whole registration or sign-in."""
 
-    def _take_snapshot(self, snapshot: bytes) -> None:
-        """Goes on with the credentials of a snapshot."""
+    def _load_snapshot(self, snapshot: bytes) -> None:
+        """Replaces the credentials by a snapshot's."""
 
     def _random_bytes(self, count: int) -> bytes:
-        """Returns so many random bytes."""
+        """Returns `count` random bytes."""
 
 
 class Credentials(Sequence[Credential]):
-    """The credentials that a key holds, the newest last.
+    """The credentials of a key, newest last.
 
-    Each change is the start of a new session with other credentials: what is recorded after it is a log of its own,
-    whose snapshot has them. The clock and the channels of clients go on.
+    Each change starts a new session: what follows is recorded in a log of its own, whose snapshot has the credentials.
+    The clock and the clients' channels stay.
     """
 
-    def __init__(self, key: _Holder):
+    def __init__(self, key: _CredentialHolder):
         self._key = key
 
-    def _listed(self) -> list[Credential]:
-        outside = self._key._outside
-        if outside.is_empty:
-            return self._key._held()
-        return [self._shown(held) for held in self._key._held()]
+    if not TYPE_CHECKING:
 
-    def _shown(self, held: Credential) -> Credential:
-        """Returns a credential of the core with what is kept outside of it."""
-        outside = self._key._outside
-        backup, name = outside.backup(held.id), outside.page_id(held.id)
+        def __getattr__(self, name: str) -> Any:
+            return suggestions.get_renamed(self, name, _OLD_METHODS)
+
+    def _snapshot_list(self) -> list[Credential]:
+        metadata = self._key._metadata
+        if metadata.is_empty:
+            return self._key._held()
+        return [self._describe(held) for held in self._key._held()]
+
+    def _describe(self, held: Credential) -> Credential:
+        """Returns the core's credential with its ID for pages and its backup flags."""
+        metadata = self._key._metadata
+        backup, name = metadata.backup(held.id), metadata.page_id(held.id)
         if name is held.id and not backup.flags:
             return held
         return replace(held, id=name, backup_eligibility=backup.eligibility, backup_state=backup.state)
 
-    def _in_core(self, shown: Credential) -> Credential:
-        """Returns a credential as the core has it."""
-        core = self._key._outside.core_id(shown.id)
+    def _with_core_id(self, shown: Credential) -> Credential:
+        """Returns a credential with the core's ID."""
+        core = self._key._metadata.core_id(shown.id)
         return shown if core is shown.id else replace(shown, id=core)
 
     def _take(self, listed: Sequence[Credential]) -> None:
-        """Goes on with these credentials, and forgets what is kept of others."""
+        """Replaces the credentials, and drops the private keys and metadata of removed ones."""
         before = [credential.id for credential in self._key._held()]
-        rows = [self._in_core(credential) for credential in listed]
-        self._key._take_snapshot(write_snapshot(rows))
+        rows = [self._with_core_id(credential) for credential in listed]
+        self._key._load_snapshot(write_snapshot(rows))
         for row in rows:
-            self._key._outside.back_up(row.id, row.backup)
+            self._key._metadata.back_up(row.id, row.backup)
         kept = {row.id for row in rows}
         for gone in before:
             if gone not in kept:
                 self._forget(gone)
 
     def _forget(self, core_id: bytes) -> None:
-        """Forgets what is kept of a credential outside of the core."""
+        """Drops the private key and the metadata of a credential."""
         self._key.private_keys.pop(core_id, None)
-        self._key._outside.forget(core_id)
+        self._key._metadata.forget(core_id)
 
     def _replace(self, held: Credential, changed: Credential) -> None:
-        """Goes on with a credential of the core in the place of another one with its id, its relying party and user."""
-        if not self._key._change_held(lambda key: key.put_last(changed)):
-            before, _, after = self._key.snapshot().partition(_row(held))
-            self._key._take_snapshot(before + _row(changed) + after)
-        self._key._outside.back_up(changed.id, changed.backup)
+        """Replaces a core credential by one with the same ID, relying party and user."""
+        if not self._key._update_in_process(lambda key: key.replace_last(changed)):
+            before, _, after = self._key.snapshot().partition(_encode_row(held))
+            self._key._load_snapshot(before + _encode_row(changed) + after)
+        self._key._metadata.back_up(changed.id, changed.backup)
 
     def __len__(self) -> int:
         return self._key._count()
 
     def __iter__(self) -> Iterator[Credential]:
-        return iter(self._listed())
+        return iter(self._snapshot_list())
 
     @overload
     def __getitem__(self, place: int) -> Credential:
@@ -259,26 +271,26 @@ class Credentials(Sequence[Credential]):
         ...
 
     def __getitem__(self, place: int | slice) -> Credential | Sequence[Credential]:
-        return self._listed()[place]
+        return self._snapshot_list()[place]
 
     def __repr__(self) -> str:
-        return f"Credentials({self._listed()!r})"
+        return f"Credentials({self._snapshot_list()!r})"
 
     def get(self, credential_id: bytes) -> Credential:
-        """Returns the credential with this id."""
-        shown = self._named(bytes_of("the credential id", credential_id))
-        if shown is None:
-            raise ArgumentError(f"the key holds no credential with the id {credential_id.hex()}")
-        return shown
+        """Returns the credential with this ID."""
+        found = self._by_page_id(check_bytes("the credential ID", credential_id))
+        if found is None:
+            raise ArgumentError(f"no credential with ID {credential_id.hex()}")
+        return found
 
-    def _named(self, page_id: bytes) -> Credential | None:
-        held = self._key._find(self._key._outside.core_id(page_id))
-        shown = held and self._shown(held)
-        return shown if shown is not None and shown.id == page_id else None
+    def _by_page_id(self, page_id: bytes) -> Credential | None:
+        held = self._key._find(self._key._metadata.core_id(page_id))
+        found = held and self._describe(held)
+        return found if found is not None and found.id == page_id else None
 
-    def of(self, rp_id: str) -> list[Credential]:
+    def for_rp(self, rp_id: str) -> list[Credential]:
         """Returns the credentials of a relying party."""
-        return [credential for credential in self._listed() if credential.is_for(rp_id)]
+        return [credential for credential in self._snapshot_list() if credential.belongs_to(rp_id)]
 
     @_alone
     def add(
@@ -288,7 +300,7 @@ class Credentials(Sequence[Credential]):
         user_name: str = "",
         *,
         discoverable: bool = True,
-        counter: int = 0,
+        sign_count: int = 0,
         credential_id: bytes | None = None,
         private_key: private_keys.PrivateKey | bytes | str | None = None,
         backup_eligibility: bool = False,
@@ -296,47 +308,49 @@ class Credentials(Sequence[Credential]):
     ) -> Credential:
         """Adds a credential, with a new key pair unless a private key is given.
 
-        That is PEM (bytes or str), PKCS #8 in DER, or cryptography's. An id has 1 to 1,023 bytes; one of another length
-        than 32 is known to the browser alone. A discoverable credential takes the place of the one with the same relying
+        A private key is PEM (bytes or str), PKCS #8 in DER, or cryptography's. A credential ID has 1 to 1023 bytes; the
+        core has another one if its length isn't 32. A discoverable credential replaces the one with the same relying
         party and user.
         """
         private = (
-            private_keys.make(self._key._random_bytes) if private_key is None else private_keys.from_any(private_key)
+            private_keys.make_private_key(self._key._random_bytes)
+            if private_key is None
+            else private_keys.load_private_key(private_key)
         )
         core_id = self._key._random_bytes(CORE_ID)
-        name = core_id if credential_id is None else bytes_of("credential_id", credential_id)
+        name = core_id if credential_id is None else check_bytes("credential_id", credential_id)
         made = Credential(
             rp_hash(rp_id),
             name,
-            *private_keys.point_of(private),
-            bytes_of("user_id", user_id),
+            *private_keys.public_point(private),
+            check_bytes("user_id", user_id),
             user_name,
             discoverable,
-            counter,
+            sign_count,
             backup_eligibility,
             backup_state,
         )
         if len(name) == CORE_ID:
             core_id = name
-        if self._named(name) is not None or not self._put(replace(made, id=core_id)):
-            kept = self._with(made)
-            self._key._outside.name(core_id, name)
+        if self._by_page_id(name) is not None or not self._put(replace(made, id=core_id)):
+            kept = self._list_after_adding(made)
+            self._key._metadata.name(core_id, name)
             self._take([*kept, made])
-        self._key._outside.name(core_id, name)
-        self._key._outside.back_up(core_id, made.backup)
+        self._key._metadata.name(core_id, name)
+        self._key._metadata.back_up(core_id, made.backup)
         self._key.private_keys[core_id] = private
         return made
 
     def _put(self, made: Credential) -> bool:
-        """Puts a new credential of the core after the others. Returns whether it could: where its id is held, where it
-        takes the place of another one, and in a process of its own it can't."""
-        return self._key._find(made.id) is None and self._key._change_held(lambda key: key.put(made))
+        """Appends a credential in the core. Returns False if its ID exists, it would replace another credential, or the
+        key is in a separate process."""
+        return self._key._find(made.id) is None and self._key._update_in_process(lambda key: key.put(made))
 
-    def _with(self, made: Credential) -> list[Credential]:
-        """Returns the credentials that stay where this one is added."""
-        listed = self._listed()
+    def _list_after_adding(self, made: Credential) -> list[Credential]:
+        """Returns the credentials that remain when this one is added."""
+        listed = self._snapshot_list()
         if any(credential.id == made.id for credential in listed):
-            raise ArgumentError(f"the key holds a credential with the id {made.id.hex()} already")
+            raise ArgumentError(f"the key already has a credential with ID {made.id.hex()}")
         same = (made.rp_id_hash, made.user_id, True)
         is_kept = [
             not made.discoverable or (credential.rp_id_hash, credential.user_id, credential.discoverable) != same
@@ -344,20 +358,22 @@ class Credentials(Sequence[Credential]):
         ]
         kept = [credential for credential, stays in zip(listed, is_kept) if stays]
         if len(kept) >= self._key.capacity:
-            raise ArgumentError(f"the key holds {self._key.capacity} credentials, and that is the most")
+            raise ArgumentError(f"the key is full: it has {self._key.capacity} credentials")
         return kept
 
     @_alone
     def remove(self, credential_id: bytes) -> None:
         """Removes a credential."""
-        gone = self._in_core(self.get(credential_id)).id
+        gone = self._with_core_id(self.get(credential_id)).id
 
-        def remove(key: HeldKey) -> bool:
+        def remove(key: InProcessKey) -> bool:
             key.remove(gone)
             return True
 
-        if not self._key._change_held(remove):
-            self._take([credential for credential in self._listed() if self._in_core(credential).id != gone])
+        if not self._key._update_in_process(remove):
+            self._take(
+                [credential for credential in self._snapshot_list() if self._with_core_id(credential).id != gone]
+            )
         self._forget(gone)
 
     @_alone
@@ -366,17 +382,17 @@ class Credentials(Sequence[Credential]):
         self._take([])
 
     @_alone
-    def change(self, credential_id: bytes, **members: Any) -> Credential:
-        """Changes members of a credential: counter, user_name, user_id or discoverable."""
+    def update(self, credential_id: bytes, **members: Any) -> Credential:
+        """Changes members of a credential: sign_count, user_name, user_id, discoverable or its backup flags."""
         for name in members:
-            if name not in _CHANGED:
-                raise names.unknown("member to change", name, _CHANGED)
+            if name not in _CHANGEABLE_MEMBERS:
+                raise suggestions.make_unknown_name_error("member to change", name, _CHANGEABLE_MEMBERS)
         held = self.get(credential_id)
         changed = replace(held, **members)
         if (changed.user_id, changed.discoverable) == (held.user_id, held.discoverable):
-            self._replace(self._in_core(held), self._in_core(changed))
+            self._replace(self._with_core_id(held), self._with_core_id(changed))
             return changed
-        listed = [changed if credential.id == changed.id else credential for credential in self._listed()]
+        listed = [changed if credential.id == changed.id else credential for credential in self._snapshot_list()]
         found = [(credential.rp_id_hash, credential.user_id) for credential in listed if credential.discoverable]
         if len(set(found)) < len(found):
             raise ArgumentError("two discoverable credentials would have the same relying party and user")

@@ -1,7 +1,7 @@
 """A key as python-fido2's CtapDevice.
 
-It was run with version 0.9. For 1.x and 2.x it follows the documented interface of fido2.ctap.CtapDevice (`call`,
-`capabilities`, `close`, `list_devices`), and wasn't run.
+Tested with version 0.9. For 1.x and 2.x it follows the documented interface of fido2.ctap.CtapDevice (`call`,
+`capabilities`, `close`, `list_devices`), and is untested.
 """
 
 from __future__ import annotations
@@ -10,17 +10,19 @@ from collections.abc import Callable, Iterator
 from typing import Any
 
 from .client import Client
-from .errors import CtapError, MissingPart
+from .errors import CtapError, MissingDependencyError
 
 try:
     from fido2.ctap import STATUS, CtapDevice
     from fido2.ctap import CtapError as FidoError
 except ImportError as missing:
-    raise MissingPart("python-fido2 is missing: pip install fido2, or apt-get install python3-fido2") from missing
+    raise MissingDependencyError(
+        "python-fido2 is missing: pip install fido2, or apt-get install python3-fido2"
+    ) from missing
 
 
 class DeviceError(CtapError, FidoError):
-    """A transport error of a key, for python-fido2 and for this package."""
+    """A transport error of a key, as an exception of python-fido2 and of this package."""
 
     def __init__(self, status: int, cause: str = ""):
         FidoError.__init__(self, status)
@@ -38,23 +40,23 @@ class KeyDevice(CtapDevice):
 
     @property
     def capabilities(self) -> int:
-        """The flags of the INIT answer."""
+        """The capability flags of the INIT response."""
         return self._client.capabilities
 
     @property
     def version(self) -> int:
-        """The version of CTAPHID."""
+        """The CTAPHID protocol version."""
         return self._client.version
 
     @property
     def device_version(self) -> tuple[int, ...]:
-        """The version of the key, three numbers."""
+        """The device version, three numbers."""
         return self._client.device_version
 
     def call(
         self, cmd: int, data: bytes = b"", event: Any = None, on_keepalive: Callable[[int], None] | None = None
     ) -> bytes:
-        """Sends a command, and returns the answer. Setting the event cancels it."""
+        """Sends a command, and returns the response. Setting the event cancels it."""
 
         def seen(status: int) -> None:
             if on_keepalive:
@@ -66,9 +68,9 @@ class KeyDevice(CtapDevice):
             raise DeviceError(error.status, error.cause) from None
 
     def close(self) -> None:
-        """Leaves the key as it is: others may use it."""
+        """Does nothing: others may use the key."""
 
     @classmethod
     def list_devices(cls) -> Iterator[KeyDevice]:
-        """Lists nothing, since keys are made by tests."""
+        """Yields nothing: keys are created by tests."""
         return iter(())

@@ -1,7 +1,7 @@
-"""The entry point of every command: a failure ends in one line on standard error and in a status that no verdict has.
+"""The entry point of every command. A failure prints one line on standard error, and exits with a status of its own.
 
-A verdict (a difference, a violation) has the status 1; a usage error or a failure 2; SIGINT 130, SIGTERM 143, and
-SIGHUP 129. Where standard output can't be written, the text is that of the program `hidlog`.
+The status is 1 for a finding (a mismatch, a violation), 2 for a usage error or a failure, 130 for SIGINT, 143 for
+SIGTERM, and 129 for SIGHUP. If standard output cannot be written, the message is that of the program `hidlog`.
 """
 
 from __future__ import annotations
@@ -17,11 +17,11 @@ from typing import Any, TextIO
 
 from .errors import HidlogError
 
-FAILED = 2
-_SIGNALED = 128
-_NAMES = {signal.SIGINT: "interrupted", signal.SIGTERM: "terminated", signal.SIGHUP: "the terminal was closed"}
-# By the signals that end a command what Python does at them before.
-_SIGNALS: dict[int, Any] = {
+STATUS_FAILED = 2
+_STATUS_SIGNALED = 128
+_SIGNAL_NAMES = {signal.SIGINT: "interrupted", signal.SIGTERM: "terminated", signal.SIGHUP: "the terminal was closed"}
+# Python's default handler of each signal that ends a command.
+_DEFAULT_HANDLERS: dict[int, Any] = {
     signal.SIGINT: signal.default_int_handler,
     signal.SIGTERM: signal.SIG_DFL,
     signal.SIGHUP: signal.SIG_DFL,
@@ -29,22 +29,23 @@ _SIGNALS: dict[int, Any] = {
 
 
 class OutputError(OSError):
-    """Standard output can't be written."""
+    """Standard output cannot be written."""
 
     def __init__(self) -> None:
         super().__init__("writing failed")
 
 
 class StoppedError(BaseException):
-    """A signal came that ends the process."""
+    """The process received a signal that ends it."""
 
     def __init__(self, number: int):
-        super().__init__(_NAMES[signal.Signals(number)])
-        self.status = _SIGNALED + number
+        super().__init__(_SIGNAL_NAMES[signal.Signals(number)])
+        self.status = _STATUS_SIGNALED + number
 
 
 class _Output(io.RawIOBase):
-    """Standard output, or standard error: after the first failure, which standard output raises, nothing is written."""
+    """Standard output or standard error. After the first failure, which raises on standard output, writes do
+    nothing."""
 
     def __init__(self, number: int):
         self._number = number
@@ -70,21 +71,21 @@ class _Output(io.RawIOBase):
         return len(data)
 
 
-def _hold_numbers() -> None:
-    """Opens a file at each closed descriptor of 0 to 2 that can't be used in its direction.
+def _open_closed_descriptors() -> None:
+    """Opens /dev/null at each closed descriptor of 0 to 2, in a direction in which it can't be used.
 
-    Otherwise the next file that is opened would be standard input, output or error."""
+    Otherwise the next file opened would become standard input, output or error."""
     for number, flags in enumerate((os.O_WRONLY, os.O_RDONLY, os.O_RDONLY)):
         try:
             os.fstat(number)
         except OSError:
             held = os.open(os.devnull, flags | os.O_CLOEXEC)
-            if held != number:  # a lower one couldn't be held
+            if held != number:  # a lower descriptor could not be opened
                 os.close(held)
 
 
-def _text_to(number: int, before: Any) -> TextIO:
-    """Returns a stream of text to a descriptor, as the one before was; what can't be encoded is escaped."""
+def _open_text_stream(number: int, before: Any) -> TextIO:
+    """Returns a text stream to a descriptor, configured like the earlier one. Unencodable characters are escaped."""
     encoding = before.encoding if before else "utf-8"
     errors = before.errors if before and before.errors != "strict" else "backslashreplace"
     by_line = bool(before) and (before.line_buffering or before.write_through)
@@ -92,57 +93,57 @@ def _text_to(number: int, before: Any) -> TextIO:
 
 
 def _replace_streams() -> None:
-    """Puts streams in the place of standard output and error that end a command well where writing fails."""
-    _hold_numbers()
+    """Replaces standard output and error by streams that end a command cleanly if writing fails."""
+    _open_closed_descriptors()
     if sys.stdout is sys.__stdout__:
-        sys.stdout = _text_to(1, sys.stdout)
+        sys.stdout = _open_text_stream(1, sys.stdout)
     if sys.stderr is sys.__stderr__:
-        sys.stderr = _text_to(2, sys.stderr)
+        sys.stderr = _open_text_stream(2, sys.stderr)
 
 
-def _stop(number: int, _: object) -> None:
+def _raise_stopped(number: int, _: object) -> None:
     """Ends the command."""
-    _handle_signals(_stop, _go_on)
+    _handle_signals(_raise_stopped, _ignore_second_signal)
     raise StoppedError(number)
 
 
-def _go_on(_number: int, _frame: object) -> None:
-    """Lets the command end, since `timeout` sends each signal twice. A third signal ends the process at once."""
-    _handle_signals(_go_on, signal.SIG_DFL)
+def _ignore_second_signal(_number: int, _frame: object) -> None:
+    """Ignores the second signal, because `timeout` sends each one twice. A third one ends the process at once."""
+    _handle_signals(_ignore_second_signal, signal.SIG_DFL)
 
 
 def _catch_signals() -> None:
-    """Has signals raise StoppedError, except those that are ignored, as after nohup."""
+    """Makes signals raise StoppedError, except ignored ones, as under nohup."""
     if threading.current_thread() is not threading.main_thread():
         return
-    for number, before in _SIGNALS.items():
+    for number, before in _DEFAULT_HANDLERS.items():
         if signal.getsignal(number) == before:
-            signal.signal(number, _stop)
+            signal.signal(number, _raise_stopped)
 
 
 def _handle_signals(before: Any, handler: Any = None) -> None:
-    """Changes what happens at signals that are handled so: to what happened before the command, unless it is named."""
-    for number, first in _SIGNALS.items():
+    """Replaces a handler by another one, by default by the handler before the command."""
+    for number, first in _DEFAULT_HANDLERS.items():
         if signal.getsignal(number) is before:
             with suppress(OSError):
                 signal.signal(number, first if handler is None else handler)
 
 
 def restore_signals() -> None:
-    """Has signals do what they do to the program: Python ignores SIGXFSZ. Both ignore SIGPIPE."""
-    _handle_signals(_stop, signal.SIG_DFL)
+    """Restores the signal handling of the program: Python ignores SIGXFSZ. Both ignore SIGPIPE."""
+    _handle_signals(_raise_stopped, signal.SIG_DFL)
     signal.signal(signal.SIGXFSZ, signal.SIG_DFL)
 
 
-def say(text: str) -> None:
-    """Writes a line to standard error, where that is possible."""
+def print_error(text: str) -> None:
+    """Writes a line to standard error, if possible."""
     with suppress(OSError, ValueError):
         if sys.stderr is not None:
             print(text, file=sys.stderr, flush=True)
 
 
-def reason_of(error: BaseException) -> str:
-    """Returns what is said of a failure, on one line."""
+def describe_error(error: BaseException) -> str:
+    """Returns an error message for an exception, on one line."""
     if isinstance(error, OSError) and error.strerror:
         return f"{error.filename}: {error.strerror}" if error.filename is not None else error.strerror
     if isinstance(error, MemoryError):
@@ -155,18 +156,20 @@ def reason_of(error: BaseException) -> str:
 def run(name: str, command: Callable[[], int]) -> int:
     """Runs a command, and returns the exit status.
 
-    name   what is before the text of a failure, such as "hidlog judge".
+    name   prefix of error messages, such as "hidlog judge".
     """
     streams = sys.stdout, sys.stderr
     try:
         try:
             return _run(name, command)
         finally:
-            _handle_signals(_stop)
+            _handle_signals(_raise_stopped)
     except StoppedError as stop:
-        say(f"{name}: {stop}")
+        print_error(f"{name}: {stop}")
         _flush()
-        _handle_signals(_go_on, signal.SIG_IGN)  # so that the second signal of a pair doesn't change the status
+        _handle_signals(
+            _ignore_second_signal, signal.SIG_IGN
+        )  # so that the second signal of a pair doesn't change the status
         return stop.status
     finally:
         sys.stdout, sys.stderr = streams
@@ -176,52 +179,52 @@ def _run(name: str, command: Callable[[], int]) -> int:
     try:
         _catch_signals()
         _replace_streams()
-        return _flushed(command)
+        return _run_and_flush(command)
     except OutputError as error:
-        say(f"hidlog: {error}")
+        print_error(f"hidlog: {error}")
     except (HidlogError, OSError, ImportError, MemoryError, RuntimeError) as error:
-        # A RuntimeError is that of a thread that can't be started, or of a recursion.
-        say(f"{name}: {reason_of(error)}")
-    except Exception:  # a mistake of this package, which is reported with the place
+        # RuntimeError: a thread cannot be started, or a recursion is too deep.
+        print_error(f"{name}: {describe_error(error)}")
+    except Exception:  # a bug in this package, reported with a traceback
         import traceback
 
         with suppress(OSError):
             traceback.print_exc()
     _flush()
-    return FAILED
+    return STATUS_FAILED
 
 
 def _flush() -> None:
-    """Writes what a command printed before it failed, where that is possible."""
+    """Flushes what a command printed before it failed, if possible."""
     with suppress(OutputError, OSError):
         if sys.stdout is not None:
             sys.stdout.flush()
 
 
 def run_as_program(command: Callable[[], int]) -> int:
-    """Runs a command within `run` that ends as the program `hidlog` does, also at failures and signals."""
+    """Runs a command, within `run`, that exits as the program `hidlog` does, including on failures and signals."""
     restore_signals()
     try:
-        return _flushed(command)
+        return _run_and_flush(command)
     except OutputError as error:
-        say(f"hidlog: {error}")
+        print_error(f"hidlog: {error}")
         return 1
     except MemoryError:
-        say("hidlog: no memory")
-        return FAILED
+        print_error("hidlog: no memory")
+        return STATUS_FAILED
     except (HidlogError, OSError, ImportError) as error:
-        say(f"hidlog: {reason_of(error)}")
-        return FAILED
+        print_error(f"hidlog: {describe_error(error)}")
+        return STATUS_FAILED
 
 
-def _flushed(command: Callable[[], int]) -> int:
-    """Runs a command, and writes what it printed to the end."""
+def _run_and_flush(command: Callable[[], int]) -> int:
+    """Runs a command, and flushes its output."""
     try:
         status = command()
-    except SystemExit as end:  # of argparse
-        status = end.code if isinstance(end.code, int) else FAILED if end.code else 0
+    except SystemExit as end:  # raised by argparse
+        status = end.code if isinstance(end.code, int) else STATUS_FAILED if end.code else 0
     sys.stdout.flush()
     raw = getattr(getattr(sys.stdout, "buffer", None), "raw", None)
     if not status and isinstance(raw, _Output) and raw.has_failed:
-        raise OutputError  # which the command took for an error of a file
+        raise OutputError  # the command took it for another error
     return status

@@ -10,80 +10,80 @@ from typing import Any
 
 from .standard import STATUS_NAMES
 
-_TEXT_MOST = 2000
-_SHORT = reprlib.Repr()
-_SHORT.maxstring = _SHORT.maxother = 100
+_MAX_TEXT = 2000
+_SHORT_REPR = reprlib.Repr()
+_SHORT_REPR.maxstring = _SHORT_REPR.maxother = 100
 
 
 class HidlogError(Exception):
     """Any error of this package."""
 
     def __init__(self, text: str = ""):
-        super().__init__(text if len(text) <= _TEXT_MOST else f"{text[:_TEXT_MOST]} ..")
+        super().__init__(text if len(text) <= _MAX_TEXT else f"{text[:_MAX_TEXT]} ..")
 
 
-def shown(value: object) -> str:
-    """Returns a value for the text of an error: short, also where it holds itself."""
+def describe(value: object) -> str:
+    """Returns a value's repr for an error message, shortened."""
     try:
-        return _SHORT.repr(value)
+        return _SHORT_REPR.repr(value)
     except Exception:  # a class may have any __repr__
         return f"a {type(value).__name__}"
 
 
 class ArgumentError(HidlogError, ValueError):
-    """An argument that isn't allowed. The text names what is."""
+    """An invalid argument. The message says what is allowed."""
 
 
 class ArgumentTypeError(ArgumentError, TypeError):
-    """An argument of a type that isn't allowed."""
+    """An argument of the wrong type."""
 
 
-class UnknownName(ArgumentError, AttributeError):
-    """A name that there isn't, such as a typo. The text names the nearest."""
+class UnknownNameError(ArgumentError, AttributeError):
+    """An unknown name, such as a typo. The message suggests the closest one."""
 
 
 class LogError(HidlogError):
-    """A fault of a log, as a command on logs reports it."""
+    """An error in a log, as the commands on logs report it."""
 
 
 class SnapshotError(HidlogError):
-    """A snapshot that was refused."""
+    """A snapshot that is invalid, or has too many credentials."""
 
 
-class MissingPart(HidlogError):
-    """Something outside the package is missing: the text says what, and how to get it."""
+class MissingDependencyError(HidlogError):
+    """A program, library or package is missing. The message says how to install it."""
 
 
-class KeyEnded(HidlogError):
+class KeyClosedError(HidlogError):
     """The key was closed, or its process ended."""
 
 
-class KeyForked(KeyEnded):
-    """The key belongs to another process: os.fork made this one."""
+class KeyForkedError(KeyClosedError):
+    """The key was created before os.fork, and belongs to the parent process."""
 
 
-class KeyBusy(HidlogError):
-    """The call has to wait until no request is served."""
+class KeyBusyError(HidlogError):
+    """The call is not possible while a request is in progress."""
 
 
-class NoAnswer(HidlogError, TimeoutError):
-    """Nothing came in time."""
+class KeyTimeoutError(HidlogError, TimeoutError):
+    """No packet or response arrived in time."""
 
 
-class ScriptEnded(HidlogError):
-    """A script of the user's answers has no more of them."""
+class PresenceExhaustedError(HidlogError):
+    """The key asked for user presence after the last reply of a presence script."""
 
 
-class ReplayDiffers(HidlogError):
-    """A client sent something else than was recorded."""
+class ReplayMismatchError(HidlogError):
+    """A client sent a packet that differs from the recording."""
 
 
 class CtapError(HidlogError):
-    """A status that a key answered.
+    """A CTAP status other than CTAP2_OK, or the code of a CTAPHID ERROR.
 
-    status   the number, as in CTAP 2.1, "Status codes".
-    name     its name there, such as NO_CREDENTIALS.
-    cause    why, as a sentence, such as "the user refused"; empty where it isn't known: of another key, or a fault.
+    status   the code (CTAP 2.1, section 8.2).
+    name     its name without prefix, such as NO_CREDENTIALS.
+    cause    the reason as text, such as "the user refused"; empty if unknown, as for other keys and injected faults.
     """
 
     def __init__(self, status: int, cause: str = ""):
@@ -92,14 +92,14 @@ class CtapError(HidlogError):
         Exception.__init__(self, str(self))
 
     def __reduce__(self) -> tuple[Any, ...]:
-        return type(self), (self.status, self.cause)  # what an error is made of again in another process
+        return type(self), (self.status, self.cause)  # for pickle
 
     def __str__(self) -> str:
         return f"CtapError 0x{self.status:02X} {self.name}" + (f": {self.cause}" if self.cause else "")
 
 
-class KeyLost(CtapError):
-    """The key knows the client's channel no more, as after a loss of power: a new client gets a new one."""
+class InvalidChannelError(CtapError):
+    """The key does not know the client's channel ID, as after a power cycle. A new client gets a new channel."""
 
     def __init__(self) -> None:
         super().__init__(0x0B)
@@ -108,78 +108,78 @@ class KeyLost(CtapError):
         return type(self), ()
 
 
-def status_number(status: int | str) -> int:
-    """Returns the number of a status, which is given as its number or its name."""
+def status_code(status: int | str) -> int:
+    """Returns the code of a status, from its code or name."""
     numbers = {name: number for number, name in STATUS_NAMES.items()}
     if isinstance(status, str) and status in numbers:
         return numbers[status]
     if isinstance(status, int) and not isinstance(status, bool) and 0 <= status <= 0xFF:
         return status
     raise ArgumentError(
-        f"there is no status {shown(status)}: it is a number up to 0xFF, or one of {', '.join(numbers)}"
+        f"unknown status {describe(status)}; it must be a number up to 0xFF, or one of {', '.join(numbers)}"
     )
 
 
-def one_of(name: str, value: object, allowed: Iterable[object]) -> None:
-    """Raises ArgumentError unless the value is one of those that are allowed."""
+def check_choice(name: str, value: object, allowed: Iterable[object]) -> None:
+    """Raises ArgumentError unless the value is one of the allowed ones."""
     values = list(allowed)
     if not any(value is choice or (type(value) is type(choice) and value == choice) for choice in values):
         raise ArgumentError(
-            f"{name} is {shown(value)}; it has to be {', '.join(map(repr, values[:-1]))} or {values[-1]!r}"
+            f"{name} is {describe(value)}; it must be {', '.join(map(repr, values[:-1]))} or {values[-1]!r}"
         )
 
 
-def bytes_of(name: str, value: object, length: int | None = None) -> bytes:
-    """Returns the bytes of a bytes, bytearray or memoryview; anything else is an ArgumentTypeError."""
+def check_bytes(name: str, value: object, length: int | None = None) -> bytes:
+    """Returns a bytes-like value as bytes, and checks its length if one is given."""
     if type(value) is not bytes and not isinstance(value, (bytes, bytearray, memoryview)):
-        raise ArgumentTypeError(f"{name} has to be bytes, bytearray or memoryview, not {type(value).__name__}")
+        raise ArgumentTypeError(f"{name} must be bytes, bytearray or memoryview, not {type(value).__name__}")
     data = bytes(value)
     if length is not None and len(data) != length:
-        raise ArgumentError(f"{name} has {len(data)} bytes; it has to have {length}")
+        raise ArgumentError(f"{name} has {len(data)} bytes; it must have {length}")
     return data
 
 
-def callable_of(name: str, value: Any, what: str) -> Any:
-    """Returns a function."""
+def check_callable(name: str, value: Any, what: str) -> Any:
+    """Returns the value, which must be callable."""
     if not callable(value):
-        raise ArgumentTypeError(f"{name} has to be a function that returns {what}, not {type(value).__name__}")
+        raise ArgumentTypeError(f"{name} must be a function that returns {what}, not {type(value).__name__}")
     return value
 
 
-def seconds_of(name: str, value: Any) -> float:
-    """Returns a number of seconds above 0."""
+def check_seconds(name: str, value: Any) -> float:
+    """Returns the value, which must be a number of seconds greater than 0."""
     if isinstance(value, bool) or not isinstance(value, (int, float)) or not 0 < value < 1e9:
-        raise ArgumentError(f"{name} is {shown(value)}; it has to be a number of seconds above 0")
+        raise ArgumentError(f"{name} is {describe(value)}; it must be a number of seconds above 0")
     return value
 
 
-def utf8(name: str, value: object) -> bytes:
-    """Returns the UTF-8 form of a text."""
+def encode_utf8(name: str, value: object) -> bytes:
+    """Returns a str as UTF-8."""
     if not isinstance(value, str):
-        raise ArgumentTypeError(f"{name} has to be str, not {type(value).__name__}")
+        raise ArgumentTypeError(f"{name} must be str, not {type(value).__name__}")
     try:
         return value.encode()
     except UnicodeEncodeError:
-        raise ArgumentError(f"{name} is {shown(value)}, which has half of a surrogate pair, and UTF-8 none") from None
+        raise ArgumentError(f"{name} is {describe(value)}; UTF-8 cannot encode its unpaired surrogate") from None
 
 
-def path_of(name: str, value: Any) -> Path:
-    """Returns the path of a file."""
+def check_path(name: str, value: Any) -> Path:
+    """Returns the value as the path of a file."""
     if not isinstance(value, (str, os.PathLike)):
-        raise ArgumentTypeError(f"{name} has to be a path, not {type(value).__name__}")
+        raise ArgumentTypeError(f"{name} must be a path, not {type(value).__name__}")
     try:
         path = Path(os.fsdecode(os.fsencode(value)))
     except ValueError as error:
-        raise ArgumentError(f"{name} is {shown(value)}, which is no path: {error}") from None
+        raise ArgumentError(f"{name} is {describe(value)}; it must be a path: {error}") from None
     if not path.name or "\0" in str(path):
-        raise ArgumentError(f"{name} is {shown(value)}, which is no path of a file")
+        raise ArgumentError(f"{name} is {describe(value)}; it must be a file path")
     return path
 
 
-def number_of(name: str, value: object, least: int, most: int) -> int:
-    """Returns a whole number, where it is in its range."""
+def check_int(name: str, value: object, least: int, most: int) -> int:
+    """Returns the value, which must be an int in a range."""
     if isinstance(value, bool) or not isinstance(value, int):
-        raise ArgumentTypeError(f"{name} has to be a whole number, not {type(value).__name__}")
+        raise ArgumentTypeError(f"{name} must be int, not {type(value).__name__}")
     if not least <= value <= most:
-        raise ArgumentError(f"{name} is {shown(value)}; it has to be {least} to {most}")
+        raise ArgumentError(f"{name} is {describe(value)}; it must be {least} to {most}")
     return value

@@ -1,4 +1,4 @@
-"""Files that are read and written whole: where a write fails, or is killed, the older file stays."""
+"""Files that are read as a whole and written atomically: if a write fails or is killed, the older file stays."""
 
 from __future__ import annotations
 
@@ -16,24 +16,24 @@ from typing import Any, Union
 from .errors import ArgumentError
 
 _PRIVATE, _OF_UMASK = 0o600, 0o666
-# A name has at most 255 bytes, and a letter at most 4.
-_NAME_MOST = 40
-# How often a named pipe is looked at before it counts as one that no program writes to, and the seconds between.
+# File names have at most 255 bytes, and characters at most 4.
+_MAX_NAME_BYTES = 40
+# How often, and after how many seconds each, to look for a writer of a named pipe before giving up.
 _TRIES, _PAUSE = 50, 0.1
-_PIECE = 1 << 16
-# A file as a command names it: "-" is standard input.
+_READ_BYTES = 1 << 16
+# A file as named on a command line: "-" is standard input.
 Named = Union[str, "os.PathLike[str]"]
 
 
-def name_of(path: Named) -> str:
-    """Returns what errors call a file."""
+def display_name(path: Named) -> str:
+    """Returns the name of a file in error messages."""
     return "standard input" if path == "-" else os.fspath(path)
 
 
-class _Input(io.FileIO):
-    """A file whose reads fail where `FileIO` returns less than there is: where a read would block.
+class _BlockingInput(io.FileIO):
+    """A file whose reads raise if they would block, where `FileIO` returns less than requested.
 
-    front   bytes of it that were read already.
+    front   bytes of the file that were already read.
     """
 
     front = b""
@@ -49,7 +49,7 @@ class _Input(io.FileIO):
         return found
 
     def close(self) -> None:
-        with suppress(OSError):  # what was read is there
+        with suppress(OSError):  # the data was read already
             super().close()
 
     def readall(self) -> bytes:
@@ -58,17 +58,17 @@ class _Input(io.FileIO):
 
 
 def open_input(path: Named) -> io.BufferedReader:
-    """Opens a file to read, or standard input for "-". A named pipe that no program writes to raises TimeoutError."""
+    """Opens a file for reading, or standard input for "-". A named pipe without a writer raises TimeoutError."""
     if path == "-":
-        return io.BufferedReader(_Input(0, "rb", closefd=False))
+        return io.BufferedReader(_BlockingInput(0, "rb", closefd=False))
     number = os.open(path, os.O_RDONLY | os.O_NONBLOCK | os.O_CLOEXEC)
     try:
         mode = os.fstat(number).st_mode
         if stat.S_ISDIR(mode):
             raise IsADirectoryError(errno.EISDIR, os.strerror(errno.EISDIR), os.fspath(path))
-        front = _front_of_pipe(number, path) if stat.S_ISFIFO(mode) else b""
+        front = _read_pipe_front(number, path) if stat.S_ISFIFO(mode) else b""
         os.set_blocking(number, True)
-        file = _Input(number, "rb")
+        file = _BlockingInput(number, "rb")
     except BaseException:
         with suppress(OSError):
             os.close(number)
@@ -77,21 +77,21 @@ def open_input(path: Named) -> io.BufferedReader:
     return io.BufferedReader(file)
 
 
-def _front_of_pipe(number: int, path: Named) -> bytes:
-    """Returns the bytes that are in a pipe, as soon as a program has opened it to write."""
+def _read_pipe_front(number: int, path: Named) -> bytes:
+    """Returns the first bytes of a pipe, as soon as a program has opened it for writing."""
     for _ in range(_TRIES):
         try:
-            if front := os.read(number, _PIECE):
+            if front := os.read(number, _READ_BYTES):
                 return front
-        except BlockingIOError:  # a program has opened it, and may write later
+        except BlockingIOError:  # it has a writer, which may write later
             return b""
         time.sleep(_PAUSE)
     raise TimeoutError(errno.ETIMEDOUT, "no program writes to this named pipe", os.fspath(path))
 
 
 def read_to_end(number: int) -> bytes:
-    """Returns all bytes that come from a descriptor."""
-    return b"".join(iter(lambda: os.read(number, _PIECE), b""))
+    """Returns all bytes from a descriptor, until its end."""
+    return b"".join(iter(lambda: os.read(number, _READ_BYTES), b""))
 
 
 def read_input(path: Named) -> bytes:
@@ -100,7 +100,7 @@ def read_input(path: Named) -> bytes:
         with open_input(path) as file:
             return file.read()
     except OSError as error:
-        error.filename = name_of(path)
+        error.filename = display_name(path)
         raise
 
 
@@ -123,42 +123,42 @@ def refuse_input(output: Path, inputs: Iterable[Named]) -> None:
     for path in inputs:
         source = os.fstat(0) if path == "-" else os.stat(path)
         if stat.S_ISREG(source.st_mode) and os.path.samestat(source, target):
-            raise ArgumentError(f"{output} is the input file; name another file for the output")
+            raise ArgumentError(f"{output} is the input file; use another output file")
 
 
 def write_private(path: Path, data: bytes) -> None:
-    """Writes a file with mode 0600 in the place of an older one."""
+    """Writes a file atomically, with mode 0600."""
     _write(path, data, is_private=True)
 
 
-def write_whole(path: Path, data: bytes, inputs: Iterable[Named] = ()) -> None:
-    """Writes a file in the place of an older one, whose mode it keeps. A new file has the mode that the umask leaves.
+def write_atomically(path: Path, data: bytes, inputs: Iterable[Named] = ()) -> None:
+    """Writes a file atomically. It keeps the mode of an older file; a new one's mode is that of the umask.
 
-    inputs   the files that the data came from: none of them is written over.
+    inputs   the files that the data came from, none of which is overwritten.
     """
     refuse_input(path, inputs)
     _write(path, data, is_private=False)
 
 
 def _write(path: Path, data: bytes, is_private: bool) -> None:
-    """Writes a file beside the older one, and moves it there once it is on the disk."""
+    """Writes a temporary file in the same directory, and renames it once it is on disk."""
     if path.exists() and not path.is_file():
-        path.write_bytes(data)  # a pipe or a device holds nothing to lose, and a folder is refused
+        path.write_bytes(data)  # a pipe or a device has nothing to lose, and a directory raises
         return
     target = Path(os.path.realpath(path))
     old = target.stat() if target.exists() and not is_private else None
-    # Nobody knows the random name: what has it is this file, also if a signal's exception comes as it is opened.
-    name = target.with_name(f".{target.name[:_NAME_MOST]}.{token_hex(8)}")
+    # The name is random, so a file of this name is ours, even if a signal interrupts os.open.
+    name = target.with_name(f".{target.name[:_MAX_NAME_BYTES]}.{token_hex(8)}")
     try:
         mode = _PRIVATE if is_private or old is not None else _OF_UMASK
         with open(os.open(name, os.O_WRONLY | os.O_CREAT | os.O_EXCL, mode), "wb") as file:
             if old is not None:
-                _take_owner(file.fileno(), old)
+                _copy_owner(file.fileno(), old)
             file.write(data)
             file.flush()
             os.fsync(file.fileno())
         os.replace(name, target)
-    except FileExistsError:  # then it is another's
+    except FileExistsError:  # another program's file
         raise
     except BaseException:
         with suppress(OSError):
@@ -166,8 +166,8 @@ def _write(path: Path, data: bytes, is_private: bool) -> None:
         raise
 
 
-def _take_owner(number: int, old: os.stat_result) -> None:
-    """Gives a file the mode of an older one, and its owner where that is allowed."""
+def _copy_owner(number: int, old: os.stat_result) -> None:
+    """Sets the mode of an older file, and its owner if permitted."""
     with suppress(PermissionError):
         os.fchown(number, old.st_uid, old.st_gid)
     os.fchmod(number, old.st_mode & 0o777)

@@ -1,9 +1,9 @@
-"""The command `hidlog judge`, and the same as a function: which rules of CTAP 2.1 a recorded log breaks.
+"""The command and the function `judge`: check a recorded session against CTAP 2.1.
 
-    for it in judge(log):
-        print(it.line, it.side, it.level, it.section, it.due, it.came)
+    for finding in judge(log):
+        print(finding.line, finding.side, finding.level, finding.section, finding.expected, finding.actual)
 
-The rules are those of the conformance corpus: its modules are in the package.
+The rules are those of the conformance tests, whose modules are part of the package.
 """
 
 from __future__ import annotations
@@ -15,93 +15,92 @@ from io import BytesIO
 from typing import Any, NamedTuple
 
 from . import logs
-from .captures import corpus
+from .captures import conformance
 from .captures.pcap import is_capture
-from .captures.reading import Capture, read_capture
+from .captures.reader import Capture, read_capture
 from .captures.source import CaptureError
-from .captures.utf16 import MARKS, Utf16Text
-from .captures.writing import log_of
-from .entry_point import FAILED
-from .errors import HidlogError, LogError, bytes_of
-from .files import name_of, read_input
+from .captures.utf16 import BYTE_ORDER_MARKS, Utf16Text
+from .captures.log_writer import write_log
+from .entry_point import STATUS_FAILED
+from .errors import HidlogError, LogError, check_bytes
+from .files import display_name, read_input
 
-_DESCRIPTION = """Judges recorded sessions, of any key and any client: says which rules of CTAP 2.1 their packets break,
-with the line, the section, what was due and what came. Musts and shoulds are apart. A file is a session log, or a
-capture that hidlog import reads, of which each key is judged. The status is 1 where a must is broken, and 2 where the
-words or a file are wrong, or it has no packet."""
-_LINES = (
-    "'> MOMENT DIGITS' and '< DIGITS' with the 128 hexadecimal digits of a packet, 't MOMENT', a reply (p, k, s), a "
-    "comment (#) or a count (=)"
+_DESCRIPTION = """Check recorded sessions, or captures, against CTAP 2.1. Reports each violation with its line, section,
+and expected and actual behavior. Exit status: 1 on a MUST violation, 2 on invalid arguments or input."""
+_LINE_FORMATS = (
+    "'> TIME HEX' and '< HEX' with a packet of 64 bytes, 't TIME', a reply (p, k, s), a " "comment (#) or totals (=)"
 )
-# What a session log's lines begin with.
-_BEGINS = (b"> ", b"< ", b"t ", b"p ", b"k ", b"s ", b"#", b"=")
+# Prefixes of the lines of a session log.
+_LINE_STARTS = (b"> ", b"< ", b"t ", b"p ", b"k ", b"s ", b"#", b"=")
 _SHOWN, _FRONT = 60, 1 << 20
 
 
-class Judged(NamedTuple):
-    """A session that was judged: its name, and the recording of judged_log with its findings."""
+class CheckedSession(NamedTuple):
+    """A checked session: its name, and the `Recording` of judged_log with its findings."""
 
     name: str
     recording: Any
 
 
 def judge(log: bytes) -> list[Any]:
-    """Returns what a log breaks: objects with line, side (key, host), level (must, should), section, rule, due, came."""
-    return list(_recording(bytes_of("the log", log)).findings)
+    """Returns the violations in a log: objects with line, side ("key", "host"), level ("must", "should"), section,
+    rule, expected and actual."""
+    return list(_check_recording(check_bytes("the log", log)).findings)
 
 
-def _recording(log: bytes) -> Any:
-    return corpus.module("judged_log").judge(log, lambda part: logs.transactions(part).raise_for_fault().text)
+def _check_recording(log: bytes) -> Any:
+    return conformance.load_module("judged_log").judge(log, lambda part: logs.transactions(part).raise_for_fault().text)
 
 
-def main(words: list[str]) -> int:
-    """Does `hidlog judge`."""
+def main(args: list[str]) -> int:
+    """Runs `hidlog judge`."""
     parser = argparse.ArgumentParser(prog="hidlog judge", description=_DESCRIPTION)
     parser.add_argument(
-        "files", metavar="FILE", nargs="*", default=["-"], help="session logs or captures; - is standard input"
+        "files", metavar="FILE", nargs="*", default=["-"], help="log or capture files, or - for standard input"
     )
-    parser.add_argument("--format", choices=("text", "json", "junit"), default="text", help="what is written")
-    parser.add_argument("--side", choices=("key", "host"), help="judge this side alone")
-    parser.add_argument("--should", action="store_true", help="a broken should counts as a broken must for the status")
-    options = parser.parse_args(words)
-    judged: list[Judged] = []
+    parser.add_argument("--format", choices=("text", "json", "junit"), default="text", help="output format")
+    parser.add_argument("--side", choices=("key", "host"), help="report findings for this side only")
+    parser.add_argument("--warnings-as-errors", action="store_true", help="exit with 1 on SHOULD violations, too")
+    options = parser.parse_args(args)
+    judged: list[CheckedSession] = []
     status = 0
     for file in options.files:
         try:
-            judged += _judged(file)
+            judged += _check_file(file)
         except (HidlogError, OSError) as error:
             reason = error.strerror if isinstance(error, OSError) and error.strerror else str(error)
-            print(f"hidlog judge: {name_of(file)}: {reason}", file=sys.stderr)
-            status = FAILED
-    for one in judged:
+            print(f"hidlog judge: {display_name(file)}: {reason}", file=sys.stderr)
+            status = STATUS_FAILED
+    for session in judged:
         if options.side:
-            one.recording.findings = [found for found in one.recording.findings if found.side == options.side]
+            findings = [finding for finding in session.recording.findings if finding.side == options.side]
+            session.recording.findings = findings
     if judged:
-        sys.stdout.write(corpus.module("judged_report").WRITERS[options.format](judged))
-    counted = ("must", "should") if options.should else ("must",)
-    return status or int(any(found.level in counted for one in judged for found in one.recording.findings))
+        sys.stdout.write(conformance.load_module("judged_report").WRITERS[options.format](judged))
+    errors = ("must", "should") if options.warnings_as_errors else ("must",)
+    return status or int(any(finding.level in errors for session in judged for finding in session.recording.findings))
 
 
-def _judged(file: str) -> list[Judged]:
-    """Judges a file: a session log, or each key of a capture."""
+def _check_file(file: str) -> list[CheckedSession]:
+    """Checks a file: a session log, or each key of a capture."""
     data = read_input(file)
-    if data.startswith(MARKS):
+    if data.startswith(BYTE_ORDER_MARKS):
         data = Utf16Text(BytesIO(data)).read(2 * len(data)).replace(b"\r\n", b"\n")
-    name, found = name_of(file), []
+    name, sessions = display_name(file), []
     if _is_log(data):
-        found.append(Judged(name, _judged_log(data)))
+        sessions.append(CheckedSession(name, _check_log(data)))
     else:
-        capture = _capture_in(data)
+        capture = _read_capture(data)
         for stream in capture.streams:
-            own = name if len(capture.streams) == 1 else f"{name}: {stream.name}"
-            found.append(Judged(own, _recording(log_of(stream, capture.form, capture.notes))))
-    if not any(one.recording.walk.packets for one in found):
-        raise LogError("the recording is empty: no line has a packet")
-    return found
+            title = name if len(capture.streams) == 1 else f"{name}: {stream.name}"
+            sessions.append(CheckedSession(title, _check_recording(write_log(stream, capture.form, capture.notes))))
+    if not any(session.recording.walk.packets for session in sessions):
+        raise LogError("the recording has no packets")
+    return sessions
 
 
-def _first_line(data: bytes) -> bytes:
-    """Returns a file's first line that isn't a comment."""
+def _read_first_line(data: bytes) -> bytes:
+    """Returns a file's first line that is not a comment."""
     lines = (line for line in data[:_FRONT].split(b"\n") if line and not line.startswith(b"#"))
     return next(lines, b"# a log without inputs")
 
@@ -111,35 +110,35 @@ def _is_binary(data: bytes) -> bool:
 
 
 def _is_log(data: bytes) -> bool:
-    """Returns whether a file's first line that isn't a comment is one of a session log."""
-    return not _is_binary(data) and _first_line(data).startswith(_BEGINS)
+    """Returns whether a file's first line that is not a comment is a line of a session log."""
+    return not _is_binary(data) and _read_first_line(data).startswith(_LINE_STARTS)
 
 
-def _capture_in(data: bytes) -> Capture:
-    """Reads a capture; of a text that is none the error says that it is no log either."""
+def _read_capture(data: bytes) -> Capture:
+    """Reads a capture; for other text the error names both formats."""
     try:
         return read_capture(data)
     except CaptureError as error:
         if _is_binary(data):
             raise
         raise LogError(
-            f"no session log, which begins with {_LINES}; got {_shown(_first_line(data))}; {error}"
+            f"not a session log, which begins with {_LINE_FORMATS}; got {_describe_line(_read_first_line(data))}; {error}"
         ) from None
 
 
-def _shown(line: bytes) -> str:
+def _describe_line(line: bytes) -> str:
     return ascii(line[:_SHOWN].decode("utf-8", "replace")) + (" .." if len(line) > _SHOWN else "")
 
 
-def _judged_log(log: bytes) -> Any:
-    """Judges a session log; of a broken line the error says what was expected."""
+def _check_log(log: bytes) -> Any:
+    """Checks a session log; for an invalid line the error says what was expected."""
     try:
-        return _recording(log)
+        return _check_recording(log)
     except LogError as error:
-        found = re.fullmatch(r"line (\d+): not a log line", str(error))
-        if found is None:
+        match = re.fullmatch(r"line (\d+): not a log line", str(error))
+        if match is None:
             raise
-        line = log.split(b"\n", int(found[1]))[int(found[1]) - 1]
+        line = log.split(b"\n", int(match[1]))[int(match[1]) - 1]
         if line.endswith(b"\r"):
-            raise LogError(f"{error}: it ends in a carriage return; lines end in a line feed alone") from None
-        raise LogError(f"{error}: expected {_LINES}; got {_shown(line)}") from None
+            raise LogError(f"{error}: the line ends with CR LF; expected LF") from None
+        raise LogError(f"{error}: expected {_LINE_FORMATS}; got {_describe_line(line)}") from None

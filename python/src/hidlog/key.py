@@ -1,4 +1,4 @@
-"""A security key for tests, in this process or in one of its own, with the same behaviour."""
+"""A security key for tests, in this process or in a separate one, with the same behavior."""
 
 from __future__ import annotations
 
@@ -13,81 +13,82 @@ from typing import TYPE_CHECKING, Any, TypeVar
 
 from . import packets, private_keys
 from .credentials import Credential, Credentials, read_snapshot, write_snapshot
-from .errors import ArgumentError, ArgumentTypeError, HidlogError, KeyBusy, number_of, path_of
-from .files import write_private, write_whole
-from .held import HeldKey
-from .lines import Engine
-from .outside import Backup
+from .errors import ArgumentError, ArgumentTypeError, HidlogError, KeyBusyError, check_int, check_path
+from .files import write_atomically, write_private
+from .in_process_key import InProcessKey
+from .log_lines import Engine
+from .credential_metadata import Backup
 from .recording_files import snapshot_path
 from .served import serve
 from .session import Recording, Session
-from .snapshot_files import verify_sum, with_sum
+from .snapshot_files import add_checksum, verify_checksum
 
 if TYPE_CHECKING:
     from .browser import Browser
-    from .replayed import ReplayedKey
+    from .recorded_key import RecordedKey
 
-_FORM = "hidlog key 1"
-_CHANGED = b"# the credentials were changed; the channels are given out again"
-_INIT = packets.packets_of(packets.Message(packets.BROADCAST, packets.INIT, bytes(8)))[0]
+_FORMAT = "hidlog key 1"
+_CHANGED_COMMENT = b"# the credentials were changed; the channels are given out again"
+_INIT_PACKETS = packets.fragment_message(packets.Message(packets.BROADCAST, packets.INIT, bytes(8)))[0]
 _Key = TypeVar("_Key", bound="SecurityKey")
 
 
-def _bytes_in(text: str) -> bytes:
-    """Returns the bytes of base64, which has nothing else in it."""
+def _decode_base64(text: str) -> bytes:
+    """Decodes strict base64."""
     return b64decode(text, validate=True)
 
 
 class SecurityKey(Session):
-    """A security key, and the caller that gives it what it needs: the user, new key pairs and signatures.
+    """A security key that supplies user presence, key pairs and signatures itself.
 
-    presence      what the user does: "granted", "denied", "timeout", None (nothing), a function of the question, or a
-                  script (an iterable) of answers. May be changed at any time.
-    delay         how many milliseconds the user takes.
-    clock         "counted": each line of the log takes 1 ms, and waits take no real time; "real"; or a function that
-                  gives milliseconds.
-    timeout       how many seconds a client waits for a user who does nothing; then the read raises NoAnswer.
-    random        gives n random bytes. `random.Random(1).randbytes` gives the same keys in each run.
-    process       True: the key is a process of its own (`hidlog live`), and `program` is its program's path. False: it
-                  is in this process. By default it is in this process where the C library can hold a key.
-    private_keys  the private keys by credential id.
-    record        False: nothing is recorded, for very long sessions.
-    verification  what a browser finds that asks for the user's verification: "none" (the key has none), "verified" or
-                  "failed". The core verifies nobody: the flag UV is set outside of it, and noted in the recording.
-    attachment    "cross-platform" or "platform": what a browser says that the authenticator is.
-    has_resident_key   False: browsers get no discoverable credentials.
-    default_backup_eligibility, default_backup_state   the flags BE and BS of new credentials, outside of the core too.
+    presence           what the user does: "granted", "denied", "timeout", None (nothing), a function of the question,
+                       or a script (an iterable) of these. May be changed at any time.
+    presence_delay_ms  milliseconds until the user replies, in the key's time.
+    clock              "virtual": each log line takes 1 ms, and waits take no real time; "real"; or a function that
+                       returns milliseconds.
+    timeout            seconds that a client waits for a user who does nothing; then reading raises KeyTimeoutError.
+    random             returns n random bytes. `random.Random(1).randbytes` makes the same keys in each run.
+    process            True: run the key in a separate process (`hidlog live`), of the program at the path `program`.
+                       False: in this process. The default is this process if the C library supports it.
+    private_keys       private keys by credential ID.
+    record             False: record nothing, for very long sessions.
+    verification       result of user verification: "none" (unsupported), "verified" or "failed". The core has no user
+                       verification: the UV flag is set outside of it, and a comment in the recording says so.
+    attachment         "cross-platform" or "platform", as reported by browsers.
+    has_resident_key   False: browsers create no discoverable credentials.
+    default_backup_eligibility, default_backup_state   the flags BE and BS of new credentials, also set outside the
+                                                       core.
     """
 
     @property
     def recordings(self) -> list[Recording]:
-        """All sessions: a restart and a change of credentials begin a new one."""
+        """All sessions. A restart or a change of credentials starts a new one."""
         return [*self._ended, Recording(self._start, self.log)]
 
     def save_log(self, path: str | os.PathLike[str]) -> list[Path]:
-        """Writes the recordings: the last to this path, earlier ones beside it with a number, and their snapshots.
+        """Writes the recordings: the last one to this path, earlier ones beside it with a number.
 
-        Returns the paths of the logs. A log that began with credentials has a snapshot, `PATH.snapshot`, for --load.
-        Each file is written whole in the place of an older one, which stays where that fails.
+        Returns the paths of the logs. A log that started with credentials has a snapshot beside it, `PATH.snapshot`,
+        for --load. Files are replaced atomically.
         """
-        target, every = path_of("path", path), self.recordings
+        target, every = check_path("path", path), self.recordings
         names = [target.with_name(f"{target.stem}.{number}{target.suffix}") for number in range(1, len(every))] + [
             target
         ]
         for name, (snapshot, log) in zip(names, every):
             if snapshot:
-                write_whole(snapshot_path(name), snapshot)
-            write_whole(name, log)
+                write_atomically(snapshot_path(name), snapshot)
+            write_atomically(name, log)
         return names
 
     @staticmethod
-    def replay_of(log: bytes) -> ReplayedKey:
-        """Returns a key that gives a client the recorded packets again, and fails at the first that differs."""
-        from .replayed import ReplayedKey
+    def from_recording(log: bytes) -> RecordedKey:
+        """Returns a key that plays back a recording to a client, and raises at the first packet that differs."""
+        from .recorded_key import RecordedKey
 
-        return ReplayedKey(log)
+        return RecordedKey(log)
 
-    # Credentials, and what outlives a session.
+    # Credentials and saved state.
 
     @property
     def credentials(self) -> Credentials:
@@ -96,99 +97,99 @@ class SecurityKey(Session):
 
     def snapshot(self) -> bytes:
         """Returns a snapshot of the credentials, without private keys."""
-        with self._locked():
-            return self._engine.snapshot(self._recorded())
+        with self._acquire_lock():
+            return self._engine.snapshot(self._read_recording())
 
     def _held(self) -> list[Credential]:
-        """Returns the credentials of the core, the newest last."""
-        with self._locked():
-            return self._engine.credentials(self._recorded())
+        """Returns the core's credentials, newest last."""
+        with self._acquire_lock():
+            return self._engine.credentials(self._read_recording())
 
     def _count(self) -> int:
-        """Returns how many credentials the core holds."""
-        with self._locked():
-            return self._engine.count(self._recorded())
+        """Returns the number of credentials."""
+        with self._acquire_lock():
+            return self._engine.count(self._read_recording())
 
-    def _recorded(self) -> bytearray:
-        """Returns the recording, by which a key in a process knows its credentials."""
+    def _read_recording(self) -> bytearray:
+        """Returns the recording, from which a separate process computes its credentials."""
         if self._process and not self._record:
-            raise HidlogError("a key in a process knows its credentials by its recording, and has none (record=False)")
+            raise HidlogError("process=True needs record=True to list credentials")
         return self._log
 
     def _find(self, core_id: bytes) -> Credential | None:
-        """Returns the credential of the core with this id, where there is one."""
-        with self._locked():
-            return self._engine.find(self._recorded(), core_id)
+        """Returns the core's credential with this ID, or None."""
+        with self._acquire_lock():
+            return self._engine.find(self._read_recording(), core_id)
 
     def _check_idle(self) -> None:
-        """Raises where a request is served or comes in."""
+        """Raises KeyBusyError if a request is in progress."""
         if self._work.need.kind != "nothing" or self._from_host.is_open:
-            raise KeyBusy("credentials are changed only while the key serves no request")
+            raise KeyBusyError("cannot change credentials while a request is in progress")
 
-    def _take_snapshot(self, snapshot: bytes) -> None:
-        """Goes on with the credentials of a snapshot: the clock and the clients' channels stay."""
-        with self._locked():
+    def _load_snapshot(self, snapshot: bytes) -> None:
+        """Replaces the credentials by a snapshot's. The clock and the clients' channels stay."""
+        with self._acquire_lock():
             self._check_idle()
             engine = self._make_engine(snapshot)
             before = self._engine
-            self._part(before.counts() if isinstance(before, HeldKey) else before.finish())
-            self._go_on(snapshot, engine)
+            self._close_recording(before.counts() if isinstance(before, InProcessKey) else before.finish())
+            self._resume(snapshot, engine)
 
-    def _change_held(self, change: Callable[[HeldKey], bool]) -> bool:
-        """Has the key that is held start with other credentials. Returns whether it could; else it is as it was."""
-        with self._locked():
+    def _update_in_process(self, change: Callable[[InProcessKey], bool]) -> bool:
+        """Changes the credentials of a key in this process. Returns False, with nothing changed, if it can't."""
+        with self._acquire_lock():
             self._check_idle()
             engine = self._engine
-            if not isinstance(engine, HeldKey) or not self._is_open:
+            if not isinstance(engine, InProcessKey) or not self._is_open:
                 return False
             counts = engine.counts()
             if not change(engine):
                 return False
-            self._part(counts)
-            self._go_on(engine.snapshot(b""), engine)
+            self._close_recording(counts)
+            self._resume(engine.snapshot(b""), engine)
             return True
 
-    def _part(self, counts: bytes) -> None:
-        """Ends a recording with the line of what its session counted."""
-        self._keep(counts)
+    def _close_recording(self, counts: bytes) -> None:
+        """Ends a recording with its totals line."""
+        self._append_log(counts)
         self._ended.append(Recording(self._start, bytes(self._log)))
 
-    def _go_on(self, snapshot: bytes, engine: Engine) -> None:
-        """Begins a session with other credentials, in which the clock and the clients' channels stay."""
+    def _resume(self, snapshot: bytes, engine: Engine) -> None:
+        """Starts a session with other credentials. The clock and the clients' channels stay."""
         now, waiting = self._time, self._packets
         self._begin(snapshot, engine)
         self._time = now
-        self._exchange(_CHANGED)
+        self._add_exchange_comment(_CHANGED_COMMENT)
         self._play("t")
         for _ in range(self._channels):
-            self._play(">", _INIT)
+            self._play(">", _INIT_PACKETS)
         self._packets = waiting
 
     def restart(self) -> None:
-        """Switches the key off and on again: credentials stay; channels, what waits and the clock are lost."""
-        with self._locked():
+        """Power-cycles the key. Credentials stay; channels, queued packets and the clock are lost."""
+        with self._acquire_lock():
             snapshot = self.snapshot()
             engine = self._make_engine(snapshot)
-            self._end()
+            self._end_session()
             self._channels = 0
             self._begin(snapshot, engine)
 
     def save(self, path: str | os.PathLike[str]) -> None:
-        """Writes the credentials and their private keys to a file, for `load`. They are for tests alone."""
-        file = path_of("path", path)
+        """Writes the credentials and their private keys, in clear text, to a file for `load`."""
+        file = check_path("path", path)
         write_private(file, (self.dumps() + "\n").encode())
 
     def dumps(self) -> str:
-        """Returns the credentials and their private keys as a text, for `loads`. They are for tests alone."""
+        """Returns the credentials and their private keys, in clear text, as a str for `loads`."""
         with self.ceremony():
-            return self._dumped()
+            return self._to_members()
 
-    def _dumped(self) -> str:
+    def _to_members(self) -> str:
         held = list(self.credentials)
         cores = [self.core_id(credential.id) for credential in held]
         keys = {core: self.private_keys[core] for core in cores if core in self.private_keys}
         written = {
-            "form": _FORM,
+            "form": _FORMAT,
             "snapshot": b64encode(self.snapshot()).decode(),
             "private_keys": {core.hex(): b64encode(private_keys.to_pkcs8(key)).decode() for core, key in keys.items()},
             "ids": {core.hex(): credential.id.hex() for core, credential in zip(cores, held) if core != credential.id},
@@ -196,60 +197,62 @@ class SecurityKey(Session):
                 core.hex(): [*credential.backup] for core, credential in zip(cores, held) if any(credential.backup)
             },
         }
-        return json.dumps(with_sum(written), indent=1)
+        return json.dumps(add_checksum(written), indent=1)
 
     @classmethod
-    def load(cls: type[_Key], path: str | os.PathLike[str], *, counter_margin: int = 0, **options: Any) -> _Key:
-        """Makes a key with what `save` wrote. Counters are raised by the margin, as `loads` says."""
-        file = path_of("path", path)
+    def load(cls: type[_Key], path: str | os.PathLike[str], *, sign_count_margin: int = 0, **options: Any) -> _Key:
+        """Returns a key from a file written by `save`. Signature counters are raised by the margin, see `loads`."""
+        file = check_path("path", path)
         try:
             text = file.read_text(encoding="ascii")
         except UnicodeDecodeError as error:
-            raise ArgumentError(f"{path} isn't what SecurityKey.save writes: {error}") from None
-        return cls._loaded(str(path), text, counter_margin, options)
+            raise ArgumentError(f"{path} was not written by SecurityKey.save: {error}") from None
+        return cls._from_text(str(path), text, sign_count_margin, options)
 
     @classmethod
-    def loads(cls: type[_Key], text: str, *, counter_margin: int = 0, **options: Any) -> _Key:
-        """Makes a key with what `dumps` returned.
+    def loads(cls: type[_Key], text: str, *, sign_count_margin: int = 0, **options: Any) -> _Key:
+        """Returns a key from a str returned by `dumps`.
 
-        counter_margin   is added to each counter. A service refuses a counter that it has seen, so a text that may be
-                         older than the last sign-in needs one above the number of sign-ins since.
+        sign_count_margin   added to each signature counter. A service refuses a counter it has seen, so a text that may
+                            be older than the last sign-in needs a margin above the number of sign-ins since.
         """
         if not isinstance(text, str):
-            raise ArgumentTypeError(f"the text has to be str, not {type(text).__name__}")
-        return cls._loaded("the text", text, counter_margin, options)
+            raise ArgumentTypeError(f"the text must be str, not {type(text).__name__}")
+        return cls._from_text("the text", text, sign_count_margin, options)
 
     @classmethod
-    def _loaded(cls: type[_Key], path: str, text: str, counter_margin: int, options: dict[str, Any]) -> _Key:
-        """Makes a key of a text that came from a path."""
-        margin = number_of("counter_margin", counter_margin, 0, 2**32 - 1)
+    def _from_text(cls: type[_Key], path: str, text: str, sign_count_margin: int, options: dict[str, Any]) -> _Key:
+        """Returns a key from a saved text. Error messages name the path."""
+        margin = check_int("sign_count_margin", sign_count_margin, 0, 2**32 - 1)
         try:
             kept = json.loads(text)
-            form, snapshot, given = kept["form"], _bytes_in(kept["snapshot"]), kept["private_keys"]
-            held = {bytes.fromhex(core): private_keys.from_any(_bytes_in(key)) for core, key in given.items()}
+            form, snapshot, private = kept["form"], _decode_base64(kept["snapshot"]), kept["private_keys"]
+            held = {
+                bytes.fromhex(core): private_keys.load_private_key(_decode_base64(key)) for core, key in private.items()
+            }
             ids = {bytes.fromhex(core): bytes.fromhex(page) for core, page in kept.get("ids", {}).items()}
             backups = {bytes.fromhex(core): Backup(*flags) for core, flags in kept.get("backups", {}).items()}
         except (ValueError, LookupError, TypeError, AttributeError, RecursionError) as error:
-            raise ArgumentError(f"{path} isn't what SecurityKey.save writes: {error}") from None
-        if form != _FORM:
-            raise ArgumentError(f"{path} has the form {form!r}, and {_FORM!r} is read")
-        verify_sum(path, kept)
+            raise ArgumentError(f"{path} was not written by SecurityKey.save: {error}") from None
+        if form != _FORMAT:
+            raise ArgumentError(f"{path} has the format {form!r}; expected {_FORMAT!r}")
+        verify_checksum(path, kept)
         if margin:
             raised = [
-                (credential, min(credential.counter + margin, 2**32 - 1)) for credential in read_snapshot(snapshot)
+                (credential, min(credential.sign_count + margin, 2**32 - 1)) for credential in read_snapshot(snapshot)
             ]
-            snapshot = write_snapshot([replace(credential, counter=counter) for credential, counter in raised])
+            snapshot = write_snapshot([replace(credential, sign_count=sign_count) for credential, sign_count in raised])
         key = cls(snapshot=snapshot, private_keys=held, **options)
         for core, name in ids.items():
-            key._outside.name(core, name)
+            key._metadata.name(core, name)
         for core, backup in backups.items():
-            key._outside.back_up(core, backup)
+            key._metadata.back_up(core, backup)
         return key
 
-    def forget_recordings(self) -> None:
-        """Begins a new recording with today's credentials, and forgets those before it, which bounds their memory."""
+    def clear_recordings(self) -> None:
+        """Starts a new recording with the current credentials, and drops earlier ones to bound their memory."""
         with self.ceremony():
-            self._take_snapshot(self.snapshot())
+            self._load_snapshot(self.snapshot())
             self._ended.clear()
 
     # Clients.
@@ -257,35 +260,36 @@ class SecurityKey(Session):
     def serve(self, channel: int, data: bytes, limit: int) -> bytes | None:
         """Serves a CBOR request on a client's channel, and returns the response.
 
-        None: the client has to write and read its packets. `limit` is the moment at which it would cancel the request.
+        None: the client must write and read packets itself. `limit` is the timestamp at which it would cancel the
+        request.
         """
         return serve(self, channel, data, limit)
 
     def device(self) -> Any:
-        """Returns the device that python-fido2's clients take."""
+        """Returns a CtapDevice for python-fido2's clients."""
         from .device import KeyDevice
 
         return KeyDevice(self)
 
     def browser(self, origin: str) -> Browser:
-        """Returns a browser at this origin that speaks a page's JSON, such as http://localhost:5000."""
+        """Returns a browser at an origin such as http://localhost:5000, for WebAuthn's JSON."""
         from .browser import Browser
 
         return Browser(self, origin)
 
-    def _end(self) -> None:
-        """Ends the session, whose recording is kept."""
+    def _end_session(self) -> None:
+        """Ends the session, and keeps its recording."""
         if self._is_open:
             self._is_open = False
-            self._part(self._engine.finish())
+            self._close_recording(self._engine.finish())
 
     def close(self) -> None:
-        """Ends the key. Its recordings stay."""
+        """Closes the key. Its recordings stay."""
         if self._owner != os.getpid():
-            return  # a child of os.fork leaves its parent's key alone
-        with self._locked():
+            return  # a child of os.fork must not close its parent's key
+        with self._acquire_lock():
             if self._is_open:
-                self._end()
+                self._end_session()
                 del self._ended[-1]
             self._changed.notify_all()
 

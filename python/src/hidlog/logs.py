@@ -1,4 +1,4 @@
-"""The commands of `hidlog` on logs, as functions on bytes: nothing is started and no program is needed.
+"""The `hidlog` commands on logs as functions on bytes, by the C library. No program is started.
 
     result = replay(Path("registration.log").read_bytes())
     result.raise_for_fault()
@@ -11,9 +11,9 @@ from collections.abc import Callable
 from typing import NamedTuple
 
 from . import core
-from .errors import LogError, SnapshotError, bytes_of
+from .errors import LogError, SnapshotError, check_bytes
 
-_FAULTS = {
+_LOG_ERRORS = {
     1: "line {line}: not a log line",
     2: "line {line}: longer than 255 bytes",
     3: "line {line}: differs at packet {packet}",
@@ -21,22 +21,22 @@ _FAULTS = {
     5: "writing failed",
     6: "too many lines",
 }
-_REFUSALS = {
-    1: "it is no snapshot",
-    2: "it has more credentials than the key has capacity for",
-    3: "a credential in it is broken",
+_SNAPSHOT_ERRORS = {
+    1: "it is not a snapshot",
+    2: "it has more credentials than the key can hold",
+    3: "a credential in it is invalid",
 }
-_WRITE = 5
+_ERROR_BUFFER_TOO_SMALL = 5
 
 
-class Result(NamedTuple):
-    """What a command wrote and how it ended.
+class LogResult(NamedTuple):
+    """The output and the result of a command.
 
-    text     the bytes that were written.
-    status   0 done, 1 a fault of the log, 2 a snapshot that was refused.
-    fault    the number of the fault or of the refusal, as in docs/use/LOG_FORMAT.md.
-    line     the line that the fault names, from 1; 0 where it names none.
-    packet   of a difference the packet, from 1.
+    text     the output.
+    status   0: success, 1: an error in the log, 2: an invalid snapshot.
+    fault    number of the error in the log or snapshot (docs/use/LOG_FORMAT.md), or 0.
+    line     line number of the error, from 1, or 0.
+    packet   of a mismatch: the packet's number, from 1, or 0.
     """
 
     text: bytes
@@ -45,60 +45,60 @@ class Result(NamedTuple):
     line: int
     packet: int
 
-    def raise_for_fault(self) -> Result:
-        """Raises LogError or SnapshotError unless the command was done to its end."""
+    def raise_for_fault(self) -> LogResult:
+        """Raises LogError or SnapshotError unless the command succeeded. Returns self."""
         if self.status == 2:
-            raise SnapshotError(f"snapshot refused: {self.fault} ({_REFUSALS.get(self.fault, 'unknown')})")
+            raise SnapshotError(f"snapshot refused: {self.fault} ({_SNAPSHOT_ERRORS.get(self.fault, 'unknown')})")
         if self.status:
-            raise LogError(_FAULTS.get(self.fault, "fault {fault}").format(**self._asdict()))
+            raise LogError(_LOG_ERRORS.get(self.fault, "fault {fault}").format(**self._asdict()))
         return self
 
 
-def _run(command: str, log: bytes, snapshot: bytes | None) -> Result:
-    """Runs a command on a log that began with a snapshot."""
-    data = bytes_of("the log", log)
-    begin = b"" if snapshot is None else bytes_of("the snapshot", snapshot)
-    return _written(lambda capacity: core.run(command, data, begin, capacity), 2 * len(data))
+def _run(command: str, log: bytes, snapshot: bytes | None) -> LogResult:
+    """Runs a command on a log that starts with the credentials of a snapshot."""
+    data = check_bytes("the log", log)
+    begin = b"" if snapshot is None else check_bytes("the snapshot", snapshot)
+    return _call_with_buffer(lambda capacity: core.run(command, data, begin, capacity), 2 * len(data))
 
 
-def _written(call: Callable[[int], tuple[core.Outcome, bytes]], length: int) -> Result:
-    """Makes a call, again with a larger buffer where the buffer was too small for a text of this length."""
+def _call_with_buffer(call: Callable[[int], tuple[core.Result, bytes]], length: int) -> LogResult:
+    """Calls with a buffer for a text of this length, and again with a larger one while it is too small."""
     capacity = length + 4096
     while True:
-        outcome, text = call(capacity)
-        if (outcome.status, outcome.fault) != (1, _WRITE):
-            return Result(text, outcome.status, outcome.fault, outcome.line, outcome.packet)
+        result, text = call(capacity)
+        if (result.status, result.error) != (1, _ERROR_BUFFER_TOO_SMALL):
+            return LogResult(text, result.status, result.error, result.line, result.packet)
         capacity *= 4
 
 
-def replay(log: bytes, snapshot: bytes | None = None) -> Result:
-    """Writes the log again, with the packets that the key sends."""
+def replay(log: bytes, snapshot: bytes | None = None) -> LogResult:
+    """Replays a log: returns it with the key's response packets."""
     return _run("replay", log, snapshot)
 
 
-def check(log: bytes, snapshot: bytes | None = None) -> Result:
-    """Compares the log with what the key sends: writes how much is the same, or reports the first difference."""
+def check(log: bytes, snapshot: bytes | None = None) -> LogResult:
+    """Checks that the key sends the packets recorded in the log. The result has the first mismatch, if any."""
     return _run("check", log, snapshot)
 
 
-def quiet(log: bytes, snapshot: bytes | None = None) -> Result:
-    """Writes the log with ticks in the place of noise."""
+def quiet(log: bytes, snapshot: bytes | None = None) -> LogResult:
+    """Returns the log's inputs, with ignored ones replaced by ticks."""
     return _run("quiet", log, snapshot)
 
 
-def live(log: bytes, snapshot: bytes | None = None) -> Result:
-    """Writes the log again, with the packets that the key sends, and after each input what the key needs."""
+def live(log: bytes, snapshot: bytes | None = None) -> LogResult:
+    """Replays a log: returns it with the key's response packets and, after each input, what the key needs."""
     return _run("live", log, snapshot)
 
 
-def show(log: bytes, *, explain: bool = False) -> Result:
-    """Writes what the log's lines say: the fixed text, or with names, members and comments for people where it is to
-    explain. A faulty line ends it, with the text of the lines before."""
-    data = bytes_of("the log", log)
-    return _written(lambda capacity: core.show(data, explain, capacity), 2 * len(data))
+def show(log: bytes, *, explain: bool = False) -> LogResult:
+    """Returns the log in readable form: the fixed text or, with `explain`, with names, fields and comments. On an
+    error, the text has the lines before it."""
+    data = check_bytes("the log", log)
+    return _call_with_buffer(lambda capacity: core.show(data, explain, capacity), 2 * len(data))
 
 
-def transactions(log: bytes) -> Result:
-    """Writes which transaction each line belongs to, and how each one ends (hidlog_transactions of hidlog.h)."""
-    data = bytes_of("the log", log)
-    return _written(lambda capacity: core.transactions(data, capacity), len(data) // 5)
+def transactions(log: bytes) -> LogResult:
+    """Returns which transaction each line belongs to, and how each one ends (hidlog_transactions of hidlog.h)."""
+    data = check_bytes("the log", log)
+    return _call_with_buffer(lambda capacity: core.transactions(data, capacity), len(data) // 5)

@@ -1,4 +1,4 @@
-"""Packets of CTAPHID, and the messages that they carry (CTAP 2.1, "USB HID")."""
+"""CTAPHID packets and messages (CTAP 2.1, section 11.2)."""
 
 from __future__ import annotations
 
@@ -44,25 +44,25 @@ __all__ = [
     "RESET",
     "SELECTION",
     "WINK",
-    "packets_of",
+    "fragment_message",
 ]
 
-# No packet has this number.
+# No open message: no packet has the sequence number -1.
 _NONE = (0, 0, -1, b"")
 
 
 class Message(NamedTuple):
-    """A message: its channel, its command without bit 7, and its bytes."""
+    """A message: channel ID, command without bit 7, and data."""
 
     channel: int
     command: int
     data: bytes
 
 
-def packets_of(message: Message) -> list[bytes]:
-    """Returns the packets that carry a message."""
+def fragment_message(message: Message) -> list[bytes]:
+    """Splits a message into its packets."""
     if len(message.data) > LONGEST_MESSAGE:
-        raise ArgumentError(f"a message has at most {LONGEST_MESSAGE} bytes, and this has {len(message.data)}")
+        raise ArgumentError(f"a message has {len(message.data)} bytes; at most {LONGEST_MESSAGE} are allowed")
     channel = message.channel.to_bytes(4, "big")
     head = channel + bytes([0x80 | message.command]) + len(message.data).to_bytes(2, "big")
     packets, rest, number = [], message.data, 0
@@ -76,21 +76,21 @@ def packets_of(message: Message) -> list[bytes]:
 
 
 class Collector:
-    """Collects the messages of one direction, a channel each."""
+    """Reassembles the messages of one direction, on any number of channels."""
 
     __slots__ = ("_open",)
 
     def __init__(self) -> None:
-        # By its channel: the command, the length, the next packet's number, and what came so far.
+        # By channel ID: the command, the length, the next sequence number, and the data so far.
         self._open: dict[int, tuple[int, int, int, bytes]] = {}
 
     @property
     def is_open(self) -> bool:
-        """Whether a message has begun and isn't whole."""
+        """Whether a message is incomplete."""
         return bool(self._open)
 
     def add(self, packet: bytes) -> Message | None:
-        """Adds a packet, and returns the message that is whole with it."""
+        """Adds a packet, and returns the message that it completes, if any."""
         channel, kind = int.from_bytes(packet[:4], "big"), packet[4]
         if kind >= 0x80:
             length = packet[5] << 8 | packet[6]
@@ -111,5 +111,5 @@ class Collector:
         return Message(channel, command, data[:length])
 
     def drop(self) -> None:
-        """Forgets what has begun."""
+        """Discards incomplete messages."""
         self._open.clear()

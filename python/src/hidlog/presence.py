@@ -1,4 +1,4 @@
-"""What the user does when a key asks for their presence."""
+"""What the user does when the key asks for user presence."""
 
 from __future__ import annotations
 
@@ -6,53 +6,55 @@ from collections.abc import Callable, Iterable, Iterator
 from typing import Optional, Union
 
 from . import cbor
-from .errors import ArgumentError, HidlogError, ScriptEnded, one_of, shown
+from .errors import ArgumentError, HidlogError, PresenceExhaustedError, check_choice, describe
 from .packets import GET_ASSERTION, MAKE_CREDENTIAL, RESET, Message
 
-Answer = Optional[str]
-# A word, None where the user does nothing, a function of the question, or a script: one answer a question.
-Presence = Union[Answer, Callable[[str], Answer], Iterable[Answer]]
-WORDS = ("granted", "denied", "timeout")
-_SHOWN = '"granted", "denied", "timeout" or None (the user does nothing)'
+Reply = Optional[str]
+# A reply, None if the user does nothing, a function of the question, or a script with one reply per question.
+Presence = Union[Reply, Callable[[str], Reply], Iterable[Reply]]
+PRESENCE_WORDS = ("granted", "denied", "timeout")
+_EXPECTED = '"granted", "denied", "timeout" or None (the user does nothing)'
 
 
-def _checked(answer: object) -> Answer:
-    one_of("an answer of the user", answer, (*WORDS, None))
-    return answer  # type: ignore[return-value]
+def _check_reply(reply: object) -> Reply:
+    check_choice("a reply of the user", reply, (*PRESENCE_WORDS, None))
+    return reply  # type: ignore[return-value]
 
 
 class User:
-    """Answers questions as a presence says."""
+    """Replies to questions according to a presence setting."""
 
     def __init__(self, presence: Presence):
         self.presence = presence
-        self._script: Iterator[Answer] | None = None
+        self._script: Iterator[Reply] | None = None
         if isinstance(presence, str) or presence is None:
-            one_of("presence", presence, (*WORDS, None))
+            check_choice("presence", presence, (*PRESENCE_WORDS, None))
         elif isinstance(presence, (list, tuple)):
-            for answer in presence:
-                _checked(answer)
+            for reply in presence:
+                _check_reply(reply)
             self._script = iter(presence)
         elif not callable(presence):
             if not isinstance(presence, Iterable) or isinstance(presence, (bytes, bytearray, dict)):
                 raise ArgumentError(
-                    f"presence is {shown(presence)}; it has to be {_SHOWN}, a function, or a script of these"
+                    f"presence must be {_EXPECTED}, a callable, or an iterable of these, not {describe(presence)}"
                 )
             self._script = iter(presence)
 
-    def answer(self, asked: Message | None) -> Answer:
-        """Returns what the user does at a request."""
+    def reply(self, request: Message | None) -> Reply:
+        """Returns the user's reply to a request."""
         if self._script is not None:
-            for answer in self._script:
-                return _checked(answer)
-            raise ScriptEnded(f"the script of the user's answers has ended, and the key asks: {question_of(asked)}")
+            for reply in self._script:
+                return _check_reply(reply)
+            raise PresenceExhaustedError(
+                f"the presence script is exhausted; the key asks: {presence_question(request)}"
+            )
         if callable(self.presence):
-            return _checked(self.presence(question_of(asked)))
-        return self.presence  # type: ignore[return-value]  # a word, which was checked when it was set
+            return _check_reply(self.presence(presence_question(request)))
+        return self.presence  # type: ignore[return-value]  # checked by __init__
 
 
-def question_of(message: Message | None) -> str:
-    """Returns what a key would ask the user for a request."""
+def presence_question(message: Message | None) -> str:
+    """Returns the question that a key would ask the user for a request."""
     if message is None or not message.data:
         return "Go on?"
     command = message.data[0]

@@ -1,8 +1,8 @@
-"""A CBOR request that a session serves in few calls of the library: its packets, then the user's answer, a new key pair
-and a signature each hand in all their lines at once.
+"""Serves a CBOR request in few library calls: the packets, the user's reply, a new key pair and a signature, each of
+them with all its log lines at once.
 
-The recording is the one of a client that writes and reads packets (Client.transact), byte for byte. It isn't done where
-something may come between: another clock than the counted one, a user who isn't asked by a word, a fault that delays.
+The recording is the same, byte for byte, as with a client that writes and reads packets (Client.transact). Not used if
+anything may happen in between: a clock other than "virtual", a presence that isn't a string, or a delay fault.
 """
 
 from __future__ import annotations
@@ -11,40 +11,43 @@ import time
 from typing import TYPE_CHECKING
 
 from . import packets
-from .errors import CtapError, HidlogError, KeyEnded, KeyLost
-from .held import LINES_MOST, HeldKey
-from .lines import Need, Reply, line_of
+from .errors import CtapError, HidlogError, InvalidChannelError, KeyClosedError
+from .in_process_key import MAX_LINES, InProcessKey
+from .log_lines import Need, Reply, format_line
 from .packets import Message
 from .standard import KEEPALIVE_MS
 
 if TYPE_CHECKING:
-    from .lines import Field
+    from .log_lines import Field
     from .session import Session
 
 _INVALID_CHANNEL = 0x0B
-_PACKETS_MOST = 16
-_NOTHING = Need()
+_MAX_PACKETS = 16
+_NO_NEED = Need()
 
 
 def serve(session: Session, channel: int, data: bytes, limit: int) -> bytes | None:
-    """Serves a request on a channel, and returns the response; None if a client has to do so, packet by packet.
+    """Serves a request on a channel, and returns the response, or None if a client must do it packet by packet.
 
-    limit   the moment at which the client would cancel the request.
+    limit   timestamp at which the client would cancel the request.
     """
-    if len(data) > _PACKETS_MOST * packets.PACKET or session._clock != "counted":
+    if len(data) > _MAX_PACKETS * packets.PACKET or session._clock != "virtual":
         return None
-    with session.exchange(), session._locked():
-        if not _is_plain(session) or session._time.latest + _longest(session.delay) >= limit:
+    with session.exchange(), session._acquire_lock():
+        if (
+            not _has_only_own_inputs(session)
+            or session._time.latest + _max_duration_ms(session.presence_delay_ms) >= limit
+        ):
             return None
         request = Message(channel, packets.CBOR, data)
-        return _Serving(session, request).response()
+        return _RequestInProgress(session, request).response()
 
 
-def _is_plain(session: Session) -> bool:
-    """Returns whether nothing but the request's own inputs can come before its response."""
+def _has_only_own_inputs(session: Session) -> bool:
+    """Returns whether only the request's own inputs can precede its response."""
     return (
         session._is_open
-        and isinstance(session._engine, HeldKey)
+        and isinstance(session._engine, InProcessKey)
         and isinstance(session._user.presence, str)
         and not session.faults.delay
         and session._work.need.kind == "nothing"
@@ -54,84 +57,85 @@ def _is_plain(session: Session) -> bool:
     )
 
 
-def _longest(delay: int) -> int:
-    """Returns more milliseconds than a request takes whose user takes so many."""
-    return delay + 2 * KEEPALIVE_MS + _PACKETS_MOST + 10 + delay // KEEPALIVE_MS
+def _max_duration_ms(presence_delay_ms: int) -> int:
+    """Returns an upper bound for the duration of a request, in milliseconds."""
+    return presence_delay_ms + 2 * KEEPALIVE_MS + _MAX_PACKETS + 10 + presence_delay_ms // KEEPALIVE_MS
 
 
-class _Serving:
-    """A request that is served."""
+class _RequestInProgress:
+    """A request in progress."""
 
     def __init__(self, session: Session, request: Message):
         self._session, self._request = session, request
         self._collector = packets.Collector()
 
     def response(self) -> bytes:
-        """Returns the response. An ERROR is a CtapError, as the client raises it."""
+        """Returns the response. An ERROR raises CtapError, as in Client."""
         session, work = self._session, self._session._work
-        written = packets.packets_of(self._request)
-        session._packets.wrote(written[0])
-        work.asked, work.delayed = self._request, 0
+        written = packets.fragment_message(self._request)
+        session._packets.record_write(written[0])
+        work.request, work.delayed = self._request, 0
         message = self._play([(">", packet) for packet in written])
         while message is None:
-            message = self._play(self._inputs())
+            message = self._play(self._list_inputs())
         work.began = time.monotonic()
         work.waited_until = work.began
         if message.command == packets.ERROR:
             code = message.data[0]
-            raise KeyLost() if code == _INVALID_CHANNEL else CtapError(code, session.cause(code))
+            raise InvalidChannelError() if code == _INVALID_CHANNEL else CtapError(code, session.cause(code))
         return session.altered(message.data)
 
-    def _inputs(self) -> list[tuple[Field, ...]]:
+    def _list_inputs(self) -> list[tuple[Field, ...]]:
         """Returns the inputs that the key needs."""
         session = self._session
         kind = session._work.need.kind
         if kind == "presence":
-            return self._answers()
+            return self._list_presence_inputs()
         if kind == "key":
             return [session.new_key()]
         if kind == "signature":
             return [session.signature()]
-        raise HidlogError(f"the key answers nothing to request {self._request.data[:1].hex()}")
+        raise HidlogError(f"the key does not respond to request {self._request.data[:1].hex()}")
 
-    def _answers(self) -> list[tuple[Field, ...]]:
-        """Returns the ticks until the user's delay is over, and the user's answer."""
+    def _list_presence_inputs(self) -> list[tuple[Field, ...]]:
+        """Returns the ticks until the user replies, and the reply."""
         session = self._session
-        answer = session._user.answer(self._request)
-        assert answer is not None
-        ticks = -(-session.delay // (KEEPALIVE_MS + 1))
-        return [("t",)] * ticks + [("p", answer)]
+        reply = session._user.reply(self._request)
+        assert reply is not None
+        ticks = -(-session.presence_delay_ms // (KEEPALIVE_MS + 1))
+        return [("t",)] * ticks + [("p", reply)]
 
     def _play(self, inputs: list[tuple[Field, ...]]) -> Message | None:
-        """Hands in inputs, and returns the message that the key sends at last.
+        """Passes inputs, and returns the message that completes them, if any.
 
-        The last one is handed in by itself, since then the key says why it refuses.
+        The last input is passed by itself, because only then the library reports the cause of a refusal.
         """
         session = self._session
         engine = session._engine
-        if not isinstance(engine, HeldKey) or not session._is_open:
-            raise KeyEnded("the key is closed")
+        if not isinstance(engine, InProcessKey) or not session._is_open:
+            raise KeyClosedError("the key is closed")
         *front, (kind, *fields) = inputs
         message = None
-        for start in range(0, len(front), LINES_MOST):
+        for start in range(0, len(front), MAX_LINES):
             lines = [
-                line_of(str(name), self._tell(name), tuple(rest)) for name, *rest in front[start : start + LINES_MOST]
+                format_line(str(name), self._next_time(name), tuple(rest))
+                for name, *rest in front[start : start + MAX_LINES]
             ]
-            message = self._take(engine.exchange_lines("\n".join(lines) + "\n")) or message
-        return self._take(engine.play(str(kind), self._tell(kind), tuple(fields))) or message
+            message = self._store_reply(engine.exchange_lines("\n".join(lines) + "\n")) or message
+        return self._store_reply(engine.play(str(kind), self._next_time(kind), tuple(fields))) or message
 
-    def _tell(self, kind: Field) -> int:
-        """Returns the moment of the next input."""
+    def _next_time(self, kind: Field) -> int:
+        """Returns the timestamp of the next input."""
         now = self._session._time
         now.passed += 1 + KEEPALIVE_MS * (kind == "t")
         now.latest = now.passed
         return now.latest
 
-    def _take(self, reply: Reply) -> Message | None:
-        """Keeps what came of inputs, and returns the message that the key sent, KEEPALIVEs apart."""
+    def _store_reply(self, reply: Reply) -> Message | None:
+        """Stores the output of inputs, and returns the message that the key sent, other than KEEPALIVE."""
         session, message = self._session, None
-        session._keep(reply.text)
-        session._work.need, session._work.moment = reply.need, session._time.latest
+        session._append_log(reply.text)
+        session._work.need, session._work.since_ms = reply.need, session._time.latest
         for packet in reply.packets:
             found = self._collector.add(packet)
             if found and found.command != packets.KEEPALIVE:

@@ -1,4 +1,5 @@
-"""A session of a key: the client's packets in and out, and what the key needs of its user and its caller."""
+"""A session of a key: packets from and to the client, and replies to what the key needs (presence, keys,
+signatures)."""
 
 from __future__ import annotations
 
@@ -7,52 +8,60 @@ import threading
 import time
 from collections.abc import Callable, Iterator, Mapping
 from contextlib import AbstractContextManager, contextmanager, nullcontext
-from typing import Any, NamedTuple, Union
+from typing import TYPE_CHECKING, Any, NamedTuple, Union
 
-from . import core, names, packets, private_keys
-from .errors import ArgumentError, KeyEnded, KeyForked, NoAnswer
-from .errors import bytes_of, callable_of, number_of, one_of, path_of, seconds_of, shown
+from . import core, packets, private_keys, suggestions
+from .errors import ArgumentError, KeyClosedError, KeyForkedError, KeyTimeoutError
+from .errors import check_bytes, check_callable, check_choice, check_int, check_path, check_seconds, describe
 from .faults import Faults
-from .held import HeldKey
-from .lines import Engine, Field, Need, comments_of
-from .outside import UV, Backup, Outside, names_of
+from .in_process_key import InProcessKey
+from .log_lines import Engine, Field, Need, format_comments
+from .credential_metadata import UV, Backup, CredentialMetadata, flag_names
 from .presence import Presence, User
-from .private_keys import keys_by_id
-from .process import ProcessKey
+from .private_keys import load_private_keys
+from .subprocess_key import SubprocessKey
 from .session_state import Exchange, Time, Work
 from .standard import KEEPALIVE_MS
-from .waiting import Waiting
-from .webauthn_client import Abilities
+from .packet_queue import PacketQueue
+from .webauthn_client import AuthenticatorOptions
 
-# A little more of real time, since moments are whole milliseconds.
+# Slightly more than KEEPALIVE_MS, because timestamps are whole milliseconds.
 _KEEPALIVE_SECONDS = 0.101
 Clock = Union[str, Callable[[], int]]
-# So many private keys for each credential that fits: then a registration forgets those that nothing is signed with.
-_PRIVATE_KEYS_MOST = 4
-# For how many credentials a key of the program has capacity.
+# Private keys kept per credential of the capacity. Above that, a registration drops the keys of removed credentials.
+_MAX_PRIVATE_KEYS = 4
+# Capacity of the keys of the program `hidlog`.
 _PROGRAM_CAPACITY = 64
-_VERIFICATION = ("none", "verified", "failed")
-_AS_IT_IS = nullcontext()
-_ATTACHMENT = ("cross-platform", "platform")
+_VERIFICATIONS = ("none", "verified", "failed")
+_NO_CONTEXT = nullcontext()
+_ATTACHMENTS = ("cross-platform", "platform")
+_OLD_NAMES = {
+    "abilities": "authenticator_options",
+    "delay": "presence_delay_ms",
+    "forget_recordings": "clear_recordings",
+    "moment": "time_ms",
+    "note": "add_comment",
+    "pass_time": "advance_time",
+}
 
 
 class Recording(NamedTuple):
-    """A session: the snapshot that it began with (no bytes: no credentials), and its log."""
+    """A recorded session: the snapshot it started with (empty: no credentials), and its log."""
 
     snapshot: bytes
     log: bytes
 
 
 class Session:
-    """What a key does with the packets of its clients. SecurityKey, which is made of it, has its options."""
+    """The packet interface of a key. SecurityKey documents the options."""
 
     def __init__(
         self,
         *,
         process: bool | None = None,
         presence: Presence = "granted",
-        delay: int = 200,
-        clock: Clock = "counted",
+        presence_delay_ms: int = 200,
+        clock: Clock = "virtual",
         timeout: float = 30.0,
         random: Callable[[int], bytes] = os.urandom,
         snapshot: bytes = b"",
@@ -65,63 +74,68 @@ class Session:
         default_backup_eligibility: bool = False,
         default_backup_state: bool = False,
     ):
-        if clock not in ("counted", "real") and not callable(clock):
+        if clock not in ("virtual", "real") and not callable(clock):
             raise ArgumentError(
-                f"clock is {shown(clock)}; it has to be 'counted', 'real', or a function of milliseconds"
+                f"clock is {describe(clock)}; it must be 'virtual', 'real', or a function of milliseconds"
             )
         self._owner, self._work = os.getpid(), Work()
         self._changed = threading.Condition()
         self._ceremony = threading.RLock()
-        self._one_exchange = Exchange(self._ceremony)
-        self._outside, self._is_verified = Outside(), False
+        self._exchange_lock = Exchange(self._ceremony)
+        self._metadata, self._is_verified = CredentialMetadata(), False
         self.faults = Faults()
-        self.private_keys = keys_by_id(private_keys)
-        self.presence, self.delay, self.timeout = presence, delay, timeout
+        self.private_keys = load_private_keys(private_keys)
+        self.presence, self.presence_delay_ms, self.timeout = presence, presence_delay_ms, timeout
         self.verification, self.attachment, self.has_resident_key = verification, attachment, has_resident_key
         self.default_backup_eligibility = default_backup_eligibility
         self.default_backup_state = default_backup_state
         self._clock: Clock = clock
-        self._random = callable_of("random", random, "n random bytes for a number n")
-        one_of("record", record, (True, False))
-        one_of("process", process, (True, False, None))
-        self._program, self._record = None if program is None else str(path_of("program", program)), record
-        self._process = not core.has_held_key() if process is None else process
+        self._random = check_callable("random", random, "n random bytes for a number n")
+        check_choice("record", record, (True, False))
+        check_choice("process", process, (True, False, None))
+        self._program, self._record = None if program is None else str(check_path("program", program)), record
+        self._process = not core.supports_in_process() if process is None else process
         self._ended: list[Recording] = []
         self._channels = 0
-        self._places: dict[bytes, int] = {}
-        start = bytes_of("the snapshot", snapshot)
+        self._indexes: dict[bytes, int] = {}
+        start = check_bytes("the snapshot", snapshot)
         self._begin(start, self._make_engine(start))
 
     def __setattr__(self, name: str, value: Any) -> None:
         if name[:1] != "_":
-            names.check_attribute(self, name, ("faults", "private_keys"))
+            suggestions.check_attribute(self, name, ("faults", "private_keys"))
         object.__setattr__(self, name, value)
 
-    # Several threads and processes.
+    if not TYPE_CHECKING:
 
-    def _locked(self) -> threading.Condition:
-        """Returns the lock of the key, in the process that made it."""
+        def __getattr__(self, name: str) -> Any:
+            return suggestions.get_renamed(self, name, _OLD_NAMES)
+
+    # Threads and processes.
+
+    def _acquire_lock(self) -> threading.Condition:
+        """Returns the key's lock. Raises KeyForkedError in a child of os.fork."""
         if self._owner != os.getpid():
-            text = f"the key was made in process {self._owner}, and this is {os.getpid()}, which os.fork made"
-            raise KeyForked(f"{text}: make a key here, or load what SecurityKey.save wrote")
+            text = f"the key belongs to process {self._owner}, and this is process {os.getpid()}, created by os.fork"
+            raise KeyForkedError(f"{text}: create a key here, or load one saved by SecurityKey.save")
         return self._changed
 
     def ceremony(self) -> AbstractContextManager[Any]:
-        """Has the key serve nobody else for a registration or a sign-in: other threads wait."""
-        self._locked()
+        """Returns a lock for a whole registration or sign-in: other threads wait."""
+        self._acquire_lock()
         return self._ceremony
 
     def exchange(self) -> AbstractContextManager[Any]:
-        """Has the key serve nobody else for a message and its answer: other threads wait."""
-        self._locked()
-        return self._one_exchange
+        """Returns a lock for a message and its response: other threads wait."""
+        self._acquire_lock()
+        return self._exchange_lock
 
     def verified(self, is_verified: bool) -> AbstractContextManager[Any]:
-        """Sets the flag UV in what is signed meanwhile, where the user is verified."""
-        return self._verifying() if is_verified else _AS_IT_IS
+        """Sets the UV flag in what is signed within the context, if is_verified."""
+        return self._set_verified() if is_verified else _NO_CONTEXT
 
     @contextmanager
-    def _verifying(self) -> Iterator[None]:
+    def _set_verified(self) -> Iterator[None]:
         self._is_verified = True
         try:
             yield
@@ -130,157 +144,157 @@ class Session:
 
     def _make_engine(self, snapshot: bytes) -> Engine:
         if self._process:
-            return ProcessKey(snapshot, self._program)
-        return HeldKey(snapshot, self._places)
+            return SubprocessKey(snapshot, self._program)
+        return InProcessKey(snapshot, self._indexes)
 
     def _begin(self, snapshot: bytes, engine: Engine) -> None:
-        """Begins a session with these credentials, at the moment 0."""
+        """Starts a session with these credentials, at timestamp 0."""
         self._engine = engine
         self._is_open = True
         self._start, self._log = snapshot, bytearray()
         self._time, self._work = Time(), Work()
-        self._packets = Waiting()
+        self._packets = PacketQueue()
         self._from_host, self._from_key = packets.Collector(), packets.Collector()
-        # The packets of an answer that isn't whole yet.
-        self._answer: list[bytes] = []
+        # Packets of an incomplete response.
+        self._response_packets: list[bytes] = []
 
     @property
     def capacity(self) -> int:
-        """How many credentials the key has capacity for: 64, and 256 where HIDLOG_LIBRARY names libhidlog-256.so.0."""
+        """Number of credentials the key can hold: 64, or 256 if HIDLOG_LIBRARY names libhidlog-256.so.1."""
         return _PROGRAM_CAPACITY if self._process else core.capacity()
 
     @property
     def presence(self) -> Presence:
-        """What the user does."""
+        """What the user does when asked for presence."""
         return self._user.presence
 
     @presence.setter
     def presence(self, presence: Presence) -> None:
-        with self._locked():
-            self._user, self._work.answer = User(presence), []
+        with self._acquire_lock():
+            self._user, self._work.replies = User(presence), []
             self._changed.notify_all()
 
     @property
-    def delay(self) -> int:
-        """How many milliseconds the user takes."""
-        return self._delay
+    def presence_delay_ms(self) -> int:
+        """Milliseconds until the user replies, in the key's time."""
+        return self._presence_delay_ms
 
-    @delay.setter
-    def delay(self, delay: int) -> None:
-        self._delay = number_of("delay", delay, 0, 2**32)
+    @presence_delay_ms.setter
+    def presence_delay_ms(self, presence_delay_ms: int) -> None:
+        self._presence_delay_ms = check_int("presence_delay_ms", presence_delay_ms, 0, 2**32)
 
     @property
     def timeout(self) -> float:
-        """How many seconds of real time a client waits for a user who does nothing."""
+        """Seconds of real time that a client waits for a user who does nothing."""
         return self._timeout
 
     @timeout.setter
     def timeout(self, timeout: float) -> None:
-        self._timeout = seconds_of("timeout", timeout)
+        self._timeout = check_seconds("timeout", timeout)
 
     @property
     def verification(self) -> str:
-        """What comes of asking for the user's verification, which the browser does: "none", "verified" or "failed"."""
+        """Result of the browser asking for user verification: "none" (unsupported), "verified" or "failed"."""
         return self._verification
 
     @verification.setter
     def verification(self, verification: str) -> None:
-        one_of("verification", verification, _VERIFICATION)
+        check_choice("verification", verification, _VERIFICATIONS)
         self._verification = verification
 
     @property
     def has_user_verification(self) -> bool:
-        """Whether the authenticator verifies users, by WebDriver's name."""
+        """Whether user verification is supported (WebDriver's hasUserVerification)."""
         return self._verification != "none"
 
     @property
     def is_user_verified(self) -> bool:
-        """Whether the user passes verification, by WebDriver's name. Setting it is setting `verification`."""
+        """Whether user verification succeeds (WebDriver's isUserVerified). Setting it sets `verification`."""
         return self._verification == "verified"
 
     @is_user_verified.setter
     def is_user_verified(self, is_verified: bool) -> None:
-        one_of("is_user_verified", is_verified, (True, False))
+        check_choice("is_user_verified", is_verified, (True, False))
         self._verification = "verified" if is_verified else "failed"
 
     @property
     def attachment(self) -> str:
-        """What the browser says that the authenticator is: "cross-platform" (usb) or "platform" (internal)."""
+        """The authenticator attachment that browsers report: "cross-platform" (usb) or "platform" (internal)."""
         return self._attachment
 
     @attachment.setter
     def attachment(self, attachment: str) -> None:
-        one_of("attachment", attachment, _ATTACHMENT)
+        check_choice("attachment", attachment, _ATTACHMENTS)
         self._attachment = attachment
 
     @property
     def has_resident_key(self) -> bool:
-        """Whether the browser asks for discoverable credentials."""
+        """Whether browsers may create discoverable credentials."""
         return self._has_resident_key
 
     @has_resident_key.setter
     def has_resident_key(self, has_resident_key: bool) -> None:
-        one_of("has_resident_key", has_resident_key, (True, False))
+        check_choice("has_resident_key", has_resident_key, (True, False))
         self._has_resident_key = has_resident_key
 
     @property
     def default_backup_eligibility(self) -> bool:
-        """The flag BE of new credentials."""
+        """The backup eligibility flag (BE) of new credentials."""
         return self._backup.eligibility
 
     @default_backup_eligibility.setter
     def default_backup_eligibility(self, eligibility: bool) -> None:
-        one_of("default_backup_eligibility", eligibility, (True, False))
+        check_choice("default_backup_eligibility", eligibility, (True, False))
         self._backup = Backup(eligibility, getattr(self, "_backup", Backup()).state)
 
     @property
     def default_backup_state(self) -> bool:
-        """The flag BS of new credentials."""
+        """The backup state flag (BS) of new credentials."""
         return self._backup.state
 
     @default_backup_state.setter
     def default_backup_state(self, state: bool) -> None:
-        one_of("default_backup_state", state, (True, False))
+        check_choice("default_backup_state", state, (True, False))
         self._backup = Backup(self._backup.eligibility, state)
 
     @property
-    def abilities(self) -> Abilities:
-        """What a browser takes the authenticator for."""
-        return Abilities(self._verification, self._attachment, self._has_resident_key)
+    def authenticator_options(self) -> AuthenticatorOptions:
+        """The authenticator as browsers see it."""
+        return AuthenticatorOptions(self._verification, self._attachment, self._has_resident_key)
 
     @property
     def has_page_ids(self) -> bool:
-        """Whether a page sees another id of a credential than the core has."""
-        return self._outside.has_page_ids
+        """Whether any credential has an ID for pages that differs from the core's."""
+        return self._metadata.has_page_ids
 
     def core_id(self, page_id: bytes) -> bytes:
-        """Returns the id that the core has for a credential of a page."""
-        return self._outside.core_id(page_id)
+        """Returns the core's credential ID for a page's."""
+        return self._metadata.core_id(page_id)
 
     def page_id(self, core_id: bytes) -> bytes:
-        """Returns the id that a page sees of a credential of the core."""
-        return self._outside.page_id(core_id)
+        """Returns a page's credential ID for the core's."""
+        return self._metadata.page_id(core_id)
 
     # The clock.
 
     @property
-    def moment(self) -> int:
-        """Milliseconds since the key was switched on, as the log has them."""
+    def time_ms(self) -> int:
+        """Milliseconds since power-up, as in the log."""
         return self._time.latest
 
-    def pass_time(self, milliseconds: int) -> None:
-        """Lets time pass for the key, and none for the test."""
-        with self._locked():
-            self._time.passed += number_of("milliseconds", milliseconds, 0, 2**48)
+    def advance_time(self, milliseconds: int) -> None:
+        """Advances the key's time, without waiting."""
+        with self._acquire_lock():
+            self._time.passed += check_int("milliseconds", milliseconds, 0, 2**48)
             self._play("t")
 
-    def _tell(self) -> int:
-        """Returns the moment of the next line."""
-        if self._clock == "counted":
+    def _next_time(self) -> int:
+        """Returns the timestamp of the next line."""
+        if self._clock == "virtual":
             self._time.passed += 1
             now = self._time.passed
         elif callable(self._clock):
-            now = number_of("what the clock returns", self._clock(), 0, 2**60) + self._time.passed
+            now = check_int("the clock's result", self._clock(), 0, 2**60) + self._time.passed
         else:
             now = int((time.monotonic() - self._time.started) * 1000) + self._time.passed
         self._time.latest = max(self._time.latest, now)
@@ -289,24 +303,25 @@ class Session:
     # Packets.
 
     def write_packet(self, packet: bytes) -> None:
-        """Hands the key a packet of the client, 64 bytes without a report number."""
-        data = bytes_of("the packet", packet, packets.PACKET)
-        with self._locked():
-            self._packets.wrote(data)
+        """Passes a packet from the client to the key: 64 bytes, without a report number."""
+        data = check_bytes("the packet", packet, packets.PACKET)
+        with self._acquire_lock():
+            self._packets.record_write(data)
             message = self._from_host.add(data)
             if message and message.command == packets.CBOR and self._work.need.kind == "nothing":
-                self._work.asked, self._work.delayed = message, 0
+                self._work.request, self._work.delayed = message, 0
             self._play(">", data)
             self._changed.notify_all()
 
     def read_packet(self, timeout: float | None = None) -> bytes:
-        """Returns the key's next packet, and gives the key what it needs until there is one.
+        """Returns the key's next packet. Until there is one, supplies what the key needs.
 
-        Where nothing comes, it blocks without cost, and raises NoAnswer after so many seconds (by default `timeout`).
-        Where several threads write packets, each reads those of the channels on which it wrote.
+        If nothing arrives, blocks without using the processor, and raises KeyTimeoutError after `timeout` seconds (by
+        default the key's `timeout`). If several threads write packets, each reads those of the channels on which it
+        wrote.
         """
-        seconds = self._timeout if timeout is None else seconds_of("timeout", timeout)
-        with self._locked():
+        seconds = self._timeout if timeout is None else check_seconds("timeout", timeout)
+        with self._acquire_lock():
             if (packet := self._packets.take()) is not None:
                 return packet
             limit = time.monotonic() + seconds
@@ -315,13 +330,13 @@ class Session:
             return packet
 
     def _random_bytes(self, count: int) -> bytes:
-        """Returns so many random bytes, and no other number of them."""
-        return bytes_of("what random returned", self._random(count), count)
+        """Returns `count` random bytes."""
+        return check_bytes("the result of random", self._random(count), count)
 
     def _serve(self, limit: float) -> None:
-        """Gives the key what it needs, or waits where that is nothing."""
+        """Supplies what the key needs, or waits if it needs nothing."""
         if not self._is_open:
-            raise KeyEnded("the key is closed")
+            raise KeyClosedError("the key is closed")
         kind = self._work.need.kind
         if kind == "presence":
             self._serve_presence(limit)
@@ -336,35 +351,38 @@ class Session:
             self._wait_for_user(is_over=True)
 
     def _pause(self, limit: float) -> bool:
-        """Waits in real time. Returns whether 100 ms are over since it last did; before, something may have changed."""
+        """Waits in real time. Returns True if 100 ms have passed since it last did, False if something may have
+        changed."""
         now = time.monotonic()
         if now >= self._work.waited_until:
             self._work.waited_until = now + _KEEPALIVE_SECONDS
             return True
         if now >= limit:
-            raise NoAnswer("the key has sent nothing in time")
+            raise KeyTimeoutError("timed out waiting for a packet from the key")
         self._changed.wait(min(limit, self._work.waited_until) - now)
         return False
 
     def _serve_presence(self, limit: float) -> None:
-        """The user answers once the delay is over. Before, time passes and the key sends KEEPALIVEs."""
-        is_idle = self._user.presence is None or self._work.answer == [None]
-        if not is_idle and self._time.latest - self._work.moment < self._delay:
+        """Passes the user's reply after the delay. Until then, time passes and the key sends KEEPALIVEs."""
+        is_idle = self._user.presence is None or self._work.replies == [None]
+        if not is_idle and self._time.latest - self._work.since_ms < self._presence_delay_ms:
             self._wait_for_user()
             return
-        if not self._work.answer:
-            with self._cancelling():
-                self._work.answer = [self._user.answer(self._work.asked)]
-        if self._work.answer[0] is not None:
-            self._play("p", self._work.answer[0])
+        if not self._work.replies:
+            with self._cancel_on_error():
+                self._work.replies = [self._user.reply(self._work.request)]
+        if self._work.replies[0] is not None:
+            self._play("p", self._work.replies[0])
         elif time.monotonic() - self._work.began >= self._timeout:
-            with self._cancelling():
-                raise NoAnswer(f"the user did nothing for {self._timeout} s (presence), and the client didn't cancel")
+            with self._cancel_on_error():
+                raise KeyTimeoutError(
+                    f"the user did nothing for {self._timeout} s (presence), and the client did not cancel"
+                )
         elif self._pause(limit):
             self._wait_for_user(is_over=True)
 
     def _wait_for_user(self, is_over: bool = False) -> None:
-        """Lets 100 ms pass in the log: of real time where the clock is, unless they are over."""
+        """Advances the log by 100 ms. With the real clock it waits for them, unless they have passed (is_over)."""
         if self._clock == "real":
             if not is_over:
                 self._changed.wait(KEEPALIVE_MS / 1000)
@@ -373,86 +391,86 @@ class Session:
         self._play("t")
 
     @contextmanager
-    def _cancelling(self) -> Iterator[None]:
-        """Ends the request that waits where something fails, so that the key serves the next one."""
+    def _cancel_on_error(self) -> Iterator[None]:
+        """Cancels the pending request if the body raises, so that the key can serve the next one."""
         try:
             yield
         except BaseException:
-            if self._work.asked and self._is_open:
-                cancel = packets.Message(self._work.asked.channel, packets.CANCEL, b"")
-                self._play(">", packets.packets_of(cancel)[0])
+            if self._work.request and self._is_open:
+                cancel = packets.Message(self._work.request.channel, packets.CANCEL, b"")
+                self._play(">", packets.fragment_message(cancel)[0])
             self._packets.drop()
             raise
 
     def _make_key(self) -> None:
-        """Hands in a new key pair under a new credential id."""
+        """Supplies a new key pair with a new credential ID."""
         self._play(*self.new_key())
 
     def new_key(self) -> tuple[str, bytes, bytes, bytes]:
-        """Makes a new key pair under a new credential id, and returns the input that hands it in."""
-        private, credential = private_keys.make(self._random_bytes), self._random_bytes(32)
-        x, y = private_keys.point_of(private)
-        if len(self.private_keys) >= _PRIVATE_KEYS_MOST * self.capacity and not self._process:
+        """Creates a key pair with a new credential ID, and returns the input that supplies it."""
+        private, credential = private_keys.make_private_key(self._random_bytes), self._random_bytes(32)
+        x, y = private_keys.public_point(private)
+        if len(self.private_keys) >= _MAX_PRIVATE_KEYS * self.capacity and not self._process:
             self._forget_keys()
         self.private_keys[credential] = private
-        self._outside.back_up(credential, self._backup)
+        self._metadata.back_up(credential, self._backup)
         return "k", credential, x, y
 
     def _forget_keys(self) -> None:
-        """Forgets the private keys of credentials that the key holds no more."""
+        """Drops the private keys of credentials that no longer exist."""
         held = {credential.id for credential in self._engine.credentials(self._log)}
         for gone in [credential_id for credential_id in self.private_keys if credential_id not in held]:
             del self.private_keys[gone]
-            self._outside.forget(gone)
+            self._metadata.forget(gone)
 
     def _sign(self) -> None:
-        """Signs the bytes that the key named, with the credential's private key."""
+        """Supplies the signature that the key asks for."""
         self._play(*self.signature())
 
     def signature(self) -> tuple[Field, ...]:
-        """Signs the bytes that the key named, and returns the input that hands the signature in."""
+        """Signs the bytes that the key asks for, and returns the input that supplies the signature."""
         need = self._work.need
         private = self.private_keys.get(need.credential)
         if private is None:
             return "s", "no"
-        flags = UV * self._is_verified | self._outside.backup(need.credential).flags
+        flags = UV * self._is_verified | self._metadata.backup(need.credential).flags
         if flags:
-            self.note(f"outside of the core: flags {names_of(flags)}, and the signature over them")
-        signed = self.faults.sign_instead(need.credential, need.signed, flags)
-        if self.faults.wrong_signature:
-            private = private_keys.make(self._random_bytes)
-            self.note("fault: the signature is by another private key")
+            self.add_comment(f"outside of the core: flags {flag_names(flags)}, and the signature over them")
+        signed = self.faults.alter_signed(need.credential, need.signed, flags)
+        if self.faults.bad_signature:
+            private = private_keys.make_private_key(self._random_bytes)
+            self.add_comment("fault: signed with a different private key")
         return "s", private_keys.sign(private, signed)
 
     def _play(self, kind: Any, *fields: Field) -> None:
-        """Hands the key an input, and keeps what it sends and needs."""
+        """Passes an input to the key, and stores what the key sends and needs."""
         if not self._is_open:
-            raise KeyEnded("the key is closed")
-        text, sent, need = self._engine.play(kind, self._tell(), fields)
-        self._keep(text)
+            raise KeyClosedError("the key is closed")
+        text, sent, need = self._engine.play(kind, self._next_time(), fields)
+        self._append_log(text)
         work = self._work
         if need.kind != work.need.kind:
-            work.moment, work.began, work.answer = self._time.latest, time.monotonic(), []
+            work.since_ms, work.began, work.replies = self._time.latest, time.monotonic(), []
             work.waited_until = work.began + _KEEPALIVE_SECONDS
         work.need = need
         for packet in sent:
             self._send(packet)
 
     def cause(self, status: int | None = None) -> str:
-        """Returns why the key refused its last input, as a sentence: "the user refused".
+        """Returns the reason for the key's last refusal, such as "the user refused".
 
-        It is empty where the input wasn't refused, with this status if one is given, and for a key in a process.
+        Empty if the last input was not refused, or not with this status, and always for a key in a separate process.
         """
-        with self._locked():
+        with self._acquire_lock():
             return self._engine.cause(status) if self._is_open else ""
 
-    def _keep(self, text: bytes) -> None:
-        """Keeps lines in the recording."""
+    def _append_log(self, text: bytes) -> None:
+        """Appends lines to the recording."""
         if self._record:
             self._log.extend(text)
 
     def _send(self, packet: bytes) -> None:
-        """Keeps a packet for the client. The packets of an answer come out together, with its faults."""
+        """Queues a packet for the client. The packets of a response are queued together, with the faults applied."""
         command = packet[4]
         if command == 0x80 | packets.ERROR:
             self._from_host.drop()
@@ -462,42 +480,42 @@ class Session:
             self._packets.put(packet)
             return
         message = self._from_key.add(packet)
-        self._answer.append(packet)
+        self._response_packets.append(packet)
         if message:
-            self._send_answer(message)
+            self._send_response(message)
 
-    def _send_answer(self, message: packets.Message) -> None:
-        """Keeps the packets of an answer for the client: as they are, unless a fault changes it."""
-        sent, self._answer[:] = list(self._answer), []
+    def _send_response(self, message: packets.Message) -> None:
+        """Queues the packets of a response, as changed by the faults."""
+        sent, self._response_packets[:] = list(self._response_packets), []
         data = self.altered(message.data)
         if data != message.data:
-            sent = packets.packets_of(message._replace(data=data))
+            sent = packets.fragment_message(message._replace(data=data))
         for packet in sent:
             self._packets.put(packet)
 
     def altered(self, data: bytes) -> bytes:
-        """Returns an answer as the faults that are on change it, and notes them."""
-        data, done = self.faults.answer_instead(data)
+        """Returns a response as changed by the active faults, each of which is a comment in the log."""
+        data, done = self.faults.alter_response(data)
         for text in done:
-            self.note(f"fault: {text}")
+            self.add_comment(f"fault: {text}")
         return data
 
-    def _exchange(self, line: bytes) -> None:
-        """Writes a comment into the log."""
+    def _add_exchange_comment(self, line: bytes) -> None:
+        """Adds a comment line to the log."""
         if not self._is_open:
-            raise KeyEnded("the key is closed")
-        self._keep(self._engine.exchange(line).text)
+            raise KeyClosedError("the key is closed")
+        self._append_log(self._engine.exchange(line).text)
 
     # Recordings.
 
-    def note(self, text: str) -> None:
-        """Writes comments into the log: a line each, and a long line in several."""
-        lines = comments_of(text)
-        with self._locked():
+    def add_comment(self, text: str) -> None:
+        """Adds comments to the log, one per line of text. Long lines are split."""
+        lines = format_comments(text)
+        with self._acquire_lock():
             for line in lines:
-                self._exchange(line)
+                self._add_exchange_comment(line)
 
     @property
     def log(self) -> bytes:
-        """The log of the session so far. It is whole once the key is closed."""
+        """The log of the session so far. It is complete once the key is closed."""
         return bytes(self._log)

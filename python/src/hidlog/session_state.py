@@ -1,4 +1,4 @@
-"""What a session of a key keeps beside its log: its clock, the work under way, and who exchanges a message."""
+"""The state of a session besides its log: the clock, the request in progress, and the lock of an exchange."""
 
 from __future__ import annotations
 
@@ -6,12 +6,12 @@ import threading
 import time
 
 from . import packets
-from .errors import KeyBusy
-from .lines import Need
+from .errors import KeyBusyError
+from .log_lines import Need
 
 
 class Time:
-    """The clock of a session: milliseconds that passed without real time, the latest moment, and when it began."""
+    """The clock: milliseconds added without waiting, the latest timestamp, and the real time of power-up."""
 
     __slots__ = ("passed", "latest", "started")
 
@@ -20,19 +20,19 @@ class Time:
 
 
 class Work:
-    """What a key needs, since which moment and time, and what has come of the request so far."""
+    """What the key needs, since when (timestamp and real time), and the progress of the request."""
 
-    __slots__ = ("need", "moment", "began", "waited_until", "delayed", "asked", "answer")
+    __slots__ = ("need", "since_ms", "began", "waited_until", "delayed", "request", "replies")
 
     def __init__(self) -> None:
-        self.need, self.moment, self.began = Need(), 0, 0.0
+        self.need, self.since_ms, self.began = Need(), 0, 0.0
         self.waited_until, self.delayed = 0.0, 0
-        self.asked: packets.Message | None = None
-        self.answer: list[str | None] = []
+        self.request: packets.Message | None = None
+        self.replies: list[str | None] = []
 
 
 class Exchange:
-    """An exchange of a message and its answer: one at a time, over the lock of a ceremony."""
+    """The lock of one message and its response, on top of a ceremony's lock."""
 
     __slots__ = ("_lock", "_is_open")
 
@@ -43,7 +43,7 @@ class Exchange:
         self._lock.acquire()
         if self._is_open:
             self._lock.release()
-            raise KeyBusy("the key serves a request of this thread: a function of presence can't send another")
+            raise KeyBusyError("a presence callback cannot send a request to the same key")
         self._is_open = True
 
     def __exit__(self, *_: object) -> None:

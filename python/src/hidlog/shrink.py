@@ -1,30 +1,31 @@
-"""Cuts a session log down while a command keeps failing on it in the same way: `hidlog shrink`.
+"""Minimize a log that makes a command fail.
 
-    hidlog shrink [--same TEXT] LOG COMMAND [ARGUMENT..] > smaller
+    hidlog shrink [--match TEXT] LOG COMMAND [ARGUMENT..] > smaller
 
-The command reads a log on standard input, and fails by ending with a status other than 0, as
+The command reads a log on standard input, and fails if its exit status is not 0:
 
     hidlog shrink recorded.log hidlog check
     hidlog shrink recorded.log hidlog judge
     hidlog shrink session.log sh -c 'hidlog replay | ./my_test'
-    hidlog shrink --same 'signature is invalid' session.log sh -c 'hidlog replay | ./my_test'
+    hidlog shrink --match 'signature is invalid' session.log sh -c 'hidlog replay | ./my_test'
 
-Whole transactions are left out first, half of them and then ever fewer; then inputs with the `<` lines after them; and
-what can't be left out becomes a tick of its moment. All of that as long as the command fails in the same way:
+Transactions are removed first, in ever smaller groups; then single inputs with their `<` lines. An input that can't be
+removed is replaced by a tick. A change is kept if the command still fails in the same way:
 
-- it ends with the same status;
-- where its first line on standard error names a line of the log, or else a line of its output begins with `line N:`, that
-  is the same line of the whole log, and the rest of that text is the same; where `check` names a packet, the key also
-  sends the same packet there;
-- with --same, its output or its standard error has that text, and only that is compared besides the status.
+- The exit status is the same.
+- If the first line on standard error names a line of the log, or else a line of output begins with `line N:`, that is
+  the same line of the original log, and the rest of the text is the same. If `check` names a packet, the key also sends
+  the same packet there.
+- With --match, instead of comparing lines: the output or standard error contains that text.
 
-The shortest log found goes to standard output, also at SIGINT (Ctrl-C), at SIGTERM and where the command can't be run
-any longer; how far it is goes to standard error. LOG is - for standard input. The status is 2 where the words are
-wrong, the command can't be run, it doesn't fail on the whole log in this way, or it fails so on an empty log too; 130
-at SIGINT, and 143 at SIGTERM. Making the log quiet first (`hidlog quiet`) takes the noise out in one go, where the
-command doesn't look at `<` lines.
+The shortest log found is printed at the end, on SIGINT (Ctrl-C) or SIGTERM, or if the command can no longer be run.
+Progress is printed to standard error. A LOG of - is standard input. If the command ignores `<` lines, run `hidlog
+quiet` on the log first: it replaces all ignored inputs at once.
 
-This file needs nothing of the package: it runs alone, too.
+Exit status: 2 on invalid arguments, if the command can't be run, does not fail on the whole log, or also fails on an
+empty log; 130 on SIGINT; 143 on SIGTERM.
+
+This file does not need the package and can be run by itself.
 """
 
 from __future__ import annotations
@@ -40,16 +41,16 @@ from contextlib import suppress
 from dataclasses import dataclass
 from typing import Optional
 
-LINE = re.compile(r"\bline (\d+)\b")
-FINDING = re.compile(r"^line \d+: .*", re.MULTILINE)
-PACKET = re.compile(r"\bdiffers at packet (\d+)\b")
-# What `check` is asked beside a comparison: `replay` doesn't take it.
-ASKED_OF_CHECK = ("--all", "--json", "--signatures")
+LINE_NUMBER = re.compile(r"\bline (\d+)\b")
+FINDING_LINE = re.compile(r"^line \d+: .*", re.MULTILINE)
+PACKET_NUMBER = re.compile(r"\bdiffers at packet (\d+)\b")
+# Options of `check` that `replay` does not have.
+CHECK_OPTIONS = ("--all", "--json", "--signatures")
 
 
 @dataclass(frozen=True)
 class Block:
-    """An input line or a comment with the `<` lines after it, and the number of its first line in the whole log."""
+    """An input line or a comment, with the `<` lines after it. `number` is the first line's number in the whole log."""
 
     number: int
     text: bytes
@@ -60,22 +61,22 @@ class Block:
     def fields(self) -> list[bytes]:
         return self.text.split(b"\n")[0].split(b" ")
 
-    def as_tick(self) -> Optional[Block]:
-        """Returns a tick of the block's moment, or None where the block is no input or a tick already."""
+    def to_tick(self) -> Optional[Block]:
+        """Returns a tick with the block's timestamp, or None if the block is not an input, or a tick already."""
         fields = self.fields()
         if len(fields) < 3 or fields[0] not in (b">", b"p", b"k", b"s"):
             return None
         return Block(self.number, b"t " + fields[1] + b"\n")
 
     def packet(self) -> bytes:
-        """Returns the digits of a host's packet, or nothing."""
+        """Returns a host packet in hex, or nothing."""
         fields = self.fields()
         return fields[2] if fields[0] == b">" and len(fields) == 3 else b""
 
 
 @dataclass(frozen=True)
 class Failure:
-    """How the command failed: two failures are the same where all of this is."""
+    """How the command failed. Equal failures are the same failure."""
 
     status: int
     text: str
@@ -84,7 +85,7 @@ class Failure:
 
 
 def blocks_of(text: bytes) -> list[Block]:
-    """Returns a log's blocks."""
+    """Splits a log into blocks."""
     blocks: list[Block] = []
     for number, line in enumerate(text.splitlines(keepends=True), 1):
         if blocks and line.startswith(b"<"):
@@ -98,8 +99,8 @@ def joined(blocks: Iterable[Block]) -> bytes:
     return b"".join(block.text for block in blocks)
 
 
-def block_at(blocks: list[Block], line: int) -> Optional[Block]:
-    """Returns the block that has a line of the log that these blocks make."""
+def find_block(blocks: list[Block], line: int) -> Optional[Block]:
+    """Returns the block with a line of the log that consists of these blocks."""
     for block in blocks:
         line -= block.lines()
         if line <= 0:
@@ -107,10 +108,10 @@ def block_at(blocks: list[Block], line: int) -> Optional[Block]:
     return None
 
 
-def transactions_of(blocks: list[Block]) -> dict[int, int]:
-    """Returns the transaction of each block, by their numbers: that of the first packet which began it.
+def group_transactions(blocks: list[Block]) -> dict[int, int]:
+    """Returns the transaction of each block, both by block numbers: that of the first packet.
 
-    A packet belongs to the message of its channel, and what is no packet to the message that began last.
+    A packet belongs to the message of its channel, and other lines to the message that began last.
     """
     found: dict[int, int] = {}
     last = 0
@@ -124,39 +125,41 @@ def transactions_of(blocks: list[Block]) -> dict[int, int]:
 
 
 class Command:
-    """The command that fails, and what of its answer has to stay."""
+    """The failing command, and the text that it must print, if any."""
 
-    def __init__(self, words: list[str], same: Optional[str]):
+    def __init__(self, words: list[str], match: Optional[str]):
         self.words = words
-        self.same = same
-        self.said = ""
+        self.match = match
+        self.message = ""
 
-    def failure(self, blocks: list[Block]) -> Optional[Failure]:
-        """Returns how the command fails on the log of these blocks, or None where it doesn't."""
+    def find_failure(self, blocks: list[Block]) -> Optional[Failure]:
+        """Returns how the command fails on the log of these blocks, or None if it succeeds."""
         ran = subprocess.run(self.words, input=joined(blocks), capture_output=True)
-        said, written = ran.stderr.decode(errors="replace"), ran.stdout.decode(errors="replace")
-        self.said = said.partition("\n")[0]
+        errors, output = ran.stderr.decode(errors="replace"), ran.stdout.decode(errors="replace")
+        self.message = errors.partition("\n")[0]
         if ran.returncode == 0:
             return None
-        if self.same is not None:
-            is_said = self.same in said or self.same in written
-            return Failure(ran.returncode, self.same) if is_said else None
-        first = self.said
-        if not LINE.search(first):
-            finding = FINDING.search(written)
+        if self.match is not None:
+            is_match = self.match in errors or self.match in output
+            return Failure(ran.returncode, self.match) if is_match else None
+        first = self.message
+        if not LINE_NUMBER.search(first):
+            finding = FINDING_LINE.search(output)
             first = finding[0] if finding else ""
-        named = LINE.search(first)
-        block = block_at(blocks, int(named[1])) if named else None
+        named = LINE_NUMBER.search(first)
+        block = find_block(blocks, int(named[1])) if named else None
         if block is None:
             return Failure(ran.returncode, "")
-        return Failure(ran.returncode, LINE.sub("line", first), block.number, self.packet_at(blocks, block, first))
+        return Failure(
+            ran.returncode, LINE_NUMBER.sub("line", first), block.number, self.find_packet(blocks, block, first)
+        )
 
-    def packet_at(self, blocks: list[Block], block: Block, said: str) -> bytes:
-        """Returns the packet that the key sends where `check` found a difference, or nothing for another command."""
-        named = PACKET.search(said)
+    def find_packet(self, blocks: list[Block], block: Block, message: str) -> bytes:
+        """Returns the packet that the key sends at the mismatch found by `check`, or nothing for other commands."""
+        named = PACKET_NUMBER.search(message)
         if named is None or "check" not in self.words:
             return b""
-        words = ["replay" if word == "check" else word for word in self.words if word not in ASKED_OF_CHECK]
+        words = ["replay" if word == "check" else word for word in self.words if word not in CHECK_OPTIONS]
         upto = blocks[: blocks.index(block) + 1]
         sent = blocks_of(subprocess.run(words, input=joined(upto), capture_output=True).stdout)
         inputs = [piece for piece in sent if not piece.text.startswith(b"=")]
@@ -166,7 +169,7 @@ class Command:
 
 
 class Shrinking:
-    """A log that gets shorter, as long as a command fails on it in the way that is wanted."""
+    """A log that is shortened as long as a command fails on it as expected."""
 
     def __init__(self, command: Command, blocks: list[Block], wanted: Failure, tell: Callable[[str], None]):
         self.command = command
@@ -175,66 +178,68 @@ class Shrinking:
         self.tell = tell
         self.whole = len(joined(blocks).splitlines())
 
-    def try_with(self, blocks: list[Block]) -> bool:
-        """Keeps these blocks if the command fails on them in the same way, and returns whether it does."""
-        if self.command.failure(blocks) != self.wanted:
+    def try_blocks(self, blocks: list[Block]) -> bool:
+        """Keeps these blocks if the command fails on them as expected. Returns whether it does."""
+        if self.command.find_failure(blocks) != self.wanted:
             return False
         is_shorter = len(blocks) < len(self.blocks)
         self.blocks = blocks
         if is_shorter:
-            self.tell(f"{len(joined(blocks).splitlines())} of {self.whole} lines are left")
+            self.tell(f"{len(joined(blocks).splitlines())} of {self.whole} lines left")
         return True
 
     def run(self) -> None:
-        """Leaves out what can be left out, until nothing more can be."""
-        self.cut_behind_the_failure()
+        """Removes what can be removed, until nothing more can."""
+        self.truncate_after_failure()
         before: list[Block] = []
         while before != self.blocks:
             before = self.blocks
-            self.leave_out_transactions()
-            self.leave_out_blocks()
-            self.put_ticks()
+            self.remove_transactions()
+            self.remove_blocks()
+            self.replace_with_ticks()
 
-    def cut_behind_the_failure(self) -> None:
-        """Drops what comes after the line that is named: it changes nothing."""
+    def truncate_after_failure(self) -> None:
+        """Removes the blocks after the line of the failure."""
         line = self.wanted.line
         if line is not None and self.blocks[-1].number > line:
-            self.try_with([block for block in self.blocks if block.number <= line])
+            self.try_blocks([block for block in self.blocks if block.number <= line])
 
-    def leave_out_transactions(self) -> None:
-        """Leaves out whole transactions, as many as can be at a time, from the last: later ones need earlier ones."""
-        transaction = transactions_of(self.blocks)
+    def remove_transactions(self) -> None:
+        """Removes whole transactions, as many at a time as possible, from the last: later ones depend on earlier
+        ones."""
+        transaction = group_transactions(self.blocks)
         left = sorted(set(transaction.values()))
 
         def without(first: int, end: int) -> bool:
             chosen = set(left[first:end])
-            if not self.try_with([block for block in self.blocks if transaction[block.number] not in chosen]):
+            if not self.try_blocks([block for block in self.blocks if transaction[block.number] not in chosen]):
                 return False
             del left[first:end]
             return True
 
-        each_part(len(left), without)
+        each_chunk(len(left), without)
 
-    def leave_out_blocks(self) -> None:
-        """Leaves blocks out, as many as can be at a time."""
-        each_part(len(self.blocks), lambda first, end: self.try_with(self.blocks[:first] + self.blocks[end:]))
+    def remove_blocks(self) -> None:
+        """Removes blocks, as many at a time as possible."""
+        each_chunk(len(self.blocks), lambda first, end: self.try_blocks(self.blocks[:first] + self.blocks[end:]))
 
-    def put_ticks(self) -> None:
-        """Puts a tick in the place of each input for which one will do."""
+    def replace_with_ticks(self) -> None:
+        """Replaces inputs by ticks, where the command still fails as expected."""
         for place, block in enumerate(self.blocks):
-            tick = block.as_tick()
+            tick = block.to_tick()
             if tick is not None and block.number != self.wanted.line:
-                self.try_with(self.blocks[:place] + [tick] + self.blocks[place + 1 :])
+                self.try_blocks(self.blocks[:place] + [tick] + self.blocks[place + 1 :])
 
 
-def each_part(count: int, leave_out: Callable[[int, int], bool]) -> None:
-    """Asks to leave out each part of so many things, halves first and then ever smaller ones, from the last to the first."""
+def each_chunk(count: int, remove: Callable[[int, int], bool]) -> None:
+    """Calls remove on each chunk of `count` things: halves first, then ever smaller ones, each time from the last
+    chunk."""
     size = max(1, count // 2)
     while True:
         end = count
         while end > 0:
             first = max(0, end - size)
-            if leave_out(first, end):
+            if remove(first, end):
                 count -= end - first
             end = first
         if size == 1:
@@ -242,19 +247,19 @@ def each_part(count: int, leave_out: Callable[[int, int], bool]) -> None:
         size = max(1, min(size, count) // 2)
 
 
-def tell(text: str) -> None:
+def print_message(text: str) -> None:
     with suppress(OSError):
         print(text, file=sys.stderr, flush=True)
 
 
 def read_log(name: str) -> list[Block]:
-    """Returns the blocks of a log in a file, or of standard input."""
+    """Returns the blocks of a log file, or of standard input."""
     number = 0 if name == "-" else os.open(name, os.O_RDONLY)
     return blocks_of(b"".join(iter(lambda: os.read(number, 1 << 16), b"")))
 
 
 class StoppedError(BaseException):
-    """SIGINT or SIGTERM came."""
+    """The process received SIGINT or SIGTERM."""
 
     def __init__(self, number: int):
         super().__init__("interrupted" if number == signal.SIGINT else "terminated")
@@ -262,81 +267,82 @@ class StoppedError(BaseException):
 
 
 def stop(number: int, _: object) -> None:
-    """Ends the search. Signals that follow, as `timeout` sends each twice, don't stop the log from being written."""
+    """Ends the search. Later signals are ignored, because `timeout` sends each one twice and the log must be
+    written."""
     for other in (signal.SIGINT, signal.SIGTERM):
         signal.signal(other, signal.SIG_IGN)
     raise StoppedError(number)
 
 
-def begun(command: Command, blocks: list[Block]) -> Shrinking:
-    """Returns a log to be cut down. Raises ValueError where the command is of no use for that."""
-    wanted = command.failure(blocks)
+def start(command: Command, blocks: list[Block]) -> Shrinking:
+    """Runs the command on the whole log. Raises ValueError if its failure can't be used."""
+    wanted = command.find_failure(blocks)
     if wanted is None:
-        said = "" if command.same is None else f" and says {command.same!r}"
-        raise ValueError(f"the command does not end with a failure{said} on the whole log")
-    if command.failure([]) == wanted:
-        said = f", where it says {command.said!r}" if command.said else ""
-        raise ValueError(f"the command fails in the same way on an empty log{said}: it has to read standard input")
-    return Shrinking(command, blocks, wanted, tell)
+        text = "" if command.match is None else f" and print {command.match!r}"
+        raise ValueError(f"the command does not fail{text} on the whole log")
+    if command.find_failure([]) == wanted:
+        text = f", with {command.message!r}" if command.message else ""
+        raise ValueError(f"the command also fails on an empty log{text}: it must read standard input")
+    return Shrinking(command, blocks, wanted, print_message)
 
 
 def main(words: Optional[list[str]] = None) -> int:
-    """Does `hidlog shrink`."""
+    """Runs `hidlog shrink`."""
     parser = argparse.ArgumentParser(
         prog="hidlog shrink", description=__doc__, formatter_class=argparse.RawDescriptionHelpFormatter
     )
-    parser.add_argument("--same", metavar="TEXT", help="what the failing command has to say")
+    parser.add_argument("--match", metavar="TEXT", help="text that the failing command must print")
     parser.add_argument("log", metavar="LOG")
     parser.add_argument("command", metavar="COMMAND", nargs=argparse.REMAINDER)
-    given = parser.parse_args(words)
-    if not given.command:
-        parser.error("a command is missing, behind the log")
+    args = parser.parse_args(words)
+    if not args.command:
+        parser.error("the command is missing after the log")
     try:
-        blocks = read_log(given.log)
+        blocks = read_log(args.log)
     except OSError as error:
-        parser.error(f"{given.log}: {error.strerror}")
+        parser.error(f"{args.log}: {error.strerror}")
     try:
-        return shrink(Command(given.command, given.same), blocks)
+        return shrink(Command(args.command, args.match), blocks)
     except OSError as error:
-        first, reason = given.command[0], error.strerror
+        first, reason = args.command[0], error.strerror
         is_of_start = error.filename == first
-        text = f"{first} can't be started: {reason} (the log is named before the command)" if is_of_start else reason
-        tell(f"hidlog shrink: {text}")
+        text = f"{first} cannot be started: {reason} (the log comes before the command)" if is_of_start else reason
+        print_message(f"hidlog shrink: {text}")
     except ValueError as error:
-        tell(f"hidlog shrink: {error}")
+        print_message(f"hidlog shrink: {error}")
     return 2
 
 
 def shrink(command: Command, blocks: list[Block]) -> int:
-    """Writes the shortest log that is found, and returns the status: not 0 where something ended the search."""
+    """Writes the shortest log found, and returns the exit status: not 0 if something ended the search."""
     shrinking = None
     status = 0
     try:
         for number in (signal.SIGINT, signal.SIGTERM):
             if signal.getsignal(number) != signal.SIG_IGN:
                 signal.signal(number, stop)
-        shrinking = begun(command, blocks)
+        shrinking = start(command, blocks)
         shrinking.run()
     except StoppedError as stopped:
-        tell(f"hidlog shrink: {stopped}")
+        print_message(f"hidlog shrink: {stopped}")
         status = stopped.status
     except OSError as error:
         if shrinking is None:
             raise
-        tell(f"hidlog shrink: {command.words[0]} can't be run any longer: {error.strerror}")
+        print_message(f"hidlog shrink: {command.words[0]} can't be run any longer: {error.strerror}")
         status = 2
     if status:
-        tell("the shortest log so far is written" if shrinking else "nothing is written")
+        print_message("the shortest log so far was written" if shrinking else "nothing was written")
     return status if shrinking is None else write(joined(shrinking.blocks)) or status
 
 
 def write(log: bytes) -> int:
-    """Writes a log to standard output, and returns the status."""
+    """Writes a log to standard output, and returns the exit status."""
     try:
         while log:
             log = log[os.write(1, log) :]
     except OSError:
-        tell("hidlog: writing failed")
+        print_message("hidlog: writing failed")
         return 2
     return 0
 

@@ -1,4 +1,4 @@
-"""Checksums of saved keys, by which a damaged file is refused. One without a checksum is loaded as it is."""
+"""Checksums of saved keys, to detect damaged files. A file without a checksum is loaded as it is."""
 
 from __future__ import annotations
 
@@ -9,23 +9,23 @@ from typing import Any
 
 from .errors import ArgumentError
 
-_MEMBER = "sha256"
+_CHECKSUM_MEMBER = "sha256"
 
 
-def with_sum(members: Mapping[str, Any]) -> dict[str, Any]:
-    """Returns the members of a saved key with their sum."""
-    return {**members, _MEMBER: _sum_of(members)}
+def add_checksum(members: Mapping[str, Any]) -> dict[str, Any]:
+    """Returns the members of a saved key, with their checksum."""
+    return {**members, _CHECKSUM_MEMBER: _compute_checksum(members)}
 
 
-def verify_sum(path: str, members: Mapping[str, Any]) -> None:
-    """Raises ArgumentError if the members of a saved key aren't those of their sum."""
-    if _MEMBER in members and members[_MEMBER] != _sum_of(members):
+def verify_checksum(path: str, members: Mapping[str, Any]) -> None:
+    """Raises ArgumentError if the members of a saved key do not match their checksum."""
+    if _CHECKSUM_MEMBER in members and members[_CHECKSUM_MEMBER] != _compute_checksum(members):
         raise ArgumentError(
-            f"{path} is damaged or was edited: its members don't match its {_MEMBER}; "
-            f"without the member {_MEMBER} it is loaded as it is"
+            f"{path} is damaged or was edited: it does not match its member {_CHECKSUM_MEMBER}; "
+            f"remove that member to load it as it is"
         )
 
 
-def _sum_of(members: Mapping[str, Any]) -> str:
-    summed = {name: value for name, value in members.items() if name != _MEMBER}
+def _compute_checksum(members: Mapping[str, Any]) -> str:
+    summed = {name: value for name, value in members.items() if name != _CHECKSUM_MEMBER}
     return sha256(json.dumps(summed, sort_keys=True, separators=(",", ":")).encode()).hexdigest()

@@ -13,7 +13,7 @@ from functools import lru_cache
 from typing import Any, NamedTuple
 
 from . import core
-from .errors import HidlogError, MissingPart, shown
+from .errors import HidlogError, MissingDependencyError, describe
 from .standard import LONGEST_MESSAGE
 from .webauthn_errors import (
     EncodingError,
@@ -25,7 +25,7 @@ from .webauthn_errors import (
     WebAuthnRangeError,
     WebAuthnSyntaxError,
     WebAuthnTypeError,
-    status_text,
+    describe_status,
 )
 
 Json = dict[str, Any]
@@ -45,17 +45,17 @@ _ERRORS: dict[int, type[WebAuthnError]] = {
     -7: InvalidStateError,
     -8: WebAuthnSyntaxError,
 }
-# A credential's JSON has at most so many bytes.
+# Maximum length of a credential's JSON in bytes.
 _CREDENTIAL_CAPACITY = 16384
 _RequestBytes, _CredentialBytes = ctypes.c_char * LONGEST_MESSAGE, ctypes.c_char * _CREDENTIAL_CAPACITY
 _TRANSPORTS = {"cross-platform": "usb", "platform": "internal"}
-_NO_SUFFIX = (b"", 0)
+_EMPTY_SUFFIX = (b"", 0)
 
 
-class Abilities(NamedTuple):
-    """What the authenticator can do.
+class AuthenticatorOptions(NamedTuple):
+    """The authenticator, as browsers see it.
 
-    verification      result of asking for user verification: "verified", "failed" or "none".
+    verification      result of user verification: "verified", "failed" or "none" (unsupported).
     attachment        "cross-platform" or "platform".
     has_resident_key  whether it makes discoverable credentials.
     """
@@ -66,12 +66,12 @@ class Abilities(NamedTuple):
 
     @property
     def transport(self) -> str:
-        """How the browser reaches it."""
+        """The transport that browsers report."""
         return _TRANSPORTS[self.attachment]
 
     @property
-    def bits(self) -> int:
-        """A sum of enum hidlog_client_ability."""
+    def to_bits(self) -> int:
+        """Flags of enum hidlog_client_ability."""
         kind = _PLATFORM if self.attachment == "platform" else 0
         return _VERIFICATION[self.verification] | kind | _RESIDENT_KEY * self.has_resident_key
 
@@ -100,17 +100,17 @@ class _Report(ctypes.Structure):
 
 
 _NUMBER, _SIZE, _BYTES, _OUT = ctypes.c_uint32, ctypes.c_size_t, ctypes.c_char_p, ctypes.c_void_p
-# Ceremony; options, mediation, origin and public suffix, each with its length; abilities.
+# Ceremony; options, mediation, origin and public suffix, each with its length; authenticator.
 _INPUTS = [_NUMBER, *[_BYTES, _SIZE] * 4, _NUMBER]
 _RESULTS = [_OUT, _OUT, _SIZE]
 
 
 @lru_cache(maxsize=None)
-def _functions() -> tuple[Any, Any]:
+def _load_functions() -> tuple[Any, Any]:
     """Returns the library's functions that write a request and a credential."""
-    library = core.library()
+    library = core.load_library()
     if not hasattr(library, "hidlog_client_request"):
-        raise MissingPart("this C library has no WebAuthn client: a browser needs libhidlog of this version")
+        raise MissingDependencyError("this libhidlog has no WebAuthn client; a browser needs libhidlog of this version")
     request, response = library.hidlog_client_request, library.hidlog_client_response
     request.argtypes, request.restype = [*_INPUTS, *_RESULTS], ctypes.c_int64
     response.argtypes, response.restype = [*_INPUTS, _BYTES, _SIZE, *_RESULTS], ctypes.c_int64
@@ -118,77 +118,78 @@ def _functions() -> tuple[Any, Any]:
 
 
 def _convert(value: object) -> Any:
-    """Returns a mapping as dict, for JSON. There is no JSON for another object."""
+    """Returns a mapping as dict, for JSON. Other objects have no JSON."""
     if isinstance(value, Mapping):
         return dict(value)
     raise WebAuthnTypeError(
-        f"{type(value).__name__} is no value of JSON; bytes are base64url there"
-        " (hidlog.webauthn_json.creation_options_json)"
+        f"{type(value).__name__} is not JSON; encode bytes as base64url" " (hidlog.webauthn_json.creation_options_json)"
     )
 
 
 _ENCODER = json.JSONEncoder(default=_convert, separators=(",", ":"), allow_nan=False, skipkeys=True)
 
 
-def json_of(options: object) -> bytes:
+def to_json(options: object) -> bytes:
     """Returns options as JSON in ASCII."""
     if not isinstance(options, Mapping):
-        raise WebAuthnTypeError(f"options have to be a dict of JSON, not {type(options).__name__}")
+        raise WebAuthnTypeError(f"options must be a dict, not {type(options).__name__}")
     try:
         return _ENCODER.encode(options).encode("ascii")
     except (ValueError, RecursionError) as error:
         if isinstance(error, HidlogError):
             raise
-        raise WebAuthnTypeError(f"options contain a cycle, are nested too deeply, or have no JSON: {error}") from None
+        raise WebAuthnTypeError(f"options contain a cycle, are nested too deeply, or are not JSON: {error}") from None
 
 
-class Call:
-    """A call of navigator.credentials, "create" or "get", at an origin."""
+class ClientCall:
+    """A call of navigator.credentials.create or .get at an origin."""
 
     __slots__ = ("_inputs",)
 
-    def __init__(self, ceremony: str, options: object, mediation: object, origin: str, abilities: Abilities):
+    def __init__(
+        self, ceremony: str, options: object, mediation: object, origin: str, authenticator: AuthenticatorOptions
+    ):
         if not isinstance(mediation, str):
-            raise WebAuthnTypeError(f"mediation is {shown(mediation)}; it has to be a str, such as 'optional'")
-        written, word, place = json_of(options), mediation.encode(errors="replace"), origin.encode()
-        texts = (written, len(written), word, len(word), place, len(place), *_NO_SUFFIX)
-        self._inputs = (_CEREMONIES[ceremony], *texts, abilities.bits)
+            raise WebAuthnTypeError(f"mediation is {describe(mediation)}; it must be a str, such as 'optional'")
+        written, word, place = to_json(options), mediation.encode(errors="replace"), origin.encode()
+        texts = (written, len(written), word, len(word), place, len(place), *_EMPTY_SUFFIX)
+        self._inputs = (_CEREMONIES[ceremony], *texts, authenticator.to_bits)
 
     def request(self) -> Request:
-        """Checks the options, and returns the request for the key. A refusal is the DOM's error."""
+        """Checks the options, and returns the request for the key. Invalid options raise the DOM's error."""
         report, out = _Report(), _RequestBytes()
-        length = _functions()[0](*self._inputs, ctypes.byref(report), out, LONGEST_MESSAGE)
+        length = _load_functions()[0](*self._inputs, ctypes.byref(report), out, LONGEST_MESSAGE)
         if length < 0:
-            raise _error_of(length, report, out)
+            raise _make_error(length, report, out)
         return Request(ctypes.string_at(out, length), report.timeout_ms, report.is_verified == 1)
 
     def response(self, response: bytes) -> Json:
-        """Returns the credential that the key's response, a status and CBOR, makes."""
+        """Returns the credential from the key's response, which is a status and CBOR."""
         report, out = _Report(), _CredentialBytes()
         more = (response, len(response), ctypes.byref(report), out, _CREDENTIAL_CAPACITY)
-        length = _functions()[1](*self._inputs, *more)
+        length = _load_functions()[1](*self._inputs, *more)
         if length < 0:
-            raise _error_of(length, report, out)
+            raise _make_error(length, report, out)
         made: Json = json.loads(ctypes.string_at(out, length))
         return made
 
-    def refusal(self, status: int, cause: str = "") -> WebAuthnError:
-        """Returns what a page sees of a status other than 0, and why the key answers it."""
+    def make_error(self, status: int, cause: str = "") -> WebAuthnError:
+        """Returns the error that a page gets for a status other than 0, with the key's cause."""
         try:
             self.response(bytes([status]))
         except WebAuthnError as error:
-            return type(error)(status_text(status) + (f": {cause}" if cause else ""), status)
+            return type(error)(describe_status(status) + (f": {cause}" if cause else ""), status)
         raise HidlogError(f"status {status} makes a credential")
 
 
-def _error_of(number: int, report: _Report, out: Any) -> HidlogError:
-    """Returns the error of a call that failed, with the member of the options at fault."""
+def _make_error(number: int, report: _Report, out: Any) -> HidlogError:
+    """Returns the error of a failed call, with the invalid member of the options."""
     kind = _ERRORS.get(number)
     if kind is None:
         return HidlogError(f"hidlog_client failed with {number}")
     text = ctypes.string_at(out, report.member_len + report.reason_len)
     member, reason = text[: report.member_len].decode(), text[report.member_len :].decode()
     if member == "origin":
-        # The package takes an origin of any host; browsers have no WebAuthn at one that the client doesn't know.
+        # Browser accepts any origin. At one that the client rejects, browsers have no WebAuthn.
         kind = SecurityError
     return kind(f"{member}: {reason}" if member else reason)

@@ -1,7 +1,7 @@
-"""What a page's call of navigator.credentials would be rejected with, by the names of the DOM.
+"""The exceptions with which navigator.credentials rejects a page's call, by their DOM names.
 
-Each is a WebAuthnError, and so a HidlogError. Those whose names Python has for itself begin with WebAuthn here; their
-member `name` is the DOM's.
+Each is a WebAuthnError, and thus a HidlogError. Names that are also Python's start with WebAuthn; `name` is the DOM's
+name.
 """
 
 from __future__ import annotations
@@ -11,10 +11,10 @@ from .standard import STATUS_NAMES
 
 
 class WebAuthnError(HidlogError):
-    """An error of a registration or of a sign-in.
+    """An error of a registration or a sign-in.
 
-    name     the name of the DOM's error, such as NotAllowedError.
-    status   the status of CTAP2 that the key answered, or None where it wasn't asked.
+    name     the DOM's name, such as NotAllowedError.
+    status   the CTAP status of the key's response, or None if there was no response.
     """
 
     name = "WebAuthnError"
@@ -25,72 +25,72 @@ class WebAuthnError(HidlogError):
 
 
 class NotAllowedError(WebAuthnError):
-    """The user or the key refused, or nothing was done in time."""
+    """The user or the key refused, or the request timed out."""
 
     name = "NotAllowedError"
 
 
 class InvalidStateError(WebAuthnError):
-    """The key holds a credential of the exclude list."""
+    """The key has a credential of the exclude list."""
 
     name = "InvalidStateError"
 
 
 class SecurityError(WebAuthnError):
-    """The origin may not use this RP id."""
+    """The origin may not use this RP ID."""
 
     name = "SecurityError"
 
 
 class NotSupportedError(WebAuthnError):
-    """The options ask for what browsers don't have."""
+    """The options ask for something that browsers do not support."""
 
     name = "NotSupportedError"
 
 
 class AbortError(WebAuthnError):
-    """The signal ended the call."""
+    """The signal cancelled the call."""
 
     name = "AbortError"
 
 
 class EncodingError(WebAuthnError, ArgumentError):
-    """A text isn't base64url without padding."""
+    """A string is not base64url without padding."""
 
     name = "EncodingError"
 
 
 class WebAuthnTypeError(WebAuthnError, ArgumentTypeError):
-    """An option is missing, or of another type."""
+    """An option is missing or has the wrong type."""
 
     name = "TypeError"
 
 
 class WebAuthnRangeError(WebAuthnError, ArgumentError):
-    """A list is too long, or there is no such account."""
+    """A list is too long, or an account does not exist."""
 
     name = "RangeError"
 
 
 class WebAuthnSyntaxError(WebAuthnError, ArgumentError):
-    """A text of an extension can't be read."""
+    """A string in an extension is malformed."""
 
     name = "SyntaxError"
 
 
-# CTAP 2.1, "Status codes", in words for readers of a failed test.
-_CAUSES = {
-    0x19: "it holds a credential of excludeCredentials",
-    0x26: "none of pubKeyCredParams is ES256, the key's one algorithm",
-    0x27: "the user denied it, or was too slow",
-    0x28: "the key holds as many credentials as it has capacity for",
+# Causes of status codes (CTAP 2.1, section 8.2), if the key reports none.
+_STATUS_CAUSES = {
+    0x19: "it has a credential of excludeCredentials",
+    0x26: "pubKeyCredParams does not include ES256, the key's only algorithm",
+    0x27: "the user denied it, or did not reply in time",
+    0x28: "the key is full",
     0x2D: "it was cancelled",
-    0x2E: "the key holds no credential for this",
-    0x2F: "the user was too slow",
+    0x2E: "the key has no matching credential",
+    0x2F: "the user did not reply in time",
 }
 
 
-def status_text(status: int) -> str:
-    """Returns a status with its name, and with its cause where that is known."""
+def describe_status(status: int) -> str:
+    """Returns a status with its name, and its cause if known."""
     named = f"0x{status:02X} {STATUS_NAMES.get(status, '')}".rstrip()
-    return f"the key answered {named}" + (f": {_CAUSES[status]}" if status in _CAUSES else "")
+    return f"the key returned {named}" + (f": {_STATUS_CAUSES[status]}" if status in _STATUS_CAUSES else "")

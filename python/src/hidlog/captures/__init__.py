@@ -1,4 +1,4 @@
-"""Captures of real keys, read and written: `hidlog import` and `hidlog export`, and the same as functions.
+"""Reads and writes captures of real keys, as `hidlog import` and `hidlog export` do.
 
     for stream in read("capture.pcapng"):
         print(stream.name, stream.log)
@@ -9,20 +9,20 @@ from __future__ import annotations
 from pathlib import Path
 from typing import NamedTuple
 
-from .exporting import pcapng_of
-from .reading import read_capture
+from .pcapng_writer import to_pcapng
+from .reader import read_capture
 from .source import CaptureError
-from .writing import log_of
+from .log_writer import write_log
 
-__all__ = ["CaptureError", "Recorded", "pcapng_of", "read"]
+__all__ = ["CaptureError", "Recorded", "to_pcapng", "read"]
 
 
 class Recorded(NamedTuple):
-    """What was recorded of one key.
+    """The session log of one key.
 
-    name    which key of the capture it is.
-    log     the session log.
-    notes   what the capture doesn't have.
+    name    name of the key in the capture.
+    log     session log.
+    notes   what the capture lacks.
     """
 
     name: str
@@ -30,12 +30,18 @@ class Recorded(NamedTuple):
     notes: list[str]
 
 
-def read(capture: bytes | str | Path, *, moments: bool = False, derive: bool = True) -> list[Recorded]:
-    """Returns what a capture (its bytes, or the path of its file) has of each key."""
+def read(capture: bytes | str | Path, *, ticks: bool = False, derive: bool = True) -> list[Recorded]:
+    """Returns the session log of each key in a capture, from its bytes or the path of a file.
+
+    ticks    add a tick before each packet the key sent later.
+    derive   infer replies (presence, key pairs, signatures) from packets.
+    """
     found = read_capture(capture)
     return [
         Recorded(
-            it.name, log_of(it, found.form, found.notes, moments=moments, derive=derive), [*it.notes, *found.notes]
+            stream.name,
+            write_log(stream, found.form, found.notes, ticks=ticks, derive=derive),
+            [*stream.notes, *found.notes],
         )
-        for it in found.streams
+        for stream in found.streams
     ]

@@ -1,10 +1,10 @@
--- CTAPHID and CTAP2 in Wireshark and tshark: messages of CTAP 2.1 over USB HID (sections 6, 8 and 11.2), joined from
--- their packets, with the standard's names. For one run:
+-- A CTAPHID and CTAP2 dissector for Wireshark and tshark. It reassembles messages of CTAP 2.1 over USB HID (sections 6,
+-- 8 and 11.2) and names their members. To use it once:
 --
 --     wireshark -X lua_script:ctaphid.lua capture.pcapng
 --
--- For all: copy this file to the folder "Personal Lua Plugins" that Help, About Wireshark, Folders names. Filters are
--- ctaphid.command, ctaphid.error, ctap2.request, ctap2.status, ctap2.item and so on.
+-- To install it, copy this file to the "Personal Lua Plugins" folder (Help > About Wireshark > Folders). Display
+-- filters are ctaphid.command, ctaphid.error, ctap2.request, ctap2.status, ctap2.item and so on.
 
 local ctaphid = Proto("ctaphid", "CTAP over USB HID")
 local ctap2 = Proto("ctap2", "Client to Authenticator Protocol 2")
@@ -98,7 +98,7 @@ local STATUSES = {
   [0x40] = "CTAP2_ERR_UNAUTHORIZED_PERMISSION",
   [0x7f] = "CTAP1_ERR_OTHER",
 }
-local ASKED = {
+local REQUEST_MEMBERS = {
   [0x01] = { [1] = "clientDataHash", [2] = "rp", [3] = "user", [4] = "pubKeyCredParams", [5] = "excludeList", [6] = "extensions", [7] = "options", [8] = "pinUvAuthParam", [9] = "pinUvAuthProtocol", [10] = "enterpriseAttestation" },
   [0x02] = { [1] = "rpId", [2] = "clientDataHash", [3] = "allowList", [4] = "extensions", [5] = "options", [6] = "pinUvAuthParam", [7] = "pinUvAuthProtocol" },
   [0x06] = { [1] = "pinUvAuthProtocol", [2] = "subCommand", [3] = "keyAgreement", [4] = "pinUvAuthParam", [5] = "newPinEnc", [6] = "pinHashEnc", [9] = "permissions", [10] = "rpId" },
@@ -107,7 +107,7 @@ local ASKED = {
   [0x0c] = { [1] = "get", [2] = "set", [3] = "offset", [4] = "length", [5] = "pinUvAuthParam", [6] = "pinUvAuthProtocol" },
   [0x0d] = { [1] = "subCommand", [2] = "subCommandParams", [3] = "pinUvAuthProtocol", [4] = "pinUvAuthParam" },
 }
-local ANSWERED = {
+local RESPONSE_MEMBERS = {
   [0x01] = { [1] = "fmt", [2] = "authData", [3] = "attStmt", [4] = "epAtt", [5] = "largeBlobKey" },
   [0x02] = { [1] = "credential", [2] = "authData", [3] = "signature", [4] = "user", [5] = "numberOfCredentials", [6] = "userSelected", [7] = "largeBlobKey" },
   [0x08] = { [1] = "credential", [2] = "authData", [3] = "signature", [4] = "user", [5] = "numberOfCredentials", [6] = "userSelected", [7] = "largeBlobKey" },
@@ -129,14 +129,14 @@ f.padding = ProtoField.bytes("ctaphid.padding", "Padding")
 f.error = ProtoField.uint8("ctaphid.error", "Error", base.HEX, ERRORS)
 f.keepalive = ProtoField.uint8("ctaphid.keepalive", "Status", base.HEX, KEEPALIVES)
 f.nonce = ProtoField.bytes("ctaphid.nonce", "Nonce")
-f.given = ProtoField.uint32("ctaphid.given", "Channel that is given", base.HEX)
+f.given = ProtoField.uint32("ctaphid.given", "Assigned channel", base.HEX)
 f.version = ProtoField.uint8("ctaphid.version", "Protocol version")
 f.device = ProtoField.string("ctaphid.device", "Device version")
 f.capabilities = ProtoField.uint8("ctaphid.capabilities", "Capabilities", base.HEX)
 local g = ctap2.fields
 g.request = ProtoField.uint8("ctap2.request", "Request", base.HEX, REQUESTS)
 g.status = ProtoField.uint8("ctap2.status", "Status", base.HEX, STATUSES)
-g.answers = ProtoField.uint8("ctap2.answers", "Answer to", base.HEX, REQUESTS)
+g.answers = ProtoField.uint8("ctap2.answers", "Response to", base.HEX, REQUESTS)
 g.item = ProtoField.string("ctap2.item", "CBOR")
 g.member = ProtoField.string("ctap2.member", "Member")
 g.part = ProtoField.string("ctap2.part", "Part")
@@ -146,27 +146,27 @@ g.counter = ProtoField.uint32("ctap2.signCount", "signCount")
 g.aaguid = ProtoField.bytes("ctap2.aaguid", "aaguid")
 g.id = ProtoField.bytes("ctap2.credentialId", "credentialId")
 local group, severity = expert.group, expert.severity
-local said_error = ProtoExpert.new("ctaphid.expert.error", "ERROR", group.RESPONSE_CODE, severity.WARN)
-local said_order = ProtoExpert.new("ctaphid.expert.order", "Packet out of order", group.SEQUENCE, severity.WARN)
-local said_padding = ProtoExpert.new("ctaphid.expert.padding", "Padding", group.PROTOCOL, severity.NOTE)
-ctaphid.experts = { said_error, said_order, said_padding }
-local said_status = ProtoExpert.new("ctap2.expert.status", "Status", group.RESPONSE_CODE, severity.NOTE)
-local said_fault = ProtoExpert.new("ctap2.expert.cbor", "CBOR", group.MALFORMED, severity.ERROR)
-ctap2.experts = { said_status, said_fault }
+local error_info = ProtoExpert.new("ctaphid.expert.error", "ERROR", group.RESPONSE_CODE, severity.WARN)
+local order_info = ProtoExpert.new("ctaphid.expert.order", "Packet out of order", group.SEQUENCE, severity.WARN)
+local padding_info = ProtoExpert.new("ctaphid.expert.padding", "Padding", group.PROTOCOL, severity.NOTE)
+ctaphid.experts = { error_info, order_info, padding_info }
+local status_info = ProtoExpert.new("ctap2.expert.status", "Status", group.RESPONSE_CODE, severity.NOTE)
+local cbor_info = ProtoExpert.new("ctap2.expert.cbor", "CBOR", group.MALFORMED, severity.ERROR)
+ctap2.experts = { status_info, cbor_info }
 
--- CTAP2 canonical CBOR (section 8): an item is read into a table with its text, or a fault is raised.
-local MOST_LEVELS = 4
+-- Reader of CTAP2 canonical CBOR (section 8). Errors are tables of a message and a 1-based index.
+local MAX_DEPTH = 4
 
-local function text_of(bytes)
+local function to_hex(bytes)
   return (bytes:gsub(".", function(c) return string.format("%02x", c:byte()) end))
 end
 
-local function decimal(high, low)
+local function to_decimal(high, low)
   if high < 0x200000 then return string.format("%.0f", high * 4294967296 + low) end
   return tostring(UInt64.new(low, high))
 end
 
-local function one_more(digits)
+local function increment(digits)
   local place = #digits
   while place > 0 and digits:sub(place, place) == "9" do place = place - 1 end
   local zeros = string.rep("0", #digits - place)
@@ -174,22 +174,22 @@ local function one_more(digits)
   return digits:sub(1, place - 1) .. string.char(digits:byte(place) + 1) .. zeros
 end
 
-local HIDDEN = {
+local ESCAPED_RANGES = {
   { 0x00, 0x1f }, { 0x7f, 0x9f }, { 0xad, 0xad }, { 0x61c, 0x61c }, { 0x200b, 0x200f }, { 0x2028, 0x202e },
   { 0x2060, 0x206f }, { 0xfeff, 0xfeff }, { 0xfff9, 0xfffb },
 }
 
-local function shown(point, written)
-  for _, range in ipairs(HIDDEN) do
+local function escape(point, utf8)
+  for _, range in ipairs(ESCAPED_RANGES) do
     if point >= range[1] and point <= range[2] then return string.format("\\u%04x", point) end
   end
   if point >= 0xe0000 and point <= 0xe007f then return string.format("\\u{%06x}", point) end
-  if written == '"' or written == "\\" then return "\\" .. written end
-  return written
+  if utf8 == '"' or utf8 == "\\" then return "\\" .. utf8 end
+  return utf8
 end
 
--- Returns a text as it is shown, or nothing where it isn't UTF-8.
-local function quoted(bytes)
+-- Returns the text as a quoted literal, or nil if it isn't valid UTF-8.
+local function quote(bytes)
   local parts, place = {}, 1
   while place <= #bytes do
     local first = bytes:byte(place)
@@ -204,20 +204,20 @@ local function quoted(bytes)
     end
     local least = ({ [0] = 0, 0x80, 0x800, 0x10000 })[more]
     if point < least or point > 0x10ffff or (point >= 0xd800 and point <= 0xdfff) then return nil end
-    parts[#parts + 1] = shown(point, bytes:sub(place, place + more))
+    parts[#parts + 1] = escape(point, bytes:sub(place, place + more))
     place = place + more + 1
   end
   return '"' .. table.concat(parts) .. '"'
 end
 
-local function head(bytes, place)
-  if place > #bytes then error({ "the item ends early", place }) end
+local function read_head(bytes, place)
+  if place > #bytes then error({ "truncated item", place }) end
   local first = bytes:byte(place)
   local major, info = math.floor(first / 32), first % 32
   if info < 24 then return major, info, 0, info, place + 1 end
-  if info > 27 then error({ "a length that is reserved or indefinite", place }) end
+  if info > 27 then error({ "reserved or indefinite length", place }) end
   local size = 2 ^ (info - 24)
-  if place + size > #bytes then error({ "the item ends early", #bytes + 1 }) end
+  if place + size > #bytes then error({ "truncated item", #bytes + 1 }) end
   local high, low = 0, 0
   for at = place + 1, place + size do
     high = (high * 256 + math.floor(low / 16777216)) % 4294967296
@@ -225,18 +225,18 @@ local function head(bytes, place)
   end
   local is_short = info == 24 and low < 24 or info == 25 and low < 256 or info == 26 and low < 65536
     or info == 27 and high == 0
-  if major < 7 and is_short then error({ "a number or a length that has a shorter encoding", place }) end
+  if major < 7 and is_short then error({ "number or length not in its shortest encoding", place }) end
   return major, info, high, low, place + 1 + size
 end
 
 local read
 
 local function read_bytes(bytes, place, major, high, length, start)
-  if high > 0 or place + length - 1 > #bytes then error({ "the item ends early", #bytes + 1 }) end
+  if high > 0 or place + length - 1 > #bytes then error({ "truncated item", #bytes + 1 }) end
   local value = bytes:sub(place, place + length - 1)
-  local written = major == 2 and "h'" .. text_of(value) .. "'" or quoted(value)
-  if not written then error({ "a text that isn't UTF-8", start }) end
-  return { kind = major, from = start, to = place + length, text = written, bytes = value }
+  local text = major == 2 and "h'" .. to_hex(value) .. "'" or quote(value)
+  if not text then error({ "text is not valid UTF-8", start }) end
+  return { kind = major, from = start, to = place + length, text = text, bytes = value }
 end
 
 local function read_list(bytes, place, count, level, start)
@@ -249,104 +249,104 @@ local function read_list(bytes, place, count, level, start)
 end
 
 local function read_map(bytes, place, count, level, start)
-  local found, texts, before = {}, {}, nil
+  local found, texts, previous = {}, {}, nil
   for _ = 1, count do
     local key = read(bytes, place, level + 1)
-    local written = bytes:sub(place, key.to - 1)
-    if key.kind > 3 then error({ "a map's key that is no integer, byte string or text", place }) end
-    if before and not (before < written) then error({ "a map's key that isn't above the one before it", place }) end
+    local encoded = bytes:sub(place, key.to - 1)
+    if key.kind > 3 then error({ "map key is not an integer, byte string or text", place }) end
+    if previous and not (previous < encoded) then error({ "map keys are not in ascending order", place }) end
     local value = read(bytes, key.to, level + 1)
-    before, place = written, value.to
+    previous, place = encoded, value.to
     found[#found + 1], texts[#texts + 1] = { key = key, value = value }, key.text .. ": " .. value.text
   end
   return { kind = 5, from = start, to = place, text = "{" .. table.concat(texts, ", ") .. "}", pairs = found }
 end
 
 read = function(bytes, start, level)
-  local major, info, high, low, place = head(bytes, start)
-  if (major == 4 or major == 5) and level > MOST_LEVELS then
-    error({ "an array or a map within four others", start })
+  local major, info, high, low, place = read_head(bytes, start)
+  if (major == 4 or major == 5) and level > MAX_DEPTH then
+    error({ "more than 4 nested arrays and maps", start })
   end
-  if major == 0 then return { kind = 0, from = start, to = place, text = decimal(high, low) } end
-  if major == 1 then return { kind = 1, from = start, to = place, text = "-" .. one_more(decimal(high, low)) } end
+  if major == 0 then return { kind = 0, from = start, to = place, text = to_decimal(high, low) } end
+  if major == 1 then return { kind = 1, from = start, to = place, text = "-" .. increment(to_decimal(high, low)) } end
   if major == 2 or major == 3 then return read_bytes(bytes, place, major, high, low, start) end
-  if (major == 4 or major == 5) and (high > 0 or low > #bytes) then error({ "the item ends early", #bytes + 1 }) end
+  if (major == 4 or major == 5) and (high > 0 or low > #bytes) then error({ "truncated item", #bytes + 1 }) end
   if major == 4 then return read_list(bytes, place, low, level, start) end
   if major == 5 then return read_map(bytes, place, low, level, start) end
   local words = { [20] = "false", [21] = "true", [22] = "null" }
   if major == 7 and words[info] then return { kind = 7, from = start, to = place, text = words[info] } end
-  error({ "a tag, a float or a simple value", start })
+  error({ "unsupported tag, float or simple value", start })
 end
 
--- Returns the item that bytes are, or nothing, what is wrong, and where.
-local function item_of(bytes)
+-- Returns the only item in `bytes`, or nil, an error message and its offset.
+local function decode_item(bytes)
   local done, found = pcall(read, bytes, 1, 1)
   if not done then
     if type(found) ~= "table" then return nil, tostring(found), 0 end
     return nil, found[1], found[2] - 1
   end
-  if found.to <= #bytes then return nil, "bytes after the item", found.to - 1 end
+  if found.to <= #bytes then return nil, "trailing bytes", found.to - 1 end
   return found
 end
 
--- What is open by device, way and channel, and what was found in each frame. Frames are read in order once.
-local open, asked, found_in = {}, {}, {}
+-- Incomplete messages by device, direction and channel; pending requests by device and channel; results by frame.
+-- Frames are read in order on the first pass.
+local incomplete, pending, results = {}, {}, {}
 
 function ctaphid.init()
-  open, asked, found_in = {}, {}, {}
+  incomplete, pending, results = {}, {}, {}
 end
 
--- Keeps what a channel asked, an entry for each message that a host began. An answer is one to the last request that
--- wasn't refused.
-local function remember(channel, message)
-  local waiting = asked[channel] or {}
-  asked[channel] = waiting
+-- Matches a response to its request. `pending` has an entry for each message that the host began on a channel; a
+-- response is to the last request that was not rejected with an error.
+local function match_response(channel, message)
+  local waiting = pending[channel] or {}
+  pending[channel] = waiting
   if message.command == CBOR then
     for place = #waiting, 1, -1 do
       if waiting[place].request then
-        message.answers = waiting[place].request
+        message.response_to = waiting[place].request
         break
       end
     end
-    asked[channel] = {}
+    pending[channel] = {}
   elseif message.command == INIT then
-    asked[channel] = {}
+    pending[channel] = {}
   elseif message.command ~= KEEPALIVE then
     table.remove(waiting)
   end
 end
 
--- Takes a packet: returns its message where it is the last one, and what is wrong with it.
-local function take(key, way, data, number)
+-- Adds a packet to its message. Returns the message if it is complete, or nil and an error, if any.
+local function add_packet(key, direction, data, number)
   local channel, first = data:sub(1, 4), data:byte(5)
-  local place = key .. way .. channel
-  local part, wrong = open[place], nil
+  local id = key .. direction .. channel
+  local part = incomplete[id]
   if first >= 0x80 then
     local command, length = first - 0x80, data:byte(6) * 256 + data:byte(7)
-    if way == ">" and command == 0x11 then return { command = command, bytes = "", number = number } end
-    part = { command = command, length = length, bytes = data:sub(8), due = 0, entry = {} }
-    if way == ">" then
-      asked[key .. channel] = asked[key .. channel] or {}
-      table.insert(asked[key .. channel], part.entry)
+    if direction == ">" and command == 0x11 then return { command = command, bytes = "", number = number } end
+    part = { command = command, length = length, bytes = data:sub(8), sequence = 0, entry = {} }
+    if direction == ">" then
+      pending[key .. channel] = pending[key .. channel] or {}
+      table.insert(pending[key .. channel], part.entry)
     end
   elseif not part then
-    return nil, "no message is open on this channel"
-  elseif first ~= part.due then
-    wrong = string.format("sequence number %d in place of %d", first, part.due)
-    if way == "<" then open[place] = nil end
-    return nil, wrong
+    return nil, "continuation packet outside any transaction"
+  elseif first ~= part.sequence then
+    if direction == "<" then incomplete[id] = nil end
+    return nil, string.format("expected sequence number %d, got %d", part.sequence, first)
   else
-    part.bytes, part.due = part.bytes .. data:sub(6), part.due + 1
+    part.bytes, part.sequence = part.bytes .. data:sub(6), part.sequence + 1
   end
   if #part.bytes < part.length then
-    open[place] = part
-    return nil, part.length > 7609 and "a length above 7609" or nil
+    incomplete[id] = part
+    return nil, part.length > 7609 and "message length above 7609" or nil
   end
-  open[place] = nil
+  incomplete[id] = nil
   local bytes, rest = part.bytes:sub(1, part.length), part.bytes:sub(part.length + 1)
   local message = { command = part.command, bytes = bytes, rest = rest }
-  if way == "<" then
-    remember(key .. channel, message)
+  if direction == "<" then
+    match_response(key .. channel, message)
   elseif message.command == CBOR and #message.bytes > 0 then
     part.entry.request = message.bytes:byte(1)
   end
@@ -362,7 +362,7 @@ local function add_authenticator_data(tree, tvb, from, bytes)
   end
   table.sort(names, function(one, other) return one[1] < other[1] end)
   local words = {}
-  for _, it in ipairs(names) do words[#words + 1] = it[2] end
+  for _, name in ipairs(names) do words[#words + 1] = name[2] end
   tree:add(g.flags, tvb(from + 32, 1), string.format("%02x %s", flags, table.concat(words, " ")))
   tree:add(g.counter, tvb(from + 33, 4))
   if math.floor(flags / 64) % 2 == 0 or #bytes < 55 then return end
@@ -372,53 +372,53 @@ local function add_authenticator_data(tree, tvb, from, bytes)
 end
 
 local function add_parts(tree, tvb, item, offset)
-  for number, it in ipairs(item.items or item.pairs or {}) do
-    local value = it.value or it
-    local label = it.key and it.key.text or tostring(number - 1)
+  for number, entry in ipairs(item.items or item.pairs or {}) do
+    local value = entry.value or entry
+    local label = entry.key and entry.key.text or tostring(number - 1)
     local node = tree:add(g.part, tvb(offset + value.from - 1, value.to - value.from), label .. ": " .. value.text)
     add_parts(node, tvb, value, offset)
   end
 end
 
--- Adds an item behind a message's first byte, its members with their names.
+-- Adds the item after the message's first byte and names its members.
 local function add_item(tree, tvb, bytes, names)
   if #bytes < 2 then return end
-  local item, fault, at = item_of(bytes:sub(2))
+  local item, message, offset = decode_item(bytes:sub(2))
   if not item then
-    tree:add_tvb_expert_info(said_fault, tvb(1), string.format("no canonical CBOR: %s, at %d", fault, at))
+    tree:add_tvb_expert_info(cbor_info, tvb(1), string.format("not canonical CBOR: %s at %d", message, offset))
     return
   end
   local node = tree:add(g.item, tvb(1), item.text)
-  for _, it in ipairs(item.pairs or {}) do
-    local name = it.key.kind == 0 and names and names[tonumber(it.key.text)] or nil
-    local label = it.key.text .. (name and " " .. name or "") .. ": " .. it.value.text
-    local member = node:add(g.member, tvb(it.value.from, it.value.to - it.value.from), label)
-    add_parts(member, tvb, it.value, 1)
-    if name == "authData" and it.value.kind == 2 then
-      add_authenticator_data(member, tvb, it.value.to - #it.value.bytes, it.value.bytes)
+  for _, pair in ipairs(item.pairs or {}) do
+    local name = pair.key.kind == 0 and names and names[tonumber(pair.key.text)] or nil
+    local label = pair.key.text .. (name and " " .. name or "") .. ": " .. pair.value.text
+    local member = node:add(g.member, tvb(pair.value.from, pair.value.to - pair.value.from), label)
+    add_parts(member, tvb, pair.value, 1)
+    if name == "authData" and pair.value.kind == 2 then
+      add_authenticator_data(member, tvb, pair.value.to - #pair.value.bytes, pair.value.bytes)
     end
   end
 end
 
-local function add_message(tree, message, way)
+local function add_message(tree, message, direction)
   local bytes = message.bytes
   if message.command ~= CBOR or #bytes == 0 then return "" end
   local tvb = ByteArray.new(bytes, true):tvb("CTAP2 message")
   local node = tree:add(ctap2, tvb())
   local first = bytes:byte(1)
-  if way == ">" then
+  if direction == ">" then
     node:add(g.request, tvb(0, 1))
-    add_item(node, tvb, bytes, ASKED[first])
+    add_item(node, tvb, bytes, REQUEST_MEMBERS[first])
     return " " .. (REQUESTS[first] or string.format("request %02x", first))
   end
   node:add(g.status, tvb(0, 1))
-  if message.answers then node:add(g.answers, message.answers):set_generated() end
-  if first ~= 0 then node:add_proto_expert_info(said_status, STATUSES[first] or string.format("status %02x", first)) end
-  add_item(node, tvb, bytes, message.answers and ANSWERED[message.answers])
+  if message.response_to then node:add(g.answers, message.response_to):set_generated() end
+  if first ~= 0 then node:add_proto_expert_info(status_info, STATUSES[first] or string.format("status %02x", first)) end
+  add_item(node, tvb, bytes, message.response_to and RESPONSE_MEMBERS[message.response_to])
   return " " .. (STATUSES[first] or string.format("status %02x", first))
 end
 
-local function add_greeting(tree, range, length)
+local function add_init(tree, range, length)
   if length >= 8 then tree:add(f.nonce, range(7, 8)) end
   if length < 17 then return end
   tree:add(f.given, range(15, 4))
@@ -428,23 +428,23 @@ local function add_greeting(tree, range, length)
   tree:add(f.capabilities, range(23, 1))
 end
 
-local function add_start(tree, range, way)
+local function add_initialization_packet(tree, range, direction)
   local command, length = range(4, 1):uint() - 0x80, range(5, 2):uint()
   tree:add(f.command, range(4, 1), command)
   tree:add(f.length, range(5, 2))
-  local kept = math.min(length, 57)
-  if kept > 0 then tree:add(f.data, range(7, kept)) end
+  local count = math.min(length, 57)
+  if count > 0 then tree:add(f.data, range(7, count)) end
   local info = string.format("%s %d", COMMANDS[command] or string.format("0x%02x", command), length)
-  if way == "<" and command == ERROR then
+  if direction == "<" and command == ERROR then
     tree:add(f.error, range(7, 1))
     local name = ERRORS[range(7, 1):uint()] or string.format("%02x", range(7, 1):uint())
-    tree:add_proto_expert_info(said_error, name)
+    tree:add_proto_expert_info(error_info, name)
     info = info .. " " .. name
-  elseif way == "<" and command == KEEPALIVE then
+  elseif direction == "<" and command == KEEPALIVE then
     tree:add(f.keepalive, range(7, 1))
     info = info .. " " .. (KEEPALIVES[range(7, 1):uint()] or string.format("%02x", range(7, 1):uint()))
   elseif command == INIT then
-    add_greeting(tree, range, length)
+    add_init(tree, range, length)
   end
   return info
 end
@@ -460,44 +460,44 @@ end
 
 local hid_data, capture_data = Field.new("usbhid.data"), Field.new("usb.capdata")
 local endpoint = Field.new("usb.endpoint_address")
-local of_device = { Field.new("usb.bus_id"), Field.new("usb.device_address"), Field.new("frame.interface_id") }
--- Wireshark has sections of a capture since 4.0.
+local device_fields = { Field.new("usb.bus_id"), Field.new("usb.device_address"), Field.new("frame.interface_id") }
+-- frame.section_number needs Wireshark 4.0.
 local has_sections, section = pcall(Field.new, "frame.section_number")
-if has_sections then of_device[4] = section end
+if has_sections then device_fields[4] = section end
 
-local function looks_like_it(range)
+local function is_ctaphid(range)
   return range:len() == 64 and range(0, 4):uint() ~= 0
 end
 
 function ctaphid.dissector(_, pinfo, tree)
   local source = hid_data() or capture_data()
   local from = endpoint()
-  if not source or not from or not looks_like_it(source.range) then return end
-  local range, way = source.range, from.value >= 0x80 and "<" or ">"
+  if not source or not from or not is_ctaphid(source.range) then return end
+  local range, direction = source.range, from.value >= 0x80 and "<" or ">"
   if not pinfo.visited then
-    local message, wrong = take(key_of(of_device), way, range:bytes():raw(), pinfo.number)
-    found_in[pinfo.number] = { message = message, wrong = wrong }
+    local message, problem = add_packet(key_of(device_fields), direction, range:bytes():raw(), pinfo.number)
+    results[pinfo.number] = { message = message, problem = problem }
   end
-  local found = found_in[pinfo.number] or {}
+  local result = results[pinfo.number] or {}
   local node = tree:add(ctaphid, range)
   node:add(f.channel, range(0, 4))
   local info
   if range(4, 1):uint() >= 0x80 then
-    info = add_start(node, range, way)
+    info = add_initialization_packet(node, range, direction)
   else
     node:add(f.sequence, range(4, 1))
     node:add(f.data, range(5))
     info = "+" .. range(4, 1):uint()
   end
-  if found.wrong then node:add_proto_expert_info(said_order, found.wrong) end
-  if found.message then
-    if found.message.rest and found.message.rest:find("[^%z]") then
-      node:add_proto_expert_info(said_padding, "bytes behind the message that aren't 0")
+  if result.problem then node:add_proto_expert_info(order_info, result.problem) end
+  if result.message then
+    if result.message.rest and result.message.rest:find("[^%z]") then
+      node:add_proto_expert_info(padding_info, "nonzero padding")
     end
-    info = info .. add_message(tree, found.message, way)
+    info = info .. add_message(tree, result.message, direction)
   end
   pinfo.cols.protocol = "CTAPHID"
-  pinfo.cols.info = string.format("%s %s %s", way, tostring(range(0, 4):bytes()):lower(), info)
+  pinfo.cols.info = string.format("%s %s %s", direction, tostring(range(0, 4):bytes()):lower(), info)
 end
 
 register_postdissector(ctaphid)

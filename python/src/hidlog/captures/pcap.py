@@ -1,4 +1,4 @@
-"""Reads pcap and pcapng files (draft-ietf-opsawg-pcap, draft-ietf-opsawg-pcapng), in both byte orders."""
+"""Reads pcap and pcapng files (draft-ietf-opsawg-pcap, draft-ietf-opsawg-pcapng) of both byte orders."""
 
 from __future__ import annotations
 
@@ -15,22 +15,22 @@ _PCAP = {
     b"\xa1\xb2\x3c\x4d": (">", 1),
 }
 _SECTION = b"\x0a\x0d\x0d\x0a"
-_ORDERS = {b"\x4d\x3c\x2b\x1a": "<", b"\x1a\x2b\x3c\x4d": ">"}
+_BYTE_ORDERS = {b"\x4d\x3c\x2b\x1a": "<", b"\x1a\x2b\x3c\x4d": ">"}
 _INTERFACE, _OLD_PACKET, _SIMPLE, _STATISTICS, _PACKET = 1, 2, 3, 5, 6
 _COMMENT, _NAME, _APPLICATION, _RESOLUTION, _DROPPED, _OFFSET = 1, 2, 4, 9, 4, 14
 _STATISTICS_DROPPED = {5: "interface", 7: "system"}
-_MOST_INTERFACES = 1024
+_MAX_INTERFACES = 1024
 
 
 class Frame(NamedTuple):
     """A recorded frame.
 
-    at          the moment in nanoseconds since 1970; None where the file has none.
-    interface   the number of the capture's interface, from 0.
-    link        the link type; of the bytes `order` is the byte order of the recorder.
-    data        the bytes that were kept, of `length` on the bus.
-    comments    the comments of the file.
-    writer      the program that wrote the section, where the file says it.
+    at          timestamp in nanoseconds since 1970, or None if the file has none.
+    interface   index of the capture interface, from 0.
+    link        link type. `order` is the recorder's byte order.
+    data        the recorded bytes, of `length` on the bus.
+    comments    comments in the file.
+    writer      program that wrote the section, if named.
     """
 
     at: int | None
@@ -51,14 +51,14 @@ class _Interface(NamedTuple):
 
 
 def is_capture(front: bytes) -> bool:
-    """Returns whether a file that begins so is a pcap or a pcapng file."""
+    """Returns whether the front of a file is that of a pcap or pcapng file."""
     return front[:4] in _PCAP or front[:4] == _SECTION
 
 
 def read_frames(source: Source) -> Iterator[Frame]:
-    """Returns the frames of a file."""
+    """Yields the frames of a file."""
     if source.peek(4) == _SECTION:
-        return _Sections(source).read()
+        return _PcapngReader(source).read()
     return _read_pcap(source)
 
 
@@ -70,122 +70,124 @@ def _read_pcap(source: Source) -> Iterator[Frame]:
     link = struct.unpack_from(order + "I", head, 20)[0] & 0xFFFF
     while head := source.read(16):
         if len(head) < 16:
-            source.note("the capture is cut off in its last record")
+            source.note("the capture is truncated in its last record")
             return
         seconds, fraction, kept, length = struct.unpack(order + "IIII", head)
         data = source.read(kept)
         if len(data) < kept:
-            source.note("the capture is cut off in its last record")
+            source.note("the capture is truncated in its last record")
             return
         yield Frame(seconds * 10**9 + fraction * unit, 0, link, order, data, length)
 
 
-class _Sections:
+class _PcapngReader:
     """Reads the blocks of a pcapng file."""
 
     def __init__(self, source: Source):
         self._source = source
         self._order = "<"
         self._writer = b""
-        # Interfaces are counted through all sections; a section's numbers begin at `first`.
+        # Interfaces of all sections; those of the current section start at `first`.
         self._interfaces: list[_Interface] = []
         self._first = 0
 
     def read(self) -> Iterator[Frame]:
-        """Returns the frames of all sections."""
+        """Yields the frames of all sections."""
         while head := self._source.read(8):
-            place = self._source.place - len(head)
+            offset = self._source.offset - len(head)
             if len(head) < 8:
-                return self._cut()
+                return self._report_truncated()
             if head[:4] == _SECTION:
                 order = self._source.peek(4)
-                if order not in _ORDERS:
-                    raise CaptureError(f"the capture is broken at byte {place}: a section without a byte order")
-                self._order = _ORDERS[order]
+                if order not in _BYTE_ORDERS:
+                    raise CaptureError(f"the capture is invalid at byte {offset}: a section without a byte order")
+                self._order = _BYTE_ORDERS[order]
             kind, length = struct.unpack(self._order + "II", head)
             if length < 12 or length % 4:
-                raise CaptureError(f"the capture is broken at byte {place}: a block of {length} bytes")
+                raise CaptureError(f"the capture is invalid at byte {offset}: a block of {length} bytes")
             body = self._source.read(length - 8)
             if len(body) < length - 8:
-                return self._cut()
-            frame = self._block(kind, body[:-4], place)
+                return self._report_truncated()
+            frame = self._read_block(kind, body[:-4], offset)
             if frame is not None:
                 yield frame
         return None
 
-    def _cut(self) -> None:
-        self._source.note("the capture is cut off in its last record")
+    def _report_truncated(self) -> None:
+        self._source.note("the capture is truncated in its last record")
 
-    def _unpack(self, form: str, body: bytes, place: int) -> tuple[int, ...]:
-        if len(body) < struct.calcsize("=" + form):
-            raise CaptureError(f"the capture is broken at byte {place}: a block of {len(body) + 12} bytes is too short")
-        return struct.unpack_from(self._order + form, body)
+    def _unpack(self, format_: str, body: bytes, offset: int) -> tuple[int, ...]:
+        if len(body) < struct.calcsize("=" + format_):
+            raise CaptureError(
+                f"the capture is invalid at byte {offset}: a block of {len(body) + 12} bytes is too short"
+            )
+        return struct.unpack_from(self._order + format_, body)
 
-    def _block(self, kind: int, body: bytes, place: int) -> Frame | None:
+    def _read_block(self, kind: int, body: bytes, offset: int) -> Frame | None:
         if kind == struct.unpack("<I", _SECTION)[0]:
-            self._unpack("IHHq", body, place)
+            self._unpack("IHHq", body, offset)
             self._first = len(self._interfaces)
-            self._writer = dict(self._options(body[16:])).get(_APPLICATION, b"")
+            self._writer = dict(self._read_options(body[16:])).get(_APPLICATION, b"")
         elif kind == _INTERFACE:
-            self._add_interface(body, place)
+            self._add_interface(body, offset)
         elif kind == _STATISTICS:
-            for code, value in self._options(body[12:]):
+            for code, value in self._read_options(body[12:]):
                 if code in _STATISTICS_DROPPED and len(value) == 8:
-                    self._lost(struct.unpack(self._order + "Q", value)[0])
+                    self._count_lost(struct.unpack(self._order + "Q", value)[0])
         elif kind == _PACKET:
-            number, high, low, kept, length = self._unpack("IIIII", body, place)
-            return self._frame(number, high << 32 | low, kept, length, body[20:], place)
+            number, high, low, kept, length = self._unpack("IIIII", body, offset)
+            return self._make_frame(number, high << 32 | low, kept, length, body[20:], offset)
         elif kind == _OLD_PACKET:
-            number, dropped, high, low, kept, length = self._unpack("HHIIII", body, place)
+            number, dropped, high, low, kept, length = self._unpack("HHIIII", body, offset)
             if dropped not in (0, 0xFFFF):
-                self._lost(dropped)
-            return self._frame(number, high << 32 | low, kept, length, body[20:], place)
+                self._count_lost(dropped)
+            return self._make_frame(number, high << 32 | low, kept, length, body[20:], offset)
         elif kind == _SIMPLE:
-            (length,) = self._unpack("I", body, place)
-            snap = self._interface(0, place).snap
-            return self._frame(0, None, min(length, snap or length, len(body) - 4), length, body[4:], place)
+            (length,) = self._unpack("I", body, offset)
+            snap = self._get_interface(0, offset).snap
+            return self._make_frame(0, None, min(length, snap or length, len(body) - 4), length, body[4:], offset)
         return None
 
-    def _lost(self, count: int) -> None:
+    def _count_lost(self, count: int) -> None:
         if count:
             self._source.note(f"the recorder lost {count} packets")
 
-    def _options(self, data: bytes) -> Iterator[tuple[int, bytes]]:
-        place = 0
-        while place + 4 <= len(data):
-            code, length = struct.unpack_from(self._order + "HH", data, place)
+    def _read_options(self, data: bytes) -> Iterator[tuple[int, bytes]]:
+        offset = 0
+        while offset + 4 <= len(data):
+            code, length = struct.unpack_from(self._order + "HH", data, offset)
             if code == 0:
                 return
-            yield code, data[place + 4 : place + 4 + length]
-            place += 4 + length + -length % 4
+            yield code, data[offset + 4 : offset + 4 + length]
+            offset += 4 + length + -length % 4
 
-    def _add_interface(self, body: bytes, place: int) -> None:
-        link, _, snap = self._unpack("HHI", body, place)
-        if len(self._interfaces) == _MOST_INTERFACES:
-            raise CaptureError(f"the capture is broken at byte {place}: more than {_MOST_INTERFACES} interfaces")
-        options = dict(self._options(body[8:]))
+    def _add_interface(self, body: bytes, offset: int) -> None:
+        link, _, snap = self._unpack("HHI", body, offset)
+        if len(self._interfaces) == _MAX_INTERFACES:
+            raise CaptureError(f"the capture is invalid at byte {offset}: more than {_MAX_INTERFACES} interfaces")
+        options = dict(self._read_options(body[8:]))
         resolution = options.get(_RESOLUTION, b"\6")[:1] or b"\6"
         exponent = resolution[0] & 0x7F
         per_second = 2 ** min(exponent, 63) if resolution[0] & 0x80 else 10 ** min(exponent, 18)
-        offset = options.get(_OFFSET, b"")
-        seconds = struct.unpack(self._order + "q", offset)[0] if len(offset) == 8 else 0
+        start = options.get(_OFFSET, b"")
+        seconds = struct.unpack(self._order + "q", start)[0] if len(start) == 8 else 0
         self._interfaces.append(_Interface(link, per_second, seconds, snap))
 
-    def _interface(self, number: int, place: int) -> _Interface:
+    def _get_interface(self, number: int, offset: int) -> _Interface:
         if self._first + number >= len(self._interfaces):
             raise CaptureError(
-                f"the capture is broken at byte {place}: a packet of interface {number}, which isn't named"
+                f"the capture is invalid at byte {offset}: a packet of interface {number}, which is not defined"
             )
         return self._interfaces[self._first + number]
 
-    def _frame(self, number: int, ticks: int | None, kept: int, length: int, rest: bytes, place: int) -> Frame:
-        interface = self._interface(number, place)
+    def _make_frame(self, number: int, ticks: int | None, kept: int, length: int, rest: bytes, offset: int) -> Frame:
+        interface = self._get_interface(number, offset)
         if kept > len(rest):
-            raise CaptureError(f"the capture is broken at byte {place}: a packet of {kept} bytes in a shorter block")
-        options = list(self._options(rest[kept + -kept % 4 :])) if ticks is not None else []
+            raise CaptureError(f"the capture is invalid at byte {offset}: a packet of {kept} bytes in a shorter block")
+        options = list(self._read_options(rest[kept + -kept % 4 :])) if ticks is not None else []
         for code, value in options:
             if code == _DROPPED and len(value) == 8:
-                self._lost(struct.unpack(self._order + "Q", value)[0])
+                self._count_lost(struct.unpack(self._order + "Q", value)[0])
         comments = tuple(value for code, value in options if code == _COMMENT)
         at = None if ticks is None else ticks * 10**9 // interface.per_second + interface.offset * 10**9
         data = rest[:kept]

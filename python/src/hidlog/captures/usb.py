@@ -1,4 +1,4 @@
-"""Reads transfers of USB out of frames: Linux's usbmon with both headers, and USBPcap's."""
+"""Reads USB transfers from frames of Linux's usbmon, with both header sizes, and of USBPcap."""
 
 from __future__ import annotations
 
@@ -10,8 +10,8 @@ from .pcap import Frame, read_frames
 from .source import CaptureError, Source
 
 USBMON, USBMON_LONG, USBPCAP = 189, 220, 249
-_HEADS = {USBMON: 48, USBMON_LONG: 64, USBPCAP: 27}
-_OTHERS = {
+_HEADER_BYTES = {USBMON: 48, USBMON_LONG: 64, USBPCAP: 27}
+_UNSUPPORTED_LINKS = {
     186: "FreeBSD's USB",
     266: "macOS's USB (Darwin)",
     288: "USB 2.0 packets of a bus analyzer",
@@ -22,17 +22,17 @@ _OTHERS = {
 }
 INTERRUPT, CONTROL = 1, 2
 # The status of a transfer whose device was unplugged: Linux's ESHUTDOWN and ENODEV, Windows's USBD_STATUS_DEVICE_GONE.
-GONE = (-108, -19, 0xC0007000 - (1 << 32))
+GONE_STATUSES = (-108, -19, 0xC0007000 - (1 << 32))
 
 
 class Transfer(NamedTuple):
-    """A submission of the host, or what came of it (`done`).
+    """A transfer submitted by the host, or its completion (`done`).
 
-    place   capture's interface, bus, device.
-    data    the bytes that were kept, of `length` on the bus.
-    setup   of a control transfer's submission its 8 bytes.
-    number  pairs a submission with what came of it; 0 where the recorder has none.
-    moved   how many bytes the recorder says were moved.
+    place   capture interface, bus, device.
+    data    the recorded bytes, of `length` on the bus.
+    setup   setup packet of a control transfer's submission.
+    number  the same for a submission and its completion, or 0 if unknown.
+    moved   number of bytes transferred, according to the recorder.
     """
 
     at: int | None
@@ -56,32 +56,34 @@ class Transfer(NamedTuple):
 
 
 def read_transfers(source: Source) -> Iterator[Transfer]:
-    """Returns the transfers of a pcap or pcapng file."""
+    """Yields the transfers of a pcap or pcapng file."""
     strange: set[int] = set()
     found = False
     for frame in read_frames(source):
-        if frame.link not in _HEADS:
+        if frame.link not in _HEADER_BYTES:
             strange.add(frame.link)
             continue
         found = True
-        if len(frame.data) < _HEADS[frame.link]:
-            source.note(f"frames were cut to fewer bytes than a transfer's head has ({_HEADS[frame.link]})")
+        if len(frame.data) < _HEADER_BYTES[frame.link]:
+            source.note(f"frames were truncated to less than a transfer's header ({_HEADER_BYTES[frame.link]} bytes)")
             continue
-        transfer = _of_usbpcap(frame) if frame.link == USBPCAP else _of_usbmon(frame)
+        transfer = _parse_usbpcap(frame) if frame.link == USBPCAP else _parse_usbmon(frame)
         if transfer is not None:
             yield transfer
-    named = ", ".join(f"{it} ({_OTHERS[it]})" if it in _OTHERS else str(it) for it in sorted(strange))
+    named = ", ".join(
+        f"{item} ({_UNSUPPORTED_LINKS[item]})" if item in _UNSUPPORTED_LINKS else str(item) for item in sorted(strange)
+    )
     if strange and not found:
         raise CaptureError(
-            f"the capture has no USB that is read here, but link type {named}; "
-            "read are usbmon (189, 220) and USBPcap (249)"
+            f"the capture has no supported USB data, but link type {named}; "
+            "supported: usbmon (189, 220) and USBPcap (249)"
         )
     if strange:
-        source.note(f"frames of link type {named} were passed over")
+        source.note(f"skipped frames of link type {named}")
 
 
-def _of_usbmon(frame: Frame) -> Transfer | None:
-    order, head, raw = frame.order, _HEADS[frame.link], frame.data
+def _parse_usbmon(frame: Frame) -> Transfer | None:
+    order, head, raw = frame.order, _HEADER_BYTES[frame.link], frame.data
     number, event, kind, endpoint, device, bus, setup_flag = struct.unpack_from(order + "QcBBBHc", raw)
     status, length, kept = struct.unpack_from(order + "iII", raw, 28)
     data = raw[head:]
@@ -90,7 +92,7 @@ def _of_usbmon(frame: Frame) -> Transfer | None:
         return None
     setup = raw[40:48] if setup_flag == b"\0" and kind == CONTROL else b""
     place = (frame.interface, bus, device)
-    # What was kept of a larger transfer by usbmon itself is cut as much as by a snap length.
+    # usbmon itself may truncate a transfer, as a snap length does.
     on_bus = max(on_bus, length) if kept and kept < length else on_bus
     return Transfer(
         frame.at,
@@ -109,7 +111,7 @@ def _of_usbmon(frame: Frame) -> Transfer | None:
     )
 
 
-def _of_usbpcap(frame: Frame) -> Transfer | None:
+def _parse_usbpcap(frame: Frame) -> Transfer | None:
     raw = frame.data
     head, number, status, _, info, bus, device, endpoint, kind, length = struct.unpack_from("<HQIHBHHBBI", raw)
     if head < 27 or kind > 3 or len(raw) < head:

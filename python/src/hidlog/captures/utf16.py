@@ -1,4 +1,4 @@
-"""Reads a text of UTF-16 as UTF-8: PowerShell's `>` and Tee-Object write that."""
+"""Converts UTF-16, which PowerShell's `>` and Tee-Object write, to UTF-8."""
 
 from __future__ import annotations
 
@@ -6,12 +6,12 @@ import codecs
 
 from .source import CaptureError, Readable
 
-MARKS = (codecs.BOM_UTF16_LE, codecs.BOM_UTF16_BE)
-_PIECE = 1 << 16
+BYTE_ORDER_MARKS = (codecs.BOM_UTF16_LE, codecs.BOM_UTF16_BE)
+_READ_BYTES = 1 << 16
 
 
 class Utf16Text:
-    """Reads a text that begins with a mark of UTF-16, which is left out."""
+    """Reads a text that starts with a UTF-16 byte order mark, without that mark."""
 
     def __init__(self, file: Readable):
         self._file = file
@@ -20,15 +20,15 @@ class Utf16Text:
         self._is_ended = False
 
     def read(self, count: int) -> bytes:
-        """Returns so many bytes of UTF-8, or fewer at the end."""
+        """Returns `count` bytes of UTF-8, or fewer at the end."""
         while len(self._ready) < count and not self._is_ended:
-            piece = self._file.read(_PIECE)
+            piece = self._file.read(_READ_BYTES)
             self._is_ended = not piece
             try:
                 self._ready += self._decoder.decode(piece, self._is_ended).encode()
             except UnicodeError:
                 raise CaptureError(
-                    "the file begins as UTF-16 and is not: write it in PowerShell by | Out-File -Encoding ascii"
+                    "the file starts like UTF-16 but is not; in PowerShell, write it by | Out-File -Encoding ascii"
                 ) from None
         data, self._ready = self._ready[:count], self._ready[count:]
         return data

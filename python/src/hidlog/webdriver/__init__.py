@@ -1,9 +1,9 @@
-"""`hidlog webdriver`: WebDriver's virtual authenticators, in front of any driver, with the key in the page.
+"""`hidlog webdriver`: a WebDriver proxy that provides virtual authenticators, with the key in the page.
 
     python -m hidlog.webdriver --port 4444 --driver chromedriver
 
-A suite in any language uses http://127.0.0.1:4444 in the place of its driver. All commands are passed to the driver but
-those on virtual authenticators (WebAuthn section 11), which the key in the page serves: so they are there in browsers
+A test suite in any language uses http://127.0.0.1:4444 as its driver. All commands go to the driver, except those on
+virtual authenticators (WebAuthn section 11), which are served by the key in the page. They therefore work with browsers
 whose drivers lack them, and each session is recorded.
 """
 

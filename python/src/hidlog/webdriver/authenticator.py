@@ -1,5 +1,5 @@
-"""The virtual authenticator of a session. It holds the credentials of all relying parties with their private keys, and
-a page gets what its origin may use of them."""
+"""The virtual authenticator of a session. It has the credentials of all relying parties with their private keys; a page
+gets those that its origin may use."""
 
 from __future__ import annotations
 
@@ -11,59 +11,59 @@ from typing import Any
 from cryptography.hazmat.primitives.asymmetric.utils import decode_dss_signature
 
 from .. import private_keys
-from ..relying_party import host_of, may_use
-from ..webauthn_json import data_of, text_of
+from ..relying_party import get_host, is_valid_rp_id
+from ..webauthn_json import b64url_decode, b64url_encode
 from .credential_json import (
-    boolean,
-    one_of,
+    check_boolean,
+    check_choice,
     read_credential,
     read_point,
     read_private_key,
     read_reported,
 )
-from .errors import invalid
+from .errors import make_invalid_argument
 
 Json = dict[str, Any]
-FORM = "hidlog web key 1"
-PRESENCE = ("granted", "denied", "timeout", "none")
-FAULTS = ("status", "delay", "cutShort", "wrongSignature", "counterStays", "otherRp")
-_CREDENTIALS_MAX = 64
-_PRESENCE_MAX = 1000
-# New key pairs of pages whose credential hasn't come: a registration has one.
-_PENDING_MAX = 64
-# Authenticator data, and the hash of client data.
-_SIGNED_MIN, _SIGNED_MAX = 37 + 32, 65_536
-# PKCS #8 of a key on P-256 whose number is 0: a page has it in the place of a private key.
+STATE_FORMAT = "hidlog web key 1"
+PRESENCE_WORDS = ("granted", "denied", "timeout", "none")
+FAULT_NAMES = ("status", "delay", "truncateBy", "badSignature", "staleSignCount", "wrongRpId")
+_MAX_CREDENTIALS = 64
+_MAX_PRESENCE = 1000
+# Maximum number of key pairs of pages whose registration is not complete.
+_MAX_PENDING = 64
+# Length of authenticator data and the hash of client data.
+_MIN_SIGNED, _MAX_SIGNED = 37 + 32, 65_536
+# PKCS #8 of a P-256 key with private key 0, which pages get instead of the private key.
 _PKCS8_HEAD = bytes.fromhex("308187020100301306072a8648ce3d020106082a8648ce3d030107046d306b0201010420")
 _PKCS8_MIDDLE = bytes.fromhex("a14403420004")
 
 
-def _without_key(point: bytes) -> str:
-    """Returns what a page has in the place of a private key: it names the public key."""
-    return text_of(_PKCS8_HEAD + bytes(32) + _PKCS8_MIDDLE + point)
+def _make_placeholder_key(point: bytes) -> str:
+    """Returns a placeholder for a private key, with the public key."""
+    return b64url_encode(_PKCS8_HEAD + bytes(32) + _PKCS8_MIDDLE + point)
 
 
 class Authenticator:
-    """A virtual authenticator. Commands of the suite and pages use it at once."""
+    """A virtual authenticator, used concurrently by commands of the test suite and by pages."""
 
     def __init__(self, options: Json):
         self.options = options
         self.credentials: list[Json] = []
         self.faults: Json = {}
-        # What the user does. One who doesn't consent does nothing, as in Chromium.
+        # What the user does. Without consent, nothing, as in Chromium.
         self.presence: str | list[str] = "granted" if options["isUserConsenting"] else "none"
-        # How often that was set, and how many words of a list are used.
+        # How often the presence was set, and how many entries of its list are used.
         self.serial, self.used = 0, 0
         self.lock = threading.RLock()
-        # By the public key: private keys of credentials, and of key pairs that a page of an origin is given.
+        # Private keys by public key: of credentials, and of new key pairs with the origin of their page.
         self._keys: dict[bytes, private_keys.PrivateKey] = {}
         self._pending: dict[bytes, tuple[str, private_keys.PrivateKey]] = {}
 
-    # What pages are told.
+    # What pages get.
 
     @property
-    def abilities(self) -> Json:
-        """What the key in a page is told that it is."""
+    def authenticator_options(self) -> Json:
+        """The options of the key in a page."""
         has_verification = self.options["hasUserVerification"]
         names = ("protocol", "transport", "hasResidentKey", "defaultBackupEligibility", "defaultBackupState")
         made = {name: self.options[name] for name in names}
@@ -72,20 +72,20 @@ class Authenticator:
 
     @property
     def settings(self) -> Json:
-        """What the key in a page is set to, without credentials."""
+        """The settings of the key in a page, without credentials."""
         done = {"presence": self.presence, "serial": self.serial, "used": self.used}
-        return {"abilities": self.abilities, "faults": self.faults, **done}
+        return {"authenticatorOptions": self.authenticator_options, "faults": self.faults, **done}
 
     def of_origin(self, origin: str, has_keys: bool) -> list[Json]:
         """Returns the credentials that a page of an origin may use, with their private keys or without."""
         with self.lock:
-            own = [credential for credential in self.credentials if may_use(credential["rpId"], origin)]
+            own = [credential for credential in self.credentials if is_valid_rp_id(credential["rpId"], origin)]
         if has_keys:
             return own
-        return [{**credential, "privateKey": _without_key(read_point(credential))} for credential in own]
+        return [{**credential, "privateKey": _make_placeholder_key(read_point(credential))} for credential in own]
 
     def next_presence(self) -> str:
-        """Returns what the user does now. The last word of a list stays."""
+        """Returns what the user does now. The last entry of a list repeats."""
         with self.lock:
             if isinstance(self.presence, str):
                 return self.presence
@@ -94,163 +94,165 @@ class Authenticator:
             return word
 
     def used_presence(self, serial: Any, used: Any) -> None:
-        """Notes how many words of a list a page has used."""
+        """Records how many entries of the presence list a page has used."""
         with self.lock:
             if serial == self.serial and isinstance(used, int) and not isinstance(used, bool):
-                self.used = max(self.used, min(used, _PRESENCE_MAX))
+                self.used = max(self.used, min(used, _MAX_PRESENCE))
 
-    # What pages ask for.
+    # Requests of pages.
 
     def make_key(self, origin: str) -> tuple[bytes, bytes]:
-        """Makes a key pair for a page of an origin, and returns its public key."""
-        private = private_keys.make(os.urandom)
-        x, y = private_keys.point_of(private)
+        """Creates a key pair for a page of an origin, and returns its public key."""
+        private = private_keys.make_private_key(os.urandom)
+        x, y = private_keys.public_point(private)
         with self.lock:
             self._pending[x + y] = (origin, private)
-            while len(self._pending) > _PENDING_MAX:
+            while len(self._pending) > _MAX_PENDING:
                 del self._pending[next(iter(self._pending))]
         return x, y
 
     def sign(self, origin: str, point: bytes, data: bytes) -> bytes:
         """Signs authenticator data and a hash for a page of an origin. Returns r and s, 32 bytes each.
 
-        The private key is one of a credential that the origin may use, or was made for it, and the data is of a relying
-        party that it may use.
+        The private key must be of a credential that the origin may use, or created for it. The data must be for a
+        relying party that the origin may use.
         """
-        private, hashes = self._usable(origin, point)
-        if not _SIGNED_MIN <= len(data) <= _SIGNED_MAX or data[:32] not in hashes:
-            raise invalid("only authenticator data of a relying party of this origin is signed")
+        private, hashes = self._find_usable(origin, point)
+        if not _MIN_SIGNED <= len(data) <= _MAX_SIGNED or data[:32] not in hashes:
+            raise make_invalid_argument("only authenticator data for a relying party of this origin can be signed")
         r, s = decode_dss_signature(private_keys.sign(private, data))
         return r.to_bytes(32, "big") + s.to_bytes(32, "big")
 
-    def _usable(self, origin: str, point: bytes) -> tuple[private_keys.PrivateKey, set[bytes]]:
-        """Returns a private key that an origin may use, and the RP ID hashes for which."""
+    def _find_usable(self, origin: str, point: bytes) -> tuple[private_keys.PrivateKey, set[bytes]]:
+        """Returns a private key that an origin may use, and the RP ID hashes for which it may sign."""
         with self.lock:
-            other = self.faults.get("otherRp")
+            other = self.faults.get("wrongRpId")
             hashes = set() if other is None else {sha256(other.encode()).digest()}
             for_origin, pending = self._pending.get(point, ("", None))
             if pending and for_origin == origin:
-                names = [name for name in _names_above(host_of(origin)) if may_use(name, origin)]
+                names = [name for name in _list_parent_domains(get_host(origin)) if is_valid_rp_id(name, origin)]
                 return pending, hashes | {sha256(name.encode()).digest() for name in names}
             for credential in self.of_origin(origin, True):
                 if read_point(credential) == point:
-                    return self._keys[point], hashes | {data_of(credential["rpIdHash"], "rpIdHash")}
-        raise invalid("this origin has no such key")
+                    return self._keys[point], hashes | {b64url_decode(credential["rpIdHash"], "rpIdHash")}
+        raise make_invalid_argument("this origin has no such key")
 
     def take(self, origin: str, reported: Any, gone: Any, has_keys: bool) -> None:
-        """Takes up the credentials that a page of an origin reports, and that some of those it knew were replaced.
+        """Stores the credentials that a page of an origin reports, and removes those reported as gone.
 
-        Of a credential that is known only the counter rises.
+        Known credentials are unchanged, except that the signature counter may rise.
         """
-        if not isinstance(reported, list) or len(reported) > _CREDENTIALS_MAX or not isinstance(gone, list):
-            raise invalid(f"credentials has to be a list of at most {_CREDENTIALS_MAX}, and gone a list")
+        if not isinstance(reported, list) or len(reported) > _MAX_CREDENTIALS or not isinstance(gone, list):
+            raise make_invalid_argument(f"credentials must be a list of at most {_MAX_CREDENTIALS}, and gone a list")
         listed = {made["credentialId"]: (made, raw) for made, raw in ((read_reported(raw), raw) for raw in reported)}
-        if len(listed) != len(reported) or not all(may_use(made["rpId"], origin) for made, _ in listed.values()):
-            raise invalid("a credential isn't one of this origin")
+        if len(listed) != len(reported) or not all(is_valid_rp_id(made["rpId"], origin) for made, _ in listed.values()):
+            raise make_invalid_argument("a credential is not one of this origin")
         with self.lock:
             own = {credential["credentialId"] for credential in self.of_origin(origin, True)}
-            if any(item["credentialId"] in listed and item["credentialId"] not in own for item in self.credentials):
-                raise invalid("a credential isn't one of this origin")
+            if any(other["credentialId"] in listed and other["credentialId"] not in own for other in self.credentials):
+                raise make_invalid_argument("a credential is not one of this origin")
             dropped = {name for name in gone if isinstance(name, str) and name in own and name not in listed}
-            fresh = [self._adopted(origin, *listed[name], has_keys) for name in listed if name not in own]
+            fresh = [self._adopt(origin, *listed[name], has_keys) for name in listed if name not in own]
             counts = {name: made["signCount"] for name, (made, _) in listed.items()}
             kept = [
                 {**credential, "signCount": max(credential["signCount"], counts.get(credential["credentialId"], 0))}
                 for credential in self.credentials
                 if credential["credentialId"] not in dropped
             ]
-            if len(kept) + len(fresh) > _CREDENTIALS_MAX:
-                raise invalid(f"the authenticator has {_CREDENTIALS_MAX} credentials, and that is the most")
+            if len(kept) + len(fresh) > _MAX_CREDENTIALS:
+                raise make_invalid_argument(f"the authenticator has {_MAX_CREDENTIALS} credentials, the maximum")
             for credential, private in fresh:
-                self._hold(credential, private)
+                self._store(credential, private)
             self.credentials = kept + [credential for credential, _ in fresh]
 
-    def _adopted(self, origin: str, made: Json, raw: Json, has_keys: bool) -> tuple[Json, private_keys.PrivateKey]:
-        """Returns a new credential of a page with its private key, which was made for this very origin."""
+    def _adopt(self, origin: str, made: Json, raw: Json, has_keys: bool) -> tuple[Json, private_keys.PrivateKey]:
+        """Returns a page's new credential with its private key, which must have been created for the same origin."""
         if has_keys:
             private = read_private_key(raw)
         else:
             for_origin, pending = self._pending.get(read_point(raw), ("", None))
             if pending is None or for_origin != origin:
-                raise invalid("this origin has no such key")
+                raise make_invalid_argument("this origin has no such key")
             private = pending
-        return {**made, "privateKey": text_of(private_keys.to_pkcs8(private))}, private
+        return {**made, "privateKey": b64url_encode(private_keys.to_pkcs8(private))}, private
 
-    def _hold(self, credential: Json, private: private_keys.PrivateKey) -> None:
+    def _store(self, credential: Json, private: private_keys.PrivateKey) -> None:
         point = read_point(credential)
-        if len(self._keys) > 2 * _CREDENTIALS_MAX:
+        if len(self._keys) > 2 * _MAX_CREDENTIALS:
             held = {read_point(held) for held in self.credentials}
             self._keys = {name: key for name, key in self._keys.items() if name in held}
         self._keys[point] = private
         self._pending.pop(point, None)
 
-    # What the suite's commands do.
+    # Commands of the test suite.
 
-    def set_presence(self, given: Any) -> None:
-        """Sets what the user does: a word, or a list of them, of which the last one stays."""
-        words = given if isinstance(given, list) and given else [given]
-        if len(words) > _PRESENCE_MAX:
-            raise invalid(f"presence has {len(words)} words; at most {_PRESENCE_MAX} are allowed")
+    def set_presence(self, presence: Any) -> None:
+        """Sets what the user does: a reply, or a list of replies, the last of which repeats."""
+        words = presence if isinstance(presence, list) and presence else [presence]
+        if len(words) > _MAX_PRESENCE:
+            raise make_invalid_argument(f"presence has {len(words)} entries; at most {_MAX_PRESENCE} are allowed")
         for word in words:
-            one_of("presence", word, PRESENCE)
+            check_choice("presence", word, PRESENCE_WORDS)
         with self.lock:
-            self.presence, self.used = given, 0
+            self.presence, self.used = presence, 0
             self.serial += 1
 
-    def set_faults(self, given: Json) -> None:
-        """Sets the faults that are on, by the names of the key in a page. All others are off."""
-        for name in given:
-            one_of("a fault", name, FAULTS)
-        other = given.get("otherRp")
+    def set_faults(self, faults: Json) -> None:
+        """Sets the faults, by the names of the key in a page. All others are off."""
+        for name in faults:
+            check_choice("a fault", name, FAULT_NAMES)
+        other = faults.get("wrongRpId")
         if other is not None and (not isinstance(other, str) or not other.isascii()):
-            raise invalid("otherRp has to be the id of a relying party")
+            raise make_invalid_argument("wrongRpId must be an RP ID")
         with self.lock:
-            self.faults = given
+            self.faults = faults
 
-    def set_user_verified(self, given: Any) -> None:
-        """Sets whether the user passes verification."""
-        self.options["isUserVerified"] = boolean("isUserVerified", given)
+    def set_user_verified(self, is_verified: Any) -> None:
+        """Sets whether user verification succeeds."""
+        self.options["isUserVerified"] = check_boolean("isUserVerified", is_verified)
 
-    def add(self, given: Json) -> None:
+    def add(self, credential: Json) -> None:
         """Adds a credential."""
-        made, private = read_credential(given, self.options)
+        made, private = read_credential(credential, self.options)
         with self.lock:
-            if any(item["credentialId"] == made["credentialId"] for item in self.credentials):
-                raise invalid("the authenticator has a credential with this id already")
+            if any(held["credentialId"] == made["credentialId"] for held in self.credentials):
+                raise make_invalid_argument("the authenticator already has a credential with this ID")
             account = (made["rpIdHash"], made["userHandle"], True)
             kept = [
-                item
-                for item in self.credentials
+                held
+                for held in self.credentials
                 if not made["isResidentCredential"]
-                or (item["rpIdHash"], item["userHandle"], item["isResidentCredential"]) != account
+                or (held["rpIdHash"], held["userHandle"], held["isResidentCredential"]) != account
             ]
-            if len(kept) >= _CREDENTIALS_MAX:
-                raise invalid(f"the authenticator has {_CREDENTIALS_MAX} credentials, and that is the most")
-            self._hold(made, private)
+            if len(kept) >= _MAX_CREDENTIALS:
+                raise make_invalid_argument(f"the authenticator has {_MAX_CREDENTIALS} credentials, the maximum")
+            self._store(made, private)
             self.credentials = [*kept, made]
 
     def remove(self, credential_id: str) -> None:
         """Removes a credential, or all if no ID is given."""
         name = credential_id.rstrip("=")
         with self.lock:
-            kept = [item for item in self.credentials if name and item["credentialId"] != name]
+            kept = [held for held in self.credentials if name and held["credentialId"] != name]
             if name and len(kept) == len(self.credentials):
-                raise invalid(f"the authenticator has no credential {name}")
+                raise make_invalid_argument(f"the authenticator has no credential {name}")
             self.credentials = kept
 
-    def change(self, credential_id: str, given: Json) -> None:
-        """Sets the flags of a credential's backup."""
+    def update(self, credential_id: str, flags: Json) -> None:
+        """Sets the backup flags of a credential."""
         name = credential_id.rstrip("=")
-        changed = {item: boolean(item, given[item]) for item in ("backupEligibility", "backupState") if item in given}
+        changed = {
+            flag: check_boolean(flag, flags[flag]) for flag in ("backupEligibility", "backupState") if flag in flags
+        }
         with self.lock:
-            if all(item["credentialId"] != name for item in self.credentials):
-                raise invalid(f"the authenticator has no credential {name}")
+            if all(held["credentialId"] != name for held in self.credentials):
+                raise make_invalid_argument(f"the authenticator has no credential {name}")
             self.credentials = [
-                {**item, **changed} if item["credentialId"] == name else item for item in self.credentials
+                {**held, **changed} if held["credentialId"] == name else held for held in self.credentials
             ]
 
 
-def _names_above(host: str) -> list[str]:
-    """Returns a host and the names above it."""
+def _list_parent_domains(host: str) -> list[str]:
+    """Returns a host and its parent domains."""
     labels = host.split(".")
     return [".".join(labels[start:]) for start in range(len(labels))]

@@ -1,4 +1,4 @@
-"""Credentials and options of an authenticator as WebDriver has them (WebAuthn section 11). Wrong ones are refused."""
+"""Parses WebDriver's JSON of credentials and authenticator options (WebAuthn section 11). Invalid ones are refused."""
 
 from __future__ import annotations
 
@@ -7,14 +7,14 @@ from typing import Any
 
 from .. import private_keys
 from ..errors import ArgumentError
-from ..outside import CORE_ID, ID_MOST
-from ..webauthn_json import data_of, text_of
-from .errors import DriverError, invalid
+from ..credential_metadata import CORE_ID, MAX_ID
+from ..webauthn_json import b64url_decode, b64url_encode
+from .errors import DriverError, make_invalid_argument
 
 Json = dict[str, Any]
 _PROTOCOLS = ("ctap1/u2f", "ctap2", "ctap2_1")
 _TRANSPORTS = ("usb", "nfc", "ble", "smart-card", "hybrid", "internal")
-_BOOLEANS = {
+_BOOLEAN_DEFAULTS = {
     "hasResidentKey": False,
     "hasUserVerification": False,
     "isUserConsenting": True,
@@ -22,130 +22,130 @@ _BOOLEANS = {
     "defaultBackupEligibility": False,
     "defaultBackupState": False,
 }
-_USER_MAX = 64
-_TEXT_MAX = 1024
-LISTED = ("credentialId", "isResidentCredential", "rpId", "privateKey", "userHandle", "signCount")
+_MAX_USER_BYTES = 64
+_MAX_TEXT = 1024
+LISTED_MEMBERS = ("credentialId", "isResidentCredential", "rpId", "privateKey", "userHandle", "signCount")
 
 
-def one_of(name: str, value: Any, words: tuple[str, ...]) -> str:
-    """Returns a text that is one of some words."""
+def check_choice(name: str, value: Any, words: tuple[str, ...]) -> str:
+    """Returns the value, which must be one of some strings."""
     if not isinstance(value, str) or value not in words:
-        raise invalid(f"{name} is {value!r}; it has to be one of {', '.join(words)}")
+        raise make_invalid_argument(f"{name} is {value!r}; it must be one of {', '.join(words)}")
     return value
 
 
-def boolean(name: str, value: Any) -> bool:
-    """Returns a truth value."""
+def check_boolean(name: str, value: Any) -> bool:
+    """Returns the value, which must be a boolean."""
     if not isinstance(value, bool):
-        raise invalid(f"{name} is {value!r}; it has to be true or false")
+        raise make_invalid_argument(f"{name} is {value!r}; it must be true or false")
     return value
 
 
-def read_options(given: Json) -> Json:
-    """Returns the options of an authenticator with their defaults. What the key hasn't is refused by name."""
-    options: Json = {name: boolean(name, given.get(name, default)) for name, default in _BOOLEANS.items()}
-    options["protocol"] = one_of("protocol", given.get("protocol"), _PROTOCOLS)
-    transport = given.get("transport")
-    options["transport"] = one_of("transport", "hybrid" if transport == "cable" else transport, _TRANSPORTS)
-    extensions = given.get("extensions") or []
+def read_options(requested: Json) -> Json:
+    """Returns the options of an authenticator, with defaults. Unsupported ones are refused by name."""
+    options: Json = {
+        name: check_boolean(name, requested.get(name, default)) for name, default in _BOOLEAN_DEFAULTS.items()
+    }
+    options["protocol"] = check_choice("protocol", requested.get("protocol"), _PROTOCOLS)
+    transport = requested.get("transport")
+    options["transport"] = check_choice("transport", "hybrid" if transport == "cable" else transport, _TRANSPORTS)
+    extensions = requested.get("extensions") or []
     if not isinstance(extensions, list):
-        raise invalid("extensions has to be a list")
+        raise make_invalid_argument("extensions must be a list")
     if extensions:
-        raise DriverError("unsupported operation", f"the key has no extension {', '.join(map(str, extensions))}")
+        raise DriverError("unsupported operation", f"unsupported extensions: {', '.join(map(str, extensions))}")
     for name in ("hasResidentKey", "hasUserVerification"):
         if options["protocol"] == "ctap1/u2f" and options[name]:
-            raise invalid(f"{name} is true; an authenticator of ctap1/u2f has none")
+            raise make_invalid_argument(f"{name} is true; a ctap1/u2f authenticator does not support it")
     return options
 
 
-def _bytes(given: Json, name: str, least: int, most: int) -> bytes:
-    value = given.get(name)
+def _read_bytes(credential: Json, name: str, least: int, most: int) -> bytes:
+    value = credential.get(name)
     try:
-        data = data_of(value.rstrip("="), name) if isinstance(value, str) and len(value) < 20_000 else None
+        data = b64url_decode(value.rstrip("="), name) if isinstance(value, str) and len(value) < 20_000 else None
     except ArgumentError:
         data = None
     if data is None or not least <= len(data) <= most:
-        raise invalid(f"{name} has to be base64url of {least} to {most} bytes")
+        raise make_invalid_argument(f"{name} must be base64url of {least} to {most} bytes")
     return data
 
 
-def _text(given: Json, name: str, default: str = "") -> str:
-    value = given.get(name)
+def _read_text(credential: Json, name: str, default: str = "") -> str:
+    value = credential.get(name)
     if value is None:
         return default
-    if not isinstance(value, str) or len(value) > _TEXT_MAX:
-        raise invalid(f"{name} has to be a text of at most {_TEXT_MAX} characters")
+    if not isinstance(value, str) or len(value) > _MAX_TEXT:
+        raise make_invalid_argument(f"{name} must be a string of at most {_MAX_TEXT} characters")
     return value
 
 
-def _private_key(given: Json) -> private_keys.PrivateKey:
-    data = _bytes(given, "privateKey", 1, 10_000)
+def _read_pkcs8(credential: Json) -> private_keys.PrivateKey:
+    data = _read_bytes(credential, "privateKey", 1, 10_000)
     try:
-        return private_keys.from_any(data)
+        return private_keys.load_private_key(data)
     except ArgumentError as error:
-        raise invalid(
-            f"privateKey has to be PKCS #8 of a key on P-256 (ES256), which alone this key has: {error}"
-        ) from None
+        raise make_invalid_argument(f"privateKey must be PKCS #8 of a P-256 key (ES256): {error}") from None
 
 
-def _members(given: Json, defaults: tuple[bool, bool]) -> Json:
-    """Returns a credential as the key's state has it, without a private key."""
-    rp_id = given.get("rpId")
-    if not isinstance(rp_id, str) or not rp_id or len(rp_id) > _TEXT_MAX:
-        raise invalid("rpId has to be the id of a relying party")
-    count = given.get("signCount")
+def _to_state(credential: Json, defaults: tuple[bool, bool]) -> Json:
+    """Returns a credential as in the key's state, without a private key."""
+    rp_id = credential.get("rpId")
+    if not isinstance(rp_id, str) or not rp_id or len(rp_id) > _MAX_TEXT:
+        raise make_invalid_argument("rpId must be the id of a relying party")
+    count = credential.get("signCount")
     if isinstance(count, bool) or not isinstance(count, int) or not 0 <= count < 2**32:
-        raise invalid("signCount has to be a number from 0 to 2^32-1")
-    credential_id = _bytes(given, "credentialId", 1, ID_MOST)
-    user = b"" if given.get("userHandle") is None else _bytes(given, "userHandle", 0, _USER_MAX)
-    name = _text(given, "userName")
+        raise make_invalid_argument("signCount must be a number from 0 to 2^32-1")
+    credential_id = _read_bytes(credential, "credentialId", 1, MAX_ID)
+    user = b"" if credential.get("userHandle") is None else _read_bytes(credential, "userHandle", 0, _MAX_USER_BYTES)
+    name = _read_text(credential, "userName")
     try:
         rp_id_hash = sha256(rp_id.encode()).digest()
     except UnicodeEncodeError:
-        raise invalid("rpId has to be the id of a relying party") from None
+        raise make_invalid_argument("rpId must be the id of a relying party") from None
     made = {
-        "credentialId": text_of(credential_id),
-        "isResidentCredential": boolean("isResidentCredential", given.get("isResidentCredential")),
+        "credentialId": b64url_encode(credential_id),
+        "isResidentCredential": check_boolean("isResidentCredential", credential.get("isResidentCredential")),
         "rpId": rp_id,
         "userName": name,
-        "userDisplayName": _text(given, "userDisplayName") or name,
+        "userDisplayName": _read_text(credential, "userDisplayName") or name,
         "privateKey": "",
-        "userHandle": text_of(user),
+        "userHandle": b64url_encode(user),
         "signCount": count,
-        "backupEligibility": boolean("backupEligibility", given.get("backupEligibility", defaults[0])),
-        "backupState": boolean("backupState", given.get("backupState", defaults[1])),
-        "rpIdHash": text_of(rp_id_hash),
+        "backupEligibility": check_boolean("backupEligibility", credential.get("backupEligibility", defaults[0])),
+        "backupState": check_boolean("backupState", credential.get("backupState", defaults[1])),
+        "rpIdHash": b64url_encode(rp_id_hash),
     }
     if len(credential_id) != CORE_ID:
-        made["coreId"] = text_of(sha256(b"hidlog webdriver" + credential_id).digest())
+        made["coreId"] = b64url_encode(sha256(b"hidlog webdriver" + credential_id).digest())
     return made
 
 
-def read_credential(given: Json, options: Json) -> tuple[Json, private_keys.PrivateKey]:
-    """Returns a credential that a suite adds, and its private key."""
-    made = _members(given, (options["defaultBackupEligibility"], options["defaultBackupState"]))
+def read_credential(credential: Json, options: Json) -> tuple[Json, private_keys.PrivateKey]:
+    """Returns a credential that a test suite adds, and its private key."""
+    made = _to_state(credential, (options["defaultBackupEligibility"], options["defaultBackupState"]))
     if made["isResidentCredential"] and not options["hasResidentKey"]:
-        raise invalid("the authenticator has no resident credentials (hasResidentKey is false)")
-    if given.get("largeBlob") is not None:
-        raise invalid("the key has no large blobs")
-    if made["isResidentCredential"] and given.get("userHandle") is None:
-        raise invalid("a resident credential needs a userHandle")
-    private = _private_key(given)
-    return {**made, "privateKey": text_of(private_keys.to_pkcs8(private))}, private
+        raise make_invalid_argument("the authenticator does not support resident credentials (hasResidentKey is false)")
+    if credential.get("largeBlob") is not None:
+        raise make_invalid_argument("largeBlob is not supported")
+    if made["isResidentCredential"] and credential.get("userHandle") is None:
+        raise make_invalid_argument("a resident credential needs a userHandle")
+    private = _read_pkcs8(credential)
+    return {**made, "privateKey": b64url_encode(private_keys.to_pkcs8(private))}, private
 
 
-def read_reported(given: Any) -> Json:
-    """Returns a credential that a page reports, without its private key. Anything may be in it."""
-    if not isinstance(given, dict):
-        raise invalid("a credential has to be an object")
-    return _members(given, (False, False))
+def read_reported(credential: Any) -> Json:
+    """Returns a credential that a page reports, without its private key. The input is untrusted."""
+    if not isinstance(credential, dict):
+        raise make_invalid_argument("a credential must be an object")
+    return _to_state(credential, (False, False))
 
 
-def read_private_key(given: Json) -> private_keys.PrivateKey:
-    """Returns the private key of a credential that a page made itself."""
-    return _private_key(given)
+def read_private_key(credential: Json) -> private_keys.PrivateKey:
+    """Returns the private key of a credential that a page created itself."""
+    return _read_pkcs8(credential)
 
 
-def read_point(given: Json) -> bytes:
-    """Returns the public key at the end of what stands for a private key in a page: x and y."""
-    return _bytes(given, "privateKey", 64, 10_000)[-64:]
+def read_point(credential: Json) -> bytes:
+    """Returns the public key, x and y, at the end of a placeholder for a private key."""
+    return _read_bytes(credential, "privateKey", 64, 10_000)[-64:]

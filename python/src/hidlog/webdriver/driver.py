@@ -1,4 +1,4 @@
-"""The driver behind the proxy: a process that it starts, or an address, and calls to it."""
+"""The driver behind the proxy: a process started here, or an address."""
 
 from __future__ import annotations
 
@@ -17,49 +17,49 @@ from pathlib import Path
 from typing import Any
 from urllib.parse import SplitResult, unquote, urlsplit
 
-from .errors import Answer, DriverError
+from .errors import DriverError, Response
 
-# A command may wait for a page as long as the suite allows.
-_SECONDS = 600
+# A command may take as long as the test suite allows a page to load.
+_TIMEOUT_SECONDS = 600
 _START_SECONDS = 30
 _END_SECONDS = 20
 # A screenshot of a long page, as base64.
-_ANSWER_MAX = 256 * 1024 * 1024
+_MAX_RESPONSE = 256 * 1024 * 1024
 _SUPERVISOR = Path(__file__).with_name("supervisor.py")
-_PORTS = {"http": 80, "https": 443}
+_DEFAULT_PORTS = {"http": 80, "https": 443}
 
 
-def is_address(given: str) -> bool:
-    """Returns whether `--driver` names an address, not a command."""
-    return "://" in given
+def is_address(address: str) -> bool:
+    """Returns whether `--driver` is an address, not a command."""
+    return "://" in address
 
 
-def _split(given: str) -> SplitResult:
-    """Returns the parts of a driver's address. An error doesn't show credentials."""
-    shown = given if "@" not in given else f"{given.split('://')[0]}://...@{given.rsplit('@', 1)[1]}"
+def _split_address(address: str) -> SplitResult:
+    """Splits a driver's address. Error messages do not include credentials."""
+    shown = address if "@" not in address else f"{address.split('://')[0]}://...@{address.rsplit('@', 1)[1]}"
     try:
-        parts = urlsplit(given)
-        is_right = parts.scheme in _PORTS and parts.hostname and parts.port != 0
+        parts = urlsplit(address)
+        is_right = parts.scheme in _DEFAULT_PORTS and parts.hostname and parts.port != 0
     except ValueError:
         is_right = False
-    if not is_right or parts.query or parts.fragment or not given.isascii() or not given.isprintable():
+    if not is_right or parts.query or parts.fragment or not address.isascii() or not address.isprintable():
         raise DriverError("session not created", f"--driver is {shown!r}; expected http://HOST:PORT or https://HOST")
     return parts
 
 
 class Driver:
-    """A driver at an address of this machine, or elsewhere."""
+    """A driver at an address on this machine or elsewhere."""
 
     def __init__(self, address: str, process: subprocess.Popen[bytes] | None = None):
-        parts = _split(address)
+        parts = _split_address(address)
         self._scheme, self._host = parts.scheme, parts.hostname or ""
-        self._port, self._path = parts.port or _PORTS[parts.scheme], parts.path.rstrip("/")
+        self._port, self._path = parts.port or _DEFAULT_PORTS[parts.scheme], parts.path.rstrip("/")
         self._headers = {"Content-Type": "application/json; charset=utf-8"}
         if parts.username is not None:
             pair = f"{unquote(parts.username)}:{unquote(parts.password or '')}"
             self._headers["Authorization"] = f"Basic {base64.b64encode(pair.encode()).decode()}"
         self._process = process
-        # Connections that no command uses, which is one for each that ran at once.
+        # Idle connections, as many as commands were in progress at a time.
         self._idle: list[http.client.HTTPConnection] = []
         self._lock = threading.Lock()
 
@@ -70,7 +70,7 @@ class Driver:
 
     @property
     def is_local(self) -> bool:
-        """Whether the driver runs on this machine, so that its browser's debugger is here."""
+        """Whether the driver, and so its browser's debugger, runs on this machine."""
         return self._host in ("127.0.0.1", "localhost", "::1")
 
     @property
@@ -85,70 +85,70 @@ class Driver:
             return http.client.HTTPSConnection(self._host, self._port, timeout=seconds, context=context)
         return http.client.HTTPConnection(self._host, self._port, timeout=seconds)
 
-    def _connection(self) -> http.client.HTTPConnection | None:
-        """Returns a connection that is open still, if any."""
+    def _reuse_connection(self) -> http.client.HTTPConnection | None:
+        """Returns an open idle connection, if any."""
         with self._lock:
             while self._idle:
                 connection = self._idle.pop()
-                # What can be read before anything was asked is that the driver closed it.
+                # If it is readable before a request, the driver has closed it.
                 if connection.sock and not select.select([connection.sock], [], [], 0)[0]:
                     return connection
                 connection.close()
         return None
 
-    def send(self, method: str, path: str, body: bytes | None, seconds: float = _SECONDS) -> Answer:
-        """Sends a command, and returns the answer as it is."""
+    def send(self, method: str, path: str, body: bytes | None, seconds: float = _TIMEOUT_SECONDS) -> Response:
+        """Sends a command, and returns the unparsed response."""
         connection = None
         try:
-            connection = self._connection() or self._connect(seconds)
+            connection = self._reuse_connection() or self._connect(seconds)
             connection.timeout = seconds
             if connection.sock:
                 connection.sock.settimeout(seconds)
             connection.request(method, self._path + path, body, self._headers)
             response = connection.getresponse()
-            data = response.read(_ANSWER_MAX + 1)
-            if len(data) > _ANSWER_MAX:
-                raise DriverError("unknown error", f"the driver's response has more than {_ANSWER_MAX} bytes")
+            data = response.read(_MAX_RESPONSE + 1)
+            if len(data) > _MAX_RESPONSE:
+                raise DriverError("unknown error", f"the driver's response has more than {_MAX_RESPONSE} bytes")
             if not response.will_close:
                 with self._lock:
                     self._idle.append(connection)
                 connection = None
-            return Answer(response.status, data)
+            return Response(response.status, data)
         except (OSError, http.client.HTTPException, ValueError) as error:
-            raise DriverError("unknown error", f"the driver at {self.address} doesn't answer: {error}") from None
+            raise DriverError("unknown error", f"no response from the driver at {self.address}: {error}") from None
         finally:
             if connection:
                 connection.close()
 
-    def call(self, method: str, path: str, given: Any = None, seconds: float = _SECONDS) -> Any:
-        """Calls a command, and returns its value."""
-        body = None if method in ("GET", "DELETE") else json.dumps(given or {}).encode()
-        answer = self.send(method, path, body, seconds)
+    def call(self, method: str, path: str, parameters: Any = None, seconds: float = _TIMEOUT_SECONDS) -> Any:
+        """Runs a command, and returns its value."""
+        body = None if method in ("GET", "DELETE") else json.dumps(parameters or {}).encode()
+        response = self.send(method, path, body, seconds)
         try:
-            value = answer.value
+            value = response.value
         except ValueError:
-            raise DriverError("unknown error", "the driver's response isn't JSON") from None
-        if answer.status != 200:
+            raise DriverError("unknown error", "the driver's response is not JSON") from None
+        if response.status != 200:
             found = value if isinstance(value, dict) else {}
             raise DriverError(str(found.get("error", "unknown error")), str(found.get("message", "the driver failed")))
         return value
 
     def close(self) -> None:
-        """Ends the process that was started, and all that it started."""
+        """Ends the process started here, and its child processes."""
         with self._lock:
             idle, self._idle = self._idle, []
         for connection in idle:
             with suppress(OSError):
                 connection.close()
         if self._process and self._process.stdin:
-            # Its end is what the supervisor waits for. Where that fails, the end of this process is one.
+            # The supervisor waits for the end of its standard input, at the latest that of this process.
             with suppress(OSError):
                 self._process.stdin.close()
                 self._wait_for(self._process)
 
     @staticmethod
     def _wait_for(process: subprocess.Popen[bytes]) -> None:
-        """Waits for the supervisor, which ends once the driver and all that it started did."""
+        """Waits for the supervisor, which ends after the driver and its child processes."""
         end = time.monotonic() + _END_SECONDS
         while time.monotonic() < end:
             with suppress(OSError, subprocess.TimeoutExpired):
@@ -157,7 +157,7 @@ class Driver:
             time.sleep(0.02)
 
 
-def _free_port() -> int:
+def _find_free_port() -> int:
     with socket.socket() as free:
         free.bind(("127.0.0.1", 0))
         port: int = free.getsockname()[1]
@@ -165,8 +165,8 @@ def _free_port() -> int:
 
 
 def start(words: list[str]) -> Driver:
-    """Starts a driver, such as chromedriver, on a port that is free, and waits until it listens."""
-    port = _free_port()
+    """Starts a driver, such as chromedriver, on a free port, and waits until it listens."""
+    port = _find_free_port()
     supervised = [sys.executable, "-I", "-S", str(_SUPERVISOR), *words, f"--port={port}"]
     process = subprocess.Popen(
         supervised, stdin=subprocess.PIPE, stdout=subprocess.DEVNULL, start_new_session=True, bufsize=0
@@ -180,7 +180,7 @@ def start(words: list[str]) -> Driver:
                 return driver
             except OSError:
                 if process.poll() is not None or time.monotonic() > end:
-                    raise DriverError("session not created", f"{words[0]} didn't start") from None
+                    raise DriverError("session not created", f"{words[0]} did not start") from None
                 time.sleep(0.02)
     except BaseException:
         driver.close()

@@ -1,4 +1,4 @@
-"""Errors as WebDriver has them (WebDriver section 6.6)."""
+"""WebDriver errors (WebDriver section 6.6)."""
 
 from __future__ import annotations
 
@@ -7,7 +7,7 @@ import sys
 from contextlib import suppress
 from typing import Any, NamedTuple
 
-_STATUS = {
+_HTTP_STATUSES = {
     "invalid argument": 400,
     "invalid session id": 404,
     "no such window": 404,
@@ -15,12 +15,12 @@ _STATUS = {
     "unknown method": 405,
     "unsupported operation": 500,
 }
-# Nothing that WebDriver says is deeper by far. Python's own parser fails at about 1000.
-_DEPTH_MAX = 200
+# Far more than WebDriver uses. Python's parser fails at about 1000.
+_MAX_DEPTH = 200
 
 
-class Answer(NamedTuple):
-    """A response: a status of HTTP, and bytes of JSON."""
+class Response(NamedTuple):
+    """A response: an HTTP status, and JSON as bytes."""
 
     status: int
     data: bytes
@@ -28,12 +28,12 @@ class Answer(NamedTuple):
     @property
     def value(self) -> Any:
         """The member value of the JSON."""
-        parsed = parse(self.data)
+        parsed = parse_json(self.data)
         return parsed.get("value") if isinstance(parsed, dict) else None
 
 
 class DriverError(Exception):
-    """An error by its code, such as "invalid argument"."""
+    """An error with a code, such as "invalid argument"."""
 
     def __init__(self, code: str, message: str, status: int | None = None):
         super().__init__(message)
@@ -42,34 +42,34 @@ class DriverError(Exception):
 
     @property
     def status(self) -> int:
-        """The status of HTTP."""
-        return _STATUS.get(self.code, 500) if self._status is None else self._status
+        """The HTTP status."""
+        return _HTTP_STATUSES.get(self.code, 500) if self._status is None else self._status
 
     @property
     def value(self) -> dict[str, Any]:
-        """What a driver answers."""
+        """The value in the response."""
         return {"error": self.code, "message": f"hidlog: {self}", "stacktrace": ""}
 
     @property
-    def answer(self) -> Answer:
+    def response(self) -> Response:
         """The response."""
-        return Answer(self.status, json.dumps({"value": self.value}).encode())
+        return Response(self.status, json.dumps({"value": self.value}).encode())
 
 
-def report(text: object) -> None:
-    """Writes a line to standard error, if that can be written."""
+def print_error(text: object) -> None:
+    """Writes a line to standard error, if possible."""
     with suppress(OSError, ValueError):
         if sys.stderr:
             print(f"hidlog webdriver: {text}", file=sys.stderr, flush=True)
 
 
-def invalid(message: str) -> DriverError:
-    """Returns the error of a wrong argument."""
+def make_invalid_argument(message: str) -> DriverError:
+    """Returns the error for an invalid argument."""
     return DriverError("invalid argument", message)
 
 
-def _depth(value: Any) -> int:
-    """Returns how deep lists and objects are nested, without recursion."""
+def _measure_depth(value: Any) -> int:
+    """Returns the nesting depth of lists and objects, without recursion."""
     depth, level = 0, [value]
     while level := [item for item in level if isinstance(item, (dict, list))]:
         depth += 1
@@ -77,12 +77,12 @@ def _depth(value: Any) -> int:
     return depth
 
 
-def parse(data: bytes | str) -> Any:
-    """Parses JSON of bounded depth. A ValueError says what is wrong."""
+def parse_json(data: bytes | str) -> Any:
+    """Parses JSON of bounded depth. Raises ValueError if invalid."""
     try:
         value = json.loads(data)
     except RecursionError:
-        raise ValueError(f"JSON is nested deeper than {_DEPTH_MAX}") from None
-    if _depth(value) > _DEPTH_MAX:
-        raise ValueError(f"JSON is nested deeper than {_DEPTH_MAX}")
+        raise ValueError(f"JSON is nested deeper than {_MAX_DEPTH}") from None
+    if _measure_depth(value) > _MAX_DEPTH:
+        raise ValueError(f"JSON is nested deeper than {_MAX_DEPTH}")
     return value

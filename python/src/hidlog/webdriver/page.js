@@ -1,12 +1,12 @@
-// What the proxy runs in the documents of a session, behind the script of the key in a page. A document has the
-// credentials that its own origin may use, and no other. Where the browser has a channel to the proxy, the private keys
-// stay there, and this script asks for signatures; otherwise they are in its closure.
+// The proxy's script in the documents of a session, after the script of the key. A document has the credentials that its
+// own origin may use, and no others. If the browser has a channel to the proxy, private keys stay in the proxy, and this
+// script requests signatures; otherwise they are in its closure.
 const hidlogPage = (() => {
     const { parse, stringify } = JSON;
-    // A window that a page opens is empty at first, with the page's origin, and may go on as another document.
+    // A window opened by a page is empty at first, with the page's origin, and may become another document.
     const { origin } = globalThis;
     const isPage = /^https?:/.test(origin);
-    const FORM = "hidlog web key 1";
+    const FORMAT = "hidlog web key 1";
     const [SEALED, PROOF] = ["hidlogSealed", "hidlogProof"];
     const NO_KEY = "A".repeat(43);
     const POINT_BYTES = 64;
@@ -16,26 +16,26 @@ const hidlogPage = (() => {
     const toBytes = (text) => Uint8Array.from(atob(text), (letter) => letter.charCodeAt(0));
     const toHex = (bytes) => Array.from(bytes, (byte) => byte.toString(16).padStart(2, "0")).join("");
 
-    /** The key in this document, and what the proxy last said and was told. */
+    /** The key in this document, and the state last exchanged with the proxy. */
     let key = null;
     let link = null;
     let serial = -1;
     let faultsSet = "{}";
     let known = [];
-    // Names this document among those of its origin.
+    // Identifies this document among those of its origin.
     const id = isPage ? toText(crypto.getRandomValues(new Uint8Array(12))) : "";
     const sent = new Map();
     const idsOf = (credentials) => credentials.map((credential) => credential.credentialId);
 
-    // The channel to the proxy: calls and their results. A result of call 0 is a change of the settings.
+    // The channel to the proxy: calls and their results.
 
     const openChannel = (send) => {
         const waiting = new Map();
         let last = 0;
-        const call = (name, given = {}) => new Promise((done, fail) => {
+        const call = (name, parameters = {}) => new Promise((done, fail) => {
             last += 1;
             waiting.set(last, { done, fail });
-            send(stringify({ ...given, id: last, name }));
+            send(stringify({ ...parameters, id: last, name }));
         });
         const reply = (id, value, error) => {
             const { done, fail } = waiting.get(id) ?? {};
@@ -49,7 +49,7 @@ const hidlogPage = (() => {
         return { call, reply };
     };
 
-    /** WebCrypto whose private keys that can be kept are the proxy's. */
+    /** WebCrypto with extractable private keys in the proxy. */
     const cryptoOf = ({ call }) => {
         const { subtle } = crypto;
         const ours = new WeakSet();
@@ -61,7 +61,7 @@ const hidlogPage = (() => {
         return {
             getRandomValues: (bytes) => crypto.getRandomValues(bytes),
             subtle: {
-                digest: (...given) => subtle.digest(...given),
+                digest: (...args) => subtle.digest(...args),
                 async generateKey(algorithm, isExtractable, uses) {
                     if (!isExtractable) {
                         return subtle.generateKey(algorithm, isExtractable, uses);
@@ -82,10 +82,10 @@ const hidlogPage = (() => {
         };
     };
 
-    // What the key is set to.
+    // The key's settings.
 
-    const setUp = ({ abilities, presence, serial: at, faults }) => {
-        key.setAbilities(abilities);
+    const setUp = ({ authenticatorOptions, presence, serial: at, faults }) => {
+        key.setAuthenticatorOptions(authenticatorOptions);
         if (serial !== at) {
             serial = at;
             key.presence = Array.isArray(presence) ? link.presence(presence) : presence;
@@ -97,11 +97,11 @@ const hidlogPage = (() => {
         }
     };
 
-    /** Goes on with credentials, where they aren't those that the key has. */
+    /** Replaces the key's credentials, if they differ. */
     const restore = async (credentials) => {
         const state = key.state();
         if (stringify(credentials) !== stringify(state.credentials)) {
-            await key.restore({ form: FORM, moment: state.moment, credentials });
+            await key.restore({ format: FORMAT, timeMs: state.timeMs, credentials });
         }
         known = idsOf(credentials);
     };
@@ -111,20 +111,20 @@ const hidlogPage = (() => {
         await restore(settings.credentials);
     };
 
-    /** The recordings since they were asked for last: of each the log from where it is new. */
-    const news = () => key.recordings().flatMap(({ part, log, snapshot }) => {
-        const before = sent.get(part) ?? "";
-        // The last line counts what came before it, and changes.
+    /** The changes of the recordings since the last call: of each, the new end of the log. */
+    const news = () => key.recordings().flatMap(({ index, log, snapshot }) => {
+        const before = sent.get(index) ?? "";
+        // The last line has the totals, and changes.
         const same = before.slice(0, before.lastIndexOf("\n", before.length - 2) + 1);
         const from = log.startsWith(same) ? same.length : 0;
         if (log === before || !/^> /m.test(log)) {
             return [];
         }
-        sent.set(part, log);
-        return [{ part, from, text: log.slice(from), snapshot: toHex(snapshot) }];
+        sent.set(index, log);
+        return [{ index, from, text: log.slice(from), snapshot: toHex(snapshot) }];
     });
 
-    /** What the key has, and which of the credentials that were known aren't there any more. */
+    /** The key's credentials, the IDs of known ones that are gone, and the news of the recordings. */
     const report = () => {
         const { credentials } = key.state();
         const ids = idsOf(credentials);
@@ -133,17 +133,17 @@ const hidlogPage = (() => {
         return { credentials, gone, recordings: news(), document: id };
     };
 
-    /** Has the proxy and the key be the same before a call of the page and after it. */
+    /** Synchronizes the proxy and the key before and after a page's call. */
     const surround = (name) => {
         const { prototype } = CredentialsContainer;
         const served = prototype[name];
-        const around = { async [name](...given) {
-            if (given[0]?.publicKey === undefined) {
-                return served.apply(this, given);
+        const around = { async [name](...args) {
+            if (args[0]?.publicKey === undefined) {
+                return served.apply(this, args);
             }
             await link.begin();
             try {
-                return await served.apply(this, given);
+                return await served.apply(this, args);
             } finally {
                 await link.end();
             }
@@ -152,15 +152,15 @@ const hidlogPage = (() => {
     };
 
     const put = (options) => {
-        key = hidlogKey.install({ allowOrigins: [origin], origin, ...options });
+        key = hidlogKey.install({ allowedOrigins: [origin], origin, ...options });
         ["create", "get"].forEach(surround);
         return key;
     };
 
     // With a channel.
 
-    /** Puts the key into this document. @param {(text: string) => void} send */
-    const connect = (send, abilities) => {
+    /** Installs the key in this document. @param {(text: string) => void} send */
+    const connect = (send, authenticatorOptions) => {
         if (!isPage || key) {
             return;
         }
@@ -171,13 +171,13 @@ const hidlogPage = (() => {
             presence: () => async () => (await channel.call("presence")).word,
         };
         put({ crypto: cryptoOf(channel) });
-        key.setAbilities(abilities);
+        key.setAuthenticatorOptions(authenticatorOptions);
         Object.defineProperty(globalThis, "hidlogReply", { value: channel.reply, configurable: true });
         Object.defineProperty(globalThis, "hidlogUpdate", { value: update, configurable: true });
     };
 
-    // Without one: the proxy calls `sync` now and then. What it hasn't seen when the page goes to another document is
-    // in sessionStorage, sealed by a secret that the proxy gives to documents of this origin alone.
+    // Without a channel: the proxy calls `sync` from time to time. What it has not seen when the page navigates away is in
+    // sessionStorage, encrypted with a secret that the proxy gives to documents of this origin only.
 
     let seal = null;
     let used = 0;
@@ -192,7 +192,7 @@ const hidlogPage = (() => {
         sessionStorage.setItem(SEALED, `${toText(iv)} ${toText(new Uint8Array(sealed))}`);
     };
 
-    /** What an earlier document of this origin saved, or null. */
+    /** The state saved by an earlier document of this origin, or null. */
     const saved = async () => {
         try {
             const [iv, sealed] = sessionStorage.getItem(SEALED).split(" ").map(toBytes);
@@ -202,7 +202,7 @@ const hidlogPage = (() => {
         }
     };
 
-    /** The proxy's credentials with what this page changed of those that it knew. */
+    /** The proxy's credentials, with this page's changes to those it knew. */
     const merged = (proxy) => {
         const { credentials } = key.state();
         const own = new Map(credentials.map((credential) => [credential.credentialId, credential]));
@@ -213,7 +213,7 @@ const hidlogPage = (() => {
         return [...counted, ...credentials.filter(({ credentialId: id }) => !ids.includes(id) && !known.includes(id))];
     };
 
-    const begun = async ({ secret }) => {
+    const start = async ({ secret }) => {
         seal = await sealOf(secret);
         link = {
             begin: async () => {},
@@ -233,9 +233,9 @@ const hidlogPage = (() => {
         return null;
     };
 
-    /** Makes this page and the proxy have the same, and returns what the proxy hasn't. */
+    /** Synchronizes this page with the proxy, and returns what is new for the proxy. */
     const sync = async (settings) => {
-        const before = key ? { used, serial } : await begun(settings);
+        const before = key ? { used, serial } : await start(settings);
         used = Math.max(settings.used, before?.serial === settings.serial ? before.used : 0);
         setUp(settings);
         const gone = known.filter((id) => !idsOf(key.state().credentials).includes(id));
@@ -245,7 +245,7 @@ const hidlogPage = (() => {
         return { credentials: key.state().credentials, gone, recordings: news(), document: id, used, serial };
     };
 
-    /** Takes the key out of this document. Returns what puts the functions of this script there again. */
+    /** Removes the key from this document. Returns an object with the library, which restores this script's functions. */
     const remove = () => {
         const { library } = globalThis.hidlogPage;
         key?.uninstall();
@@ -253,7 +253,7 @@ const hidlogPage = (() => {
             [SEALED, PROOF].forEach((name) => sessionStorage.removeItem(name));
         }
         ["hidlogReply", "hidlogUpdate", "hidlogPage", "hidlogKey"].forEach((name) => delete globalThis[name]);
-        // Of a function, the browser would send the text.
+        // The browser would return a function itself as text.
         return { library };
     };
 

@@ -1,4 +1,4 @@
-"""The script of the key in a page, and what the proxy runs with it."""
+"""The key's script for pages, with the proxy's functions."""
 
 from __future__ import annotations
 
@@ -7,16 +7,16 @@ from pathlib import Path
 
 from .errors import DriverError
 
-_OWN = Path(__file__).parent
-# An installed package has the script in itself, and a clone beside the package's sources.
-_SCRIPTS = (_OWN / "security_key.js", _OWN.parents[3] / "web" / "dist" / "security_key.js")
+_PACKAGE_FOLDER = Path(__file__).parent
+# In an installed package, and in a clone.
+_KEY_SCRIPTS = (_PACKAGE_FOLDER / "security_key.js", _PACKAGE_FOLDER.parents[3] / "web" / "dist" / "security_key.js")
 
 
 @lru_cache(maxsize=1)
-def script() -> str:
-    """Returns the script of the key in a page, and what the proxy runs with it."""
-    for path in _SCRIPTS:
+def read_script() -> str:
+    """Returns the key's script for pages, with the proxy's functions."""
+    for path in _KEY_SCRIPTS:
         if path.is_file():
-            page = (_OWN / "page.js").read_text(encoding="utf-8")
+            page = (_PACKAGE_FOLDER / "page.js").read_text(encoding="utf-8")
             return f"{path.read_text(encoding='utf-8')}\n{page}\nglobalThis.hidlogPage = hidlogPage;\n"
-    raise DriverError("unknown error", "security_key.js isn't in this package")
+    raise DriverError("unknown error", "security_key.js is missing in this package")

@@ -1,4 +1,4 @@
-"""The HTTP server of the proxy: what it accepts is what the gate admits, and each wait has an end."""
+"""The HTTP server of the proxy. It accepts what the gate admits, and all waits are bounded."""
 
 from __future__ import annotations
 
@@ -13,28 +13,28 @@ from http import HTTPStatus
 from http.server import BaseHTTPRequestHandler, ThreadingHTTPServer
 from typing import Any
 
-from .errors import Answer, DriverError, report
+from .errors import DriverError, Response, print_error
 from .gate import Head, Policy, admit
 
-# Seconds that a connection may wait for a request, and that a request's head and body, and its response may take.
+# Seconds that a connection may be idle, and that a request's head, its body, and its response may take.
 IDLE_SECONDS = 600.0
 HEAD_SECONDS = 10.0
 BODY_SECONDS = 120.0
-CONNECTIONS_MAX = 128
-_BLOCK = 1 << 16
-# What a request begins with (RFC 9112 section 3).
-_REQUEST = re.compile(rb"[A-Z]+ [\x21-\x7e]+ HTTP/1\.[0-9]\r?\n\Z")
-# The name of a header (RFC 9110 section 5.6.2).
+MAX_CONNECTIONS = 128
+_READ_BYTES = 1 << 16
+# The request line (RFC 9112 section 3).
+_REQUEST_LINE = re.compile(rb"[A-Z]+ [\x21-\x7e]+ HTTP/1\.[0-9]\r?\n\Z")
+# A header name (RFC 9110 section 5.6.2).
 _TOKEN = re.compile(r"[!#$%&'*+.^_`|~0-9A-Za-z-]+\Z")
-# A control character other than a tab and the end of a line, or a line that goes on with the one before.
-_CONTROL = re.compile(rb"\A[ \t]|[\x00-\x08\x0b\x0c\x0e-\x1f\x7f]|\r(?!\n)")
+# A control character other than a tab and the line end, or a continuation line.
+_INVALID_VALUE = re.compile(rb"\A[ \t]|[\x00-\x08\x0b\x0c\x0e-\x1f\x7f]|\r(?!\n)")
 
-Serve = Callable[[str, str, bytes], Answer]
+Serve = Callable[[str, str, bytes], Response]
 
 
-class _Lines:
-    """A connection's bytes, and what http.server doesn't look at in a head: whether its last line came, and whether
-    there are control characters, of which some end a line for its parser and for no other."""
+class _HeadReader:
+    """A connection's data, with checks that http.server lacks: whether the last line of a head arrived, and whether
+    there are control characters, some of which end a line only for its parser."""
 
     def __init__(self, file: Any):
         self._file = file
@@ -44,25 +44,25 @@ class _Lines:
     def readline(self, most: int) -> bytes:
         """Reads a line of a head."""
         self.last = self._file.readline(most)
-        self.is_clean = self.is_clean and not _CONTROL.search(self.last)
+        self.is_clean = self.is_clean and not _INVALID_VALUE.search(self.last)
         return self.last
 
 
 class _Handler(BaseHTTPRequestHandler):
-    """A connection. Its deadline is when the server closes it, or None while a command is being served."""
+    """A connection. The server closes it at the deadline, which is None while a command is served."""
 
     protocol_version = "HTTP/1.1"
     disable_nagle_algorithm = True
-    wbufsize = _BLOCK
+    wbufsize = _READ_BYTES
     server: Server
     raw_requestline: bytes
 
     def setup(self) -> None:
         super().setup()
-        self._lines = self.rfile = _Lines(self.rfile)  # type: ignore[assignment]
+        self._lines = self.rfile = _HeadReader(self.rfile)  # type: ignore[assignment]
         self.deadline: float | None = None
         self.is_idle = True
-        self.server.opened(self)
+        self.server.record_handler(self)
 
     def finish(self) -> None:
         with suppress(OSError):
@@ -88,16 +88,16 @@ class _Handler(BaseHTTPRequestHandler):
         super().handle_one_request()
 
     def handle_expect_100(self) -> bool:
-        return True  # the gate comes first
+        return True  # the gate decides first
 
-    def _head(self) -> Head:
+    def _parse_head(self) -> Head:
         def values(name: str) -> list[str]:
             return list(self.headers.get_all(name, []))
 
         is_sound = self._lines.is_clean and not self.headers.defects and not self.headers.get_payload()
         if not is_sound or not all(map(_TOKEN.match, self.headers.keys())):
             raise DriverError("invalid argument", "a header is malformed", 400)
-        # http.server changes a path that begins with two slashes.
+        # http.server changes paths that start with two slashes.
         self.path = self.raw_requestline.decode("latin-1").split(" ")[1]
         return Head(
             self.command,
@@ -110,15 +110,15 @@ class _Handler(BaseHTTPRequestHandler):
             values("Transfer-Encoding"),
         )
 
-    def _policy(self) -> Policy:
+    def _make_policy(self) -> Policy:
         address = str(self.connection.getsockname()[0]).replace("::ffff:", "")
         return Policy(self.server.port, address, self.server.hosts)
 
-    def _body(self, length: int) -> bytes | None:
-        """Reads the body, or nothing if the client goes away before its end."""
+    def _read_body(self, length: int) -> bytes | None:
+        """Reads the body. Returns None if the client disconnects before its end."""
         blocks = []
         while length:
-            block = self._lines.read1(min(length, _BLOCK))
+            block = self._lines.read1(min(length, _READ_BYTES))
             if not block:
                 return None
             blocks.append(block)
@@ -126,68 +126,68 @@ class _Handler(BaseHTTPRequestHandler):
         return b"".join(blocks)
 
     def _serve(self) -> None:
-        if not _REQUEST.match(self.raw_requestline):
+        if not _REQUEST_LINE.match(self.raw_requestline):
             self.send_error(HTTPStatus.BAD_REQUEST)
             return
         if self._lines.last not in (b"\r\n", b"\n"):
             self.close_connection = True
             return
         try:
-            length = admit(self._head(), self._policy())
+            length = admit(self._parse_head(), self._make_policy())
         except DriverError as error:
-            self._refuse(error)
+            self._respond_refused(error)
             return
         self._wait(BODY_SECONDS)
         if "100-continue" in self.headers.get("Expect", "").lower():
             self.wfile.write(b"HTTP/1.1 100 Continue\r\n\r\n")
             self.wfile.flush()
-        body = self._body(length)
+        body = self._read_body(length)
         if body is None:
             self.close_connection = True
             return
         self._wait(None)
-        self._respond(self.server.answer(self.command, self.path, body))
+        self._respond(self.server.response(self.command, self.path, body))
 
-    def _refuse(self, error: DriverError) -> None:
-        """Answers with an error, and closes the connection, since what follows may be anything."""
+    def _respond_refused(self, error: DriverError) -> None:
+        """Responds with an error, and closes the connection, because what follows is unknown."""
         self.close_connection = True
-        self._respond(error.answer)
+        self._respond(error.response)
 
-    def _respond(self, answer: Answer) -> None:
+    def _respond(self, response: Response) -> None:
         self._wait(BODY_SECONDS)
-        self.send_response_only(answer.status)
+        self.send_response_only(response.status)
         self.send_header("Content-Type", "application/json; charset=utf-8")
         self.send_header("Cache-Control", "no-cache")
-        self.send_header("Content-Length", str(len(answer.data)))
+        self.send_header("Content-Length", str(len(response.data)))
         if self.close_connection:
             self.send_header("Connection", "close")
         self.end_headers()
-        self.wfile.write(answer.data)
+        self.wfile.write(response.data)
 
     do_GET = do_POST = do_DELETE = _serve
 
     def send_error(self, code: int, message: str | None = None, explain: str | None = None) -> None:
-        """Answers a request that http.server itself refuses."""
+        """Responds to a request that http.server itself refuses."""
         name = "unknown method" if code == HTTPStatus.NOT_IMPLEMENTED else "invalid argument"
         status = 405 if code == HTTPStatus.NOT_IMPLEMENTED else code
-        # The head may not have been read, and then nothing is known of its version.
+        # If the head was not read, its version is unknown.
         self.request_version = "HTTP/1.1"
-        self._refuse(DriverError(name, f"invalid request: {message or HTTPStatus(code).phrase}", status))
+        self._respond_refused(DriverError(name, f"invalid request: {message or HTTPStatus(code).phrase}", status))
 
     def log_message(self, *_: Any) -> None:
-        """Says nothing of each request."""
+        """Does not log requests."""
 
 
 class Server(ThreadingHTTPServer):
-    """Serves commands on an address, on this machine alone by default. The number of connections is bounded."""
+    """Serves commands at an address, by default on this machine only. The number of connections is bounded."""
 
     daemon_threads = True
-    request_queue_size = CONNECTIONS_MAX
+    request_queue_size = MAX_CONNECTIONS
 
     def __init__(self, serve: Serve, port: int, address: str = "127.0.0.1", hosts: tuple[str, ...] = ()):
         self.hosts = hosts
         self._serve = serve
-        # By socket: its handler, once that has begun.
+        # Handlers by socket, None until one has started.
         self._open: dict[socket.socket, _Handler | None] = {}
         self._lock = threading.Lock()
         self.address_family = socket.AF_INET6 if ":" in address else socket.AF_INET
@@ -195,24 +195,24 @@ class Server(ThreadingHTTPServer):
         self.port: int = self.server_address[1]
 
     def server_bind(self) -> None:
-        """Binds without a look-up of this machine's name."""
+        """Binds without looking up this machine's name."""
         self.socket.setsockopt(socket.SOL_SOCKET, socket.SO_REUSEADDR, 1)
         self.socket.bind(self.server_address)
         self.server_address = self.socket.getsockname()
 
-    def answer(self, method: str, path: str, body: bytes) -> Answer:
-        """Serves a command. Whatever fails is a WebDriver error."""
+    def response(self, method: str, path: str, body: bytes) -> Response:
+        """Serves a command. Any failure is a WebDriver error."""
         try:
             return self._serve(method, path, body)
         except DriverError as error:
-            return error.answer
+            return error.response
         except (OSError, ValueError, RuntimeError, MemoryError) as error:
-            return DriverError("unknown error", f"{type(error).__name__}: {error}").answer
+            return DriverError("unknown error", f"{type(error).__name__}: {error}").response
 
     # Connections.
 
-    def opened(self, handler: _Handler) -> None:
-        """Notes the handler of a connection."""
+    def record_handler(self, handler: _Handler) -> None:
+        """Stores the handler of a connection."""
         with self._lock:
             self._open[handler.connection] = handler
 
@@ -220,18 +220,18 @@ class Server(ThreadingHTTPServer):
         try:
             return super().get_request()
         except OSError:
-            time.sleep(0.05)  # no descriptors are left, and the connection waits
+            time.sleep(0.05)  # no descriptors are left; the connection stays pending
             raise
 
     def process_request(self, request: Any, client_address: Any) -> None:
-        """Serves a connection, in the place of one that waits if there are too many."""
+        """Serves a connection. If there are too many, it replaces the one that has been idle longest."""
         with self._lock:
             idle = [handler for handler in self._open.values() if handler and handler.is_idle]
-            is_full = len(self._open) >= CONNECTIONS_MAX
+            is_full = len(self._open) >= MAX_CONNECTIONS
             if is_full and idle:
                 oldest = min(idle, key=lambda handler: handler.deadline or 0).connection
                 del self._open[oldest]
-                _cut(oldest)
+                _shut_down(oldest)
             if not is_full or idle:
                 self._open[request] = None
         if is_full and not idle:
@@ -245,19 +245,19 @@ class Server(ThreadingHTTPServer):
         super().shutdown_request(request)
 
     def service_actions(self) -> None:
-        """Closes the connections whose time is over."""
+        """Closes connections past their deadline."""
         now = time.monotonic()
         with self._lock:
             handlers = [item for item in self._open.values() if item]
         for handler in handlers:
             if handler.deadline is not None and handler.deadline < now:
-                _cut(handler.connection)
+                _shut_down(handler.connection)
 
     def handle_error(self, request: Any, client_address: Any) -> None:
-        """Says in one line what ended a connection."""
-        report(f"a connection failed: {sys.exc_info()[1]!r}")
+        """Reports in one line what ended a connection."""
+        print_error(f"a connection failed: {sys.exc_info()[1]!r}")
 
 
-def _cut(connection: socket.socket) -> None:
+def _shut_down(connection: socket.socket) -> None:
     with suppress(OSError):
         connection.shutdown(socket.SHUT_RDWR)

@@ -1,9 +1,9 @@
-"""Runs a driver, and ends it with all that it started once standard input ends: however the proxy ended.
+"""Runs a driver, and ends it with its child processes when standard input ends, however the proxy ended.
 
     supervisor.py COMMAND..
 
-It runs as a script that imports nothing of the package, so it starts at once. A driver that is killed leaves its
-browser running: on Linux the browser becomes this process's child then, and is ended too.
+It is a script that does not import the package, so it starts fast. A killed driver leaves its browser running; on Linux
+the browser then becomes this process's child, and is ended, too.
 """
 
 from __future__ import annotations
@@ -26,23 +26,23 @@ _prctl: Callable[..., int] | None = ctypes.CDLL(None).prctl if _LINUX else None
 
 
 def die_with_parent() -> None:
-    """Has the kernel end this process when the one that started it ends."""
+    """Makes the kernel end this process when its parent ends."""
     if _prctl:
         _prctl(_PR_SET_PDEATHSIG, signal.SIGKILL, 0, 0, 0)
 
 
-def _children(pid: int) -> Iterator[int]:
-    """Yields the processes under one, as far as the kernel lists them."""
+def _iter_descendants(pid: int) -> Iterator[int]:
+    """Yields the descendants of a process, as far as the kernel lists them."""
     with suppress(OSError):
         for task in os.listdir(f"/proc/{pid}/task"):
             with open(f"/proc/{pid}/task/{task}/children", encoding="ascii") as file:
                 for child in map(int, file.read().split()):
                     yield child
-                    yield from _children(child)
+                    yield from _iter_descendants(child)
 
 
-def _collect(driver: subprocess.Popen[bytes]) -> None:
-    """Collects the processes that ended: the driver, and what it left behind."""
+def _reap(driver: subprocess.Popen[bytes]) -> None:
+    """Reaps ended processes: the driver, and orphans it left behind."""
     with suppress(ChildProcessError):
         while True:
             pid, status = os.waitpid(-1, os.WNOHANG)
@@ -53,28 +53,28 @@ def _collect(driver: subprocess.Popen[bytes]) -> None:
 
 
 def _has_ended(driver: subprocess.Popen[bytes]) -> bool:
-    """Returns whether the driver and all that it started ended."""
-    _collect(driver)
-    return driver.returncode is not None and not any(_children(os.getpid()))
+    """Returns whether the driver and its descendants have ended."""
+    _reap(driver)
+    return driver.returncode is not None and not any(_iter_descendants(os.getpid()))
 
 
-def _signal(driver: subprocess.Popen[bytes], number: int) -> None:
+def _send_signal(driver: subprocess.Popen[bytes], number: int) -> None:
     """Sends a signal to the driver's group, and to its other descendants."""
     with suppress(ProcessLookupError, PermissionError):
         os.killpg(driver.pid, number)
-    for pid in list(_children(os.getpid())):
+    for pid in list(_iter_descendants(os.getpid())):
         with suppress(ProcessLookupError, PermissionError):
             os.kill(pid, number)
 
 
-def _end(driver: subprocess.Popen[bytes]) -> None:
-    """Ends the driver and all that it started: asks, and kills those that don't end."""
-    _signal(driver, signal.SIGTERM)
+def _end_driver(driver: subprocess.Popen[bytes]) -> None:
+    """Ends the driver and its descendants: SIGTERM first, then SIGKILL for those that remain."""
+    _send_signal(driver, signal.SIGTERM)
     end = time.monotonic() + _GRACE_SECONDS
     while not _has_ended(driver) and time.monotonic() < end:
         time.sleep(_STEP_SECONDS)
     while not _has_ended(driver):
-        _signal(driver, signal.SIGKILL)
+        _send_signal(driver, signal.SIGKILL)
         time.sleep(_STEP_SECONDS)
 
 
@@ -88,7 +88,7 @@ def main(words: list[str]) -> int:
     signal.signal(signal.SIGCHLD, lambda *_: os.write(wake, b"."))
     os.set_blocking(wake, False)
     try:
-        driver = subprocess.Popen(words, stdin=subprocess.DEVNULL, start_new_session=True, preexec_fn=_prepare)
+        driver = subprocess.Popen(words, stdin=subprocess.DEVNULL, start_new_session=True, preexec_fn=_prepare_driver)
     except OSError as error:
         print(f"{words[0]}: {error.strerror}", file=sys.stderr)
         return 127
@@ -98,14 +98,14 @@ def main(words: list[str]) -> int:
             break
         if end in ready:
             os.read(end, 4096)
-        _collect(driver)
-    _end(driver)
+        _reap(driver)
+    _end_driver(driver)
     status = driver.returncode or 0
     return status if status >= 0 else 128 - status
 
 
-def _prepare() -> None:
-    """What the driver's process begins with: the parent's death ends it, and signals are as usual."""
+def _prepare_driver() -> None:
+    """Prepares the driver's process: it ends with its parent, and has default signal handlers."""
     for number in (signal.SIGINT, signal.SIGTERM, signal.SIGHUP):
         signal.signal(number, signal.SIG_DFL)
     die_with_parent()

@@ -1,4 +1,4 @@
-"""A client of the WebSocket protocol (RFC 6455) for a browser on this machine: texts in both directions."""
+"""A WebSocket client (RFC 6455) for a browser on this machine, with text messages in both directions."""
 
 from __future__ import annotations
 
@@ -11,24 +11,24 @@ from hashlib import sha1
 from urllib.parse import urlsplit
 
 _GUID = b"258EAFA5-E914-47DA-95CA-C5AB0DC85B11"
-_HEAD_MAX = 16_384
-MESSAGE_MAX = 64 * 1024 * 1024
+_MAX_HEAD_BYTES = 16_384
+MAX_MESSAGE = 64 * 1024 * 1024
 _CONTINUATION, _TEXT, _CLOSE, _PING, _PONG = 0x0, 0x1, 0x8, 0x9, 0xA
 _FIN, _MASKED = 0x80, 0x80
 
 
 class WebSocketError(OSError):
-    """The connection ended, or the other side broke the protocol."""
+    """The connection ended, or the server violated the protocol."""
 
 
-def _masked(data: bytes, mask: bytes) -> bytes:
-    """Returns bytes combined with a mask that repeats (RFC 6455 section 5.3)."""
+def _mask(data: bytes, mask: bytes) -> bytes:
+    """Returns data XORed with a repeated mask (RFC 6455 section 5.3)."""
     whole = int.from_bytes(data, "little") ^ int.from_bytes((mask * (len(data) // 4 + 1))[: len(data)], "little")
     return whole.to_bytes(len(data), "little")
 
 
-def frame(opcode: int, data: bytes, mask: bytes) -> bytes:
-    """Returns a whole message in one frame, as a client sends it."""
+def make_frame(opcode: int, data: bytes, mask: bytes) -> bytes:
+    """Returns a message as one frame, as a client sends it."""
     size = len(data)
     if size < 126:
         length = bytes([_MASKED | size])
@@ -36,16 +36,16 @@ def frame(opcode: int, data: bytes, mask: bytes) -> bytes:
         length = bytes([_MASKED | 126]) + size.to_bytes(2, "big")
     else:
         length = bytes([_MASKED | 127]) + size.to_bytes(8, "big")
-    return bytes([_FIN | opcode]) + length + mask + _masked(data, mask)
+    return bytes([_FIN | opcode]) + length + mask + _mask(data, mask)
 
 
 class WebSocket:
-    """An open connection. One thread receives, and any sends."""
+    """An open connection. Only one thread may receive; any may send."""
 
     def __init__(self, url: str, seconds: float):
         parts = urlsplit(url)
         if parts.scheme != "ws" or not parts.hostname or not parts.port:
-            raise WebSocketError(f"{url!r} is no address of a WebSocket")
+            raise WebSocketError(f"{url!r} is not a WebSocket URL")
         self._socket = socket.create_connection((parts.hostname, parts.port), timeout=seconds)
         self._lock = threading.Lock()
         try:
@@ -64,50 +64,50 @@ class WebSocket:
         self._socket.sendall("\r\n".join(lines).encode("ascii"))
         wanted = base64.b64encode(sha1(key + _GUID).digest()).decode()
         headers, size = {}, 0
-        status = self._file.readline(_HEAD_MAX)
-        while (line := self._file.readline(_HEAD_MAX)) not in (b"\r\n", b"\n", b""):
+        status = self._file.readline(_MAX_HEAD_BYTES)
+        while (line := self._file.readline(_MAX_HEAD_BYTES)) not in (b"\r\n", b"\n", b""):
             size += len(line)
             name, _, value = line.decode("latin-1").partition(":")
             headers[name.strip().lower()] = value.strip()
-            if size > _HEAD_MAX:
+            if size > _MAX_HEAD_BYTES:
                 raise WebSocketError("the head of the response is too long")
         if status.split(b" ")[1:2] != [b"101"] or headers.get("sec-websocket-accept") != wanted:
-            raise WebSocketError(f"the server doesn't speak WebSocket: {status[:80]!r}")
+            raise WebSocketError(f"not a WebSocket server: {status[:80]!r}")
 
     def send(self, text: str) -> None:
-        """Sends a text."""
+        """Sends a text message."""
         self._send(_TEXT, text.encode())
 
     def _send(self, opcode: int, data: bytes) -> None:
         with self._lock:
-            self._socket.sendall(frame(opcode, data, os.urandom(4)))
+            self._socket.sendall(make_frame(opcode, data, os.urandom(4)))
 
-    def _read(self, count: int) -> bytes:
+    def _read_bytes(self, count: int) -> bytes:
         data = self._file.read(count)
         if len(data) != count:
             raise WebSocketError("the connection ended")
         return data
 
-    def _frame(self) -> tuple[bool, int, bytes]:
-        first, second = self._read(2)
+    def _read_frame(self) -> tuple[bool, int, bytes]:
+        first, second = self._read_bytes(2)
         length = second & 0x7F
         if length > 125:
-            length = int.from_bytes(self._read(2 if length == 126 else 8), "big")
-        if first & 0x70 or second & _MASKED or length > MESSAGE_MAX:
+            length = int.from_bytes(self._read_bytes(2 if length == 126 else 8), "big")
+        if first & 0x70 or second & _MASKED or length > MAX_MESSAGE:
             raise WebSocketError("the server sent an invalid frame")
-        return bool(first & _FIN), first & 0x0F, self._read(length)
+        return bool(first & _FIN), first & 0x0F, self._read_bytes(length)
 
     def receive(self) -> str:
-        """Returns the next text. Pings are answered."""
+        """Returns the next text message. Responds to pings."""
         parts: list[bytes] = []
         while True:
-            is_last, opcode, data = self._frame()
+            is_last, opcode, data = self._read_frame()
             if opcode == _PING:
                 self._send(_PONG, data)
             elif opcode == _CLOSE:
                 raise WebSocketError("the connection was closed")
             elif opcode in (_TEXT, _CONTINUATION):
-                if (opcode == _TEXT) == bool(parts) or sum(map(len, parts)) + len(data) > MESSAGE_MAX:
+                if (opcode == _TEXT) == bool(parts) or sum(map(len, parts)) + len(data) > MAX_MESSAGE:
                     raise WebSocketError("the server sent an invalid message")
                 parts.append(data)
                 if is_last:
@@ -116,7 +116,7 @@ class WebSocket:
                 raise WebSocketError(f"the server sent a frame of opcode {opcode}")
 
     def close(self) -> None:
-        """Ends the connection, also for the thread that receives."""
+        """Closes the connection, also for the receiving thread."""
         with suppress(OSError):
             self._socket.shutdown(socket.SHUT_RDWR)
         self._socket.close()

@@ -1,4 +1,4 @@
-"""A key that is a process of its own: `hidlog live`, a line in and lines out. It needs the program."""
+"""A key in a separate process: `hidlog live`, one line in and lines out."""
 
 from __future__ import annotations
 
@@ -11,54 +11,55 @@ from contextlib import suppress
 from pathlib import Path
 from typing import TYPE_CHECKING
 
-from .errors import KeyEnded, MissingPart, SnapshotError
-from .lines import Field, Need, Reply, line_of, read_reply
+from .errors import KeyClosedError, MissingDependencyError, SnapshotError
+from .log_lines import Field, Need, Reply, format_line, parse_reply
 
 if TYPE_CHECKING:
     from .credentials import Credential
 
 
 def program_paths() -> list[Path]:
-    """Returns where the program is looked for, in order: HIDLOG, the package, the path, and a clone's ./hidlog.
+    """Returns the paths at which the program is searched: HIDLOG_PROGRAM, or the package, PATH and a clone's ./hidlog.
 
-    Relative folders of the path, such as the current one, are left out."""
-    if named := os.environ.get("HIDLOG"):
+    Relative directories in PATH are ignored."""
+    if named := os.environ.get("HIDLOG_PROGRAM"):
         return [Path(named)]
     here = Path(__file__).resolve().parent
     folders = [folder for folder in os.environ.get("PATH", os.defpath).split(os.pathsep) if os.path.isabs(folder)]
     on_path = shutil.which("hidlog", path=os.pathsep.join(folders))
-    if on_path and _is_of_python(on_path):
+    if on_path and _is_python_script(on_path):
         on_path = None
     clone = [top / "hidlog" for top in list(here.parents)[2:3] if (top / "release" / "hidlog").is_file()]
     return [here / "hidlog", *([Path(on_path)] if on_path else []), *clone]
 
 
-def _is_of_python(path: str) -> bool:
-    """Returns whether it is a script of Python, such as that of this package, which looks for the program itself."""
+def _is_python_script(path: str) -> bool:
+    """Returns whether a file is a Python script, such as this package's `hidlog`, which would search for the
+    program."""
     with open(path, "rb") as file:
         first = file.readline(300)
     return first.startswith(b"#!") and b"python" in first
 
 
-def program() -> str:
+def find_program() -> str:
     """Returns the path of the program."""
     paths = program_paths()
     for path in paths:
         if path.is_file() and os.access(path, os.X_OK):
             return str(path.resolve())
-    looked = " nor ".join(map(str, paths))
-    raise MissingPart(
-        f"the program is missing: it is not {looked}. The wheels have it, for Linux on x86-64 and aarch64; the variable HIDLOG names "
-        "another, and hidlog.check, replay, quiet, live and show need no program"
+    tried = ", ".join(map(str, paths))
+    raise MissingDependencyError(
+        f"hidlog program not found (tried {tried}); install a wheel for Linux on x86-64 or aarch64, or set HIDLOG_PROGRAM. "
+        "hidlog.check, replay, quiet, live and show work without it"
     )
 
 
-def _said(errors: bytes) -> str:
-    return errors.decode(errors="replace").strip() or "it said nothing"
+def _read_errors(errors: bytes) -> str:
+    return errors.decode(errors="replace").strip() or "no error message"
 
 
-def snapshot_after(path: str, log: bytes, start: bytes) -> bytes:
-    """Returns a snapshot of the credentials after a log, which the program plays again."""
+def compute_snapshot(path: str, log: bytes, start: bytes) -> bytes:
+    """Replays a log, and returns a snapshot of the credentials at its end."""
     with tempfile.TemporaryDirectory() as folder:
         words = [path, "replay", "--save", f"{folder}/after"]
         if start:
@@ -66,14 +67,14 @@ def snapshot_after(path: str, log: bytes, start: bytes) -> bytes:
             words += ["--load", f"{folder}/start"]
         ran = subprocess.run(words, input=log, stdout=subprocess.DEVNULL, stderr=subprocess.PIPE, check=False)
         if ran.returncode:
-            raise SnapshotError(f"hidlog ended with status {ran.returncode}: {_said(ran.stderr)}")
+            raise SnapshotError(f"hidlog ended with status {ran.returncode}: {_read_errors(ran.stderr)}")
         return Path(folder, "after").read_bytes()
 
 
-def _end(process: subprocess.Popen[bytes], folder: tempfile.TemporaryDirectory[str], owner: int) -> None:
-    """Ends a program whose key is gone, and closes its pipes."""
+def _kill_process(process: subprocess.Popen[bytes], folder: tempfile.TemporaryDirectory[str], owner: int) -> None:
+    """Kills the program of a key that is gone, and closes its pipes."""
     if os.getpid() != owner:
-        return  # in a child of os.fork, whose parent has the program
+        return  # the program belongs to the parent of os.fork
     for pipe in (process.stdin, process.stdout, process.stderr):
         if pipe is not None:
             with suppress(OSError):
@@ -84,13 +85,13 @@ def _end(process: subprocess.Popen[bytes], folder: tempfile.TemporaryDirectory[s
     folder.cleanup()
 
 
-class ProcessKey:
-    """A key in a process of its own, which ends with the key."""
+class SubprocessKey:
+    """A key in a separate process, which ends with the key."""
 
-    _all: weakref.WeakSet[ProcessKey] = weakref.WeakSet()
+    _all: weakref.WeakSet[SubprocessKey] = weakref.WeakSet()
 
     def __init__(self, snapshot: bytes = b"", path: str | None = None):
-        self._start, self._path = snapshot, path or program()
+        self._start, self._path = snapshot, path or find_program()
         self._folder = tempfile.TemporaryDirectory()
         words = [self._path, "live"]
         if snapshot:
@@ -101,22 +102,22 @@ class ProcessKey:
             self._process = subprocess.Popen(words, stdin=pipe, stdout=pipe, stderr=pipe)
         except OSError as error:
             self._folder.cleanup()
-            raise MissingPart(f"{words[0]} can't be started: {error}") from None
-        # A process that still runs keeps its pipes open, also when nothing refers to it.
-        self._end = weakref.finalize(self, _end, self._process, self._folder, os.getpid())
+            raise MissingDependencyError(f"{words[0]} cannot be started: {error}") from None
+        # A running process keeps its pipes open even if nothing refers to it.
+        self._end = weakref.finalize(self, _kill_process, self._process, self._folder, os.getpid())
         self._all.add(self)
 
     @classmethod
-    def leave_to_parent(cls) -> None:
-        """Closes the pipes in a child of os.fork, so that the program ends where the parent ends it."""
+    def close_in_child(cls) -> None:
+        """Closes the pipes in a child of os.fork, so that the program ends when the parent ends it."""
         for key in list(cls._all):
             for pipe in (key._process.stdin, key._process.stdout, key._process.stderr):
                 if pipe is not None and not pipe.closed:
                     getattr(pipe, "raw", pipe).close()
-            key._process.returncode = 0  # it is no child of this process, which can't wait for it
+            key._process.returncode = 0  # not a child of this process, which therefore can't wait for it
 
     def exchange(self, line: bytes) -> Reply:
-        """Hands in a line of a log, and returns what comes of it."""
+        """Plays a log line, and returns the key's reply."""
         assert self._process.stdin and self._process.stdout
         try:
             self._process.stdin.write(line + b"\n")
@@ -125,46 +126,46 @@ class ProcessKey:
             self._raise_ended()
         lines = [self._read()]
         if line.startswith(b"#") or not line:
-            return Reply(lines[0], [], Need())  # it is echoed alone
+            return Reply(lines[0], [], Need())  # only echoed
         while not lines[-1].startswith(b"# need "):
             lines.append(self._read())
-        return read_reply(b"".join(lines))
+        return parse_reply(b"".join(lines))
 
     def play(self, kind: str, at: int, fields: tuple[Field, ...]) -> Reply:
-        """Hands in an input at a moment, and returns what comes of it."""
-        return self.exchange(line_of(kind, at, fields).encode())
+        """Plays an input at a timestamp, and returns the key's reply."""
+        return self.exchange(format_line(kind, at, fields).encode())
 
     def cause(self, _: int | None) -> str:
-        """Returns nothing: `hidlog live` doesn't say why it refuses."""
+        """Returns "": `hidlog live` does not report causes."""
         return ""
 
     def credentials(self, log: bytes) -> list[Credential]:
         """Returns the credentials after this log."""
-        from .credentials import read_snapshot  # which needs the package cryptography
+        from .credentials import read_snapshot  # needs the package cryptography
 
         return read_snapshot(self.snapshot(log))
 
     def find(self, log: bytes, credential_id: bytes) -> Credential | None:
-        """Returns the credential with this id after this log."""
+        """Returns the credential with this ID after this log, or None."""
         return next((credential for credential in self.credentials(log) if credential.id == credential_id), None)
 
     def count(self, log: bytes) -> int:
-        """Returns how many credentials are held after this log."""
+        """Returns the number of credentials after this log."""
         return len(self.credentials(log))
 
     def snapshot(self, log: bytes) -> bytes:
-        """Returns a snapshot of the credentials after this log, which is the key's so far."""
-        return snapshot_after(self._path, log, self._start)
+        """Returns a snapshot of the credentials after this log, which is the session's so far."""
+        return compute_snapshot(self._path, log, self._start)
 
     def finish(self) -> bytes:
-        """Ends the process, and returns the line of what its session counted."""
+        """Ends the process, and returns its totals line."""
         try:
             rest, errors = self._process.communicate()
         except (OSError, ValueError):
             rest, errors = b"", b""
         self._end()
         if self._process.returncode:
-            raise KeyEnded(f"hidlog ended with status {self._process.returncode}: {_said(errors)}")
+            raise KeyClosedError(f"hidlog ended with status {self._process.returncode}: {_read_errors(errors)}")
         return rest
 
     def _read(self) -> bytes:
@@ -175,12 +176,12 @@ class ProcessKey:
         return line
 
     def _raise_ended(self) -> None:
-        """Raises with what the program said at its end."""
+        """Raises KeyClosedError with the program's status and error message."""
         assert self._process.stderr
-        said = _said(self._process.stderr.read())
+        message = _read_errors(self._process.stderr.read())
         status = self._process.wait()
-        raise KeyEnded(f"hidlog ended with status {status}: {said}")
+        raise KeyClosedError(f"hidlog ended with status {status}: {message}")
 
 
 if hasattr(os, "register_at_fork"):
-    os.register_at_fork(after_in_child=ProcessKey.leave_to_parent)
+    os.register_at_fork(after_in_child=SubprocessKey.close_in_child)

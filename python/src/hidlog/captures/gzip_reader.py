@@ -1,4 +1,4 @@
-"""Reads a gzip file as it is packed, in bounded memory: Wireshark writes captures so."""
+"""Reads a gzip file in bounded memory. Wireshark can write captures in gzip."""
 
 from __future__ import annotations
 
@@ -8,13 +8,13 @@ import zlib
 from .source import CaptureError, Readable
 
 MAGIC = b"\x1f\x8b\x08"
-_PIECE = 1 << 16
-# A gzip file of 1 MB may unpack to 1 GB.
-LONGEST_UNPACKED = 64 << 20
+_READ_BYTES = 1 << 16
+# Maximum unpacked size: a gzip file of 1 MB may unpack to 1 GB.
+MAX_UNPACKED = 64 << 20
 
 
 class Unpacked:
-    """Reads what is in a gzip file. Where the file is damaged or cut off, it ends there."""
+    """Reads the unpacked data of a gzip file, up to a damaged or truncated part."""
 
     def __init__(self, file: Readable, front: bytes):
         self._file = file
@@ -24,19 +24,19 @@ class Unpacked:
         self.is_broken = False
 
     def read(self, count: int) -> bytes:
-        """Returns so many bytes, or fewer at the end."""
-        while len(self._ready) < count and self._more(count):
+        """Returns `count` bytes, or fewer at the end."""
+        while len(self._ready) < count and self._unpack_piece(count):
             pass
         data, self._ready = self._ready[:count], self._ready[count:]
         return data
 
-    def _more(self, count: int) -> bool:
-        """Unpacks some more; returns whether there may be more behind it."""
+    def _unpack_piece(self, count: int) -> bool:
+        """Unpacks a piece. Returns whether there may be more."""
         if self.is_broken:
             return False
-        packed = self._packed or self._file.read(_PIECE)
+        packed = self._packed or self._file.read(_READ_BYTES)
         try:
-            self._ready += self._unpack.decompress(packed, max(count, _PIECE))
+            self._ready += self._unpack.decompress(packed, max(count, _READ_BYTES))
         except zlib.error:
             self.is_broken = True
             return False
@@ -48,17 +48,17 @@ class Unpacked:
 
 
 def unpack(file: Readable, front: bytes) -> Unpacked:
-    """Returns what is in a gzip file that begins so. Its size is checked first, without reading what it says."""
+    """Returns a reader of a gzip file that starts with `front`. Its unpacked size is checked first."""
     pieces, length = [front], len(front)
-    while length <= LONGEST_UNPACKED and (piece := file.read(_PIECE)):
+    while length <= MAX_UNPACKED and (piece := file.read(_READ_BYTES)):
         pieces.append(piece)
         length += len(piece)
     packed = b"".join(pieces)
     measured = Unpacked(io.BytesIO(packed), b"")
     length = 0
-    while length <= LONGEST_UNPACKED and (piece := measured.read(1 << 20)):
+    while length <= MAX_UNPACKED and (piece := measured.read(1 << 20)):
         length += len(piece)
-    if max(length, len(packed)) > LONGEST_UNPACKED:
-        size = f"{LONGEST_UNPACKED >> 20} MiB"
+    if max(length, len(packed)) > MAX_UNPACKED:
+        size = f"{MAX_UNPACKED >> 20} MiB"
         raise CaptureError(f"the capture unpacks to more than {size}; unpack it first, with gunzip")
     return Unpacked(io.BytesIO(packed), b"")

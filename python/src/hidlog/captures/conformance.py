@@ -1,4 +1,4 @@
-"""Finds the modules of the conformance corpus: installed ones, those in this package, or those of a clone."""
+"""Imports modules of the conformance tests: of this package, of a clone, or installed ones."""
 
 from __future__ import annotations
 
@@ -7,10 +7,10 @@ import sys
 from pathlib import Path
 from types import ModuleType
 
-from ..errors import MissingPart
+from ..errors import MissingDependencyError
 
 
-def module(name: str) -> ModuleType:
+def load_module(name: str) -> ModuleType:
     """Returns a module of hidlog_conformance."""
     here = Path(__file__).resolve()
     for folder in (here.parents[1] / "corpus", here.parents[4] / "conformance"):
@@ -20,4 +20,6 @@ def module(name: str) -> ModuleType:
     try:
         return importlib.import_module(f"hidlog_conformance.{name}")
     except ImportError as error:
-        raise MissingPart(f"the rules of the conformance corpus are missing: {error}. The package has them") from None
+        raise MissingDependencyError(
+            f"the modules of the conformance tests are missing: {error}; reinstall the package"
+        ) from None

@@ -1,4 +1,4 @@
-"""Reads a capture of any form: finds out which it is, and the keys in it."""
+"""Reads a capture of any supported format, and finds the keys in it."""
 
 from __future__ import annotations
 
@@ -9,22 +9,22 @@ from pathlib import Path
 from typing import NamedTuple
 
 from ..files import open_input
-from . import chromium, debug_text, strace, unpacked, usbmon_text, utf16
+from . import chromium, debug_text, gzip_reader, strace, usbmon_text, utf16
 from .pcap import is_capture
 from .source import CaptureError, Readable, Source
-from .streams import Finder, Stream
+from .streams import Stream, StreamFinder
 from .usb import read_transfers
 
-# So many lines are looked at to find out what a text is.
+# Number of lines read to detect the format of a text.
 _FIRST_LINES = 2000
-_FORMS = (
+_FORMATS_TEXT = (
     "pcap and pcapng of Linux's usbmon and of USBPcap, usbmon's text, libfido2's FIDO_DEBUG, python-fido2's logging, "
     "Chromium's device log, strace"
 )
 
 
 class Capture(NamedTuple):
-    """What was found in a capture: its form, its keys, and what couldn't be read."""
+    """A capture: its format, its keys, and notes on what could not be read."""
 
     form: str
     streams: list[Stream]
@@ -32,7 +32,7 @@ class Capture(NamedTuple):
 
 
 def read_capture(data: bytes | str | Path) -> Capture:
-    """Reads a capture: its bytes, or the file of a path."""
+    """Reads a capture from its bytes or the path of a file."""
     if isinstance(data, (str, Path)):
         with open_input(Path(data)) as file:
             return read_file(file)
@@ -43,32 +43,32 @@ def read_file(file: Readable) -> Capture:
     """Reads a capture from a file."""
     source = Source(file)
     front = source.peek(4096)
-    if front.startswith(unpacked.MAGIC):
-        source = Source(unpacked.unpack(file, front))
+    if front.startswith(gzip_reader.MAGIC):
+        source = Source(gzip_reader.unpack(file, front))
         front = source.peek(4096)
-    if front.startswith(utf16.MARKS):
+    if front.startswith(utf16.BYTE_ORDER_MARKS):
         source = Source(utf16.Utf16Text(source))
         front = source.peek(4096)
     if not front:
         raise CaptureError("the capture is empty")
     if is_capture(front):
-        finder = Finder(source)
+        finder = StreamFinder(source)
         try:
-            finder.take(read_transfers(source))
+            finder.add_transfers(read_transfers(source))
         except CaptureError as error:
-            if not finder.streams():
+            if not finder.list_streams():
                 raise
             source.note(str(error))
-        return _found("a capture of USB", finder.streams(), source)
+        return _make_capture("a capture of USB", finder.list_streams(), source)
     if front.startswith(b"=") and b" > " in front[:200] or b"\0" in front:
-        raise CaptureError(f"the file is no capture that is read here; read are {_FORMS}")
+        raise CaptureError(f"unrecognized capture file; supported: {_FORMATS_TEXT}")
     return _read_text(source)
 
 
-def _found(form: str, streams: list[Stream], source: Source) -> Capture:
+def _make_capture(form: str, streams: list[Stream], source: Source) -> Capture:
     if not streams:
         raise CaptureError(
-            f"no key is in the capture, which was read as {form}" + "".join(f"; {it}" for it in source.notes)
+            f"no security key found in the capture (read as {form}" + "".join(f"; {note}" for note in source.notes)
         )
     return Capture(form, streams, source.notes)
 
@@ -78,9 +78,9 @@ def _read_text(source: Source) -> Capture:
     first = [line for _, line in zip(range(_FIRST_LINES), lines)]
     rest: Iterator[bytes] = chain(first, lines)
     if any(map(usbmon_text.is_line, first)):
-        finder = Finder(source)
-        finder.take(usbmon_text.read_lines(rest, source))
-        return _found("usbmon's text", finder.streams(), source)
+        finder = StreamFinder(source)
+        finder.add_transfers(usbmon_text.read_lines(rest, source))
+        return _make_capture("usbmon's text", finder.list_streams(), source)
     readers = (
         ("libfido2's debug output", debug_text.is_libfido2, debug_text.read_libfido2),
         ("python-fido2's logging", debug_text.is_python_fido2, debug_text.read_python_fido2),
@@ -89,5 +89,5 @@ def _read_text(source: Source) -> Capture:
     )
     for form, is_line, read in readers:
         if any(map(is_line, first)):
-            return _found(form, read(rest, source), source)
-    raise CaptureError(f"the text is no capture that is read here; read are {_FORMS}")
+            return _make_capture(form, read(rest, source), source)
+    raise CaptureError(f"unrecognized text capture; supported: {_FORMATS_TEXT}")

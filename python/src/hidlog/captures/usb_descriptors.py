@@ -1,4 +1,4 @@
-"""Reads the descriptors that a host asks a device for: which interfaces it has, and which of them speaks FIDO's HID."""
+"""Reads USB descriptors: a device's interfaces, and which of them are FIDO HID."""
 
 from __future__ import annotations
 
@@ -7,7 +7,7 @@ from dataclasses import dataclass, field
 _DEVICE, _CONFIGURATION, _INTERFACE, _ENDPOINT, _REPORT = 1, 2, 4, 5, 0x22
 _GET_DESCRIPTOR = 6
 HID_CLASS = 3
-# The usage page of FIDO (CTAP 2.1, 11.2.8.2).
+# FIDO's usage page (CTAP 2.1, section 11.2.8.2).
 FIDO_PAGE = 0xF1D0
 _USAGE_PAGE, _REPORT_ID = 0x04, 0x84
 _LONG_ITEM = 0xFE
@@ -15,7 +15,7 @@ _LONG_ITEM = 0xFE
 
 @dataclass
 class Interface:
-    """An interface of a device; `is_fido` is None where its report descriptor isn't in the capture."""
+    """An interface. `is_fido` is None if its report descriptor is not in the capture."""
 
     number: int
     is_hid: bool = True
@@ -26,23 +26,23 @@ class Interface:
 
 @dataclass
 class Descriptors:
-    """What is known of a device."""
+    """The descriptors of a device."""
 
     name: str = ""
     interfaces: dict[int, Interface] = field(default_factory=dict)
-    # Submissions that weren't answered yet, by the recorder's number.
-    _asked: dict[int, bytes] = field(default_factory=dict)
+    # Pending requests, by the recorder's transfer number.
+    _pending: dict[int, bytes] = field(default_factory=dict)
 
-    def ask(self, number: int, setup: bytes) -> None:
-        """Keeps what the host asks."""
+    def add_request(self, number: int, setup: bytes) -> None:
+        """Stores a request of the host."""
         if len(setup) == 8 and setup[0] & 0x80 and setup[1] == _GET_DESCRIPTOR:
-            if len(self._asked) > 64:
-                self._asked.clear()
-            self._asked[number] = setup
+            if len(self._pending) > 64:
+                self._pending.clear()
+            self._pending[number] = setup
 
-    def answer(self, number: int, data: bytes) -> None:
-        """Reads what the device answers."""
-        setup = self._asked.pop(number, b"")
+    def add_response(self, number: int, data: bytes) -> None:
+        """Reads the device's response."""
+        setup = self._pending.pop(number, b"")
         if not setup or not data:
             return
         kind, index = setup[3], setup[4] | setup[5] << 8
@@ -55,10 +55,10 @@ class Descriptors:
             found.is_fido, found.has_numbers = read_report(data)
 
     def _read_configuration(self, data: bytes) -> None:
-        place, current = 0, None
-        while place + 2 <= len(data) and data[place] >= 2:
-            piece = data[place : place + data[place]]
-            place += data[place]
+        offset, current = 0, None
+        while offset + 2 <= len(data) and data[offset] >= 2:
+            piece = data[offset : offset + data[offset]]
+            offset += data[offset]
             if piece[1] == _INTERFACE and len(piece) >= 9:
                 current = self.interfaces.setdefault(piece[2], Interface(piece[2]))
                 current.is_hid = piece[5] == HID_CLASS
@@ -67,18 +67,18 @@ class Descriptors:
 
 
 def read_report(data: bytes) -> tuple[bool, bool]:
-    """Returns whether a report descriptor is of FIDO's usage page, and whether its reports have numbers (HID 1.11,
-    6.2.2)."""
-    place, pages, numbers = 0, set(), False
-    while place < len(data):
-        tag = data[place]
+    """Returns whether a report descriptor has FIDO's usage page, and whether its reports have numbers (HID 1.11,
+    section 6.2.2)."""
+    offset, pages, numbers = 0, set(), False
+    while offset < len(data):
+        tag = data[offset]
         if tag == _LONG_ITEM:
-            place += 3 + (data[place + 1] if place + 1 < len(data) else 0)
+            offset += 3 + (data[offset + 1] if offset + 1 < len(data) else 0)
             continue
         size = (0, 1, 2, 4)[tag & 3]
-        value = int.from_bytes(data[place + 1 : place + 1 + size], "little")
+        value = int.from_bytes(data[offset + 1 : offset + 1 + size], "little")
         if tag & 0xFC == _USAGE_PAGE:
             pages.add(value)
         numbers = numbers or tag & 0xFC == _REPORT_ID
-        place += 1 + size
+        offset += 1 + size
     return FIDO_PAGE in pages, numbers

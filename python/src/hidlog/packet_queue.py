@@ -1,4 +1,4 @@
-"""The packets that wait for clients: each thread gets those of the channels on which it wrote."""
+"""Packets queued for clients: each thread gets those of the channels on which it wrote."""
 
 from __future__ import annotations
 
@@ -8,18 +8,18 @@ from typing import Union
 
 from . import packets
 
-# A channel, or the nonce of an INIT on the broadcast channel.
+# A channel ID, or the nonce of an INIT on the broadcast channel.
 Address = Union[int, bytes]
 
 
-def _address(packet: bytes) -> Address:
+def _get_channel(packet: bytes) -> Address:
     channel = int.from_bytes(packet[:4], "big")
     is_init = channel == packets.BROADCAST and packet[4] == 0x80 | packets.INIT
     return packet[7:15] if is_init else channel
 
 
-class Waiting:
-    """The packets that wait. A thread that has written none gets all of them."""
+class PacketQueue:
+    """Queued packets. A thread that has written none gets all of them."""
 
     def __init__(self) -> None:
         self._packets: deque[bytes] = deque()
@@ -28,13 +28,13 @@ class Waiting:
 
     @property
     def is_empty(self) -> bool:
-        """Whether no packet waits."""
+        """Whether no packet is queued."""
         return not self._packets
 
-    def wrote(self, packet: bytes) -> None:
-        """Notes that this thread writes on a channel."""
+    def record_write(self, packet: bytes) -> None:
+        """Records that this thread writes on a packet's channel."""
         self._threads.add(get_ident())
-        self._writers.setdefault(_address(packet), set()).add(get_ident())
+        self._writers.setdefault(_get_channel(packet), set()).add(get_ident())
 
     def put(self, packet: bytes) -> None:
         """Adds a packet."""
@@ -46,12 +46,12 @@ class Waiting:
         if len(self._threads) < 2 or thread not in self._threads:
             return self._packets.popleft() if self._packets else None
         for place, packet in enumerate(self._packets):
-            writers = self._writers.get(_address(packet))
+            writers = self._writers.get(_get_channel(packet))
             if writers is None or thread in writers:
                 del self._packets[place]
                 return packet
         return None
 
     def drop(self) -> None:
-        """Forgets the packets."""
+        """Discards the packets."""
         self._packets.clear()
