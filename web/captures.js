@@ -1,31 +1,31 @@
-// A capture of USB as a log: pcap and pcapng of Linux's usbmon and of Windows's USBPcap. The key is found by what it
-// says.
-// `hidlog import` of the Python package reads more forms, and derives replies. It sets `globalThis.hidlogCaptures`.
+// Converts USB captures to logs: pcap and pcapng of usbmon (Linux) and USBPcap (Windows). The key is found by its
+// packets. `hidlog import` of the Python package reads more formats, and infers replies. Sets
+// `globalThis.hidlogCaptures`.
 "use strict";
 
 (() => {
     const { toHex } = globalThis.hidlogBytes;
-    const PCAP = { d4c3b2a1: [true, 1000], a1b2c3d4: [false, 1000], "4d3cb2a1": [true, 1e6], a1b23c4d: [false, 1e6] };
-    const SECTION = "0a0d0d0a";
-    const HEADS = { 189: 48, 220: 64, 249: 27 };
-    const USBPCAP = 249;
-    const INTERRUPT = 1;
-    const PACKET = 64;
-    // A tick says when a packet of the key came so many milliseconds after the line before it.
-    const TICK = 100;
+    const PCAP_FORMATS = { d4c3b2a1: [true, 1000], a1b2c3d4: [false, 1000], "4d3cb2a1": [true, 1e6], a1b23c4d: [false, 1e6] };
+    const SECTION_HEADER = "0a0d0d0a";
+    const HEAD_BYTES = { 189: 48, 220: 64, 249: 27 };
+    const LINK_USBPCAP = 249;
+    const TRANSFER_INTERRUPT = 1;
+    const PACKET_BYTES = 64;
+    // A tick is inserted before a packet of the key that came at least this many milliseconds after the previous line.
+    const TICK_MS = 100;
     const decoder = new TextDecoder("utf-8");
 
     const isCapture = (bytes) => {
         const front = toHex(bytes.subarray(0, 4));
-        return front in PCAP || front === SECTION;
+        return front in PCAP_FORMATS || front === SECTION_HEADER;
     };
 
-    const viewOf = (bytes) => new DataView(bytes.buffer, bytes.byteOffset, bytes.byteLength);
+    const makeView = (bytes) => new DataView(bytes.buffer, bytes.byteOffset, bytes.byteLength);
 
-    /** The frames of a pcap file: at in milliseconds. A last one that is cut off is left out. */
+    /** The frames of a pcap file, with `at` in milliseconds. A truncated last frame is left out. */
     function* readPcap(bytes) {
-        const [isLittle, perMillisecond] = PCAP[toHex(bytes.subarray(0, 4))];
-        const view = viewOf(bytes);
+        const [isLittle, perMillisecond] = PCAP_FORMATS[toHex(bytes.subarray(0, 4))];
+        const view = makeView(bytes);
         const link = bytes.length < 24 ? 0 : view.getUint32(20, isLittle) & 0xffff;
         for (let place = 24; place + 16 <= bytes.length; ) {
             const kept = view.getUint32(place + 8, isLittle);
@@ -39,9 +39,9 @@
         }
     }
 
-    /** The options of a block, by pairs of their code and their bytes. */
+    /** The options of a block: pairs of code and bytes. */
     function* readOptions(body, from, isLittle) {
-        const view = viewOf(body);
+        const view = makeView(body);
         for (let place = from; place + 4 <= body.length; ) {
             const code = view.getUint16(place, isLittle);
             const length = view.getUint16(place + 2, isLittle);
@@ -53,7 +53,7 @@
         }
     }
 
-    const resolutionOf = (options) => {
+    const readResolution = (options) => {
         const found = options.find(([code]) => code === 9)?.[1]?.[0] ?? 6;
         return found & 0x80 ? 2 ** (found & 0x7f) : 10 ** found;
     };
@@ -64,8 +64,8 @@
         let isOwn = false;
         let interfaces = [];
         for (let place = 0; place + 12 <= bytes.length; ) {
-            const view = viewOf(bytes);
-            if (toHex(bytes.subarray(place, place + 4)) === SECTION) {
+            const view = makeView(bytes);
+            if (toHex(bytes.subarray(place, place + 4)) === SECTION_HEADER) {
                 isLittle = view.getUint32(place + 8, true) === 0x1a2b3c4d;
                 interfaces = [];
             }
@@ -75,13 +75,13 @@
                 return;
             }
             const body = bytes.subarray(place + 8, place + length - 4);
-            const inside = viewOf(body);
+            const inside = makeView(body);
             place += length;
             if (kind === 0x0a0d0d0a) {
                 const writer = [...readOptions(body, 16, isLittle)].find(([code]) => code === 4)?.[1];
                 isOwn = decoder.decode(writer ?? new Uint8Array()).startsWith("hidlog");
             } else if (kind === 1 && body.length >= 8) {
-                const perSecond = resolutionOf([...readOptions(body, 8, isLittle)]);
+                const perSecond = readResolution([...readOptions(body, 8, isLittle)]);
                 interfaces.push({ link: inside.getUint16(0, isLittle), perSecond });
             } else if (kind === 6 && body.length >= 20) {
                 const number = inside.getUint32(0, isLittle);
@@ -100,15 +100,15 @@
         }
     }
 
-    /** The report that a frame carries: its way, and where it was. Null where it carries none. */
-    const reportOf = (frame) => {
+    /** The HID report in a frame, with its direction and device, or null. */
+    const findReport = (frame) => {
         const { data, link, isLittle } = frame;
-        if (data.length < (HEADS[link] ?? Infinity)) {
+        if (data.length < (HEAD_BYTES[link] ?? Infinity)) {
             return null;
         }
-        const view = viewOf(data);
-        const isUsbpcap = link === USBPCAP;
-        const head = isUsbpcap ? view.getUint16(0, true) : HEADS[link];
+        const view = makeView(data);
+        const isUsbpcap = link === LINK_USBPCAP;
+        const head = isUsbpcap ? view.getUint16(0, true) : HEAD_BYTES[link];
         const kind = isUsbpcap ? data[22] : data[9];
         const end = isUsbpcap ? data[21] : data[10];
         const isDone = isUsbpcap ? (data[16] & 1) === 1 : data[8] === 0x43;
@@ -116,49 +116,49 @@
         const device = isUsbpcap ? view.getUint16(19, true) : data[11];
         const report = data.subarray(head);
         const isSent = end < 0x80;
-        const isReport = kind === INTERRUPT && (report.length === PACKET || report.length === PACKET + 1);
+        const isReport = kind === TRANSFER_INTERRUPT && (report.length === PACKET_BYTES || report.length === PACKET_BYTES + 1);
         if (!isReport || isDone === isSent) {
             return null;
         }
         const where = `interface ${frame.number} bus ${bus} device ${device}`;
-        return { where, isSent, packet: report.subarray(report.length - PACKET), at: frame.at };
+        return { where, isSent, packet: report.subarray(report.length - PACKET_BYTES), at: frame.at };
     };
 
-    const isGreeting = ({ isSent, packet }) => isSent && toHex(packet.subarray(0, 7)) === "ffffffff860008";
+    const isInit = ({ isSent, packet }) => isSent && toHex(packet.subarray(0, 7)) === "ffffffff860008";
 
-    /** The devices on which a host sends INIT, or else those whose packets go both ways. */
-    const keysOf = (reports) => {
-        const greeted = new Set(reports.filter(isGreeting).map((report) => report.where));
+    /** The devices to which a host sends INIT; if there are none, those to which it sends any report. */
+    const findKeys = (reports) => {
+        const initialized = new Set(reports.filter(isInit).map((report) => report.where));
         const sent = new Set(reports.filter((report) => report.isSent).map((report) => report.where));
-        return greeted.size ? [...greeted] : [...sent];
+        return initialized.size ? [...initialized] : [...sent];
     };
 
-    /** The log of a device's reports. */
-    const logOf = (reports) => {
+    /** The log of the reports of a device. */
+    const writeLog = (reports) => {
         const start = reports[0].at;
         let now = 0;
         const lines = [`# moment 0 is ${(start / 1000).toFixed(3)} s after 1970`];
         for (const { isSent, packet, at } of reports) {
-            const moment = Math.max(now, at - start);
+            const timeMs = Math.max(now, at - start);
             if (isSent) {
-                lines.push(`> ${moment} ${toHex(packet)}`);
+                lines.push(`> ${timeMs} ${toHex(packet)}`);
             } else {
-                if (moment - now >= TICK) {
-                    lines.push(`t ${moment}`);
+                if (timeMs - now >= TICK_MS) {
+                    lines.push(`t ${timeMs}`);
                 }
                 lines.push(`< ${toHex(packet)}`);
             }
-            now = isSent || moment - now >= TICK ? moment : now;
+            now = isSent || timeMs - now >= TICK_MS ? timeMs : now;
         }
         return new TextEncoder().encode(`${lines.join("\n")}\n`);
     };
 
-    /** The log that was exported: its other lines are comments of the frames. */
-    const ownLog = (frames) => {
+    /** The log in a capture exported by hidlog: its other lines are comments of the frames. */
+    const readEmbeddedLog = (frames) => {
         const lines = [];
         let end = "\n";
         for (const frame of frames) {
-            const report = reportOf(frame);
+            const report = findReport(frame);
             let written = report && `${report.isSent ? `> ${frame.at}` : "<"} ${toHex(report.packet)}`;
             for (const text of frame.comments.map((comment) => decoder.decode(comment))) {
                 if (text.startsWith("line ")) {
@@ -176,29 +176,29 @@
         return new TextEncoder().encode(lines.join("\n") + (lines.length ? end : ""));
     };
 
-    /** The logs in a capture, one for each key. An error says what is wrong. */
-    const logsOf = (bytes) => {
-        const isPcapng = toHex(bytes.subarray(0, 4)) === SECTION;
+    /** The logs in a capture, one for each key. */
+    const readCaptureLogs = (bytes) => {
+        const isPcapng = toHex(bytes.subarray(0, 4)) === SECTION_HEADER;
         const frames = [...(isPcapng ? readPcapng(bytes) : readPcap(bytes))];
-        if (frames.length && !frames.some((frame) => frame.link in HEADS)) {
-            throw new Error(`it has no USB of usbmon or USBPcap, but link type ${frames[0].link}`);
+        if (frames.length && !frames.some((frame) => frame.link in HEAD_BYTES)) {
+            throw new Error(`unsupported link type ${frames[0].link}; supported: USB of usbmon and USBPcap`);
         }
         if (frames.some((frame) => frame.isOwn)) {
-            return [{ name: "exported", bytes: ownLog(frames) }];
+            return [{ name: "exported", bytes: readEmbeddedLog(frames) }];
         }
-        const reports = frames.map(reportOf).filter((report) => report !== null);
-        const keys = keysOf(reports);
+        const reports = frames.map(findReport).filter((report) => report !== null);
+        const keys = findKeys(reports);
         if (!keys.length) {
-            throw new Error("no key with whole packets is in the capture; hidlog import reads more");
+            throw new Error("no security key with complete packets found; try hidlog import, which reads more formats");
         }
         return keys.map((where) => ({
             name: where,
-            bytes: logOf(reports.filter((report) => report.where === where)),
+            bytes: writeLog(reports.filter((report) => report.where === where)),
         }));
     };
 
-    /** The logs in a file: those of a capture, or itself. */
-    const logsIn = (bytes) => (isCapture(bytes) ? logsOf(bytes) : [{ name: "", bytes }]);
+    /** The logs in a file: those in a capture, or the file itself. */
+    const readLogs = (bytes) => (isCapture(bytes) ? readCaptureLogs(bytes) : [{ name: "", bytes }]);
 
-    globalThis.hidlogCaptures = { logsIn };
+    globalThis.hidlogCaptures = { readLogs };
 })();

@@ -1,26 +1,26 @@
-// The proved core as WebAssembly: the commands of crates/hidlog_c over bytes. A classic script, so that a page
-// that was opened from a file can use it; as a module it is imported for its effect. It sets
-// `globalThis.hidlog`.
+// The verified core as WebAssembly: the commands of crates/hidlog_c on bytes. A classic script, so that pages opened
+// from a file can use it; as a module it is imported for its side effect. Sets `globalThis.hidlog`.
 "use strict";
 
 (() => {
-    const OUTCOME_BYTES = 32;
-    const WRITE_FAULT = 5;
-    // What takes no snapshot. hidlog_show explains: a person reads it.
-    const EXPLAINED = 1;
-    const BETWEEN = { show: [EXPLAINED], transactions: [] };
-    const PAGE = 65536;
-    // No more memory than that is asked of the browser.
-    const MOST = 2048 * 1024 * 1024;
+    const RESULT_BYTES = 32;
+    // HIDLOG_ERR_BUFFER_TOO_SMALL.
+    const BUFFER_TOO_SMALL = 5;
+    // The arguments of commands without a snapshot. hidlog_show explains, for people.
+    const SHOW_EXPLAIN = 1;
+    const EXTRA_ARGUMENTS = { show: [SHOW_EXPLAIN], transactions: [] };
+    const PAGE_BYTES = 65536;
+    // Maximum memory.
+    const MAX_MEMORY = 2048 * 1024 * 1024;
 
     const { fromBase64 } = globalThis.hidlogBytes;
 
-    const aligned = (place) => Math.ceil(place / 16) * 16;
+    const align = (address) => Math.ceil(address / 16) * 16;
 
-    /** The text of a fault, as docs/use/LOG_FORMAT.md has it. */
-    const faultText = ({ status, fault, line, packet }) => {
+    /** The text of an error (docs/use/LOG_FORMAT.md). */
+    const formatError = ({ status, errorCode, line, packet }) => {
         if (status === 2) {
-            return `snapshot refused: ${fault}`;
+            return `snapshot refused: ${errorCode}`;
         }
         const texts = [
             "",
@@ -32,66 +32,66 @@
             "too many lines",
             `line ${line}: no memory`,
         ];
-        return texts[fault];
+        return texts[errorCode];
     };
 
-    /** The module's exports. Its memory grows with what it is handed. */
+    /** An instance of the module. Its memory grows as needed. */
     class Core {
         constructor(exports) {
             this.exports = exports;
-            this.base = aligned(Number(exports.__heap_base.value));
-            this.look();
+            this.base = align(Number(exports.__heap_base.value));
+            this.updateViews();
         }
 
-        /** Looks at the memory anew, whose buffer is another one after it has grown. */
-        look() {
+        /** Updates the views of the memory, whose buffer is replaced when it grows. */
+        updateViews() {
             const { buffer } = this.exports.memory;
             this.bytes = new Uint8Array(buffer);
-            this.outcome = new DataView(buffer, this.base, OUTCOME_BYTES);
+            this.result = new DataView(buffer, this.base, RESULT_BYTES);
         }
 
-        /** Makes the memory reach to this place. */
+        /** Grows the memory up to an address. */
         grow(end) {
-            const pages = Math.ceil((end - this.bytes.length) / PAGE);
+            const pages = Math.ceil((end - this.bytes.length) / PAGE_BYTES);
             if (pages > 0) {
                 this.exports.memory.grow(pages);
-                this.look();
+                this.updateViews();
             }
         }
 
         number(at) {
-            return Number(this.outcome.getBigUint64(at, true));
+            return Number(this.result.getBigUint64(at, true));
         }
 
         get logAt() {
-            return this.base + OUTCOME_BYTES;
+            return this.base + RESULT_BYTES;
         }
 
-        /** Takes a part of a log of so many bytes into the module's memory, from a place of it on. */
-        hold(part, place, length) {
-            if (this.logAt + length > MOST) {
+        /** Copies a part of a log of `length` bytes into the memory, at an offset. */
+        hold(part, offset, length) {
+            if (this.logAt + length > MAX_MEMORY) {
                 throw new Error("the log is too long");
             }
             this.grow(this.logAt + length);
-            this.bytes.set(part, this.logAt + place);
+            this.bytes.set(part, this.logAt + offset);
         }
 
-        /** One call of a command on the log of so many bytes that is held, with room for at most so many. */
+        /** Calls a command on the log of `length` bytes in the memory, with an output buffer of at most `wanted`. */
         call(command, length, snapshot, wanted) {
-            const snapshotAt = aligned(this.logAt + length);
-            const outAt = aligned(snapshotAt + snapshot.length);
-            const room = Math.min(wanted, MOST - outAt);
-            if (room < 0) {
+            const snapshotAt = align(this.logAt + length);
+            const outAt = align(snapshotAt + snapshot.length);
+            const capacity = Math.min(wanted, MAX_MEMORY - outAt);
+            if (capacity < 0) {
                 throw new Error("the log is too long");
             }
-            this.grow(outAt + room);
+            this.grow(outAt + capacity);
             this.bytes.set(snapshot, snapshotAt);
-            const between = BETWEEN[command] ?? [snapshotAt, snapshot.length].map(BigInt);
-            const [from, size, to, most, at] = [this.logAt, length, outAt, room, this.base].map(BigInt);
-            this.exports[`hidlog_${command}`](from, size, ...between, to, most, at);
+            const args = EXTRA_ARGUMENTS[command] ?? [snapshotAt, snapshot.length].map(BigInt);
+            const [log, size, out, outCap, result] = [this.logAt, length, outAt, capacity, this.base].map(BigInt);
+            this.exports[`hidlog_${command}`](log, size, ...args, out, outCap, result);
             return {
-                status: this.outcome.getUint32(0, true),
-                fault: this.outcome.getUint32(4, true),
+                status: this.result.getUint32(0, true),
+                errorCode: this.result.getUint32(4, true),
                 line: this.number(8),
                 packet: this.number(16),
                 text: this.bytes.slice(outAt, outAt + this.number(24)),
@@ -105,30 +105,30 @@
         }
 
         /**
-         * Runs a command on the log of so many bytes that is held. Where the room was too small, it is run again with
-         * more, as far as the memory goes.
+         * Runs a command on the log of `length` bytes in the memory. If the buffer is too small, runs it again with a
+         * larger one, up to the maximum memory.
          */
         runHeld(command, length, snapshot) {
             const wanted = command === "transactions" ? length / 2 : 2 * length + Math.min(6 * length, 1024 * 1024);
-            let room = Math.ceil(wanted) + 8192;
-            let outcome = this.call(command, length, snapshot, room);
-            while (outcome.fault === WRITE_FAULT && outcome.status === 1 && room < MOST) {
-                room *= 4;
-                outcome = this.call(command, length, snapshot, room);
+            let capacity = Math.ceil(wanted) + 8192;
+            let outcome = this.call(command, length, snapshot, capacity);
+            while (outcome.errorCode === BUFFER_TOO_SMALL && outcome.status === 1 && capacity < MAX_MEMORY) {
+                capacity *= 4;
+                outcome = this.call(command, length, snapshot, capacity);
             }
             return outcome;
         }
     }
 
-    const make = async () => {
+    const instantiate = async () => {
         const { instance } = await WebAssembly.instantiate(fromBase64(globalThis.HIDLOG_WASM), {});
         return new Core(instance.exports);
     };
 
     let made = null;
 
-    /** The core. It keeps nothing between two calls, so one serves all. */
-    const load = () => (made ??= make());
+    /** The core. It keeps no state between calls, so one instance is shared. */
+    const load = () => (made ??= instantiate());
 
-    globalThis.hidlog = { load, faultText };
+    globalThis.hidlog = { load, formatError };
 })();

@@ -1,12 +1,12 @@
-// The first difference of a log from what the key sends: its line, the packets and what they say, side by side. It sets
+// The first difference between a log and what the key sends: its line, and both packets explained side by side. Sets
 // `globalThis.hidlogDifference`.
 "use strict";
 
 (() => {
     const { KIND } = globalThis.hidlogLog;
 
-    /** A packet that is sent for an input, counted from 1; where `from` is -1, before any input. */
-    const packetOf = (session, from, packet) => {
+    /** A packet sent for the input at `from`, counted from 1; if `from` is -1, before any input. */
+    const findPacket = (session, from, packet) => {
         let left = packet;
         const isEnd = (place) => {
             left -= session.kindAt(place) === KIND.KEY ? 1 : 0;
@@ -16,8 +16,8 @@
         return found >= 0 && left === 0 ? session.line(found) : undefined;
     };
 
-    /** How many inputs there are up to a line, by its place. */
-    const inputsUpTo = (session, last) => {
+    /** Number of inputs up to a line index. */
+    const countInputs = (session, last) => {
         let count = 0;
         for (let place = 0; place <= last; place += 1) {
             count += session.isInput(place) ? 1 : 0;
@@ -25,8 +25,8 @@
         return count;
     };
 
-    /** The place of an input, counted from 1; or -1. */
-    const inputPlace = (session, count) => {
+    /** The index of an input, counted from 1, or -1. */
+    const inputIndex = (session, count) => {
         let left = count;
         return session.find((place) => {
             left -= session.isInput(place) ? 1 : 0;
@@ -34,44 +34,44 @@
         });
     };
 
-    /** What is told of it in a sentence without its end. */
-    const sentence = ({ has, sends, line, packet }) => {
-        const whence = line ? `for line ${line}` : "before any input";
+    /** Describes a difference in a sentence without a full stop. */
+    const describeDifference = ({ has, sends, line, packet }) => {
+        const where = line ? `for line ${line}` : "before any input";
         if (!has) {
-            return `line ${line} differs: packet ${packet} that the key sends for it is missing`;
+            return `line ${line} differs: packet ${packet} of the key's response is missing`;
         }
         return sends
-            ? `line ${has.number} differs: it is packet ${packet} ${whence}`
-            : `line ${has.number} is one too many: the key sends ${packet - 1} packets ${whence}`;
+            ? `line ${has.number} differs: packet ${packet} ${where}`
+            : `line ${has.number} is unexpected: the key sends ${packet - 1} packets ${where}`;
     };
 
-    // What is said of packets until their words are known.
-    const UNKNOWN = "…";
+    // The explanation of packets until it is known.
+    const UNKNOWN_TEXT = "…";
 
-    /** Finds the packet that `check` named, and what the key sends there: inputs have the same place in a replay. */
+    /** Finds the packet named by `check`, and what the key sends instead. */
     const find = (recorded, replayed, { line, packet }) => {
-        const before = inputsUpTo(recorded, line - 1);
-        const has = packetOf(recorded, line - 1, packet);
-        const sends = packetOf(replayed, before ? inputPlace(replayed, before) : -1, packet);
+        const before = countInputs(recorded, line - 1);
+        const has = findPacket(recorded, line - 1, packet);
+        const sends = findPacket(replayed, before ? inputIndex(replayed, before) : -1, packet);
         const found = { has, sends, line, packet, marked: has?.number ?? line };
-        return { ...found, says: sentence(found), explained: [[UNKNOWN], [UNKNOWN]] };
+        return { ...found, says: describeDifference(found), explained: [[UNKNOWN_TEXT], [UNKNOWN_TEXT]] };
     };
 
-    const mark = (text) => {
+    const makeMark = (text) => {
         const made = document.createElement("mark");
         made.textContent = text;
         return made;
     };
 
-    const packetLine = (parts) => {
+    const makePacketLine = (parts) => {
         const made = document.createElement("span");
         made.className = "packet";
         made.append(...parts);
         return made;
     };
 
-    /** A packet's line, with each digit marked that the other one hasn't at its place. */
-    const markedDigits = (text, other) => {
+    /** A packet line, with the digits marked that differ from the other one. */
+    const markDigits = (text, other) => {
         const isOther = (at) => text[at].toLowerCase() !== other[at]?.toLowerCase();
         const parts = [];
         for (let at = 0; at < text.length;) {
@@ -80,57 +80,57 @@
             while (at < text.length && isOther(at) === differs) {
                 at += 1;
             }
-            parts.push(differs ? mark(text.slice(begun, at)) : text.slice(begun, at));
+            parts.push(differs ? makeMark(text.slice(begun, at)) : text.slice(begun, at));
         }
         return parts;
     };
 
-    /** Lines, with those marked that the others haven't. */
-    const markedLines = (lines, others) =>
-        lines.flatMap((line) => [others.includes(line) ? line : mark(line), "\n"]);
+    /** The lines, with those missing from the other log marked. */
+    const markLines = (lines, others) =>
+        lines.flatMap((line) => [others.includes(line) ? line : makeMark(line), "\n"]);
 
-    // A longer line, say of bytes, is looked at below.
-    const SHORT = 70;
+    // Longer lines, such as bytes, are not part of the overview.
+    const MAX_WIDTH = 70;
 
-    /** What differs at a glance: the short lines of each that the other hasn't. */
-    const glance = (own, other) => {
-        const only = (lines, others) => lines.filter((it) => !others.includes(it) && it.length < SHORT);
+    /** The overview: the short lines of each that the other lacks. */
+    const makeOverview = (own, other) => {
+        const only = (lines, others) => lines.filter((line) => !others.includes(line) && line.length < MAX_WIDTH);
         const parts = [["In the log: ", only(own, other)], ["The key:    ", only(other, own)]];
-        return parts.flatMap(([whose, lines]) => lines.flatMap((line) => [whose, mark(line.trim()), "\n"]));
+        return parts.flatMap(([whose, lines]) => lines.flatMap((line) => [whose, makeMark(line.trim()), "\n"]));
     };
 
-    const NONE = "CTAP2_ERR_NO_CREDENTIALS";
-    const HINT = "The key has no credential for this: a log that began with some needs its snapshot, dropped first.\n";
+    const NO_CREDENTIALS = "CTAP2_ERR_NO_CREDENTIALS";
+    const SNAPSHOT_HINT = "The key has no matching credential. If the log started with credentials, drop its snapshot first.\n";
 
-    /** What is said of both packets, once the words for them are known. */
+    /** The explanations of both packets, once known. */
     const explain = ({ has, sends }, shown) => [has, sends].map((line) => (line ? shown.detail(line) : []));
 
-    /** The difference as a page's nodes: both packets, and what their messages say. */
-    const nodes = ({ has, sends, says, explained: [ownSays, otherSays] }) => {
+    /** The difference as DOM nodes: both packets, and their messages explained. */
+    const makeNodes = ({ has, sends, says, explained: [ownSays, otherSays] }) => {
         const [own, other] = [has, sends].map((line) => (line ? line.text : "nothing"));
-        const packets = has && sends ? [markedDigits(own, other), markedDigits(other, own)] : [[own], [other]];
-        const messages = [markedLines(ownSays, otherSays), markedLines(otherSays, ownSays)];
-        const isNone = otherSays.join().includes(NONE) && !ownSays.join().includes(NONE);
+        const packets = has && sends ? [markDigits(own, other), markDigits(other, own)] : [[own], [other]];
+        const messages = [markLines(ownSays, otherSays), markLines(otherSays, ownSays)];
+        const isNone = otherSays.join().includes(NO_CREDENTIALS) && !ownSays.join().includes(NO_CREDENTIALS);
         return [
-            `${says}\n`, isNone ? HINT : "", ...glance(ownSays, otherSays),
-            "\nThe log has:\n", packetLine(packets[0]), "\nThe key sends:\n", packetLine(packets[1]),
+            `${says}\n`, isNone ? SNAPSHOT_HINT : "", ...makeOverview(ownSays, otherSays),
+            "\nThe log has:\n", makePacketLine(packets[0]), "\nThe key sends:\n", makePacketLine(packets[1]),
             "\n\nThe log's message:\n", ...messages[0], "\nThe key's message:\n", ...messages[1],
         ];
     };
 
-    /** The difference in a sentence: what the log has in the place of what the key sends. */
-    const inWords = ({ has, sends, explained: [own, other] }) => {
+    /** The difference in a sentence: what the log has, and what the key sends. */
+    const toSentence = ({ has, sends, explained: [own, other] }) => {
         const [has1, sends1] = [[own, other], [other, own]].map(([lines, others]) =>
-            lines.find((it) => !others.includes(it) && it.length < SHORT)?.trim());
-        if (other.join().includes(NONE) && !own.join().includes(NONE)) {
-            return HINT.trim();
+            lines.find((line) => !others.includes(line) && line.length < MAX_WIDTH)?.trim());
+        if (other.join().includes(NO_CREDENTIALS) && !own.join().includes(NO_CREDENTIALS)) {
+            return SNAPSHOT_HINT.trim();
         }
         if (!has || !sends) {
-            return has ? "The log has a packet that the key doesn't send." : "The log lacks a packet that the key sends.";
+            return has ? "The log has a packet that the key does not send." : "The log lacks a packet the key sends.";
         }
-        return has1 && sends1 ? `The log has ${has1}, and the key sends ${sends1}.`
-            : "The log has another packet than the key sends.";
+        return has1 && sends1 ? `The log has ${has1}; the key sends ${sends1}.`
+            : "The packet in the log differs from the one the key sends.";
     };
 
-    globalThis.hidlogDifference = { explain, find, nodes, inWords };
+    globalThis.hidlogDifference = { explain, find, makeNodes, toSentence };
 })();

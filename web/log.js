@@ -1,27 +1,27 @@
 // A log's lines and messages as numbers in typed arrays: a long log has millions of lines, and an object for each would
-// stop the page whenever the browser collects what it no longer needs. A line, a message or a transaction is made as an
-// object when it is asked for, and reads its numbers and the log's bytes. It sets `globalThis.hidlogLog`.
+// block the page during garbage collection. Objects for lines, messages and transactions are created on demand, and
+// read these numbers and the log's bytes. Sets `globalThis.hidlogLog`.
 "use strict";
 
 (() => {
     const FIRST_LENGTH = 1024;
     const PACKET_DIGITS = 128;
-    // More digits than these may be a number that isn't exact.
+    // Numbers with more digits may not be exact.
     const EXACT_DIGITS = 15;
-    const LONGEST = 7609;
-    const KINDS = ["host", "key", "tick", "presence", "new key", "signature", "comment", "need", "count", "empty"];
-    const [HOST, KEY, TICK, PRESENCE, NEW_KEY, SIGNATURE, COMMENT, NEED, COUNT, EMPTY] = KINDS.keys();
-    const ENDS = ["", "answered", "refused", "timed out", "replaced", "dropped", "forgotten", "unknown"];
-    const [, ANSWERED, REFUSED, TIMED_OUT, REPLACED, DROPPED, FORGOTTEN, UNKNOWN] = ENDS.keys();
+    const MAX_MESSAGE = 7609;
+    const KIND_NAMES = ["host", "key", "tick", "presence", "new key", "signature", "comment", "need", "count", "empty"];
+    const [HOST, KEY, TICK, PRESENCE, NEW_KEY, SIGNATURE, COMMENT, NEED, COUNT, EMPTY] = KIND_NAMES.keys();
+    const END_NAMES = ["", "answered", "refused", "timed out", "replaced", "dropped", "forgotten", "unknown"];
+    const [, ANSWERED, REFUSED, TIMED_OUT, REPLACED, DROPPED, FORGOTTEN, UNKNOWN] = END_NAMES.keys();
     const decoder = new TextDecoder("utf-8", { ignoreBOM: true });
 
-    /** The value of a hexadecimal digit by its character code, or 16 and more for others. */
+    /** The value of a hex digit by character code; 16 or more for others. */
     const digits = Uint8Array.from({ length: 256 }, (_, code) => {
         const value = parseInt(String.fromCharCode(code), 16);
         return Number.isNaN(value) ? 99 : value;
     });
 
-    /** Numbers of one type, to which more are added at the end. */
+    /** A growable typed array. */
     class Column {
         constructor(Type) {
             this.values = new Type(FIRST_LENGTH);
@@ -39,7 +39,7 @@
         }
     }
 
-    /** Rows of numbers, each in a column by its name. */
+    /** Rows of numbers, in named columns. */
     class Table {
         constructor(types) {
             Object.entries(types).forEach(([name, Type]) => {
@@ -49,16 +49,16 @@
             this.length = 0;
         }
 
-        /** Adds a row of zeros, and returns its place. */
+        /** Adds a row of zeros, and returns its index. */
         add() {
-            this.columns.forEach((it) => it.push(0));
+            this.columns.forEach((column) => column.push(0));
             this.length += 1;
             return this.length - 1;
         }
     }
 
-    /** The number in decimal digits from a place on, and the place after it; or null. */
-    const readMoment = (bytes, from, to) => {
+    /** Reads decimal digits from a position: their value and the position after them, or null. */
+    const readTimestamp = (bytes, from, to) => {
         let [at, value] = [from, 0];
         while (at < to && bytes[at] >= 48 && bytes[at] <= 57) {
             value = value * 10 + bytes[at] - 48;
@@ -99,19 +99,19 @@
         }
 
         get kind() {
-            return KINDS[this.log.kinds.values[this.place]];
+            return KIND_NAMES[this.log.kinds.values[this.place]];
         }
 
-        /** Its own moment, or null. */
+        /** Its own timestamp, or null. */
         get at() {
             const kind = this.log.kinds.values[this.place];
-            return kind === HOST || (kind >= TICK && kind <= SIGNATURE) ? this.log.momentAt(this.place) : null;
+            return kind === HOST || (kind >= TICK && kind <= SIGNATURE) ? this.log.timestampAt(this.place) : null;
         }
 
-        /** The latest moment so far. */
-        get moment() {
+        /** The latest timestamp so far. */
+        get timeMs() {
             const latest = this.log.latest.values[this.place];
-            return latest ? this.log.momentAt(latest - 1) : 0;
+            return latest ? this.log.timestampAt(latest - 1) : 0;
         }
 
         get isPacket() {
@@ -127,12 +127,12 @@
             return this.log.byte(this.place, place);
         }
 
-        /** The message that it is a packet of, or null. */
+        /** The message of this packet, or null. */
         get message() {
             return this.log.message(this.log.messages.values[this.place]);
         }
 
-        /** The transaction that it belongs to, or null. */
+        /** The transaction this line belongs to, or null. */
         get transaction() {
             const owner = this.log.owners.values[this.place];
             return owner ? new Transaction(this.log, owner - 1) : null;
@@ -152,16 +152,16 @@
         }
     }
 
-    // What few lines have: in a quiet log the line that was there before, and its text.
-    Object.assign(Line.prototype, { source: null, went: undefined, isFault: false });
+    // Few lines have these: in a quiet log the replaced line, and its text.
+    Object.assign(Line.prototype, { source: null, replaced: undefined, isFault: false });
 
-    /** A line of a quiet log that stands in the place of noise. */
+    /** A line of a quiet log that replaces an ignored input. */
     class QuietLine extends Line {
         get source() {
             return this.log.before.line(this.log.sources.get(this.place));
         }
 
-        get went() {
+        get replaced() {
             return this.source.text;
         }
 
@@ -182,7 +182,7 @@
         }
     }
 
-    /** A message: what its packets carry. */
+    /** A message. */
     class Message {
         constructor(log, table, place) {
             this.log = log;
@@ -193,20 +193,20 @@
             this.length = log.byte(this.start, 5) * 256 + log.byte(this.start, 6);
         }
 
-        /** How many packets it has so far, without the first: what the next one's sequence number has to be. */
+        /** Number of continuation packets so far: the next sequence number. */
         get next() {
             return this.table.more.values[this.place];
         }
 
-        get came() {
+        get received() {
             return Math.min(this.length, 57 + 59 * this.next);
         }
 
         get isWhole() {
-            return this.came === this.length && this.length <= LONGEST;
+            return this.received === this.length && this.length <= MAX_MESSAGE;
         }
 
-        /** A byte of its first packet's data. */
+        /** A data byte of its initialization packet. */
         byteAt(place) {
             return this.log.byte(this.start, 7 + place);
         }
@@ -232,7 +232,7 @@
         }
     }
 
-    /** A host's message, and what became of it. */
+    /** A message of a host, and how it ended. */
     class Transaction extends Message {
         constructor(log, place) {
             super(log, log.transactions, place);
@@ -243,7 +243,7 @@
         }
 
         get end() {
-            return ENDS[this.table.end.values[this.place]] || (this.isWhole ? "unanswered" : "not whole");
+            return END_NAMES[this.table.end.values[this.place]] || (this.isWhole ? "unanswered" : "not whole");
         }
 
         /** The line that ended it, or null. */
@@ -263,7 +263,7 @@
             return answer ? new Answer(this.log, answer - 1) : null;
         }
 
-        /** How many lines belong to it. */
+        /** Number of lines that belong to it. */
         get count() {
             return this.table.count.values[this.place];
         }
@@ -281,7 +281,7 @@
         }
     }
 
-    /** A message of the key: an answer, a KEEPALIVE or an ERROR. */
+    /** A message of the key: a response, KEEPALIVE or ERROR. */
     class Answer extends Message {
         constructor(log, place) {
             super(log, log.answers, place);
@@ -291,19 +291,19 @@
             return -this.place - 1;
         }
 
-        /** The transaction that it answers, or null. */
+        /** The transaction it responds to, or null. */
         get asks() {
             const asks = this.table.asks.values[this.place];
             return asks ? new Transaction(this.log, asks - 1) : null;
         }
     }
 
-    /** A log, as far as it was read. Numbers that name a line, a transaction or an answer in a column are its place + 1. */
+    /** A log, as far as it was read. In columns, lines, transactions and responses are numbered from 1; 0 is none. */
     class Log {
         constructor(bytes) {
             this.bytes = bytes;
-            // Of each line: where it begins, what it is, which line has the latest moment so far, which transaction it
-            // belongs to, and of a packet the message (above 0 a transaction, below 0 an answer).
+            // For each line: its start, its kind, the line with the latest timestamp so far, its transaction, and for a
+            // packet the message (> 0 a transaction, < 0 a response).
             this.starts = new Column(Uint32Array);
             this.kinds = new Column(Uint8Array);
             this.latest = new Column(Uint32Array);
@@ -316,7 +316,7 @@
                 until: Uint32Array,
             });
             this.answers = new Table({ ...packets, asks: Uint32Array });
-            // The core's words for the lines, once they were asked for (explained.js).
+            // The core's explanations of the lines, once requested (explain.js).
             this.explained = null;
             this.sources = new Map();
             this.before = null;
@@ -326,7 +326,7 @@
             return this.starts.length;
         }
 
-        /** Adds a line between two places. */
+        /** Adds a line. */
         add(kind, from, to) {
             this.starts.push(from);
             this.kinds.push(kind);
@@ -347,16 +347,16 @@
             return id > 0 ? new Transaction(this, id - 1) : new Answer(this, -id - 1);
         }
 
-        /** Where a line ends: without its line feed. */
+        /** Where a line ends, without its newline. */
         endOf(place) {
             return place + 1 < this.length ? this.starts.values[place + 1] - 1 : this.end;
         }
 
-        momentAt(place) {
-            return readMoment(this.bytes, this.starts.values[place] + 2, this.endOf(place)).at;
+        timestampAt(place) {
+            return readTimestamp(this.bytes, this.starts.values[place] + 2, this.endOf(place)).at;
         }
 
-        /** A byte of a packet, whose digits end its line. */
+        /** A byte of a packet, whose hex digits end the line. */
         byte(line, place) {
             const at = this.endOf(line) - PACKET_DIGITS + 2 * place;
             return digits[this.bytes[at]] * 16 + digits[this.bytes[at + 1]];
@@ -368,10 +368,10 @@
     }
 
     globalThis.hidlogLog = {
-        Log, Answer, Column, Transaction, digits, readMoment, PACKET_DIGITS,
+        Log, Answer, Column, Transaction, digits, readTimestamp, PACKET_DIGITS,
         KIND: { HOST, KEY, TICK, PRESENCE, NEW_KEY, SIGNATURE, COMMENT, NEED, COUNT, EMPTY },
         END: { ANSWERED, REFUSED, TIMED_OUT, REPLACED, DROPPED, FORGOTTEN, UNKNOWN },
-        // Those of CTAPHID, by their numbers (CTAP 2.1, section 11.2.9).
+        // CTAPHID commands (CTAP 2.1, section 11.2.9).
         COMMANDS: { PING: 0x01, INIT: 0x06, CBOR: 0x10, KEEPALIVE: 0x3b, ERROR: 0x3f },
     };
 })();

@@ -1,44 +1,43 @@
-// Which rows the page shows of a session: a number for each, so that a million of them are cheap. A line is its place, and
-// a transaction that is folded a number below 0. It sets `globalThis.hidlogRows`.
+// The rows to show of a session, as numbers, so that a million are cheap: the index of a line, or for a folded
+// transaction a negative number. Sets `globalThis.hidlogRows`.
 "use strict";
 
 (() => {
     const { KIND } = globalThis.hidlogLog;
-    // What isn't part of the story, unless all lines are shown: ticks, needs, counts and empty lines.
+    // Not shown when folded: ticks, needs, totals and empty lines.
     const isQuietKind = (kind) => kind === KIND.TICK || kind >= KIND.NEED;
-    const BATCH = 2048;
+    const BATCH_SIZE = 2048;
 
-    const folded = (transaction) => -1 - transaction;
+    const makeFoldedRow = (transaction) => -1 - transaction;
 
-    /** The lines of an open transaction: its messages and replies first, its other packets last. */
-    const opened = (session, transaction) => {
-        const places = session.transaction(transaction).all.map((it) => it.place)
+    /** The lines of an unfolded transaction: its messages and replies first, its other packets last. */
+    const listUnfoldedLines = (session, transaction) => {
+        const places = session.transaction(transaction).all.map((line) => line.place)
             .filter((place) => !isQuietKind(session.kindAt(place)));
         const isFirst = (place) => session.kindAt(place) > KIND.KEY || session.log.line(place).message?.start === place;
-        return [...places.filter(isFirst), ...places.filter((it) => !isFirst(it))];
+        return [...places.filter(isFirst), ...places.filter((place) => !isFirst(place))];
     };
 
     /** Whether a line that belongs to no transaction is shown among folded ones. */
-    const isLoose = (session, place) => place >= session.size || !isQuietKind(session.kindAt(place));
+    const isShownUnfolded = (session, place) => place >= session.size || !isQuietKind(session.kindAt(place));
 
     /**
-     * Makes rows, a slice at a time: each step of this generator is one. Before rows are sought `ready` is awaited, where
-     * it is a promise.
-     * @yields how many lines are looked at
+     * Makes rows, a slice per step of this generator. If `ready` is a promise, it is awaited before rows are searched.
+     * @yields the rows so far, and the index of the last line
      */
-    const making = function* making(session, { isFolded, unfolded, isFound, ready = null }) {
+    const makeRows = function* making(session, { isFolded, unfolded, isFound, ready = null }) {
         const rows = [];
         for (let place = 0; place < session.length; place += 1) {
             const transaction = session.transactionAt(place);
-            if (place % BATCH === BATCH - 1) {
+            if (place % BATCH_SIZE === BATCH_SIZE - 1) {
                 yield { rows, place };
             }
-            if (!isFolded || (transaction < 0 && isLoose(session, place))) {
+            if (!isFolded || (transaction < 0 && isShownUnfolded(session, place))) {
                 rows.push(place);
             } else if (transaction >= 0 && session.startOf(transaction) === place) {
-                rows.push(folded(transaction));
+                rows.push(makeFoldedRow(transaction));
                 if (unfolded.has(transaction)) {
-                    rows.push(...opened(session, transaction));
+                    rows.push(...listUnfoldedLines(session, transaction));
                 }
             }
         }
@@ -58,5 +57,5 @@
         return kept;
     };
 
-    globalThis.hidlogRows = { making };
+    globalThis.hidlogRows = { makeRows };
 })();

@@ -1,25 +1,25 @@
-// A log as a session: its lines, and the transactions that they make (transactions.js). Lines are read in slices, so
-// that a page stays usable. It sets `globalThis.hidlogSession`.
+// A log as a session: its lines and transactions (transactions.js). Lines are read in slices, so that the page stays
+// responsive. Sets `globalThis.hidlogSession`.
 "use strict";
 
 (() => {
-    const { Log, Transaction, KIND, PACKET_DIGITS, digits, readMoment } = globalThis.hidlogLog;
-    const { Filling } = globalThis.hidlogTransactions;
+    const { Log, Transaction, KIND, PACKET_DIGITS, digits, readTimestamp } = globalThis.hidlogLog;
+    const { TableFiller } = globalThis.hidlogTransactions;
     const decoder = new TextDecoder();
     const [NEWLINE, SPACE] = [10, 32];
-    const LINE_MOST = 255;
+    const MAX_LINE = 255;
     const BROADCAST = "ffffffff";
-    // Channels whose names are kept.
-    const MOST_CHANNELS = 200;
-    // Lines that are read before the clock is looked at.
-    const BATCH = 512;
-    const KINDS = {
+    // Channels to list.
+    const MAX_CHANNELS = 200;
+    // Lines read between looks at the clock.
+    const BATCH_SIZE = 512;
+    const KIND_BY_LETTER = {
         ">": KIND.HOST, "<": KIND.KEY, t: KIND.TICK, p: KIND.PRESENCE, k: KIND.NEW_KEY, s: KIND.SIGNATURE,
         "#": KIND.COMMENT, "=": KIND.COUNT,
     };
-    const kindOf = Array.from({ length: 256 }, (_, code) => KINDS[String.fromCharCode(code)]);
+    const kindOf = Array.from({ length: 256 }, (_, code) => KIND_BY_LETTER[String.fromCharCode(code)]);
 
-    /** Whether there are just a packet's digits between two places. */
+    /** Whether a range has exactly the hex digits of a packet. */
     const isPacket = (bytes, from, to) => {
         if (to - from !== PACKET_DIGITS) {
             return false;
@@ -40,20 +40,20 @@
             this.from = 0;
             this.latest = 0;
             this.latestLine = 0;
-            this.met = new Set();
+            this.seen = new Set();
             this.channels = [];
-            // The number of the line that is none, where one is met.
-            this.faulty = 0;
+            // The number of the first invalid line, or 0.
+            this.invalidLineNumber = 0;
         }
 
         get isDone() {
-            return this.faulty > 0 || this.from >= this.bytes.length;
+            return this.invalidLineNumber > 0 || this.from >= this.bytes.length;
         }
 
-        /** Reads until a moment of the clock, or the end. */
+        /** Reads until a time (performance.now()), or the end. */
         readUntil(end) {
             while (!this.isDone) {
-                for (let count = 0; count < BATCH && !this.isDone; count += 1) {
+                for (let count = 0; count < BATCH_SIZE && !this.isDone; count += 1) {
                     this.readOne();
                 }
                 if (performance.now() >= end) {
@@ -66,10 +66,10 @@
             const { bytes, from, log } = this;
             let to = bytes.indexOf(NEWLINE, from);
             to = to < 0 ? bytes.length : to;
-            const kind = to - from > LINE_MOST ? undefined : this.kindBetween(from, to);
-            const at = kind === undefined ? null : this.momentOf(kind, from, to);
+            const kind = to - from > MAX_LINE ? undefined : this.kindBetween(from, to);
+            const at = kind === undefined ? null : this.readTime(kind, from, to);
             if (at === null) {
-                this.faulty = log.length + 1;
+                this.invalidLineNumber = log.length + 1;
                 return;
             }
             this.from = to + 1;
@@ -81,29 +81,29 @@
             }
             log.latest.values[place] = this.latestLine;
             if (kind <= KIND.KEY) {
-                this.meet(place);
+                this.addChannel(place);
             }
         }
 
-        /** Notes the channel of a packet. */
-        meet(place) {
+        /** Adds the channel of a packet. */
+        addChannel(place) {
             const channel = this.log.channelAt(place);
-            if (!this.met.has(channel)) {
-                this.met.add(channel);
-                if (this.met.size <= MOST_CHANNELS) {
+            if (!this.seen.has(channel)) {
+                this.seen.add(channel);
+                if (this.seen.size <= MAX_CHANNELS) {
                     this.channels.push(this.log.line(place).channel);
                 }
             }
         }
 
-        /** What the line between two places begins as, or undefined. */
+        /** The kind of a line by its first character, or undefined. */
         kindBetween(from, to) {
             const kind = from === to ? KIND.EMPTY : kindOf[this.bytes[from]];
             return kind === KIND.COMMENT && this.isNeed(from) ? KIND.NEED : kind;
         }
 
-        /** The moment of a line, 0 where it has none; or null where it isn't one of the grammar. */
-        momentOf(kind, from, to) {
+        /** The timestamp of a line, 0 if it has none, or null if the line is invalid. */
+        readTime(kind, from, to) {
             const { bytes } = this;
             if (kind === KIND.KEY) {
                 return bytes[from + 1] === SPACE && isPacket(bytes, from + 2, to) ? 0 : null;
@@ -111,49 +111,49 @@
             if (kind > KIND.SIGNATURE) {
                 return 0;
             }
-            const moment = bytes[from + 1] === SPACE ? readMoment(bytes, from + 2, to) : null;
-            if (moment && kind === KIND.HOST) {
-                return bytes[moment.next] === SPACE && isPacket(bytes, moment.next + 1, to) ? moment.at : null;
+            const time = bytes[from + 1] === SPACE ? readTimestamp(bytes, from + 2, to) : null;
+            if (time && kind === KIND.HOST) {
+                return bytes[time.next] === SPACE && isPacket(bytes, time.next + 1, to) ? time.at : null;
             }
-            return moment?.at ?? null;
+            return time?.at ?? null;
         }
 
-        /** Whether a comment is one of `need` or `signed`, which the program writes. */
+        /** Whether a comment is `need` or `signed`, written by the program. */
         isNeed(from) {
             const letter = this.bytes[from + 2];
             return (letter === 110 || letter === 115)
                 && /^# (need|signed) /.test(decoder.decode(this.bytes.subarray(from, from + 9)));
         }
 
-        /** The session of the first lines: of those so far, where no number is given. */
+        /** The session of the first `size` lines [default: all so far]. */
         session(size = this.log.length) {
-            const { log, channels, met } = this;
-            return new Session(log, { size, channels, many: met.size, transactions: log.transactions.length });
+            const { log, channels, seen } = this;
+            return new Session(log, { size, channels, channelCount: seen.size, transactions: log.transactions.length });
         }
 
-        /** The lines so far, while others are read: of no transactions, since those aren't known yet. */
+        /** The lines so far, while others are read. Their transactions are not known yet. */
         soFar() {
-            return new Session(this.log, { size: this.log.length, channels: [], many: 0, transactions: 0 });
+            return new Session(this.log, { size: this.log.length, channels: [], channelCount: 0, transactions: 0 });
         }
     }
 
-    /** The first lines of a log and how many transactions they have, and behind them the faulty line, if there is one. */
+    /** The valid lines of a log, their number of transactions, and the first invalid line, if any. */
     class Session {
-        /** `channels` are the names of the first channels, and there are so `many`. */
-        constructor(log, { size, channels, many, transactions }) {
-            Object.assign(this, { log, size, channels, many, transactions, fault: null });
+        /** `channels` has only the first ones; `channelCount` is the number of all. */
+        constructor(log, { size, channels, channelCount, transactions }) {
+            Object.assign(this, { log, size, channels, channelCount, transactions, invalidLine: null });
         }
 
-        /** How many lines there are. */
+        /** Number of lines. */
         get length() {
-            return this.size + (this.fault ? 1 : 0);
+            return this.size + (this.invalidLine ? 1 : 0);
         }
 
         line(place) {
-            return place < this.size ? this.log.line(place) : this.fault;
+            return place < this.size ? this.log.line(place) : this.invalidLine;
         }
 
-        /** The lines between two places. */
+        /** A range of lines. */
         slice(from, to) {
             const end = Math.min(to, this.length);
             return Array.from({ length: Math.max(0, end - from) }, (_, at) => this.line(from + at));
@@ -163,28 +163,28 @@
             return new Transaction(this.log, place);
         }
 
-        /** The place of the transaction that a line belongs to, or -1. */
+        /** The index of the transaction of a line, or -1. */
         transactionAt(place) {
             return place < this.size && this.transactions ? this.log.owners.values[place] - 1 : -1;
         }
 
-        /** The place of a transaction's first line. */
+        /** The index of a transaction's first line. */
         startOf(transaction) {
             return this.log.transactions.first.values[transaction];
         }
 
-        /** The number of a line's kind: that of a comment for the faulty line. */
+        /** The kind of a line; that of a comment for the invalid line. */
         kindAt(place) {
             return place < this.size ? this.log.kinds.values[place] : KIND.COMMENT;
         }
 
-        /** Whether a line hands something in. */
+        /** Whether a line is an input. */
         isInput(place) {
             const kind = this.kindAt(place);
             return kind <= KIND.SIGNATURE && kind !== KIND.KEY;
         }
 
-        /** The first place from one on whose line is wanted, or -1. */
+        /** The first matching index from `from` on, or -1. */
         find(isWanted, from = 0) {
             for (let place = from; place < this.length; place += 1) {
                 if (isWanted(place)) {
@@ -195,11 +195,11 @@
         }
     }
 
-    /** Reads a log at once, with the transactions that the core finds in it. */
+    /** Reads a log at once, with its transactions. */
     const readSession = (bytes, core) => {
         const reader = new Reader(bytes);
         reader.readUntil(Infinity);
-        new Filling(reader.log, core.run("transactions", bytes).text).fillUntil(Infinity);
+        new TableFiller(reader.log, core.run("transactions", bytes).text).fillUntil(Infinity);
         return reader.session();
     };
 

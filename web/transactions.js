@@ -1,20 +1,21 @@
-// The transactions of a log, which the core finds (hidlog_transactions in crates/hidlog_c/hidlog.h): its text fills
-// what log.js keeps of lines, messages and transactions, a slice at a time. It sets `globalThis.hidlogTransactions`.
+// The transactions of a log, found by the core (hidlog_transactions in crates/hidlog_c/hidlog.h). Its output fills the
+// tables of log.js, a slice at a time. Sets `globalThis.hidlogTransactions`.
 "use strict";
 
 (() => {
     const { COMMANDS: { ERROR, KEEPALIVE }, END, KIND } = globalThis.hidlogLog;
     const [NEWLINE, COLON, ZERO, NINE] = [10, 58, 48, 57];
-    const [LATE, BY_ERROR, DROPPED, REPLACED, FORGOTTEN, UNKNOWN] = Array.from("ledrfu", (it) => it.charCodeAt(0));
-    const ENDS = {
+    const [LATE, BY_ERROR, DROPPED, REPLACED, FORGOTTEN, UNKNOWN] =
+        Array.from("ledrfu", (letter) => letter.charCodeAt(0));
+    const END_BY_WORD = {
         [DROPPED]: END.DROPPED, [REPLACED]: END.REPLACED, [FORGOTTEN]: END.FORGOTTEN, [UNKNOWN]: END.UNKNOWN,
     };
-    const TIMED_OUT = 5;
-    // Lines that are filled before the clock is looked at.
-    const BATCH = 512;
+    const ERROR_TIMEOUT = 5;
+    // Lines filled between looks at the clock.
+    const BATCH_SIZE = 512;
 
-    /** Fills what is kept of a log, whose lines are read, from the core's text. */
-    class Filling {
+    /** Fills the tables of a log, whose lines are read, from the core's output. */
+    class TableFiller {
         constructor(log, text) {
             this.log = log;
             this.text = text;
@@ -25,10 +26,10 @@
             return this.at >= this.text.length;
         }
 
-        /** Fills until a moment of the clock, or the end. */
+        /** Fills until a time (performance.now()), or the end. */
         fillUntil(end) {
             while (!this.isDone) {
-                for (let count = 0; count < BATCH && !this.isDone; count += 1) {
+                for (let count = 0; count < BATCH_SIZE && !this.isDone; count += 1) {
                     this.fillLine();
                 }
                 if (performance.now() >= end) {
@@ -37,7 +38,7 @@
             }
         }
 
-        /** The next number; the byte behind it is passed over. */
+        /** Reads a number, and skips the byte after it. */
         number() {
             const { text } = this;
             let [at, value] = [this.at, 0];
@@ -49,12 +50,12 @@
             return value;
         }
 
-        /** What was passed over last. */
+        /** The last skipped byte. */
         get last() {
             return this.text[this.at - 1];
         }
 
-        /** Takes what is said of a line: its number, the first lines of its transaction and its message, and words. */
+        /** Reads an output line: a line number, the first lines of its transaction and message, and words. */
         fillLine() {
             const [line, transaction, message] = [this.number() - 1, this.number() - 1, this.number() - 1];
             if (line >= this.log.length) {
@@ -62,37 +63,37 @@
                 return;
             }
             if (message === line) {
-                this.begin(line);
+                this.startMessage(line);
             } else if (message >= 0) {
-                this.goOn(line, message);
+                this.continueMessage(line, message);
             }
             if (transaction >= 0) {
-                this.own(line, this.log.messages.values[transaction], message === line);
+                this.addToTransaction(line, this.log.messages.values[transaction], message === line);
             }
             while (this.last !== NEWLINE && !this.isDone) {
-                this.takeWord(line);
+                this.readWord(line);
             }
         }
 
-        /** Takes a word: a letter, a line, and for some a number behind a colon. */
-        takeWord(line) {
+        /** Reads a word: a letter, a line number, and for some a colon and a number. */
+        readWord(line) {
             const letter = this.text[this.at];
             this.at += 1;
             const first = this.number() - 1;
             const number = this.last === COLON ? this.number() : 0;
             const id = this.log.messages.values[first];
             if (letter === LATE) {
-                this.giveBack(first);
+                this.removeLate(first);
             } else if (letter === BY_ERROR) {
-                this.end(id, number === TIMED_OUT ? END.TIMED_OUT : END.REFUSED, line);
+                this.end(id, number === ERROR_TIMEOUT ? END.TIMED_OUT : END.REFUSED, line);
                 this.log.transactions.code.values[id - 1] = number + 1;
-            } else if (ENDS[letter]) {
-                this.end(id, ENDS[letter], letter === FORGOTTEN || letter === UNKNOWN ? line : number - 1);
+            } else if (END_BY_WORD[letter]) {
+                this.end(id, END_BY_WORD[letter], letter === FORGOTTEN || letter === UNKNOWN ? line : number - 1);
             }
         }
 
-        /** Adds the message that begins with a line: a host's is a transaction. */
-        begin(line) {
+        /** Adds the message that starts at a line. A host's message is a transaction. */
+        startMessage(line) {
             const { answers, kinds, messages, transactions } = this.log;
             const isHost = kinds.values[line] === KIND.HOST;
             const table = isHost ? transactions : answers;
@@ -106,8 +107,8 @@
             return id > 0 ? this.log.transactions : this.log.answers;
         }
 
-        /** Takes the next packet of the message that began with a line. */
-        goOn(line, first) {
+        /** Adds the next packet of the message that starts at line `first`. */
+        continueMessage(line, first) {
             const { messages } = this.log;
             const id = messages.values[first];
             const { last, more } = this.tableOf(id);
@@ -117,8 +118,8 @@
             messages.values[line] = id;
         }
 
-        /** Adds a line to a transaction. Where the key's answer to it begins there, that is noted at both. */
-        own(line, id, isStart) {
+        /** Adds a line to a transaction, and links the response that starts there, if any. */
+        addToTransaction(line, id, isStart) {
             const { answers, kinds, messages, owners, transactions } = this.log;
             owners.values[line] = id;
             transactions.count.values[id - 1] += 1;
@@ -132,8 +133,8 @@
             }
         }
 
-        /** Takes a line, which came too late, from its transaction and out of its message. */
-        giveBack(line) {
+        /** Removes a late line from its transaction and its message. */
+        removeLate(line) {
             const { messages, owners, transactions: { count, more } } = this.log;
             const place = owners.values[line] - 1;
             more.values[place] -= messages.values[line] ? 1 : 0;
@@ -142,7 +143,7 @@
             messages.values[line] = 0;
         }
 
-        /** Says how a transaction ended, and by which line. */
+        /** Sets how a transaction ended, and at which line. */
         end(id, how, by) {
             const { transactions } = this.log;
             transactions.end.values[id - 1] = how;
@@ -150,5 +151,5 @@
         }
     }
 
-    globalThis.hidlogTransactions = { Filling };
+    globalThis.hidlogTransactions = { TableFiller };
 })();

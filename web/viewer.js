@@ -1,27 +1,27 @@
-// The page's state: a log, played on the core, and the rows that are in sight. It sets `globalThis.hidlogViewer`.
+// The page's state: a log, played on the core, and the visible rows. Sets `globalThis.hidlogViewer`.
 "use strict";
 
 (() => {
-    const ROW = 26;
-    // A log up to so many bytes is played at once; what is longer is read in slices, and played by a worker.
-    const AT_ONCE = 4 * 1024 * 1024;
-    const MOST_BYTES = 1024 * 1024 * 1024;
-    // While a log is explained, five times its bytes are held.
-    const MOST_EXPLAINED = 700 * 1024 * 1024;
-    // Milliseconds that a letter of a search may stop the page.
-    const SOUGHT = 30;
+    const ROW_HEIGHT = 26;
+    // Maximum bytes of a log that is played at once; longer ones are read in slices, and played by a worker.
+    const MAX_BYTES_AT_ONCE = 4 * 1024 * 1024;
+    const MAX_BYTES = 1024 * 1024 * 1024;
+    // Explaining a log takes five times its bytes.
+    const MAX_EXPLAINED_BYTES = 700 * 1024 * 1024;
+    // Milliseconds for which a letter of a search may block the page.
+    const SEARCH_MS = 30;
     const CALLER_KINDS = ["presence", "new key", "signature"];
     const SHOWN_KINDS = ["host", "key", "comment", "need"];
     const ARROWS = { host: "→", key: "←", caller: "⇠", need: "?", time: "·", comment: "#", fault: "!" };
     const { KIND } = globalThis.hidlogLog;
     const { Reader, firstLines, readSession } = globalThis.hidlogSession;
-    const { Filling } = globalThis.hidlogTransactions;
-    const { making } = globalThis.hidlogRows;
-    const { drive, run } = globalThis.hidlogBackground;
-    const { kindOf, endOf, isDone, summing } = globalThis.hidlogStory;
-    const { draw, HEAD } = globalThis.hidlogDrawing;
+    const { TableFiller } = globalThis.hidlogTransactions;
+    const { makeRows } = globalThis.hidlogRows;
+    const { runGenerator, runInWorker } = globalThis.hidlogBackground;
+    const { describeKind, describeEnd, isDone, summarize } = globalThis.hidlogStory;
+    const { draw, HEAD_HEIGHT } = globalThis.hidlogDrawing;
     const difference = globalThis.hidlogDifference;
-    const at = (id) => document.getElementById(id);
+    const getElement = (id) => document.getElementById(id);
     const decoder = new TextDecoder();
 
     const state = {
@@ -31,32 +31,32 @@
         summing: { end: () => {} },
     };
 
-    const tell = (text, isFault = false) => {
-        at("notice").textContent = text;
-        at("notice").className = isFault ? "fault" : "";
+    const showNotice = (text, isFault = false) => {
+        getElement("notice").textContent = text;
+        getElement("notice").className = isFault ? "fault" : "";
     };
 
-    /** A text of the log that isn't shown by the core: what can't be seen, or moves others, is escaped. */
-    const visible = (text) =>
-        text.replace(/[\p{Cc}\p{Cf}\p{Zl}\p{Zp}]/gu, (it) => `\\u{${it.codePointAt(0).toString(16)}}`);
+    /** Escapes invisible characters, and those that reorder text, in a text of the log. */
+    const escapeInvisible = (text) =>
+        text.replace(/[\p{Cc}\p{Cf}\p{Zl}\p{Zp}]/gu, (character) => `\\u{${character.codePointAt(0).toString(16)}}`);
 
-    const inMegabytes = (bytes) => `${(bytes / 1024 / 1024).toFixed(1)} MB`;
-    const session = () => state.sessions[state.view];
+    const formatMegabytes = (bytes) => `${(bytes / 1024 / 1024).toFixed(1)} MB`;
+    const currentSession = () => state.sessions[state.view];
 
-    // ---- what is shown
+    // ---- rows and details
 
-    const rowKindOf = (line) => {
+    const getRowKind = (line) => {
         if (CALLER_KINDS.includes(line.kind)) {
             return "caller";
         }
         return { tick: "time", count: "comment", empty: "comment" }[line.kind] ?? line.kind;
     };
 
-    /** A row of the table: a line, or a transaction that is folded. What it says is asked for when it is in sight. */
+    /** A row of the table: a line, or a folded transaction. Its text is computed when it is visible. */
     class Row {
         constructor(line, transaction = null) {
-            Object.assign(this, { line, transaction, noise: !transaction && line.went !== undefined });
-            this.kind = line.isFault ? "fault" : rowKindOf(line);
+            Object.assign(this, { line, transaction, noise: !transaction && line.replaced !== undefined });
+            this.kind = line.isFault ? "fault" : getRowKind(line);
             const isMarked = state.view === "recorded" && line.number === state.difference?.marked;
             this.differs = isMarked && !transaction;
         }
@@ -67,30 +67,30 @@
                 return `${this.outcome}  ·  ${state.shown.title(transaction)}  (${transaction.count} lines)`;
             }
             if (SHOWN_KINDS.includes(line.kind) && !line.isFault) {
-                const isStray = line.isPacket && session().transactions > 0 && !this.line.transaction;
-                return `${state.shown.says(line).replace(/^# ?/, "")}${isStray ? "  (of no open message)" : ""}`;
+                const isStray = line.isPacket && currentSession().transactions > 0 && !this.line.transaction;
+                return `${state.shown.says(line).replace(/^# ?/, "")}${isStray ? "  (outside any transaction)" : ""}`;
             }
-            return CALLER_KINDS.includes(line.kind) ? `${line.kind}: ${line.says}` : visible(line.says);
+            return CALLER_KINDS.includes(line.kind) ? `${line.kind}: ${line.says}` : escapeInvisible(line.says);
         }
 
-        /** What was asked in a transaction, and what came of it, in words. */
+        /** The kind and result of a transaction, in words. */
         get outcome() {
-            const rp = state.shown.rpIdOf(this.transaction);
-            return `${kindOf(this.transaction)}: ${endOf(this.transaction)}${rp ? ` at ${visible(rp)}` : ""}`;
+            const rp = state.shown.requestRpId(this.transaction);
+            return `${describeKind(this.transaction)}: ${describeEnd(this.transaction)}${rp ? ` at ${escapeInvisible(rp)}` : ""}`;
         }
 
-        /** Whether it is a transaction that didn't end as its host wanted. */
+        /** Whether it is a transaction that did not succeed. */
         get isRefused() {
             return Boolean(this.transaction) && !isDone(this.transaction);
         }
 
-        /** All that is said of it, in lines. */
+        /** Its explanation, in lines. */
         detail() {
             const { line, transaction } = this;
             if (transaction) {
                 const refusal = transaction.code !== null ? transaction.by?.message : null;
                 const messages = [transaction, transaction.answer ?? refusal].filter(Boolean);
-                return messages.flatMap((it) => [...state.shown.message(it), ""]);
+                return messages.flatMap((message) => [...state.shown.message(message), ""]);
             }
             return line.isFault ? [this.says] : state.shown.detail(line, this.says);
         }
@@ -105,17 +105,17 @@
     }
 
     /** A row by its number. */
-    const rowOf = (number) => {
-        const transaction = number < 0 ? session().transaction(-1 - number) : null;
-        return new Row(transaction ? transaction.line : session().line(number), transaction);
+    const makeRowOf = (number) => {
+        const transaction = number < 0 ? currentSession().transaction(-1 - number) : null;
+        return new Row(transaction ? transaction.line : currentSession().line(number), transaction);
     };
 
-    const rowAt = (place) => (state.rows[place] === undefined ? null : rowOf(state.rows[place]));
+    const rowAt = (place) => (state.rows[place] === undefined ? null : makeRowOf(state.rows[place]));
 
-    /** The logs whose words a view has: in the quiet one noise has those of the recorded log. */
-    const logsOf = ({ log }) => [log, log.before].filter(Boolean);
+    /** The logs whose explanations a view shows: in the quiet one, ignored inputs have those of the recorded log. */
+    const listLogs = ({ log }) => [log, log.before].filter(Boolean);
 
-    const cell = (text, className = "") => {
+    const makeCell = (text, className = "") => {
         const span = document.createElement("span");
         span.textContent = text;
         span.className = className;
@@ -127,7 +127,7 @@
         const { transaction, noise, differs, isRefused } = row;
         const classes = { transaction, noise, differs, refused: isRefused, fault: row.kind === "fault" };
         made.className = ["row", ...Object.keys(classes).filter((name) => classes[name])].join(" ");
-        made.style.transform = `translateY(${place * ROW}px)`;
+        made.style.transform = `translateY(${place * ROW_HEIGHT}px)`;
         made.id = `row-${place}`;
         made.setAttribute("role", "option");
         made.setAttribute("aria-selected", String(place === state.chosen));
@@ -138,64 +138,65 @@
         const isOpen = state.unfolded.has(row.transaction?.place);
         const sign = row.transaction ? (isOpen ? "▾" : "▸") : ARROWS[row.kind] ?? "";
         if (row.transaction) {
-            made.setAttribute("aria-description", isOpen ? "open" : "folded: Enter opens it");
+            made.setAttribute("aria-description", isOpen ? "unfolded" : "folded; press Enter to unfold");
         }
         const kind = `kind-${row.kind}`;
-        made.append(cell(line.number), cell(line.moment ?? ""), cell(sign, kind), cell(line.channel ?? ""),
-            cell(row.says, `says ${kind}`));
+        made.append(makeCell(line.number), makeCell(line.timeMs ?? ""), makeCell(sign, kind), makeCell(line.channel ?? ""),
+            makeCell(row.says, `says ${kind}`));
         return made;
     };
 
     const render = () => {
-        const scroller = at("scroller");
-        const first = Math.max(0, Math.floor(scroller.scrollTop / ROW));
-        const last = Math.min(state.rows.length, first + Math.ceil(scroller.clientHeight / ROW) + 1);
+        const scroller = getElement("scroller");
+        const first = Math.max(0, Math.floor(scroller.scrollTop / ROW_HEIGHT));
+        const last = Math.min(state.rows.length, first + Math.ceil(scroller.clientHeight / ROW_HEIGHT) + 1);
         const made = [];
         for (let place = first; place < last; place += 1) {
             made.push(makeRow(rowAt(place), place));
         }
-        at("space").replaceChildren(...made);
+        getElement("space").replaceChildren(...made);
         scroller[state.chosen >= 0 ? "setAttribute" : "removeAttribute"]("aria-activedescendant", `row-${state.chosen}`);
-        at("drawing").hidden = !state.isDrawn || !state.bytes;
+        getElement("drawing").hidden = !state.isDrawn || !state.bytes;
         if (state.isDrawn && state.bytes) {
-            draw(at("drawing"), {
-                count: state.rows.length, rowAt, first, top: first * ROW - scroller.scrollTop, rowHeight: ROW,
-                channels: session().channels, chosen: state.chosen,
+            draw(getElement("drawing"), {
+                count: state.rows.length, rowAt, first, top: first * ROW_HEIGHT - scroller.scrollTop, rowHeight: ROW_HEIGHT,
+                channels: currentSession().channels, chosen: state.chosen,
             });
         }
     };
 
     const showDetail = () => {
         const row = rowAt(state.chosen);
-        at("detail").hidden = !row;
+        getElement("detail").hidden = !row;
         if (!row) {
             return;
         }
         const { line } = row;
-        at("detail-title").textContent = row.transaction ? row.says : `Line ${line.number}`;
+        getElement("detail-title").textContent = row.transaction ? row.says : `Line ${line.number}`;
         if (row.differs) {
-            at("detail-text").replaceChildren(...difference.nodes(state.difference));
+            getElement("detail-text").replaceChildren(...difference.makeNodes(state.difference));
             return;
         }
-        const was = line.went ? `It was line ${line.source.number} of the log: ${line.went}` : "";
-        const went = was && `Noise: it changes nothing but the time.\n${was}\n\n`;
-        const raw = (row.transaction?.all ?? [line]).map((it) => it.text);
-        const text = `${went}${row.detail().join("\n")}`;
-        at("detail-text").replaceChildren(text, cell(`\n\n${raw.map(visible).join("\n")}`, "raw"));
+        const replaced = line.replaced
+            ? `Ignored input: it only advances the time.\nLine ${line.source.number} of the log: ${line.replaced}\n\n`
+            : "";
+        const raw = (row.transaction?.all ?? [line]).map((line) => line.text);
+        const text = `${replaced}${row.detail().join("\n")}`;
+        getElement("detail-text").replaceChildren(text, makeCell(`\n\n${raw.map(escapeInvisible).join("\n")}`, "raw"));
     };
 
-    /** Chooses a row, and brings it into sight, or into the middle of it. */
+    /** Selects a row, and scrolls to it, or centers it. */
     const choose = (place, isMiddle = false) => {
         state.chosen = Math.max(0, Math.min(place, state.rows.length - 1));
         showDetail();
-        const scroller = at("scroller");
-        const top = state.chosen * ROW;
+        const scroller = getElement("scroller");
+        const top = state.chosen * ROW_HEIGHT;
         if (isMiddle) {
-            scroller.scrollTop = top - (scroller.clientHeight - ROW) / 2;
+            scroller.scrollTop = top - (scroller.clientHeight - ROW_HEIGHT) / 2;
         } else if (top < scroller.scrollTop) {
             scroller.scrollTop = top;
-        } else if (top + ROW > scroller.scrollTop + scroller.clientHeight) {
-            scroller.scrollTop = top + ROW - scroller.clientHeight;
+        } else if (top + ROW_HEIGHT > scroller.scrollTop + scroller.clientHeight) {
+            scroller.scrollTop = top + ROW_HEIGHT - scroller.clientHeight;
         }
         render();
     };
@@ -204,57 +205,57 @@
         const chosen = state.rows[state.chosen];
         state.rows = rows;
         state.chosen = isPart ? -1 : rows.indexOf(chosen);
-        // Rows of before would keep the scroller where it was.
-        at("space").replaceChildren();
-        at("space").style.height = `${rows.length * ROW + (state.isDrawn ? HEAD : 0)}px`;
-        at("count").textContent = `${rows.length} of ${session().length} lines`;
+        // Old rows would keep the scroll position.
+        getElement("space").replaceChildren();
+        getElement("space").style.height = `${rows.length * ROW_HEIGHT + (state.isDrawn ? HEAD_HEIGHT : 0)}px`;
+        getElement("count").textContent = `${rows.length} of ${currentSession().length} lines`;
         showDetail();
         render();
     };
 
-    /** Makes the rows anew. Calls what comes after it, once it is done. */
+    /** Updates the rows, and then calls `after`. */
     const refresh = (after = () => {}) => {
-        if (!state.bytes || !session()) {
+        if (!state.bytes || !currentSession()) {
             return;
         }
         state.making.end();
-        const words = at("search").value.trim().toLowerCase();
-        const channel = at("channel").value;
-        const isFolded = at("fold").checked && session().transactions > 0;
-        const isFound = words || channel ? (number) => rowOf(number).has(words, channel) : null;
-        const ready = words ? state.shown.ready(logsOf(session())) : null;
-        const steps = making(session(), { isFolded, unfolded: state.unfolded, isFound, ready });
+        const words = getElement("search").value.trim().toLowerCase();
+        const channel = getElement("channel").value;
+        const isFolded = getElement("fold").checked && currentSession().transactions > 0;
+        const isFound = words || channel ? (number) => makeRowOf(number).has(words, channel) : null;
+        const ready = words ? state.shown.ready(listLogs(currentSession())) : null;
+        const steps = makeRows(currentSession(), { isFolded, unfolded: state.unfolded, isFound, ready });
         const part = ({ rows, place }) => {
-            at("count").textContent = `${rows.length} found, at line ${place} of ${session().length}`;
+            getElement("count").textContent = `${rows.length} found, at line ${place} of ${currentSession().length}`;
         };
-        state.making = drive(steps, part, (rows) => {
+        state.making = runGenerator(steps, part, (rows) => {
             setRows(rows);
             after();
-        }, isFound ? (isLong() ? 0 : SOUGHT) : isLong() ? undefined : Infinity);
+        }, isFound ? (isLong() ? 0 : SEARCH_MS) : isLong() ? undefined : Infinity);
     };
 
-    // ---- the log, played
+    // ---- playing the log
 
-    /** What the core says of the transactions of a log: at once, or later from a worker where the log is long. */
-    const finding = (bytes) => {
+    /** Finds the transactions of a log: at once, or for a long log in a worker. */
+    const findTransactions = (bytes) => {
         if (!isLong()) {
             return { outcome: state.core.run("transactions", bytes), end: () => {} };
         }
-        const { outcome, end } = run(state.core, "transactions", bytes);
+        const { outcome, end } = runInWorker(state.core, "transactions", bytes);
         return { outcome: outcome.catch(({ message }) => ({ error: message, text: new Uint8Array(0) })), end };
     };
 
-    /** Reads a log a slice at a time, and fills in its transactions, which the core finds meanwhile. */
-    const reading = function* reading(bytes) {
+    /** Reads a log a slice at a time, and then fills in its transactions, which the core finds meanwhile. */
+    const readInSlices = function* reading(bytes) {
         const reader = new Reader(bytes);
-        const { outcome, end } = finding(bytes);
+        const { outcome, end } = findTransactions(bytes);
         try {
             while (!reader.isDone) {
                 reader.readUntil(0);
                 yield reader;
             }
             reader.outcome = outcome instanceof Promise ? yield outcome : outcome;
-            const filling = new Filling(reader.log, reader.outcome.text);
+            const filling = new TableFiller(reader.log, reader.outcome.text);
             while (!filling.isDone) {
                 filling.fillUntil(0);
                 yield reader;
@@ -265,9 +266,9 @@
         return reader;
     };
 
-    /** Reads the quiet log: in the place of noise stand lines that say what went. */
-    const readingQuiet = function* readingQuiet(bytes, recorded) {
-        const reader = yield* reading(bytes);
+    /** Reads the quiet log, in which replaced lines know the input they replace. */
+    const readQuietInSlices = function* readingQuiet(bytes, recorded) {
+        const reader = yield* readInSlices(bytes);
         const { log } = reader;
         log.before = recorded.log;
         let place = 0;
@@ -286,9 +287,9 @@
         return reader;
     };
 
-    /** Takes the steps that read a log, with a bar where that takes long. Calls `done` with the reader. */
-    const withBar = (steps, text, done, first = () => {}) => {
-        const bar = at("bar");
+    /** Runs the steps that read a log, with a progress bar if they take long. Calls `done` with the reader. */
+    const runWithProgressBar = (steps, text, done, first = () => {}) => {
+        const bar = getElement("bar");
         let isOver = false;
         let isShown = false;
         const part = (reader) => {
@@ -299,57 +300,57 @@
                 first(reader);
             }
         };
-        const job = drive(steps, part, (reader) => {
+        const job = runGenerator(steps, part, (reader) => {
             isOver = true;
-            rest();
+            finishReading();
             done(reader);
         }, isLong() ? undefined : Infinity);
         if (!isOver) {
-            busy(text, job);
+            runBusy(text, job);
         }
     };
 
-    const isLong = () => state.bytes.length > AT_ONCE;
+    const isLong = () => state.bytes.length > MAX_BYTES_AT_ONCE;
 
-    const busy = (text, job) => {
-        at("progress").hidden = false;
-        at("progress-text").textContent = text;
+    const runBusy = (text, job) => {
+        getElement("progress").hidden = false;
+        getElement("progress-text").textContent = text;
         state.job = job;
     };
 
-    const rest = () => {
-        at("progress").hidden = true;
+    const finishReading = () => {
+        getElement("progress").hidden = true;
         state.job = { end: () => {} };
     };
 
-    /** Runs a command on the log: at once, or by a worker where it is long. */
-    const commanded = (command, done) => {
+    /** Runs a command on the log: at once, or for a long log in a worker. */
+    const runCommand = (command, done) => {
         if (!isLong()) {
             done(state.core.run(command, state.bytes, state.snapshot));
             return;
         }
-        const { outcome, end } = run(state.core, command, state.bytes, state.snapshot);
-        busy(`${command} of ${inMegabytes(state.bytes.length)} …`, { end });
-        at("bar").removeAttribute("value");
-        outcome.then((it) => {
-            rest();
-            done(it);
+        const { outcome, end } = runInWorker(state.core, command, state.bytes, state.snapshot);
+        runBusy(`${command} of ${formatMegabytes(state.bytes.length)} …`, { end });
+        getElement("bar").removeAttribute("value");
+        outcome.then((result) => {
+            finishReading();
+            done(result);
         }, (error) => {
-            rest();
-            tell(`${command} isn't done: ${error.message}`, true);
+            finishReading();
+            showNotice(`${command} failed: ${error.message}`, true);
         });
     };
 
-    /** Makes the session of a view, where it isn't there yet. */
-    const withView = (view, done) => {
+    /** Makes the session of a view, unless it exists. */
+    const prepareView = (view, done) => {
         if (state.sessions[view]) {
             done();
             return;
         }
         const made = () => {
             const bytes = state.texts[view];
-            const steps = view === "quiet" ? readingQuiet(bytes, state.sessions.recorded) : reading(bytes);
-            withBar(steps, `The ${view} log is read …`, (reader) => {
+            const steps = view === "quiet" ? readQuietInSlices(bytes, state.sessions.recorded) : readInSlices(bytes);
+            runWithProgressBar(steps, `Reading the ${view} log …`, (reader) => {
                 state.sessions[view] = reader.session();
                 done();
             });
@@ -358,45 +359,45 @@
             made();
             return;
         }
-        commanded(view === "quiet" ? "quiet" : "replay", (outcome) => {
+        runCommand(view === "quiet" ? "quiet" : "replay", (outcome) => {
             state.texts[view] = outcome.text;
             made();
         });
     };
 
-    const setView = (view, after = () => {}) => withView(view, () => {
+    const setView = (view, after = () => {}) => prepareView(view, () => {
         state.view = view;
-        state.shown.keep(logsOf(session()), Object.values(state.sessions).map(({ log }) => log));
-        at("view").value = view;
+        state.shown.keep(listLogs(currentSession()), Object.values(state.sessions).map(({ log }) => log));
+        getElement("view").value = view;
         state.unfolded.clear();
-        const { channels, many } = session();
+        const { channels, many } = currentSession();
         const all = many > channels.length ? `All channels (the first ${channels.length} are listed)` : "All channels";
-        at("channel").replaceChildren(new Option(all, ""), ...channels.map((it) => new Option(it, it)));
-        at("scroller").scrollTop = 0;
+        getElement("channel").replaceChildren(new Option(all, ""), ...channels.map((channel) => new Option(channel, channel)));
+        getElement("scroller").scrollTop = 0;
         state.chosen = -1;
-        tellStory();
+        showSummary();
         refresh(after);
     });
 
-    const tellStory = () => {
+    const showSummary = () => {
         state.summing.end();
-        state.summing = drive(summing(session()), () => {}, (summary) => {
-            at("story").hidden = false;
+        state.summing = runGenerator(summarize(currentSession()), () => {}, (summary) => {
+            getElement("story").hidden = false;
             const reason = document.createElement("strong");
             reason.textContent = state.reason;
-            at("story").replaceChildren(...(state.reason ? [reason, " "] : []), summary);
+            getElement("story").replaceChildren(...(state.reason ? [reason, " "] : []), summary);
         }, isLong() ? undefined : Infinity);
     };
 
-    const hasAnswers = () => {
+    const hasResponses = () => {
         const { recorded } = state.sessions;
         return recorded.find((place) => recorded.kindAt(place) === KIND.KEY) >= 0;
     };
 
-    /** Calls what comes after all words of two sessions are known, if the log is still the same. */
-    const withWords = (sessions, done) => {
+    /** Calls `done` once two sessions are explained, if the log is still the same. */
+    const afterExplaining = (sessions, done) => {
         const { bytes } = state;
-        const ready = state.shown.ready(sessions.flatMap(logsOf));
+        const ready = state.shown.ready(sessions.flatMap(listLogs));
         if (!ready) {
             done();
             return;
@@ -404,14 +405,14 @@
         ready.then(() => bytes === state.bytes && done());
     };
 
-    /** How the words of the core are found: those of a long log by a worker, and then what is in sight is shown anew. */
-    const FINDING_WORDS = {
-        atOnce: AT_ONCE,
-        most: MOST_EXPLAINED,
-        work: (bytes) => run(state.core, "show", bytes),
+    /** How lines are explained: those of a long log in a worker, after which the visible rows are updated. */
+    const EXPLAIN_OPTIONS = {
+        atOnce: MAX_BYTES_AT_ONCE,
+        most: MAX_EXPLAINED_BYTES,
+        work: (bytes) => runInWorker(state.core, "show", bytes),
         changed: (error) => {
             if (error) {
-                tell(`${state.name}: not all of it is explained: ${error.message}`, true);
+                showNotice(`${state.name}: not all lines are explained: ${error.message}`, true);
             }
             showDetail();
             render();
@@ -419,8 +420,9 @@
     };
 
     globalThis.hidlogViewer = {
-        AT_ONCE, FINDING_WORDS, MOST_BYTES, ROW, at, choose, commanded, decoder, firstLines, hasAnswers, inMegabytes,
-        readSession, reading, rest, refresh, render, rowAt, session, setView, showDetail, state, tell, tellStory, withBar,
-        withView, withWords,
+        MAX_BYTES_AT_ONCE, EXPLAIN_OPTIONS, MAX_BYTES, ROW_HEIGHT, getElement, choose, decoder, firstLines,
+        hasResponses, formatMegabytes, readSession, readInSlices, finishReading, refresh, render, rowAt, runCommand,
+        currentSession, setView, showDetail, state, showNotice, showSummary, runWithProgressBar, prepareView,
+        afterExplaining,
     };
 })();

@@ -1,11 +1,12 @@
-// Types of the key in a page: of the module security_key.mjs, and of what the script security_key.js sets. They need no
-// lib "dom": where a project has it, its types are used.
+// Types of the module security_key.mjs, and of the global set by the script security_key.js. They do not need lib
+// "dom", but use its types if a project has it.
 
-/** A type of the platform by its global name, or what the key's users need of it. */
+/** A platform type by its global name, or the parts of it that are needed. */
 type Global<Name extends string, Else> =
-    typeof globalThis extends { [It in Name]: { prototype: infer Type } } ? Type : Else;
+    typeof globalThis extends { [Key in Name]: { prototype: infer Type } } ? Type : Else;
 type Signal = Global<"AbortSignal", { readonly aborted: boolean; readonly reason: any }>;
-type Kept = Global<"Storage", { getItem(key: string): string | null; setItem(key: string, value: string): void }>;
+type StorageLike =
+    Global<"Storage", { getItem(key: string): string | null; setItem(key: string, value: string): void }>;
 type KeyEvent<Detail> = Global<"Event", { readonly type: string }> & { readonly detail: Detail };
 type Container = Global<"CredentialsContainer", {
     create(options?: { publicKey?: any; signal?: any; mediation?: any }): Promise<any>;
@@ -19,18 +20,17 @@ type PublicKey = Global<"PublicKeyCredential", {
     getClientExtensionResults(): any; toJSON(): any;
 }>;
 
-/**
- * What the user does when they are asked. "click" asks by two buttons in the page; "none" is a user who does nothing.
- */
-export type Word = "granted" | "denied" | "timeout" | "click" | "none";
-export type Presence = Word | ((question: string, signal: Signal) => Word | Promise<Word>);
+/** What the user does when asked for a touch. "click" asks with two buttons in the page; "none" does nothing. */
+export type PresenceOutcome = "granted" | "denied" | "timeout" | "click" | "none";
+export type Presence =
+    PresenceOutcome | ((question: string, signal: Signal) => PresenceOutcome | Promise<PresenceOutcome>);
 
-/** A credential. Bytes are texts in base64url. */
+/** A credential. Bytes are base64url. */
 export interface Credential {
     credentialId: string;
     isResidentCredential: boolean;
     rpId: string;
-    /** In PKCS #8. */
+    /** PKCS #8. */
     privateKey: string;
     userHandle: string;
     userName: string;
@@ -40,16 +40,17 @@ export interface Credential {
     backupState: boolean;
 }
 
-/** Bytes, or a text in base64 of either alphabet. */
-export type Bytes = string | ArrayBuffer | ArrayBufferView;
+/** Bytes, or base64 or base64url. */
+export type BytesSource = string | ArrayBuffer | ArrayBufferView;
 
-/** A credential to add, whose id has 1 to 1023 bytes. What is missing is made: an id of 32 bytes, a private key. */
+/** A credential to add. A missing ID (32 bytes) or private key is generated. */
 export interface NewCredential {
     rpId: string;
-    credentialId?: Bytes;
+    /** 1 to 1023 bytes. */
+    credentialId?: BytesSource;
     isResidentCredential?: boolean;
-    privateKey?: Bytes;
-    userHandle?: Bytes;
+    privateKey?: BytesSource;
+    userHandle?: BytesSource;
     userName?: string;
     userDisplayName?: string;
     signCount?: number;
@@ -57,80 +58,91 @@ export interface NewCredential {
     backupState?: boolean;
 }
 
-export type Properties = Partial<Pick<Credential,
+export type CredentialProperties = Partial<Pick<Credential,
     "signCount" | "userName" | "userDisplayName" | "userHandle" | "isResidentCredential" | "backupEligibility"
     | "backupState">>;
 
-/** A place, a user's name, a credential's id, or a function of the accounts that gives a place or an account. */
-export type Which = number | string | ((accounts: Credential[]) => number | Credential | Promise<number | Credential>);
+/** An index, a user name, a credential ID, or a function of the accounts that returns an index or an account. */
+export type AccountSelector =
+    number | string | ((accounts: Credential[]) => number | Credential | Promise<number | Credential>);
 
-/** What outlives a page. It is plain JSON, and has private keys. */
+/** What outlives a page, as JSON. Contains private keys. */
 export interface State {
-    form: string;
-    moment: number;
+    format: string;
+    timeMs: number;
     credentials: (Credential & { rpIdHash: string; coreId?: string })[];
 }
 
 export type Protocol = "ctap1/u2f" | "ctap2" | "ctap2_1";
 export type Transport = "usb" | "nfc" | "ble" | "smart-card" | "hybrid" | "internal";
 
-/** What a browser takes the key for, by the names of WebDriver's virtual authenticators. */
-export interface Abilities {
-    /** What a page takes it for: "ctap2" unless given. */
+/** What a browser sees of the key, by the names of WebDriver's virtual authenticators. */
+export interface AuthenticatorOptions {
+    /** The protocol that pages see [default: "ctap2"]. */
     protocol?: Protocol;
-    /** Whether it verifies users: false unless given. */
+    /** Whether it supports user verification [default: false]. */
     hasUserVerification?: boolean;
-    /** Whether the user passes verification: false unless given. */
+    /** Whether user verification succeeds [default: false]. */
     isUserVerified?: boolean;
-    /** How it is reached: "usb" unless given. With "internal" it is a platform authenticator. */
+    /** The transport [default: "usb"]. "internal" is a platform authenticator. */
     transport?: Transport;
-    /** Whether it makes discoverable credentials: true unless given. */
+    /** Whether it supports discoverable credentials [default: true]. */
     hasResidentKey?: boolean;
-    /** The flags BE and BS of new credentials: false unless given. */
+    /** The flags BE and BS of new credentials [default: false]. */
     defaultBackupEligibility?: boolean;
     defaultBackupState?: boolean;
 }
 
-export interface Options extends Abilities {
-    /** What the user does: "granted" unless given. */
+export interface Options extends AuthenticatorOptions {
+    /** What the user does [default: "granted"]. */
     presence?: Presence;
-    /** Milliseconds that the user takes. */
+    /** Milliseconds until the user acts. */
     delay?: number;
-    /** Which of several accounts signs in where the page names none: the newest unless given. */
-    account?: Which;
-    /** Gives the moment of each input in whole milliseconds. In a wait it is told how many have passed. */
+    /** The account that signs in, if the page names none [default: the newest]. */
+    account?: AccountSelector;
+    /** Returns the timestamp of each input in whole milliseconds. `passed` is the time waited since the last one. */
     clock?: (passed: number) => number;
-    /** What `key.state()` gave. */
+    /** A state from `key.state()`. */
     state?: State;
-    /** Holds the state, so that it survives reloads: sessionStorage, or localStorage for several tabs. */
-    store?: Pick<Kept, "getItem" | "setItem">;
-    /** Whether sessions are recorded, which they are unless it is false. Of a recording the newest 32 MB are held. */
+    /** Stores the state, so that it survives reloads: sessionStorage, or localStorage for several tabs. */
+    storage?: Pick<StorageLike, "getItem" | "setItem">;
+    /** @deprecated Use storage. */
+    store?: Pick<StorageLike, "getItem" | "setItem">;
+    /** Whether to record sessions [default: true]. The newest 32 MB are kept in memory. */
     record?: boolean;
-    /** The page's origin, where there is no location. */
+    /** The page's origin, if there is no location. */
     origin?: string;
-    /** Origins that the key is put into too, beside localhost, *.localhost, *.test, *.example and file pages. */
+    /** More origins to allow, besides localhost, *.localhost, *.test, *.example and file pages. */
+    allowedOrigins?: string[];
+    /** @deprecated Use allowedOrigins. */
     allowOrigins?: string[];
-    /** WebCrypto, where globalThis.crypto isn't it. */
+    /** WebCrypto, if not globalThis.crypto. */
     crypto?: Global<"Crypto", { readonly subtle: any; getRandomValues(array: any): any }>;
 }
 
-/**
- * Faults that a page or a service has to survive, each of them off at first, and written into the log as a comment.
- */
+/** Faults to inject into responses, all off at first. Each is a comment in the log. */
 export interface Faults {
-    /** Every request is answered by this status, a number or a name such as "KEY_STORE_FULL". */
+    /** Respond to every request with this status, a number or a name such as "KEY_STORE_FULL". */
     status: number | string | null;
-    /** So many milliseconds pass before an answer, with KEEPALIVEs. */
+    /** Milliseconds before each response, with KEEPALIVEs. */
     delay: number;
-    /** So many bytes are missing at the end of every answer. */
+    /** Number of bytes to remove from the end of each response. */
+    truncateBy: number;
+    /** Sign with a different private key. */
+    badSignature: boolean;
+    /** Repeat the signature counter of the previous response, with a valid signature. */
+    staleSignCount: boolean;
+    /** The RP ID whose hash the authenticator data has, with a valid signature. */
+    wrongRpId: string | null;
+    /** @deprecated Use truncateBy. */
     cutShort: number;
-    /** Signatures are by another private key. */
+    /** @deprecated Use badSignature. */
     wrongSignature: boolean;
-    /** The counter that is sent stays at that of the last answer. */
+    /** @deprecated Use staleSignCount. */
     counterStays: boolean;
-    /** The authenticator data is of the relying party with this id. */
+    /** @deprecated Use wrongRpId. */
     otherRp: string | null;
-    /** Switches all faults off. */
+    /** Turns all faults off. */
     clear(): void;
 }
 
@@ -141,9 +153,9 @@ export interface Events {
     credentialUpdated: { credential: Credential };
 }
 
-/** A session, counted from 1: the snapshot that it began with, for `hidlog check --load`, and its log. */
+/** A session: its index, from 1, the snapshot it starts with, for `hidlog check --load`, and its log. */
 export interface Recording {
-    part: number;
+    index: number;
     snapshot: Uint8Array;
     log: string;
 }
@@ -152,7 +164,7 @@ export class SecurityKey {
     constructor(options?: Options);
     presence: Presence;
     delay: number;
-    account: Which;
+    account: AccountSelector;
     readonly faults: Faults;
     protocol: Protocol;
     hasUserVerification: boolean;
@@ -162,35 +174,39 @@ export class SecurityKey {
     defaultBackupEligibility: boolean;
     defaultBackupState: boolean;
 
-    /** The recording: a log that `hidlog check` passes. A change of credentials by hand begins a new one. */
+    /** The current recording: a log for `hidlog check`. Changing credentials by a method starts a new one. */
     log(): string;
-    /** All of them; with a store those of earlier pages and of other tabs too, the oldest dropped after a megabyte. */
+    /** All recordings; with storage also those of earlier pages and other tabs. Storage keeps the newest megabyte. */
     recordings(): Recording[];
     state(): State;
 
     create(options: CreationOptions): Promise<PublicKey>;
     get(options: RequestOptions): Promise<PublicKey>;
-    /** Picks the account of the sign-in with mediation "conditional" that waits, or of the next one. */
-    choose(which?: Which): Promise<Credential>;
+    /** Selects the account of the pending sign-in with mediation "conditional", or of the next one. */
+    selectAccount(selector?: AccountSelector): Promise<Credential>;
+    /** @deprecated Use selectAccount. */
+    choose(selector?: AccountSelector): Promise<Credential>;
 
-    /** Ends a request of the page that waits, with an AbortError, and lets go of the store. */
+    /** Aborts a pending request with an AbortError, and releases the storage. */
     close(): void;
 
-    /** Goes on with the credentials of a state. */
+    /** Restores the credentials of a state. */
     restore(state: State): Promise<void>;
     addCredential(credential: NewCredential): Promise<Credential>;
     getCredentials(): Promise<Credential[]>;
-    getCredential(credentialId: Bytes): Promise<Credential>;
-    removeCredential(credentialId: Bytes): Promise<void>;
+    getCredential(credentialId: BytesSource): Promise<Credential>;
+    removeCredential(credentialId: BytesSource): Promise<void>;
     removeAllCredentials(): Promise<void>;
     clearCredentials(): Promise<void>;
-    setCredentialProperties(credentialId: Bytes, properties: Properties): Promise<void>;
+    setCredentialProperties(credentialId: BytesSource, properties: CredentialProperties): Promise<void>;
     setAutomaticPresenceSimulation(enabled: boolean): Promise<void>;
     setUserVerified(isUserVerified: boolean): Promise<void>;
-    /** Takes all abilities that are given, or none where one of them is refused. */
-    setAbilities(abilities: Abilities): void;
+    /** Sets all these options, or none if one is invalid. */
+    setAuthenticatorOptions(options: AuthenticatorOptions): void;
+    /** @deprecated Use setAuthenticatorOptions. */
+    setAbilities(options: AuthenticatorOptions): void;
 
-    /** A promise of the next event of a type. */
+    /** Resolves to the detail of the next event of a type. */
     once<Type extends keyof Events>(type: Type): Promise<Events[Type]>;
     addEventListener<Type extends keyof Events>(
         type: Type, listener: (event: KeyEvent<Events[Type]>) => void, options?: boolean | { once?: boolean },
@@ -201,21 +217,28 @@ export class SecurityKey {
 }
 
 export interface InstalledKey extends SecurityKey {
-    /** Puts back what `install` replaced, and ends a request that waits. */
+    /** Restores what `install` replaced, and aborts a pending request. */
     uninstall(): void;
 }
 
-/** Puts a new key in the place of navigator.credentials, at once. */
+/** Replaces navigator.credentials by a new key. */
 export function install(options?: Options): InstalledKey;
 
-/** The key in place, or null. */
+/** The installed key, or null. */
+export function installedKey(): InstalledKey | null;
+
+/** @deprecated Use installedKey. */
 export function current(): InstalledKey | null;
 
-/** Calls a command of Chromium's DevTools domain WebAuthn on the key in place, such as "WebAuthn.getCredentials". */
+/** Runs a command of Chromium's DevTools domain WebAuthn on the installed key, such as "WebAuthn.getCredentials". */
+export function sendDevToolsCommand(command: string, parameters?: object): Promise<any>;
+
+/** @deprecated Use sendDevToolsCommand. */
 export function send(command: string, parameters?: object): Promise<any>;
 
 declare global {
     var hidlogKey: {
-        SecurityKey: typeof SecurityKey; install: typeof install; current: typeof current; send: typeof send;
+        SecurityKey: typeof SecurityKey; install: typeof install; installedKey: typeof installedKey;
+        sendDevToolsCommand: typeof sendDevToolsCommand; current: typeof current; send: typeof send;
     };
 }

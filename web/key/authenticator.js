@@ -1,32 +1,32 @@
-// CTAP2 over CTAPHID to the proved core: requests in, answers out, and the caller that hands the key what it needs.
+// CTAP2 over CTAPHID to the verified core: requests in, responses out, and what the key needs is provided.
 import { toHex } from "./bytes.js";
-import { namesOf } from "./outside.js";
+import { formatFlags } from "./credential_metadata.js";
 import { Collector } from "./packets.js";
-import { checkEnded, clearInterval, pause, setInterval, unlessEnded } from "./platform.js";
+import { throwIfAborted, clearInterval, sleepUnlessAborted, setInterval, raceWithSignal } from "./platform.js";
 import { Recordings } from "./recordings.js";
 import { BROADCAST, CANCEL, CBOR, INIT, KEEPALIVE_MS } from "./standard.js";
-import { statusName } from "./statuses.js";
+import { formatStatus } from "./statuses.js";
 
-// The first channel that the key gives out: no other host speaks to it.
+// The first channel the key allocates: there is no other host.
 const CHANNEL = 1;
 const NOTHING = new Uint8Array(0);
-// With no other host, the nonce of an INIT needn't be random.
+// The nonce of INIT need not be random without other hosts.
 const NONCE = Uint8Array.of(0, 1, 2, 3, 4, 5, 6, 7);
 
 /**
- * @typedef {object} Turn a request of the page while it is served
- * @property {AbortSignal} signal ends it early
+ * @typedef {object} Turn a request of the page in progress
+ * @property {AbortSignal} signal aborts it
  * @property {() => Promise<string>} ask asks the user
- * @property {(id: Uint8Array) => void} made is told the id of a new key pair
- * @property {(id: Uint8Array) => number} flags returns the bits that are set in what a credential signs
- * @property {() => Promise<void>} enter is called before the credentials change, and may begin another session
+ * @property {(id: Uint8Array) => void} made is called with the ID of a new key pair
+ * @property {(id: Uint8Array) => number} flags returns the flags to set in what a credential signs
+ * @property {() => Promise<void>} enter is called before the credentials change, and may start another session
  */
 
-/** An answer of the authenticator other than success. */
+/** A response with a status other than success. */
 export class CtapError extends Error {
-    /** @param {number} status @param {string} cause why, where the core says so */
+    /** @param {number} status @param {string} cause the cause, if known */
     constructor(status, cause) {
-        super(`the authenticator answered ${statusName(status)}${cause && `: ${cause}`}`);
+        super(`the authenticator returned ${formatStatus(status)}${cause && `: ${cause}`}`);
         this.name = "CtapError";
         this.status = status;
     }
@@ -40,8 +40,8 @@ export class Authenticator {
      * @param {import("./private_keys.js").PrivateKeys} privateKeys
      * @param {import("./faults.js").Faults} faults
      * @param {(passed?: number) => number} clock
-     * @param {{ snapshot: Uint8Array, kept: import("./recordings.js").Kept | null, records: boolean }} begun the
-     * credentials to begin with, what a store has of their history, and whether anything is recorded
+     * @param {{ snapshot: Uint8Array, kept: import("./recordings.js").Kept | null, records: boolean }} start the
+     * initial credentials, their recordings in storage, and whether to record
      */
     constructor(privateKeys, faults, clock, { snapshot, kept, records }) {
         this.privateKeys = privateKeys;
@@ -58,7 +58,7 @@ export class Authenticator {
         return this.#recordings;
     }
 
-    /** Begins a session with other credentials. @param {Uint8Array} snapshot */
+    /** Starts a session with other credentials. @param {Uint8Array} snapshot */
     begin(snapshot) {
         this.#cancel();
         this.#recordings.begin(snapshot);
@@ -66,7 +66,7 @@ export class Authenticator {
     }
 
     /**
-     * Goes on where a store's recording ends.
+     * Continues a recording from storage.
      * @param {import("./recordings.js").Kept} kept @param {Uint8Array} snapshot
      */
     take(kept, snapshot) {
@@ -75,7 +75,7 @@ export class Authenticator {
         this.#collector = new Collector(CHANNEL);
     }
 
-    /** Sends a request, after an INIT where the session has no channel yet. @param {Uint8Array} bytes */
+    /** Sends a request; INIT first, if the session has no channel yet. @param {Uint8Array} bytes */
     #send(bytes) {
         if (!this.session.isOpen) {
             this.session.send(BROADCAST, INIT, NONCE);
@@ -83,7 +83,7 @@ export class Authenticator {
         return this.#collector.add(this.session.send(CHANNEL, CBOR, bytes));
     }
 
-    /** Ends the work that waits, so that the key serves the next request. */
+    /** Cancels the pending request, so that the key accepts the next one. */
     #cancel() {
         if (this.session.need.kind !== "nothing") {
             this.#collector.add(this.session.send(CHANNEL, CANCEL, NOTHING));
@@ -91,7 +91,7 @@ export class Authenticator {
     }
 
     /**
-     * Sends a request, and returns the answer's bytes after its status. Whatever ends it early, the key is free then.
+     * Sends a request, and returns the response after the status byte. If it fails or is aborted, it is cancelled.
      * @param {Uint8Array} bytes @param {Turn} turn
      */
     async request(bytes, turn) {
@@ -102,16 +102,16 @@ export class Authenticator {
             }
             isOver = true;
         };
-        checkEnded(turn.signal);
+        throwIfAborted(turn.signal);
         turn.signal.addEventListener("abort", end);
         try {
-            const own = await this.#answer(bytes, turn);
-            const cause = own[0] === 0 ? "" : this.session.cause();
-            const answer = this.faults.answerInstead(own, this.session.recording);
-            if (answer[0] !== 0) {
-                throw new CtapError(answer[0], answer[0] === own[0] ? cause : "");
+            const original = await this.#exchange(bytes, turn);
+            const cause = original[0] === 0 ? "" : this.session.cause();
+            const response = this.faults.applyTo(original, this.session.recording);
+            if (response[0] !== 0) {
+                throw new CtapError(response[0], response[0] === original[0] ? cause : "");
             }
-            return answer.subarray(1);
+            return response.subarray(1);
         } catch (error) {
             end();
             throw error;
@@ -121,81 +121,82 @@ export class Authenticator {
     }
 
     /** @param {Uint8Array} bytes @param {Turn} turn */
-    async #answer(bytes, turn) {
+    async #exchange(bytes, turn) {
         let message = this.#send(bytes);
         if (!message && this.session.need.kind === "presence") {
-            message = await this.#served(bytes, turn);
+            message = await this.#askUser(bytes, turn);
         }
         if (!message && this.faults.delay) {
-            this.session.recording.note(`fault: ${this.faults.delay} ms pass before the answer`);
-            await this.#passing(pause(this.faults.delay, turn.signal), turn.signal);
-            checkEnded(turn.signal);
+            this.session.recording.addComment(`fault: ${this.faults.delay} ms pass before the answer`);
+            await this.#withTicks(sleepUnlessAborted(this.faults.delay, turn.signal), turn.signal);
+            throwIfAborted(turn.signal);
         }
         while (!message) {
-            checkEnded(turn.signal);
-            message = this.#collector.add(await this.#worked(turn));
+            throwIfAborted(turn.signal);
+            message = this.#collector.add(await this.#provide(turn));
         }
         if (message.command !== CBOR) {
-            throw new Error(`the authenticator answered with message ${message.command} ${toHex(message.bytes)}`);
+            throw new Error(`unexpected message ${message.command} from the authenticator: ${toHex(message.bytes)}`);
         }
         return message.bytes;
     }
 
-    /** Asks the user, and hands in what they do. @param {Uint8Array} bytes @param {Turn} turn */
-    async #served(bytes, turn) {
+    /** Asks the user, and provides presence. @param {Uint8Array} bytes @param {Turn} turn */
+    async #askUser(bytes, turn) {
         const { session } = this;
-        const word = await this.#passing(turn.ask(), turn.signal);
+        const word = await this.#withTicks(turn.ask(), turn.signal);
         if (word === "granted") {
-            await this.#passing(turn.enter(), turn.signal);
+            await this.#withTicks(turn.enter(), turn.signal);
         }
-        checkEnded(turn.signal);
-        // Where other credentials came meanwhile, the request is sent again to the session that has them.
-        const answer = session === this.session ? null : this.#send(bytes);
-        return answer ?? this.#collector.add(this.session.presence(word));
+        throwIfAborted(turn.signal);
+        // If the credentials changed meanwhile, the request is sent again to the new session.
+        const message = session === this.session ? null : this.#send(bytes);
+        return message ?? this.#collector.add(this.session.providePresence(word));
     }
 
     /**
-     * Hands the key what it needs beside the user. After each wait the request may be over, and another one served.
+     * Provides a key pair or a signature. After each wait the request may have been aborted, and replaced by another.
      * @param {Turn} turn
      */
-    async #worked({ signal, made, flags }) {
+    async #provide({ signal, made, flags }) {
         const { need } = this.session;
         if (need.kind === "key") {
-            const pair = await unlessEnded(this.privateKeys.make(), signal);
-            checkEnded(signal);
+            const pair = await raceWithSignal(this.privateKeys.make(), signal);
+            throwIfAborted(signal);
             made(pair.id);
-            return this.session.newKey(pair);
+            return this.session.provideKeyPair(pair);
         }
         if (need.kind === "signature") {
-            const signature = await unlessEnded(this.#sign(need, flags(need.id)), signal);
-            checkEnded(signal);
-            return this.session.signature(signature);
+            const signature = await raceWithSignal(this.#sign(need, flags(need.id)), signal);
+            throwIfAborted(signal);
+            return this.session.provideSignature(signature);
         }
-        throw new Error(`the authenticator did not answer, and needs ${need.kind}`);
+        throw new Error(`the authenticator did not respond, and needs ${need.kind}`);
     }
 
-    /** @param {import("./held.js").Need} need @param {number} flags that are set in what is signed */
+    /** @param {import("./wasm_key.js").Need} need @param {number} flags to set in what is signed */
     async #sign(need, flags) {
-        const held = this.privateKeys.get(need.id);
-        if (!held) {
+        const privateKey = this.privateKeys.get(need.id);
+        if (!privateKey) {
             return null;
         }
         if (flags) {
-            this.session.recording.note(`outside of the core: flags ${namesOf(flags)}, and the signature over them`);
+            const names = formatFlags(flags);
+            this.session.recording.addComment(`outside of the core: flags ${names}, and the signature over them`);
         }
-        const altered = await this.faults.signedInstead(need, flags);
-        if (this.faults.wrongSignature) {
-            this.session.recording.note("fault: the signature is by another private key");
-            return this.privateKeys.signWrongly(altered);
+        const altered = await this.faults.alterToSign(need, flags);
+        if (this.faults.badSignature) {
+            this.session.recording.addComment("fault injected: signed with a different private key");
+            return this.privateKeys.signWithOtherKey(altered);
         }
-        return this.privateKeys.sign(held, altered);
+        return this.privateKeys.sign(privateKey, altered);
     }
 
-    /** Waits, and lets time pass meanwhile, so that the key says that it works. */
-    async #passing(awaited, signal) {
+    /** Waits while time passes for the key, which sends KEEPALIVEs. */
+    async #withTicks(awaited, signal) {
         const ticking = setInterval(() => this.session.pass(KEEPALIVE_MS), KEEPALIVE_MS);
         try {
-            return await unlessEnded(awaited, signal);
+            return await raceWithSignal(awaited, signal);
         } finally {
             clearInterval(ticking);
         }

@@ -1,18 +1,18 @@
-// CBOR items of definite length, as CTAP2 has them.
-import { textOf, utf8 } from "./bytes.js";
+// CBOR items of definite length, as CTAP2 uses them.
+import { decodeUtf8, encodeUtf8 } from "./bytes.js";
 
-/** A reader of CBOR items of definite length. What it can't read throws. */
+/** Decodes CBOR items of definite length. Throws on anything else. */
 class CborReader {
     constructor(bytes) {
         this.bytes = bytes;
         this.at = 0;
     }
 
-    /** Where the next bytes begin, which are passed over. */
+    /** Skips bytes, and returns where they begin. */
     skip(count) {
         const from = this.at;
         if (from + count > this.bytes.length) {
-            throw new Error(`the item ends early, at byte ${this.bytes.length}`);
+            throw new Error(`unexpected end at byte ${this.bytes.length}`);
         }
         this.at = from + count;
         return from;
@@ -28,7 +28,7 @@ class CborReader {
             return info;
         }
         if (info > 27) {
-            throw new Error(`additional information ${info} at byte ${this.at - 1}`);
+            throw new Error(`unsupported additional information ${info} at byte ${this.at - 1}`);
         }
         if (info === 24) {
             return this.bytes[this.skip(1)];
@@ -42,7 +42,7 @@ class CborReader {
         const major = head >> 5;
         const info = head & 31;
         if (depth > 8) {
-            throw new Error(`too deep at byte ${this.at - 1}`);
+            throw new Error(`nested too deeply at byte ${this.at - 1}`);
         }
         if (major === 7) {
             return this.simple(info);
@@ -56,19 +56,19 @@ class CborReader {
             case 2:
                 return this.take(Number(argument));
             case 3:
-                return textOf(this.take(Number(argument)));
+                return decodeUtf8(this.take(Number(argument)));
             case 4:
                 return this.list(Number(argument), () => this.item(depth + 1));
             case 5:
                 return new Map(this.list(Number(argument), () => [this.item(depth + 1), this.item(depth + 1)]));
             default:
-                throw new Error(`a tag at byte ${this.at - 1}`);
+                throw new Error(`unsupported tag at byte ${this.at - 1}`);
         }
     }
 
     list(count, read) {
         if (count > this.bytes.length) {
-            throw new Error(`a count of ${count} at byte ${this.at}`);
+            throw new Error(`invalid count ${count} at byte ${this.at}`);
         }
         return Array.from({ length: count }, read);
     }
@@ -76,63 +76,63 @@ class CborReader {
     simple(info) {
         const values = { 20: false, 21: true, 22: null };
         if (!(info in values)) {
-            throw new Error(`simple value ${info} at byte ${this.at - 1}`);
+            throw new Error(`unsupported simple value ${info} at byte ${this.at - 1}`);
         }
         return values[info];
     }
 }
 
-/** The item that the bytes are, and how many of them it took. */
+/** Decodes the first item, and returns it with its length. */
 export const readCbor = (bytes) => {
     const reader = new CborReader(bytes);
     return { value: reader.item(), used: reader.at };
 };
 
-/** Puts the head of an item: its major type, and its argument in as few bytes as hold it. */
-const putHead = (to, major, argument) => {
+/** Appends the head of an item: its major type, and its argument in the shortest form. */
+const appendHead = (to, major, argument) => {
     if (argument < 24) {
         to.push((major << 5) | argument);
         return;
     }
-    const power = [0, 1, 2].find((it) => argument < 2 ** (8 << it));
+    const power = [0, 1, 2].find((exponent) => argument < 2 ** (8 << exponent));
     to.push((major << 5) | (24 + power));
     for (let left = (1 << power) - 1; left >= 0; left -= 1) {
         to.push(Math.floor(argument / 2 ** (8 * left)) % 256);
     }
 };
 
-const putBytes = (to, major, bytes) => {
-    putHead(to, major, bytes.length);
+const appendBytes = (to, major, bytes) => {
+    appendHead(to, major, bytes.length);
     for (const byte of bytes) {
         to.push(byte);
     }
 };
 
-/** Puts the bytes of an item. The members of a map are put in the order in which it has them. */
-const putItem = (to, value) => {
+/** Appends an item. Maps are written in their iteration order. */
+const appendItem = (to, value) => {
     if (typeof value === "boolean") {
         to.push(value ? 0xf5 : 0xf4);
     } else if (typeof value === "number") {
-        putHead(to, value < 0 ? 1 : 0, value < 0 ? -1 - value : value);
+        appendHead(to, value < 0 ? 1 : 0, value < 0 ? -1 - value : value);
     } else if (typeof value === "string") {
-        putBytes(to, 3, utf8(value));
+        appendBytes(to, 3, encodeUtf8(value));
     } else if (value instanceof Uint8Array) {
-        putBytes(to, 2, value);
+        appendBytes(to, 2, value);
     } else if (value instanceof Map) {
-        putHead(to, 5, value.size);
+        appendHead(to, 5, value.size);
         value.forEach((inner, key) => {
-            putItem(to, key);
-            putItem(to, inner);
+            appendItem(to, key);
+            appendItem(to, inner);
         });
     } else {
-        putHead(to, 4, value.length);
-        value.forEach((item) => putItem(to, item));
+        appendHead(to, 4, value.length);
+        value.forEach((item) => appendItem(to, item));
     }
 };
 
-/** The bytes of an item, after others. */
+/** Encodes an item, after the bytes of `first`. */
 export const writeCbor = (value, first = []) => {
     const bytes = [...first];
-    putItem(bytes, value);
+    appendItem(bytes, value);
     return new Uint8Array(bytes);
 };

@@ -1,15 +1,18 @@
-// The clock of a key.
-import { checkKind } from "./checks.js";
+// The key's clock.
+import { checkType } from "./argument_checks.js";
 import { now } from "./platform.js";
 
-/** Moments of the log: milliseconds since the key was made, or those of a test, never one earlier than the last. */
-export const clockOf = (given, begun, state) => {
+/**
+ * Returns a clock whose timestamps never decrease: those of `clock`, or `startMs` plus the milliseconds since this
+ * call. The latest is in `state`.
+ */
+export const createClock = (clock, startMs, state) => {
     const start = now();
-    const read = given ?? (() => Math.floor(now() - start) + begun);
+    const read = clock ?? (() => Math.floor(now() - start) + startMs);
     return (passed) => {
-        const moment = read(passed);
-        checkKind("what clock gives", moment, Number.isInteger(moment) && moment >= 0, "whole milliseconds");
-        state.moment = Math.max(state.moment, moment);
-        return state.moment;
+        const timeMs = read(passed);
+        checkType("the result of clock", timeMs, Number.isInteger(timeMs) && timeMs >= 0, "whole milliseconds");
+        state.timeMs = Math.max(state.timeMs, timeMs);
+        return state.timeMs;
     };
 };

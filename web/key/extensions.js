@@ -1,12 +1,12 @@
-// Extensions of clients: the key has none, so they are refused, ignored or answered as not supported, as in Chromium.
+// Client extensions. The key supports none, so they are rejected, ignored or reported as unsupported, as in Chromium.
 import { fromBase64url } from "./bytes.js";
-import { failure, notAllowed, notSupported } from "./errors.js";
+import { makeDomError, makeNotAllowed, makeNotSupported } from "./errors.js";
 import { checkAppId } from "./relying_party.js";
 
-const POLICIES = ["userVerificationOptional", "userVerificationOptionalWithCredentialIDList",
+const PROTECTION_POLICIES = ["userVerificationOptional", "userVerificationOptionalWithCredentialIDList",
     "userVerificationRequired"];
 const WRONG_POLICY = "Requested protection policy is inconsistent or incongruent with other requested parameters.";
-const ONLY_APPID = "The 'appid' extension is only valid when requesting an assertion for a pre-existing credential"
+const APPID_ONLY_IN_ASSERTION = "The 'appid' extension is only valid when requesting an assertion for a pre-existing credential"
     + " that was registered using the legacy FIDO U2F API.";
 
 /** @param {any} extensions @param {any} selection */
@@ -14,14 +14,14 @@ const checkProtection = ({ credentialProtectionPolicy, enforceCredentialProtecti
     if (credentialProtectionPolicy === undefined) {
         return;
     }
-    if (!POLICIES.includes(credentialProtectionPolicy)) {
-        throw notSupported("Required parameters missing in `options.publicKey`.");
+    if (!PROTECTION_POLICIES.includes(credentialProtectionPolicy)) {
+        throw makeNotSupported("Required parameters missing in `options.publicKey`.");
     }
-    if (credentialProtectionPolicy === POLICIES[2] && selection.userVerification !== "required") {
-        throw notSupported(WRONG_POLICY);
+    if (credentialProtectionPolicy === PROTECTION_POLICIES[2] && selection.userVerification !== "required") {
+        throw makeNotSupported(WRONG_POLICY);
     }
-    if (enforceCredentialProtectionPolicy && credentialProtectionPolicy !== POLICIES[0]) {
-        throw notAllowed("the key has no credential protection");
+    if (enforceCredentialProtectionPolicy && credentialProtectionPolicy !== PROTECTION_POLICIES[0]) {
+        throw makeNotAllowed("the key has no credential protection");
     }
 };
 
@@ -29,29 +29,29 @@ const checkProtection = ({ credentialProtectionPolicy, enforceCredentialProtecti
 export const checkCreationExtensions = (extensions, selection, origin) => {
     const { appid, appidExclude, largeBlob, prf } = extensions;
     if (appid !== undefined) {
-        throw notSupported(ONLY_APPID);
+        throw makeNotSupported(APPID_ONLY_IN_ASSERTION);
     }
     checkAppId("appidExclude", appidExclude, origin);
     for (const name of ["read", "write"]) {
         if (largeBlob?.[name]) {
-            throw notSupported(
+            throw makeNotSupported(
                 `The 'largeBlob' extension's '${name}' parameter is only valid when requesting an assertion`);
         }
     }
     if (prf?.evalByCredential) {
-        throw notSupported("The 'evalByCredential' field cannot be set when creating a credential.");
+        throw makeNotSupported("The 'evalByCredential' field cannot be set when creating a credential.");
     }
     checkProtection(extensions, selection);
     if (largeBlob?.support === "required") {
-        throw notAllowed("the key has no large blobs");
+        throw makeNotAllowed("the key has no large blobs");
     }
 };
 
 /**
- * What a registration says of its extensions.
- * @param {any} extensions @param {{ rk?: boolean }} residence what credProps says
+ * Extension outputs of a registration.
+ * @param {any} extensions @param {{ rk?: boolean }} residence the output of credProps
  */
-export const creationResults = (extensions, residence) => {
+export const makeCreationResults = (extensions, residence) => {
     const { credBlob, credProps, hmacCreateSecret, largeBlob, prf } = extensions;
     return {
         ...(credProps && { credProps: residence }),
@@ -66,31 +66,31 @@ export const creationResults = (extensions, residence) => {
 const checkPrf = (prf, hasList) => {
     const ids = Object.keys(prf?.evalByCredential ?? {});
     if (ids.length && !hasList) {
-        throw notSupported("'prf' extension has 'evalByCredential' with an empty allow list");
+        throw makeNotSupported("'prf' extension has 'evalByCredential' with an empty allow list");
     }
     if (ids.some((id) => !id || !fromBase64url(id))) {
-        throw failure("SyntaxError", "'prf' extension contains invalid base64url data in 'evalByCredential'");
+        throw makeDomError("SyntaxError", "'prf' extension contains invalid base64url data in 'evalByCredential'");
     }
 };
 
 /** Checks the extensions of a sign-in. @param {any} extensions @param {boolean} hasList @param {string} origin */
 export const checkRequestExtensions = ({ appid, credProps, largeBlob, prf }, hasList, origin) => {
     if (credProps !== undefined) {
-        throw notSupported("The 'credProps' extension is only valid when creating a credential");
+        throw makeNotSupported("The 'credProps' extension is only valid when creating a credential");
     }
     if (largeBlob?.support !== undefined) {
-        throw notSupported("The 'largeBlob' extension's 'support' parameter is only valid when creating a credential");
+        throw makeNotSupported("The 'largeBlob' extension's 'support' parameter is only valid when creating a credential");
     }
     if (largeBlob?.read && largeBlob.write) {
-        throw notSupported(
+        throw makeNotSupported(
             "Only one of the 'largeBlob' extension's 'read' and 'write' parameters is allowed at a time");
     }
     checkPrf(prf, hasList);
     checkAppId("appid", appid, origin);
 };
 
-/** What a sign-in says of its extensions. @param {any} extensions */
-export const requestResults = ({ appid, getCredBlob, largeBlob, prf }) => ({
+/** Extension outputs of a sign-in. @param {any} extensions */
+export const makeRequestResults = ({ appid, getCredBlob, largeBlob, prf }) => ({
     ...(appid !== undefined && { appid: false }),
     ...(getCredBlob && { getCredBlob: new ArrayBuffer(0) }),
     ...(largeBlob && { largeBlob: largeBlob.write ? { written: false } : {} }),

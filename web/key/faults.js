@@ -1,53 +1,66 @@
-// Faults that a page or a service has to survive. They are made outside of the proved core, whose log stays as it is:
-// each one is a comment in it.
-import { isSame, joined, toHex, utf8 } from "./bytes.js";
-import { checkKind, checkName } from "./checks.js";
+// Faults injected into responses. They are injected outside the verified core, so that its log still replays; each is a
+// comment in the log.
+import { equalBytes, concatBytes, toHex, encodeUtf8 } from "./bytes.js";
+import { checkType, checkName, warnRenamed } from "./argument_checks.js";
 import { STATUSES } from "./standard.js";
-import { statusName } from "./statuses.js";
+import { formatStatus } from "./statuses.js";
 
-const OFF = {
-    status: null, delay: 0, cutShort: 0, wrongSignature: false, counterStays: false, otherRp: null,
+const FAULTS_OFF = {
+    status: null, delay: 0, truncateBy: 0, badSignature: false, staleSignCount: false, wrongRpId: null,
+};
+// Names before version 0.3.
+const RENAMED_FAULTS = {
+    counterStays: "staleSignCount", wrongSignature: "badSignature", cutShort: "truncateBy", otherRp: "wrongRpId",
 };
 const HASH_BYTES = 32;
-const FLAGS_AT = 32;
-const COUNTER_AT = 33;
+const FLAGS_OFFSET = 32;
+const SIGN_COUNT_OFFSET = 33;
 
-const KINDS = {
-    delay: "a number of milliseconds", cutShort: "a number of bytes", wrongSignature: "true or false",
-    counterStays: "true or false", otherRp: "an RP id or null",
+const EXPECTED_VALUES = {
+    delay: "a number of milliseconds", truncateBy: "a number of bytes", badSignature: "true or false",
+    staleSignCount: "true or false", wrongRpId: "an RP ID or null",
 };
 
-/** A status that is given as a number, or by its name with or without CTAP2_ERR_. */
-const statusOf = (given) => {
-    if (given === null || (Number.isInteger(given) && given > 0 && given < 256)) {
-        return given;
+/** The current name of a fault, with a warning for an old one. @param {string | symbol} name */
+const toCurrentName = (name) => {
+    if (typeof name !== "string" || !Object.hasOwn(RENAMED_FAULTS, name)) {
+        return name;
     }
-    const name = String(given).replace(/^CTAP[12]_ERR_/, "");
-    const found = Object.entries(STATUSES).find(([number, it]) => it === name && number !== "0");
+    warnRenamed(`faults.${name}`, `faults.${RENAMED_FAULTS[name]}`);
+    return RENAMED_FAULTS[name];
+};
+
+/** Parses a status: a number, or a name with or without CTAP2_ERR_. */
+const parseStatus = (value) => {
+    if (value === null || (Number.isInteger(value) && value > 0 && value < 256)) {
+        return value;
+    }
+    const name = String(value).replace(/^CTAP[12]_ERR_/, "");
+    const found = Object.entries(STATUSES).find(([number, statusName]) => statusName === name && number !== "0");
     if (!found) {
         const names = Object.values(STATUSES).slice(1).join(", ");
-        throw new TypeError(`faults.status is ${JSON.stringify(given)}; it is null, 1 to 255, or one of ${names}`);
+        throw new TypeError(`faults.status must be null, 1 to 255 or one of ${names}, not ${JSON.stringify(value)}`);
     }
     return Number(found[0]);
 };
 
-/** A value that a fault can take. */
-const checked = (name, value) => {
-    checkName("fault", name, Object.keys(OFF));
+/** Checks the value of a fault, and returns it. */
+const checkFault = (name, value) => {
+    checkName("fault", name, Object.keys(FAULTS_OFF));
     if (name === "status") {
-        return statusOf(value);
+        return parseStatus(value);
     }
-    const isText = name === "otherRp" && (value === null || typeof value === "string");
-    const isNumber = typeof OFF[name] === "number" && Number.isInteger(value) && value >= 0;
-    const isBoolean = typeof OFF[name] === "boolean" && typeof value === "boolean";
-    checkKind(`faults.${name}`, value, isText || isNumber || isBoolean, KINDS[name]);
+    const isText = name === "wrongRpId" && (value === null || typeof value === "string");
+    const isNumber = typeof FAULTS_OFF[name] === "number" && Number.isInteger(value) && value >= 0;
+    const isBoolean = typeof FAULTS_OFF[name] === "boolean" && typeof value === "boolean";
+    checkType(`faults.${name}`, value, isText || isNumber || isBoolean, EXPECTED_VALUES[name]);
     return value;
 };
 
-/** The place of bytes in others, or -1. @param {Uint8Array} bytes @param {Uint8Array} part */
-const placeOf = (bytes, part) => {
+/** The index of bytes in others, or -1. @param {Uint8Array} bytes @param {Uint8Array} part */
+const findBytes = (bytes, part) => {
     for (let at = 0; at + part.length <= bytes.length; at += 1) {
-        if (isSame(bytes.subarray(at, at + part.length), part)) {
+        if (equalBytes(bytes.subarray(at, at + part.length), part)) {
             return at;
         }
     }
@@ -55,32 +68,32 @@ const placeOf = (bytes, part) => {
 };
 
 /**
- * The faults of a key, each of them off at first.
+ * The faults of a key, all off at first.
  *
- * status: every request is answered by this status alone, a number or a name.
- * delay: so many milliseconds pass before an answer, with KEEPALIVEs.
- * cutShort: so many bytes are missing at the end of every answer.
- * wrongSignature: signatures are by another private key.
- * counterStays: the counter that is sent stays at that of the last answer.
- * otherRp: the authenticator data is of the relying party with this id.
+ * status: respond to every request with this status, a number or a name.
+ * delay: milliseconds before each response, with KEEPALIVEs.
+ * truncateBy: number of bytes to remove from the end of each response.
+ * badSignature: sign with a different private key.
+ * staleSignCount: repeat the signature counter of the previous response, with a valid signature.
+ * wrongRpId: the RP ID whose hash the authenticator data has, with a valid signature.
  */
 export class Faults {
-    /** @type {Map<string, number>} the counter that was sent last, by the digits of the credential's id */
-    #counters = new Map();
+    /** @type {Map<string, number>} the signature counter sent last, by credential ID in hex */
+    #signCounts = new Map();
     #altered = null;
 
     /** @param {(bytes: Uint8Array) => Promise<Uint8Array>} hash SHA-256 */
     constructor(hash) {
         this.hash = hash;
-        this.values = { ...OFF };
+        this.values = { ...FAULTS_OFF };
     }
 
-    /** The faults as an object whose members can be set, and which refuses what there isn't. */
+    /** The faults as an object whose members can be set. Unknown names and invalid values are rejected. */
     settings() {
-        const clear = () => Object.assign(this.values, OFF);
+        const clear = () => Object.assign(this.values, FAULTS_OFF);
         return new Proxy(this.values, {
-            get: (values, name) => (name === "clear" ? clear : Reflect.get(values, name)),
-            set: (values, name, value) => Reflect.set(values, name, checked(String(name), value)),
+            get: (values, name) => (name === "clear" ? clear : Reflect.get(values, toCurrentName(name))),
+            set: (values, name, value) => Reflect.set(values, toCurrentName(name), checkFault(String(toCurrentName(name)), value)),
         });
     }
 
@@ -88,63 +101,63 @@ export class Faults {
         return this.values.delay;
     }
 
-    get wrongSignature() {
-        return this.values.wrongSignature;
+    get badSignature() {
+        return this.values.badSignature;
     }
 
     /**
-     * What is signed in the place of authenticator data and a hash. The flags are set too: they are no fault, and what
-     * is set is a comment of its own.
-     * @param {import("./held.js").Need} need @param {number} flags
+     * Applies flags and faults to the bytes to sign: authenticator data and a hash. Flags are not a fault.
+     * @param {import("./wasm_key.js").Need} need @param {number} flags
      */
-    async signedInstead({ id, signed }, flags) {
-        const kept = signed.subarray(0, -HASH_BYTES);
-        const altered = kept.slice();
-        altered[FLAGS_AT] |= flags;
+    async alterToSign({ id, toSign }, flags) {
+        const original = toSign.subarray(0, -HASH_BYTES);
+        const altered = original.slice();
+        altered[FLAGS_OFFSET] |= flags;
         const flagged = altered.slice();
-        if (this.values.otherRp !== null) {
-            altered.set(await this.hash(utf8(this.values.otherRp)));
+        if (this.values.wrongRpId !== null) {
+            altered.set(await this.hash(encodeUtf8(this.values.wrongRpId)));
         }
-        this.#setCounter(toHex(id), new DataView(altered.buffer));
-        this.#altered = isSame(kept, altered) ? null : { kept, altered, isFault: !isSame(flagged, altered) };
-        return joined(altered, signed.subarray(-HASH_BYTES));
+        this.#setSignCount(toHex(id), new DataView(altered.buffer));
+        this.#altered = equalBytes(original, altered)
+            ? null : { original, altered, isFault: !equalBytes(flagged, altered) };
+        return concatBytes(altered, toSign.subarray(-HASH_BYTES));
     }
 
-    #setCounter(id, view) {
-        const raised = view.getUint32(COUNTER_AT);
-        if (this.values.counterStays && raised > 0) {
-            view.setUint32(COUNTER_AT, this.#counters.get(id) ?? raised - 1);
+    #setSignCount(id, view) {
+        const raised = view.getUint32(SIGN_COUNT_OFFSET);
+        if (this.values.staleSignCount && raised > 0) {
+            view.setUint32(SIGN_COUNT_OFFSET, this.#signCounts.get(id) ?? raised - 1);
         }
-        this.#counters.set(id, view.getUint32(COUNTER_AT));
+        this.#signCounts.set(id, view.getUint32(SIGN_COUNT_OFFSET));
     }
 
     /**
-     * The answer that is sent in the place of one. What was done to it is noted.
-     * @param {Uint8Array} answer @param {import("./recording.js").Recording} recording
+     * Applies the faults to a response, with a comment in the log for each.
+     * @param {Uint8Array} response @param {import("./recording.js").Recording} recording
      */
-    answerInstead(answer, recording) {
-        let sent = this.#withAlteredData(answer, recording);
-        const { cutShort, status } = this.values;
-        if (cutShort) {
-            sent = sent.subarray(0, Math.max(1, sent.length - cutShort));
-            recording.note(`fault: the answer is cut to ${sent.length} bytes`);
+    applyTo(response, recording) {
+        let sent = this.#withAlteredData(response, recording);
+        const { truncateBy, status } = this.values;
+        if (truncateBy) {
+            sent = sent.subarray(0, Math.max(1, sent.length - truncateBy));
+            recording.addComment(`fault: the answer is cut to ${sent.length} bytes`);
         }
         if (status !== null) {
-            recording.note(`fault: the answer is status ${statusName(status)}`);
+            recording.addComment(`fault: the answer is status ${formatStatus(status)}`);
             return Uint8Array.of(status);
         }
         return sent;
     }
 
-    #withAlteredData(answer, recording) {
-        const place = this.#altered ? placeOf(answer, this.#altered.kept) : -1;
-        if (place < 0) {
-            return answer;
+    #withAlteredData(response, recording) {
+        const index = this.#altered ? findBytes(response, this.#altered.original) : -1;
+        if (index < 0) {
+            return response;
         }
-        const sent = answer.slice();
-        sent.set(this.#altered.altered, place);
+        const sent = response.slice();
+        sent.set(this.#altered.altered, index);
         if (this.#altered.isFault) {
-            recording.note("fault: the authenticator data is altered");
+            recording.addComment("fault: the authenticator data is altered");
         }
         this.#altered = null;
         return sent;

@@ -1,4 +1,4 @@
-// What the script and the module give.
-export { send } from "./dev_tools.js";
-export { current, install } from "./place.js";
+// The exports of the script and the module.
+export { send, sendDevToolsCommand } from "./devtools.js";
+export { current, install, installedKey } from "./install.js";
 export { SecurityKey } from "./security_key.js";

@@ -1,15 +1,15 @@
-// The arguments of navigator.credentials.create and get: the dictionaries of WebAuthn Level 3 and of Credential
-// Management, as Chromium converts them.
+// The arguments of navigator.credentials.create and get: the dictionaries of WebAuthn Level 3 and Credential
+// Management, converted as in Chromium.
 import {
     abortSignal, boolean, buffer, dictionary, enumeration, long, optional, record, required, sequence, text,
     unsignedLong,
 } from "./webidl.js";
 
-const MEDIATION = ["silent", "optional", "conditional", "required"];
-const ENTITY = "PublicKeyCredentialEntity";
+const MEDIATIONS = ["silent", "optional", "conditional", "required"];
+const ENTITY_DICTIONARY = "PublicKeyCredentialEntity";
 
 /** The dictionary of extensions. */
-const extensionsOf = (bytes, suffix) => {
+const makeExtensionsDictionary = (bytes, suffix) => {
     const prfValues = dictionary("AuthenticationExtensionsPRFValues", {
         first: required(bytes), second: optional(bytes),
     });
@@ -27,15 +27,15 @@ const extensionsOf = (bytes, suffix) => {
     });
 };
 
-/** The dictionaries of calls, whose buffers are converted by this: bytes, or base64url for JSON. */
-const dictionariesOf = (bytes, suffix) => {
+/** The dictionaries of both calls, with buffers converted by `bytes`: buffers, or base64url for JSON. */
+const makeDictionaries = (bytes, suffix) => {
     const descriptor = dictionary(`PublicKeyCredentialDescriptor${suffix}`, {
         id: required(bytes), transports: optional(sequence(text)), type: required(text),
     });
-    const extensions = extensionsOf(bytes, suffix);
-    const rp = dictionary("PublicKeyCredentialRpEntity", { name: required(text, ENTITY), id: optional(text) });
+    const extensions = makeExtensionsDictionary(bytes, suffix);
+    const rp = dictionary("PublicKeyCredentialRpEntity", { name: required(text, ENTITY_DICTIONARY), id: optional(text) });
     const user = dictionary(`PublicKeyCredentialUserEntity${suffix}`, {
-        name: required(text, ENTITY), displayName: required(text), id: required(bytes),
+        name: required(text, ENTITY_DICTIONARY), displayName: required(text), id: required(bytes),
     });
     const parameter = dictionary("PublicKeyCredentialParameters", { alg: required(long), type: required(text) });
     const selection = dictionary("AuthenticatorSelectionCriteria", {
@@ -59,10 +59,10 @@ const dictionariesOf = (bytes, suffix) => {
     };
 };
 
-const { creation: creationOptions, request: requestOptions } = dictionariesOf(buffer, "");
-const { creation: creationJson, request: requestJson } = dictionariesOf(text, "JSON");
+const { creation: creationOptions, request: requestOptions } = makeDictionaries(buffer, "");
+const { creation: creationJson, request: requestJson } = makeDictionaries(text, "JSON");
 const shared = {
-    mediation: optional(enumeration("CredentialMediationRequirement", MEDIATION), "optional"),
+    mediation: optional(enumeration("CredentialMediationRequirement", MEDIATIONS), "optional"),
     signal: optional(abortSignal),
 };
 const credentialCreation = dictionary("CredentialCreationOptions", {
@@ -70,30 +70,30 @@ const credentialCreation = dictionary("CredentialCreationOptions", {
 });
 const credentialRequest = dictionary("CredentialRequestOptions", { publicKey: optional(requestOptions), ...shared });
 
-const executing = (name, type) => `Failed to execute '${name}' on '${type}': `;
+const errorPrefix = (name, type) => `Failed to execute '${name}' on '${type}': `;
 
 /** @param {unknown} options of navigator.credentials.create */
-export const readCreation = (options) => credentialCreation(options, executing("create", "CredentialsContainer"));
+export const readCreation = (options) => credentialCreation(options, errorPrefix("create", "CredentialsContainer"));
 
 /** @param {unknown} options of navigator.credentials.get */
-export const readRequest = (options) => credentialRequest(options, executing("get", "CredentialsContainer"));
+export const readRequest = (options) => credentialRequest(options, errorPrefix("get", "CredentialsContainer"));
 
-/** @param {unknown[]} given the arguments @param {string} where the front of an error's text */
-const firstOf = (given, where) => {
-    if (!given.length) {
+/** @param {unknown[]} args the arguments @param {string} where the front of an error's text */
+const requireFirstArgument = (args, where) => {
+    if (!args.length) {
         throw new TypeError(`${where}1 argument required, but only 0 present.`);
     }
-    return given[0];
+    return args[0];
 };
 
-/** @param {unknown[]} given the arguments of PublicKeyCredential.parseCreationOptionsFromJSON */
-export const readCreationJson = (given) => {
-    const where = executing("parseCreationOptionsFromJSON", "PublicKeyCredential");
-    return { where, options: creationJson(firstOf(given, where), where) };
+/** @param {unknown[]} args the arguments of PublicKeyCredential.parseCreationOptionsFromJSON */
+export const readCreationJson = (args) => {
+    const where = errorPrefix("parseCreationOptionsFromJSON", "PublicKeyCredential");
+    return { where, options: creationJson(requireFirstArgument(args, where), where) };
 };
 
-/** @param {unknown[]} given the arguments of PublicKeyCredential.parseRequestOptionsFromJSON */
-export const readRequestJson = (given) => {
-    const where = executing("parseRequestOptionsFromJSON", "PublicKeyCredential");
-    return { where, options: requestJson(firstOf(given, where), where) };
+/** @param {unknown[]} args the arguments of PublicKeyCredential.parseRequestOptionsFromJSON */
+export const readRequestJson = (args) => {
+    const where = errorPrefix("parseRequestOptionsFromJSON", "PublicKeyCredential");
+    return { where, options: requestJson(requireFirstArgument(args, where), where) };
 };

@@ -1,11 +1,11 @@
-// Packets of CTAPHID, and the messages that they carry (CTAP 2.1, "USB HID").
-import { joined } from "./bytes.js";
+// CTAPHID packets and messages (CTAP 2.1, "USB HID").
+import { concatBytes } from "./bytes.js";
 import { KEEPALIVE, PACKET_SIZE } from "./standard.js";
 
 /** @typedef {{ command: number, bytes: Uint8Array }} Message */
 
-/** The packets that carry a message. @param {number} channel @param {number} command @param {Uint8Array} bytes */
-export const packetsOf = (channel, command, bytes) => {
+/** Splits a message into packets. @param {number} channel @param {number} command @param {Uint8Array} bytes */
+export const fragmentMessage = (channel, command, bytes) => {
     const packets = [];
     let from = 0;
     do {
@@ -24,7 +24,7 @@ export const packetsOf = (channel, command, bytes) => {
     return packets;
 };
 
-/** Collects the key's answer on a channel from its packets, whose KEEPALIVEs are left out. */
+/** Reassembles the messages on a channel, without KEEPALIVEs. */
 export class Collector {
     /** @param {number} channel */
     constructor(channel) {
@@ -32,9 +32,9 @@ export class Collector {
         this.open = null;
     }
 
-    /** Adds packets, and returns the message that is whole with them, or null. @param {Uint8Array[]} packets */
+    /** Adds packets, and returns the message they complete, or null. @param {Uint8Array[]} packets */
     add(packets) {
-        let whole = null;
+        let complete = null;
         for (const packet of packets) {
             const view = new DataView(packet.buffer);
             if (view.getUint32(0) !== this.channel) {
@@ -47,18 +47,18 @@ export class Collector {
                 this.open.parts.push(packet.subarray(5));
                 this.open.size += PACKET_SIZE - 5;
             }
-            whole = this.#whole() ?? whole;
+            complete = this.#takeComplete() ?? complete;
         }
-        return whole;
+        return complete;
     }
 
     /** @returns {Message | null} */
-    #whole() {
+    #takeComplete() {
         if (!this.open || this.open.size < this.open.length) {
             return null;
         }
         const { command, length, parts } = this.open;
         this.open = null;
-        return command === KEEPALIVE ? null : { command, bytes: joined(...parts).subarray(0, length) };
+        return command === KEEPALIVE ? null : { command, bytes: concatBytes(...parts).subarray(0, length) };
     }
 }

@@ -1,51 +1,51 @@
-// What the key uses of its platform, as it was when this script was loaded: clocks that a test fakes later don't reach
-// it. Where something is missing, it says so in one line.
+// The platform functions that the key uses, as they were when this script was loaded, so that faked timers do not
+// affect it. A missing one is reported in one line.
 
 export const { setTimeout, clearTimeout, setInterval, clearInterval } = globalThis;
 
-const NEEDED = "needed is Chromium 115, Firefox 102, Safari 16 or node 20, or a later one";
+const PLATFORM_ERROR = "Chromium 115, Firefox 102, Safari 16, node 20 or later is needed";
 
-/** Milliseconds that only rise. */
+/** Monotonic milliseconds. */
 export const now = performance.now.bind(performance);
 
 /** @returns {Crypto} the platform's WebCrypto */
-export const webCrypto = () => {
+export const getWebCrypto = () => {
     if (!globalThis.crypto?.subtle) {
         const why = globalThis.isSecureContext === false
-            ? "this page isn't served over https or http://localhost"
-            : "give install the option crypto, in node the webcrypto of node:crypto";
-        throw new Error(`hidlogKey: crypto.subtle is missing (${why}); ${NEEDED}`);
+            ? "this page is not served over https or http://localhost"
+            : "use the option crypto of install, in node with webcrypto of node:crypto";
+        throw new Error(`hidlogKey: crypto.subtle is missing (${why}); ${PLATFORM_ERROR}`);
     }
     return globalThis.crypto;
 };
 
-/** A WebAssembly module, made at once. @param {Uint8Array} bytes */
-export const compiled = (bytes) => {
+/** Compiles a WebAssembly module synchronously. @param {Uint8Array} bytes */
+export const compileModule = (bytes) => {
     if (typeof WebAssembly !== "object" || typeof BigInt64Array !== "function") {
-        throw new Error(`hidlogKey: WebAssembly with BigInt is missing; ${NEEDED}`);
+        throw new Error(`hidlogKey: WebAssembly with BigInt is missing; ${PLATFORM_ERROR}`);
     }
     try {
         return new WebAssembly.Module(bytes);
     } catch (error) {
         const why = /Content.?Security|unsafe-eval|CSP|blocked/i.test(String(error))
             ? "the page's Content-Security-Policy forbids WebAssembly: add 'wasm-unsafe-eval' to its script-src"
-            : `WebAssembly refused the module (${error}); ${NEEDED}`;
+            : `WebAssembly rejected the module (${error}); ${PLATFORM_ERROR}`;
         throw new Error(`hidlogKey: ${why}`, { cause: error });
     }
 };
 
-/** Throws the reason of a signal that has ended what it is for. @param {AbortSignal | undefined} signal */
-export const checkEnded = (signal) => {
+/** Throws the reason if a signal is aborted. @param {AbortSignal | undefined} signal */
+export const throwIfAborted = (signal) => {
     if (signal?.aborted) {
         throw signal.reason;
     }
 };
 
 /**
- * Waits for a promise, unless the signal ends the wait with its reason.
+ * Waits for a promise, or rejects with the reason if the signal is aborted.
  * @template T @param {Promise<T> | T} awaited @param {AbortSignal} signal @returns {Promise<T>}
  */
-export const unlessEnded = (awaited, signal) =>
+export const raceWithSignal = (awaited, signal) =>
     new Promise((done, fail) => {
         const end = () => fail(signal.reason);
         if (signal.aborted) {
@@ -56,14 +56,14 @@ export const unlessEnded = (awaited, signal) =>
     });
 
 /**
- * Waits for milliseconds, unless the signal ends the wait.
+ * Waits for milliseconds, or rejects with the reason if the signal is aborted.
  * @param {number} milliseconds
  * @param {AbortSignal} signal
  */
-export const pause = (milliseconds, signal) => {
+export const sleepUnlessAborted = (milliseconds, signal) => {
     let timer;
     const waited = new Promise((done) => {
         timer = setTimeout(done, milliseconds);
     });
-    return unlessEnded(waited, signal).finally(() => clearTimeout(timer));
+    return raceWithSignal(waited, signal).finally(() => clearTimeout(timer));
 };

@@ -1,42 +1,42 @@
-// What is recorded: the log of a session, as `hidlog live` writes it (docs/use/LOG_FORMAT.md).
+// The log of a session, as `hidlog live` writes it (docs/use/LOG_FORMAT.md).
 import { toHex } from "./bytes.js";
 
-const LINE_MOST = 255;
-const SIGNED_MOST = 96;
+const MAX_LINE = 255;
+const MAX_SIGNED_BYTES = 96;
 
-/** What is needed after an input, as comments. @param {import("./held.js").Need} need */
-const needLines = ({ kind, id, signed }) => {
+/** Comments with what the key needs after an input. @param {import("./wasm_key.js").Need} need */
+const formatNeed = ({ kind, id, toSign }) => {
     if (kind !== "signature") {
         return [`# need ${kind}`];
     }
     const lines = [];
-    for (let at = 0; at < signed.length; at += SIGNED_MOST) {
-        lines.push(`# signed ${toHex(signed.subarray(at, at + SIGNED_MOST))}`);
+    for (let at = 0; at < toSign.length; at += MAX_SIGNED_BYTES) {
+        lines.push(`# signed ${toHex(toSign.subarray(at, at + MAX_SIGNED_BYTES))}`);
     }
     return [...lines, `# need signature ${toHex(id)}`];
 };
 
-/** A text as comments of a log, each line in as many as it takes. @param {string} text */
-const commentLines = (text) =>
+/** A text as comment lines, with long lines wrapped. @param {string} text */
+const formatComment = (text) =>
     text.split("\n").flatMap((line) => {
-        // Comments that begin so are the key's own.
+        // Comments that begin like this are the key's own.
         const shown = (/^(need|signed) /.test(line) ? ` ${line}` : line).replace(/[^\x20-\x7e]/g, "?");
-        return shown.match(new RegExp(`.{1,${LINE_MOST - 2}}`, "g"))?.map((part) => `# ${part}`) ?? ["#"];
+        return shown.match(new RegExp(`.{1,${MAX_LINE - 2}}`, "g"))?.map((part) => `# ${part}`) ?? ["#"];
     });
 
 export class Recording {
-    /** @type {string[]} an input's lines, or a comment */
+    /** @type {string[]} the lines of an input, or a comment */
     #entries = [];
-    #keeps;
-    // Letters of the entries.
+    #records;
+    // Total length of the entries in characters.
     length = 0;
 
-    /** @param {boolean} keeps whether anything is recorded */
-    constructor(keeps = true) {
-        this.#keeps = keeps;
+    /** @param {boolean} records whether to record anything */
+    constructor(records = true) {
+        this.#records = records;
     }
 
-    /** How many inputs and comments are recorded. */
+    /** Number of inputs and comments. */
     get size() {
         return this.#entries.length;
     }
@@ -45,42 +45,42 @@ export class Recording {
      * Adds an input, and returns its lines.
      * @param {string} input its line
      * @param {Uint8Array[]} packets what the key sent for it
-     * @param {import("./held.js").Need} need
+     * @param {import("./wasm_key.js").Need} need
      */
     add(input, packets, need) {
-        if (!this.#keeps) {
+        if (!this.#records) {
             return [];
         }
         const sent = packets.map((packet) => `< ${toHex(packet)}`);
-        const lines = [input, ...sent, ...needLines(need)];
+        const lines = [input, ...sent, ...formatNeed(need)];
         this.#push(lines.join("\n"));
         return lines;
     }
 
-    /** @param {string} text */
-    note(text) {
-        commentLines(text).forEach((line) => this.#push(line));
+    /** Adds a text as comments. @param {string} text */
+    addComment(text) {
+        formatComment(text).forEach((line) => this.#push(line));
     }
 
-    /** Adds a line that is a comment already. @param {string} line */
-    keep(line) {
+    /** Adds a comment line. @param {string} line */
+    addLine(line) {
         this.#push(line);
     }
 
     #push(entry) {
-        if (this.#keeps) {
+        if (this.#records) {
             this.#entries.push(entry);
             this.length += entry.length;
         }
     }
 
-    /** The lines so far, without an end of the last one. */
+    /** The lines so far, without a final newline. */
     lines() {
         return this.#entries.join("\n");
     }
 
-    /** The log so far, with what its session counted. @param {string} meters */
-    text(meters) {
-        return [...this.#entries, meters, ""].join("\n");
+    /** The log so far, with the totals line. @param {string} stats */
+    text(stats) {
+        return [...this.#entries, stats, ""].join("\n");
     }
 }

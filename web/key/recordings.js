@@ -1,43 +1,47 @@
-// The recordings of a key: sessions that ended, and the one that is under way. A store keeps them with the state, so
-// that one log goes on from page to page.
-import { fromBase64url, isSame, toBase64url } from "./bytes.js";
+// The recordings of a key: ended sessions and the current one. They are stored with the state, so that one log
+// continues from page to page.
+import { addOldNames } from "./argument_checks.js";
+import { fromBase64url, equalBytes, toBase64url } from "./bytes.js";
 import { Session } from "./session.js";
 
-// Letters: so much of the session under way is kept in a store, and so much of all. The oldest parts go first.
-const SESSION_MOST = 512 * 1024;
-const ALL_MOST = 1024 * 1024;
-// So much of all is held in memory, and so much of the session under way.
-const HELD_MOST = 32 * 1024 * 1024;
-const HELD_SESSION_MOST = 8 * 1024 * 1024;
+// Characters kept in storage, of the current session and of all. The oldest recordings are dropped first.
+const MAX_STORED_SESSION_LENGTH = 512 * 1024;
+const MAX_STORED_LENGTH = 1024 * 1024;
+// Characters kept in memory, of all and of the current session.
+const MAX_LENGTH_IN_MEMORY = 32 * 1024 * 1024;
+const MAX_SESSION_LENGTH_IN_MEMORY = 8 * 1024 * 1024;
 
-/** @typedef {{ part: number, snapshot: Uint8Array, log: string }} Part */
-/** @typedef {{ part: number, snapshot: string, log: string }} KeptPart its snapshot is base64url */
-/** @typedef {{ ended: KeptPart[], last: KeptPart }} Kept whose last log is without its last line */
+/** @typedef {{ index: number, snapshot: Uint8Array, log: string }} RecordedSession */
+/** @typedef {{ index: number, snapshot: string, log: string }} StoredSession its snapshot is base64url */
+/** @typedef {{ ended: StoredSession[], last: StoredSession }} Kept the log of `last` lacks the totals line */
 
-const keptPart = ({ part, snapshot, log }) => ({ part, snapshot: toBase64url(snapshot), log });
-const readPart = ({ part, snapshot, log }) => ({ part, snapshot: fromBase64url(snapshot), log });
+const toStored = ({ index, snapshot, log }) => ({ index, snapshot: toBase64url(snapshot), log });
+/** The index of a session, which version 0.2 stored as `part`. @param {any} stored @returns {number} */
+const readIndex = (stored) => stored.index ?? stored.part;
+const fromStored = (stored) =>
+    ({ index: readIndex(stored), snapshot: fromBase64url(stored.snapshot), log: stored.log });
 
-/** Parts without the oldest ones, where all are too long. @param {Part[]} parts @param {number} most */
-const newest = (parts, most) => {
+/** The number of newest sessions that fit into a length. @param {RecordedSession[]} sessions @param {number} most */
+const countNewest = (sessions, most) => {
     let left = most;
-    return parts.filter((_, at) => {
-        left -= parts[parts.length - 1 - at].log.length;
+    return sessions.filter((_, at) => {
+        left -= sessions[sessions.length - 1 - at].log.length;
         return left >= 0;
     }).length;
 };
 
 export class Recordings {
-    /** @type {(Part & { isKept: boolean })[]} */
+    /** @type {(RecordedSession & { isKept: boolean })[]} */
     #ended = [];
-    #part = 1;
+    #index = 1;
     #kept = 0;
     #snapshot;
 
     /**
-     * @param {Uint8Array} snapshot the credentials
+     * @param {Uint8Array} snapshot the initial credentials
      * @param {(passed?: number) => number} clock
-     * @param {Kept | null} kept what a store has of these credentials' history
-     * @param {boolean} records whether anything is recorded
+     * @param {Kept | null} kept the stored recordings of these credentials
+     * @param {boolean} records whether to record
      */
     constructor(snapshot, clock, kept, records) {
         this.clock = clock;
@@ -54,105 +58,106 @@ export class Recordings {
         this.#kept = 0;
     }
 
-    /** Puts the session under way to those that ended, where anything is recorded. */
+    /** Ends the current session, if anything is recorded. */
     #end() {
         if (this.session.recording.size) {
             this.#ended.push({ ...this.#last(), isKept: false });
-            this.#part += 1;
+            this.#index += 1;
         }
     }
 
     #last() {
-        return { part: this.#part, snapshot: this.#snapshot, log: this.session.log() };
+        return { index: this.#index, snapshot: this.#snapshot, log: this.session.log() };
     }
 
-    /** Whether something is recorded that no store has. */
+    /** Whether something is recorded but not stored. */
     get isAhead() {
         return this.session.recording.size > this.#kept || this.#ended.some(({ isKept }) => !isKept);
     }
 
-    /** Begins a session with other credentials. @param {Uint8Array} snapshot */
+    /** Starts a session with other credentials. @param {Uint8Array} snapshot */
     begin(snapshot) {
         this.#end();
         this.#start(snapshot);
     }
 
     /**
-     * Goes on where a store's recording ends, which has these credentials then.
+     * Continues stored recordings, which end with these credentials.
      * @param {Kept} kept @param {Uint8Array} snapshot
      */
     take(kept, snapshot) {
         const { last } = kept;
         const { recording } = this.session;
         const isAhead = recording.size > this.#kept;
-        if (!isAhead && last.part === this.#part && last.log.startsWith(recording.lines())
-            && isSame(fromBase64url(last.snapshot), this.#snapshot)) {
+        if (!isAhead && readIndex(last) === this.#index && last.log.startsWith(recording.lines())
+            && equalBytes(fromBase64url(last.snapshot), this.#snapshot)) {
             this.#takeEnded(kept.ended);
-            this.#goOn(last, snapshot);
+            this.#resume(last, snapshot);
             return;
         }
-        // What this page alone has stays as a part of its own.
+        // Lines that only this page has recorded become a separate recording.
         if (isAhead) {
             this.#end();
         }
         this.#takeEnded(kept.ended);
-        this.#part = Math.max(last.part, ...this.#ended.map(({ part }) => part + 1));
+        this.#index = Math.max(readIndex(last), ...this.#ended.map(({ index }) => index + 1));
         this.#start(fromBase64url(last.snapshot));
-        this.#goOn(last, snapshot);
+        this.#resume(last, snapshot);
     }
 
-    /** Plays the lines that the session hasn't. Where that leads to other credentials, a session begins with these. */
-    #goOn(last, snapshot) {
+    /** Plays the lines the session lacks. If that leads to other credentials than `snapshot`, starts a new session. */
+    #resume(last, snapshot) {
         const played = this.session.recording.lines().length;
         const lines = last.log.slice(played).split("\n").filter(Boolean);
-        if (!this.session.resume(lines) || !isSame(this.session.snapshot(), snapshot)) {
-            const { part, log } = last;
-            this.#ended.push({ part, snapshot: fromBase64url(last.snapshot), log: `${log}\n`, isKept: true });
-            this.#part = part + 1;
+        if (!this.session.resume(lines) || !equalBytes(this.session.snapshot(), snapshot)) {
+            const ended = fromStored(last);
+            this.#ended.push({ ...ended, log: `${ended.log}\n`, isKept: true });
+            this.#index = ended.index + 1;
             this.#start(snapshot);
         }
         this.#kept = this.session.recording.size;
     }
 
     #takeEnded(ended) {
-        const own = this.#ended.filter((it) => !it.isKept);
-        this.#ended = [...ended.map((it) => ({ ...readPart(it), isKept: true })), ...own];
-        this.#ended.forEach((it, at) => {
-            it.part = Math.max(it.part, (this.#ended[at - 1]?.part ?? 0) + 1);
+        const own = this.#ended.filter((recording) => !recording.isKept);
+        this.#ended = [...ended.map((recording) => ({ ...fromStored(recording), isKept: true })), ...own];
+        this.#ended.forEach((recording, at) => {
+            recording.index = Math.max(recording.index, (this.#ended[at - 1]?.index ?? 0) + 1);
         });
     }
 
-    /** All sessions, the last of them so far. @returns {Part[]} */
+    /** All sessions, with the current one so far. @returns {RecordedSession[]} */
     list() {
-        return this.records ? [...this.#ended.map(({ isKept, ...part }) => part), this.#last()] : [];
+        const sessions = this.records ? [...this.#ended.map(({ isKept, ...session }) => session), this.#last()] : [];
+        return sessions.map((session) => addOldNames(session, { part: "index" }));
     }
 
-    /** Drops the oldest recordings where memory has too much of them. @param {() => Uint8Array} snapshot */
+    /** Drops the oldest recordings if they are too long for memory. @param {() => Uint8Array} snapshot */
     bound(snapshot) {
-        if (this.session.recording.length > HELD_SESSION_MOST) {
+        if (this.session.recording.length > MAX_SESSION_LENGTH_IN_MEMORY) {
             this.begin(snapshot());
-            this.#ended = this.#ended.slice(-newest(this.#ended, HELD_MOST) || this.#ended.length);
+            this.#ended = this.#ended.slice(-countNewest(this.#ended, MAX_LENGTH_IN_MEMORY) || this.#ended.length);
         }
     }
 
-    /** What a store keeps. @param {Uint8Array} snapshot the credentials now @returns {Kept | undefined} */
+    /** The recordings to store. @param {Uint8Array} snapshot the current credentials @returns {Kept | undefined} */
     kept(snapshot) {
         if (!this.records) {
             return undefined;
         }
-        if (this.session.recording.lines().length > SESSION_MOST) {
+        if (this.session.recording.lines().length > MAX_STORED_SESSION_LENGTH) {
             this.begin(snapshot);
         }
         const log = this.session.recording.lines();
-        this.#ended = this.#ended.slice(-newest(this.#ended, ALL_MOST - log.length) || this.#ended.length);
-        return { ended: this.#ended.map(keptPart), last: keptPart({ ...this.#last(), log }) };
+        this.#ended = this.#ended.slice(-countNewest(this.#ended, MAX_STORED_LENGTH - log.length) || this.#ended.length);
+        return { ended: this.#ended.map(toStored), last: toStored({ ...this.#last(), log }) };
     }
 
-    /** Notes that a store has all so far. */
+    /** Records that everything so far is stored. */
     wasKept() {
         this.#kept = this.session.recording.size;
-        this.#ended.forEach((it) => {
-            it.isKept = true;
+        this.#ended.forEach((recording) => {
+            recording.isKept = true;
         });
     }
 }

@@ -1,74 +1,78 @@
-// A security key in a page: registrations and sign-ins as navigator.credentials serves them, and what a test does
-// with a virtual authenticator. The key is the proved core; each session of it is a log that replays exactly.
-import { Abilities, ABILITIES } from "./abilities.js";
-import { registered, signedIn } from "./answers.js";
+// A security key in a page: registrations and sign-ins, as by navigator.credentials, and the methods of a virtual
+// authenticator. The key is the verified core; each session is a log that replays exactly.
+import { AuthenticatorOptions, AUTHENTICATOR_OPTION_NAMES } from "./abilities.js";
+import { makeAssertionCredential, makeRegistrationCredential } from "./answers.js";
 import { Authenticator, CtapError } from "./authenticator.js";
-import { fromBase64url, isSame, toBase64url } from "./bytes.js";
+import { fromBase64url, equalBytes, toBase64url } from "./bytes.js";
 import { readCbor } from "./cbor.js";
-import { GET_NEXT_ASSERTION, registrationOf, signInOf } from "./ceremonies.js";
-import { checkKind, checkMembers, checkName } from "./checks.js";
-import { accountOf, checkWhich, Choices } from "./choices.js";
-import { clockOf } from "./clock.js";
+import { GET_NEXT_ASSERTION, encodeMakeCredential, encodeGetAssertion } from "./ceremonies.js";
+import { checkType, checkMembers, checkName, renameOptions, warnRenamed } from "./argument_checks.js";
+import { checkAccountSelector, findAccount, Selections } from "./account_selection.js";
+import { createClock } from "./clock.js";
 import { Credentials } from "./credentials.js";
-import { excluded, failure, notAllowed } from "./errors.js";
-import { creationResults, requestResults } from "./extensions.js";
+import { makeInvalidState, makeDomError, makeNotAllowed } from "./errors.js";
+import { makeCreationResults, makeRequestResults } from "./extensions.js";
 import { Faults } from "./faults.js";
 import { readCreation, readRequest } from "./options.js";
-import { Outside } from "./outside.js";
-import { checkEnded, unlessEnded, webCrypto } from "./platform.js";
+import { CredentialMetadata } from "./credential_metadata.js";
+import { throwIfAborted, raceWithSignal, getWebCrypto } from "./platform.js";
 import { PrivateKeys } from "./private_keys.js";
-import { checkPolicy, clientDataOf } from "./relying_party.js";
-import { Requests } from "./requests.js";
-import { snapshotOf } from "./snapshots.js";
-import { checkState, rowsIn, stateOf } from "./state.js";
-import { checkStore, Store } from "./store.js";
-import { User } from "./user.js";
+import { checkPolicy, encodeClientData } from "./relying_party.js";
+import { Requests } from "./pending_request.js";
+import { encodeSnapshot } from "./snapshots.js";
+import { STATUSES } from "./standard.js";
+import { checkState, exportState, readRows, readTimeMs } from "./state.js";
+import { checkStorage, Store } from "./store.js";
+import { User } from "./user_presence.js";
 
-const OPTIONS = ["presence", "delay", "account", "clock", "state", "store", "origin", "crypto", "allowOrigins", "record",
-    ...ABILITIES];
-const EVENTS = ["credentialAdded", "credentialAsserted", "credentialDeleted", "credentialUpdated"];
-const CREDENTIAL_EXCLUDED = 0x19;
+const OPTION_NAMES = ["presence", "delay", "account", "clock", "state", "storage", "origin", "crypto", "allowedOrigins",
+    "record", ...AUTHENTICATOR_OPTION_NAMES];
+const EVENT_TYPES = ["credentialAdded", "credentialAsserted", "credentialDeleted", "credentialUpdated"];
+/** Whether a status means that a credential of excludeCredentials is on the key. @param {{ status: number }} error */
+const isExcluded = ({ status }) => STATUSES[status] === "CREDENTIAL_EXCLUDED";
+// Names before version 0.3.
+const RENAMED_OPTIONS = { store: "storage", allowOrigins: "allowedOrigins" };
 
-/** The map that an answer is. @param {Uint8Array} bytes @returns {Map<number, any>} */
-const readAnswer = (bytes) => {
+/** Decodes a response. @param {Uint8Array} bytes @returns {Map<number, any>} */
+const decodeResponse = (bytes) => {
     try {
         return readCbor(bytes).value;
     } catch (error) {
-        throw notAllowed(`the authenticator's answer is no CBOR: ${error.message}`);
+        throw makeNotAllowed(`the authenticator's response is not CBOR: ${error.message}`);
     }
 };
 
-/** The abilities among options. @param {Record<string, unknown>} options */
-const abilitiesIn = (options) =>
-    Object.fromEntries(Object.entries(options).filter(([name]) => ABILITIES.includes(name)));
+/** The authenticator options among options. @param {Record<string, unknown>} options */
+const pickAuthenticatorOptions = (options) =>
+    Object.fromEntries(Object.entries(options).filter(([name]) => AUTHENTICATOR_OPTION_NAMES.includes(name)));
 
 export class SecurityKey extends EventTarget {
-    #abilities;
+    #authenticatorOptions;
     #authenticator = null;
     #account;
-    #choices = new Choices();
+    #selections = new Selections();
     #clock;
     #credentials;
     #faults;
     #kept = null;
     #origin;
-    #outside = new Outside();
+    #metadata = new CredentialMetadata();
     #privateKeys;
     #requests = new Requests();
-    #start = [];
+    #initialRows = [];
     #store;
-    #time = { moment: 0 };
+    #time = { timeMs: 0 };
     #user;
     #records;
 
     static {
-        for (const name of ABILITIES) {
+        for (const name of AUTHENTICATOR_OPTION_NAMES) {
             Object.defineProperty(this.prototype, name, {
                 get() {
-                    return this.#abilities.get(name);
+                    return this.#authenticatorOptions.get(name);
                 },
                 set(value) {
-                    this.#abilities.take({ [name]: value });
+                    this.#authenticatorOptions.take({ [name]: value });
                 },
             });
         }
@@ -77,55 +81,57 @@ export class SecurityKey extends EventTarget {
     /** @param {import("../dist/security_key.js").Options} [options] */
     constructor(options = {}) {
         super();
-        checkMembers("option", options, OPTIONS);
-        const { presence = "granted", delay = 0, account = 0, record = true, clock, state, store, crypto, origin } = options;
-        checkKind("record", record, typeof record === "boolean", "true or false");
+        checkType("the options", options, typeof options === "object" && options !== null, "an object");
+        const named = renameOptions(options, RENAMED_OPTIONS);
+        checkMembers("option", named, OPTION_NAMES);
+        const { presence = "granted", delay = 0, account = 0, record = true, clock, state, storage, crypto } = named;
+        checkType("record", record, typeof record === "boolean", "true or false");
         this.#records = record;
-        checkKind("clock", clock, ["undefined", "function"].includes(typeof clock), "a function of milliseconds");
+        checkType("clock", clock, ["undefined", "function"].includes(typeof clock), "a function of milliseconds");
         this.#user = new User({ presence, delay });
         this.account = account;
-        this.#abilities = new Abilities(abilitiesIn(options));
-        this.#origin = origin;
-        this.#privateKeys = new PrivateKeys(crypto ? () => crypto : webCrypto);
+        this.#authenticatorOptions = new AuthenticatorOptions(pickAuthenticatorOptions(named));
+        this.#origin = named.origin;
+        this.#privateKeys = new PrivateKeys(crypto ? () => crypto : getWebCrypto);
         this.#faults = new Faults((bytes) => this.#privateKeys.hash(bytes));
-        this.#credentials = new Credentials(this.#privateKeys, this.#outside);
-        if (store !== undefined) {
-            checkStore(store);
+        this.#credentials = new Credentials(this.#privateKeys, this.#metadata);
+        if (storage !== undefined) {
+            checkStorage(storage);
         }
-        this.#store = new Store(store);
+        this.#store = new Store(storage);
         this.#restore(state);
-        this.#clock = clockOf(clock, this.#time.moment, this.#time);
+        this.#clock = createClock(clock, this.#time.timeMs, this.#time);
         this.faults = this.#faults.settings();
-        // A property that there isn't, such as a typo, can't be set.
+        // Setting an unknown property, such as a typo, throws.
         Object.freeze(this);
     }
 
-    /** Begins with what the store has, or else with a state that is given. */
+    /** Starts with the state in storage, or otherwise with `state`. */
     #restore(state) {
         if (state !== undefined) {
             checkState(state);
         }
-        const stored = this.#store.news();
-        const begun = stored ?? state;
-        if (begun) {
-            this.#start = rowsIn(begun, this.#credentials);
-            this.#time.moment = begun.moment;
+        const stored = this.#store.readChanges();
+        const start = stored ?? state;
+        if (start) {
+            this.#initialRows = readRows(start, this.#credentials);
+            this.#time.timeMs = readTimeMs(start);
             this.#kept = stored?.recordings ?? null;
         }
     }
 
-    /** The proved key, which is made when it is asked for first. */
+    /** The verified key, created on first use. */
     get #key() {
         if (!this.#authenticator) {
-            const begun = { snapshot: snapshotOf(this.#start), kept: this.#kept, records: this.#records };
-            this.#authenticator = new Authenticator(this.#privateKeys, this.#faults, this.#clock, begun);
+            const start = { snapshot: encodeSnapshot(this.#initialRows), kept: this.#kept, records: this.#records };
+            this.#authenticator = new Authenticator(this.#privateKeys, this.#faults, this.#clock, start);
             this.#kept = null;
         }
         return this.#authenticator;
     }
 
     get #rows() {
-        return this.#authenticator ? this.#key.session.held.rows() : this.#start;
+        return this.#authenticator ? this.#key.session.core.rows() : this.#initialRows;
     }
 
     get presence() {
@@ -149,81 +155,81 @@ export class SecurityKey extends EventTarget {
     }
 
     set account(account) {
-        checkWhich("account", account);
+        checkAccountSelector("account", account);
         this.#account = account;
     }
 
-    // What is recorded and kept.
+    // Recordings and state.
 
     /**
-     * The recording since the last change of credentials by hand: a log that `hidlog check` passes. It is empty where
-     * nothing is recorded.
+     * The recording since the credentials were last changed by a method: a log for `hidlog check`. It is empty without
+     * recording.
      */
     log() {
         return this.recordings().at(-1)?.log ?? "";
     }
 
-    /** All recordings: each with the snapshot that it began with, for `hidlog check --load`. */
+    /** All recordings, each with the snapshot it starts with, for `hidlog check --load`. */
     recordings() {
         return this.#key.recordings.list();
     }
 
-    /** The credentials, their private keys and counters, and the moment, as one value of JSON. */
+    /** The credentials, with private keys and counters, and the time, as JSON. */
     state() {
-        return stateOf(this.#time.moment, this.#rows, this.#credentials);
+        return exportState(this.#time.timeMs, this.#rows, this.#credentials);
     }
 
-    /** Takes up what another tab has put into the store. */
+    /** Reads what another tab has stored. */
     #refresh() {
-        const news = this.#store.news();
-        if (news) {
-            this.#time.moment = Math.max(this.#time.moment, news.moment);
-            this.#take(rowsIn(news, this.#credentials), news.recordings);
+        const stored = this.#store.readChanges();
+        if (stored) {
+            this.#time.timeMs = Math.max(this.#time.timeMs, readTimeMs(stored));
+            this.#take(readRows(stored, this.#credentials), stored.recordings);
         }
     }
 
-    /** Goes on with other credentials, and with the recording that led to them, where there is one. */
+    /** Continues with other credentials, and with the recording that led to them, if any. */
     #take(rows, recordings = undefined) {
-        const snapshot = snapshotOf(rows);
+        const snapshot = encodeSnapshot(rows);
         if (recordings && this.#records) {
             this.#key.take(recordings, snapshot);
-        } else if (!isSame(snapshot, snapshotOf(this.#rows))) {
+        } else if (!equalBytes(snapshot, encodeSnapshot(this.#rows))) {
             this.#key.begin(snapshot);
         }
     }
 
-    /** Writes the state and the recordings into the store. */
+    /** Stores the state and the recordings. */
     async #write() {
-        const kept = () => ({ state: this.state(), recordings: this.#key.recordings.kept(snapshotOf(this.#rows)) });
+        const kept = () => ({ state: this.state(), recordings: this.#key.recordings.kept(encodeSnapshot(this.#rows)) });
         if (await this.#store.write(kept)) {
             this.#key.recordings.wasKept();
         }
     }
 
-    /** Waits for the store, and takes up what it has. Returns what writes to it and lets others have it. */
-    async #hold() {
-        const free = await this.#store.hold();
+    /** Locks the storage and reads it. Returns a function that writes to it and unlocks it. */
+    async #lock() {
+        const unlock = await this.#store.lock();
         const release = async () => {
             try {
                 await this.#write();
             } finally {
-                free();
+                unlock();
             }
         };
         try {
             this.#refresh();
             return release;
         } catch (error) {
-            free();
+            unlock();
             throw error;
         }
     }
 
-    /** Writes what is recorded and not in the store yet. */
-    async #keep() {
-        this.#authenticator?.recordings.bound(() => snapshotOf(this.#rows));
-        if (this.#store.isThere && this.#authenticator?.recordings.isAhead) {
-            await (await this.#hold())();
+    /** Stores recordings that are not stored yet. */
+    async #storeRecordings() {
+        this.#authenticator?.recordings.bound(() => encodeSnapshot(this.#rows));
+        if (this.#store.isPresent && this.#authenticator?.recordings.isAhead) {
+            await (await this.#lock())();
         }
     }
 
@@ -232,135 +238,135 @@ export class SecurityKey extends EventTarget {
     /** As navigator.credentials.create. @param {any} options */
     async create(options) {
         const { publicKey, signal, mediation } = readCreation(options);
-        checkEnded(signal);
+        throwIfAborted(signal);
         const origin = this.#pageOrigin();
         checkPolicy("create", origin);
-        const asked = registrationOf(publicKey, origin, this.#abilities);
+        const request = encodeMakeCredential(publicKey, origin, this.#authenticatorOptions);
         if (mediation === "conditional") {
-            throw notAllowed("the key makes no credentials without a dialog");
+            throw makeNotAllowed("conditional mediation is not supported for registrations");
         }
-        const clientData = clientDataOf("create", publicKey.challenge, origin);
+        const clientData = encodeClientData("create", publicKey.challenge, origin);
         return this.#requests.run({ signal, timeout: publicKey.timeout, isConditional: false }, (ending) =>
-            this.#during(asked, ending, async (turn) => {
-                const bytes = await this.#requestOf(asked, asked.ids, clientData, turn);
-                const answer = await this.#exchange(bytes, turn);
-                const residence = this.#abilities.residence(asked.discoverable);
-                const results = creationResults(asked.extensions, residence);
-                const made = registered(answer, clientData, results, this.#abilities);
-                this.#tell("credentialAdded", made.id);
-                return made;
+            this.#during(request, ending, async (turn) => {
+                const bytes = await this.#encode(request, request.ids, clientData, turn);
+                const response = await this.#exchange(bytes, turn);
+                const residence = this.#authenticatorOptions.residence(request.discoverable);
+                const results = makeCreationResults(request.extensions, residence);
+                const credential = makeRegistrationCredential(response, clientData, results, this.#authenticatorOptions);
+                this.#dispatchFor("credentialAdded", credential.id);
+                return credential;
             }));
     }
 
     /** As navigator.credentials.get. @param {any} options */
     async get(options) {
         const { publicKey, signal, mediation } = readRequest(options);
-        checkEnded(signal);
+        throwIfAborted(signal);
         const origin = this.#pageOrigin();
         checkPolicy("get", origin);
-        const asked = signInOf(publicKey, origin, this.#abilities);
-        const clientData = clientDataOf("get", publicKey.challenge, origin);
+        const request = encodeGetAssertion(publicKey, origin, this.#authenticatorOptions);
+        const clientData = encodeClientData("get", publicKey.challenge, origin);
         const isConditional = mediation === "conditional";
         return this.#requests.run({ signal, timeout: publicKey.timeout, isConditional }, (ending) =>
-            this.#during(asked, ending, async (turn) => {
-                const serve = isConditional ? this.#chosenAnswer : this.#answer;
-                const answer = await serve.call(this, asked, clientData, turn);
-                const id = this.#outside.pageId(answer.get(1).get("id"));
-                const results = requestResults(asked.extensions);
-                const used = signedIn({ answer, id }, clientData, results, this.#abilities.attachment);
-                this.#tell("credentialAsserted", used.id);
-                return used;
+            this.#during(request, ending, async (turn) => {
+                const signIn = isConditional ? this.#signInSelected : this.#signIn;
+                const response = await signIn.call(this, request, clientData, turn);
+                const id = this.#metadata.pageId(response.get(1).get("id"));
+                const results = makeRequestResults(request.extensions);
+                const { attachment } = this.#authenticatorOptions;
+                const credential = makeAssertionCredential({ response, id }, clientData, results, attachment);
+                this.#dispatchFor("credentialAsserted", credential.id);
+                return credential;
             }));
     }
 
-    /** The bytes of a request for credentials of the page, with the hash of its client data. The user is verified. */
-    async #requestOf(asked, ids, clientData, turn) {
+    /** Encodes a request with these credential IDs of the page and the hash of its client data. Verifies the user. */
+    async #encode(request, ids, clientData, turn) {
         const hash = (bytes) => this.#privateKeys.hash(bytes);
-        const sent = await unlessEnded(this.#outside.sentIds(ids, hash), turn.signal);
-        const clientDataHash = await unlessEnded(hash(clientData), turn.signal);
-        turn.isVerified = asked.verify();
-        return asked.request(clientDataHash, sent);
+        const sent = await raceWithSignal(this.#metadata.sentIds(ids, hash), turn.signal);
+        const clientDataHash = await raceWithSignal(hash(clientData), turn.signal);
+        turn.isVerified = request.verify();
+        return request.encode(clientDataHash, sent);
     }
 
     #pageOrigin() {
         const origin = this.#origin ?? globalThis.location?.origin;
-        checkKind("origin", origin, typeof origin === "string" && /^https?:\/\/./.test(origin),
-            "a page's, such as https://example.com; where there is no page, give install the option origin");
+        checkType("origin", origin, typeof origin === "string" && /^https?:\/\/./.test(origin),
+            "an http or https origin, such as https://example.com; without a page, use the option origin of install");
         return origin;
     }
 
-    /** Serves a request of the page; what changes the credentials is kept, and held against other tabs. */
-    async #during(asked, signal, serve) {
+    /** Runs a request of the page. Changes of the credentials are stored, and other tabs are locked out meanwhile. */
+    async #during(request, signal, run) {
         let release = null;
         const turn = {
             signal,
             isVerified: false,
-            ask: () => this.#user.answer(asked.question, signal),
+            ask: () => this.#user.answer(request.question, signal),
             made: (id) => {
-                this.#credentials.label(id, asked.label);
-                this.#outside.backUp(id, this.#abilities.backup);
+                this.#credentials.setLabel(id, request.label);
+                this.#metadata.setBackup(id, this.#authenticatorOptions.backup);
             },
-            flags: (id) => this.#outside.flags(id, turn.isVerified),
+            flags: (id) => this.#metadata.flags(id, turn.isVerified),
             enter: async () => {
-                const held = await this.#hold();
-                release = held;
+                release = await this.#lock();
                 if (signal.aborted) {
                     await turn.leave();
                 }
             },
             leave: async () => {
-                const held = release;
+                const pending = release;
                 release = null;
-                await held?.();
+                await pending?.();
             },
         };
         try {
             this.#refresh();
-            return await serve(turn);
+            return await run(turn);
         } finally {
             await turn.leave();
-            await this.#keep();
+            await this.#storeRecordings();
         }
     }
 
-    /** The answer of the key to a request, or the error that a page sees for it. */
+    /** Sends a request. Throws the error that a page sees if it fails. */
     async #exchange(bytes, turn) {
         try {
-            return readAnswer(await this.#key.request(bytes, turn));
+            return decodeResponse(await this.#key.request(bytes, turn));
         } catch (error) {
             if (error instanceof CtapError) {
-                throw error.status === CREDENTIAL_EXCLUDED ? excluded() : notAllowed(error.message);
+                throw isExcluded(error) ? makeInvalidState() : makeNotAllowed(error.message);
             }
             throw error;
         }
     }
 
-    /** The answer of one account: the only one, or the one that `account` picks. */
-    async #answer(asked, clientData, turn) {
-        const bytes = await this.#requestOf(asked, asked.ids, clientData, turn);
-        const answers = [await this.#exchange(bytes, turn)];
-        for (let more = (answers[0].get(5) ?? 1) - 1; more > 0; more -= 1) {
-            answers.push(await this.#exchange(GET_NEXT_ASSERTION, turn));
+    /** Signs in, with the account selected by `account` if there are several. */
+    async #signIn(request, clientData, turn) {
+        const bytes = await this.#encode(request, request.ids, clientData, turn);
+        const responses = [await this.#exchange(bytes, turn)];
+        for (let more = (responses[0].get(5) ?? 1) - 1; more > 0; more -= 1) {
+            responses.push(await this.#exchange(GET_NEXT_ASSERTION, turn));
         }
-        if (answers.length === 1) {
-            return answers[0];
+        if (responses.length === 1) {
+            return responses[0];
         }
-        const accounts = answers.map((it) => this.#shown(this.#outside.pageId(it.get(1).get("id"))));
-        return answers[accounts.indexOf(await unlessEnded(accountOf(accounts, this.#account), turn.signal))];
+        const accounts = responses.map((response) => this.#find(this.#metadata.pageId(response.get(1).get("id"))));
+        return responses[accounts.indexOf(await raceWithSignal(findAccount(accounts, this.#account), turn.signal))];
     }
 
-    /** The answer of the account that a test chooses, once it does. */
-    async #chosenAnswer(asked, clientData, turn) {
+    /** Waits until a test selects an account, and signs in with it. */
+    async #signInSelected(request, clientData, turn) {
         for (;;) {
-            const choice = await this.#choices.next(turn.signal);
+            const selection = await this.#selections.next(turn.signal);
             try {
-                const account = await accountOf(await this.#accountsOf(asked), choice.which);
+                const account = await findAccount(await this.#accountsFor(request), selection.selector);
                 const ids = [fromBase64url(account.credentialId)];
-                const answer = await this.#exchange(await this.#requestOf(asked, ids, clientData, turn), turn);
-                choice.done(account);
-                return answer;
+                const response = await this.#exchange(await this.#encode(request, ids, clientData, turn), turn);
+                selection.done(account);
+                return response;
             } catch (error) {
-                choice.fail(error);
+                selection.fail(error);
                 if (!(error instanceof RangeError)) {
                     throw error;
                 }
@@ -368,35 +374,41 @@ export class SecurityKey extends EventTarget {
         }
     }
 
-    /** The discoverable credentials that a sign-in can take, the newest first. */
-    async #accountsOf({ rpId, ids: allowed }) {
+    /** The discoverable credentials that can sign in, newest first. */
+    async #accountsFor({ rpId, ids: allowed }) {
         this.#refresh();
         const ids = allowed.map(toBase64url);
-        return (await this.getCredentials()).reverse().filter((it) =>
-            it.isResidentCredential && it.rpId === rpId && (!ids.length || ids.includes(it.credentialId)));
+        return (await this.getCredentials()).reverse().filter(({ isResidentCredential, rpId: ownRpId, credentialId }) =>
+            isResidentCredential && ownRpId === rpId && (!ids.length || ids.includes(credentialId)));
     }
 
-    /** Picks the account of the sign-in that waits for one (mediation "conditional"), or of the next such. */
-    choose(which = 0) {
-        return this.#choices.choose(which);
+    /** Selects the account of the pending sign-in with mediation "conditional", or of the next one. */
+    selectAccount(selector = 0) {
+        return this.#selections.select(selector);
     }
 
-    /** Ends a request of the page that waits, and lets go of the store. */
+    /** @deprecated Use selectAccount. */
+    choose(selector = 0) {
+        warnRenamed("choose()", "selectAccount()");
+        return this.selectAccount(selector);
+    }
+
+    /** Aborts a pending request, and releases the storage. */
     close() {
-        this.#requests.end(failure("AbortError", "The key was taken out of the page."));
+        this.#requests.end(makeDomError("AbortError", "The key was uninstalled."));
         this.#store.close();
     }
 
-    // What a virtual authenticator's commands do.
+    // The commands of a virtual authenticator.
 
-    #shown(credentialId) {
+    #find(credentialId) {
         const rows = this.#rows;
-        return this.#credentials.shown(rows[this.#credentials.placeOf(rows, credentialId)]);
+        return this.#credentials.fromRow(rows[this.#credentials.indexOf(rows, credentialId)]);
     }
 
-    /** Changes the credentials by hand, while no request changes them. */
+    /** Changes the credentials, while no request can change them. */
     async #change(change) {
-        const release = await this.#hold();
+        const release = await this.#lock();
         try {
             this.#take(await change(this.#rows));
         } finally {
@@ -404,32 +416,32 @@ export class SecurityKey extends EventTarget {
         }
     }
 
-    /** Adds a credential, and returns it as it is held. @param {any} credential */
+    /** Adds a credential, and returns it as stored. @param {any} credential */
     async addCredential(credential) {
         const { isResidentCredential: isResident } = credential ?? {};
-        checkKind("isResidentCredential", isResident, !isResident || this.#abilities.get("hasResidentKey"),
-            "false: this key makes no discoverable credentials (hasResidentKey is false)");
-        const row = await this.#credentials.added(credential, this.#abilities.backup);
+        checkType("isResidentCredential", isResident, !isResident || this.#authenticatorOptions.get("hasResidentKey"),
+            "false: the key does not support discoverable credentials (hasResidentKey is false)");
+        const row = await this.#credentials.create(credential, this.#authenticatorOptions.backup);
         await this.#change((rows) => this.#credentials.with(rows, row));
-        return this.#credentials.shown(row);
+        return this.#credentials.fromRow(row);
     }
 
-    /** The credentials, the newest last. */
+    /** The credentials, newest last. */
     async getCredentials() {
         this.#refresh();
-        return this.#rows.map((row) => this.#credentials.shown(row));
+        return this.#rows.map((row) => this.#credentials.fromRow(row));
     }
 
-    /** Goes on with the credentials of a state. @param {any} state what `key.state()` gave */
+    /** Restores the credentials of a state. @param {any} state from `key.state()` */
     async restore(state) {
         checkState(state);
-        await this.#change(() => rowsIn(state, this.#credentials));
+        await this.#change(() => readRows(state, this.#credentials));
     }
 
     /** @param {string} credentialId */
     async getCredential(credentialId) {
         this.#refresh();
-        return this.#shown(credentialId);
+        return this.#find(credentialId);
     }
 
     /** @param {string} credentialId */
@@ -448,48 +460,54 @@ export class SecurityKey extends EventTarget {
 
     /** @param {string} credentialId @param {any} properties */
     async setCredentialProperties(credentialId, properties) {
-        await this.#change((rows) => this.#credentials.changed(rows, credentialId, properties));
-        this.#tell("credentialUpdated", credentialId);
+        await this.#change((rows) => this.#credentials.update(rows, credentialId, properties));
+        this.#dispatchFor("credentialUpdated", credentialId);
     }
 
-    /** Whether the user answers by themselves. @param {boolean} enabled */
+    /** Sets whether presence is granted automatically. @param {boolean} enabled */
     async setAutomaticPresenceSimulation(enabled) {
-        checkKind("enabled", enabled, typeof enabled === "boolean", "true or false");
+        checkType("enabled", enabled, typeof enabled === "boolean", "true or false");
         this.presence = enabled ? "granted" : "none";
     }
 
-    /** Whether the user passes verification. @param {boolean} isUserVerified */
+    /** Sets whether user verification succeeds. @param {boolean} isUserVerified */
     async setUserVerified(isUserVerified) {
-        this.#abilities.take({ isUserVerified });
+        this.#authenticatorOptions.take({ isUserVerified });
     }
 
-    /** What the key is as a virtual authenticator: all that is given, or nothing where it is refused. */
-    setAbilities(abilities) {
-        this.#abilities.take(abilities);
+    /** Sets all these authenticator options, or none if one is invalid. */
+    setAuthenticatorOptions(options) {
+        this.#authenticatorOptions.take(options);
     }
 
-    /** What PublicKeyCredential says of the key. */
+    /** @deprecated Use setAuthenticatorOptions. */
+    setAbilities(options) {
+        warnRenamed("setAbilities()", "setAuthenticatorOptions()");
+        this.setAuthenticatorOptions(options);
+    }
+
+    /** The client capabilities that depend on the key. */
     get capabilities() {
-        const { isVerifyingPlatform } = this.#abilities;
+        const { isVerifyingPlatform } = this.#authenticatorOptions;
         return {
-            passkeyPlatformAuthenticator: isVerifyingPlatform && this.#abilities.get("hasResidentKey"),
+            passkeyPlatformAuthenticator: isVerifyingPlatform && this.#authenticatorOptions.get("hasResidentKey"),
             userVerifyingPlatformAuthenticator: isVerifyingPlatform,
         };
     }
 
     // Events.
 
-    #tell(type, credentialId) {
-        this.#dispatch(type, { credential: this.#shown(credentialId) });
+    #dispatchFor(type, credentialId) {
+        this.#dispatch(type, { credential: this.#find(credentialId) });
     }
 
     #dispatch(type, detail) {
         this.dispatchEvent(new CustomEvent(type, { detail }));
     }
 
-    /** A promise of the next event of a type, and of what it says. @param {string} type */
+    /** Resolves to the detail of the next event of a type. @param {string} type */
     once(type) {
-        checkName("event", type, EVENTS);
+        checkName("event", type, EVENT_TYPES);
         return new Promise((done) => {
             this.addEventListener(type, (/** @type {CustomEvent} */ event) => done(event.detail), { once: true });
         });

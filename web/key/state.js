@@ -1,34 +1,37 @@
-// What outlives a page: the credentials with their counters and private keys, and the moment, as one value of JSON; in
-// a store with the recordings. It is judged whole before anything of it is used.
+// What outlives a page: the credentials with counters and private keys, and the time, as JSON; in storage also the
+// recordings. A state is checked completely before any of it is used.
 import { fromBase64url, toBase64url } from "./bytes.js";
-import { checkKind } from "./checks.js";
-import { checkValues, MOST, TEXT_BYTES } from "./credentials.js";
-import { CORE_ID, ID_MOST } from "./outside.js";
-import { isPrivateKey } from "./private_keys.js";
+import { checkType, addOldNames } from "./argument_checks.js";
+import { checkValues, MAX_CREDENTIALS, MAX_TEXT_BYTES } from "./credentials.js";
+import { CORE_ID_BYTES, MAX_ID_BYTES } from "./credential_metadata.js";
+import { isPkcs8P256 } from "./private_keys.js";
 
-const FORM = "hidlog web key 1";
+const FORMAT = "hidlog web key 1";
 const HASH_BYTES = 32;
 
 /**
  * @typedef {import("./credentials.js").Credential & { rpIdHash: string, coreId?: string }} KeptCredential `coreId` is
- * the id that the core has, where it is another
+ * the ID that the core has, if different
  */
-/** @typedef {{ form: string, moment: number, credentials: KeptCredential[] }} State */
+/** @typedef {{ format: string, timeMs: number, credentials: KeptCredential[] }} State */
 
 /**
- * @param {number} moment
- * @param {import("./held.js").Row[]} rows
+ * @param {number} timeMs
+ * @param {import("./wasm_key.js").Row[]} rows
  * @param {import("./credentials.js").Credentials} credentials
  * @returns {State}
  */
-export const stateOf = (moment, rows, credentials) => ({
-    form: FORM, moment,
+export const exportState = (timeMs, rows, credentials) => addOldNames({
+    format: FORMAT, timeMs,
     credentials: rows.map((row) => {
-        const shown = { ...credentials.shown(row), rpIdHash: toBase64url(row.rp) };
+        const credential = { ...credentials.fromRow(row), rpIdHash: toBase64url(row.rpIdHash) };
         const coreId = toBase64url(row.id);
-        return coreId === shown.credentialId ? shown : { ...shown, coreId };
+        return coreId === credential.credentialId ? credential : { ...credential, coreId };
     }),
-});
+}, { form: "format", moment: "timeMs" });
+
+/** The time of a state, which version 0.2 called moment. @param {any} state @returns {number} */
+export const readTimeMs = (state) => state.timeMs ?? state.moment;
 
 const isObject = (value) => typeof value === "object" && value !== null && !Array.isArray(value);
 const isText = (value) => typeof value === "string";
@@ -37,62 +40,66 @@ const isCount = (value) => Number.isSafeInteger(value) && value >= 0;
 /** @param {string} name @param {unknown} text @param {number} least @param {number} most */
 const checkBytes = (name, text, least, most) => {
     const bytes = isText(text) ? fromBase64url(/** @type {string} */ (text)) : null;
-    const holds = bytes !== null && bytes.length >= least && bytes.length <= most;
-    checkKind(name, text, holds, `base64url of ${least === most ? least : `${least} to ${most}`} bytes`);
+    const isValid = bytes !== null && bytes.length >= least && bytes.length <= most;
+    checkType(name, text, isValid, `base64url of ${least === most ? least : `${least} to ${most}`} bytes`);
     return bytes;
 };
 
-/** A credential of a state with what older states lack. */
-const complete = (it) => ({ backupEligibility: false, backupState: false, coreId: it.credentialId, ...it });
+/** A credential of a state, with defaults for what older states lack. */
+const completeCredential = (credential) =>
+    ({ backupEligibility: false, backupState: false, coreId: credential.credentialId, ...credential });
 
 /** @param {any} credential */
 const checkCredential = (credential) => {
-    checkKind("a credential", credential, isObject(credential), "an object");
-    const it = complete(credential);
-    checkBytes("credentialId", it.credentialId, 1, ID_MOST);
-    checkBytes("coreId", it.coreId, CORE_ID, CORE_ID);
-    checkBytes("rpIdHash", it.rpIdHash, HASH_BYTES, HASH_BYTES);
-    checkBytes("userHandle", it.userHandle, 0, TEXT_BYTES);
-    const pkcs8 = checkBytes("privateKey", it.privateKey, 1, ID_MOST);
-    checkKind("privateKey", it.privateKey, isPrivateKey(pkcs8), "a key on P-256 in PKCS #8, as key.state() has it");
-    checkKind("rpId", it.rpId, isText(it.rpId), "a text");
-    checkValues(it);
+    checkType("each credential", credential, isObject(credential), "an object");
+    const kept = completeCredential(credential);
+    checkBytes("credentialId", kept.credentialId, 1, MAX_ID_BYTES);
+    checkBytes("coreId", kept.coreId, CORE_ID_BYTES, CORE_ID_BYTES);
+    checkBytes("rpIdHash", kept.rpIdHash, HASH_BYTES, HASH_BYTES);
+    checkBytes("userHandle", kept.userHandle, 0, MAX_TEXT_BYTES);
+    const pkcs8 = checkBytes("privateKey", kept.privateKey, 1, MAX_ID_BYTES);
+    checkType("privateKey", kept.privateKey, isPkcs8P256(pkcs8), "a P-256 key in PKCS #8, as from key.state()");
+    checkType("rpId", kept.rpId, isText(kept.rpId), "a string");
+    checkValues(kept);
 };
 
-/** Refuses two credentials that one key can't hold. @param {KeptCredential[]} listed */
-const checkApart = (listed) => {
-    const isOnce = (texts) => new Set(texts).size === texts.length;
-    const all = listed.map(complete);
-    const accounts = all.filter((it) => it.isResidentCredential).map((it) => `${it.rpIdHash} ${it.userHandle}`);
-    const holds = isOnce(all.map((it) => it.credentialId)) && isOnce(all.map((it) => it.coreId)) && isOnce(accounts);
-    checkKind("credentials", `${listed.length} of them`, holds, "of different ids, and discoverable ones of different"
-        + " users");
+/** Rejects duplicate credentials. @param {KeptCredential[]} credentials */
+const checkDuplicates = (credentials) => {
+    const areUnique = (texts) => new Set(texts).size === texts.length;
+    const all = credentials.map(completeCredential);
+    const accounts = all.filter(({ isResidentCredential }) => isResidentCredential)
+        .map(({ rpIdHash, userHandle }) => `${rpIdHash} ${userHandle}`);
+    const ids = [all.map(({ credentialId }) => credentialId), all.map(({ coreId }) => coreId), accounts];
+    if (!ids.every(areUnique)) {
+        throw new TypeError("credentials must have different IDs, and discoverable ones different users");
+    }
 };
 
-const isPart = (part) => isObject(part) && isCount(part.part) && isText(part.log) && isText(part.snapshot)
-    && fromBase64url(part.snapshot) !== null;
+const isRecording = (recording) => isObject(recording) && isCount(recording.index ?? recording.part)
+    && isText(recording.log) && isText(recording.snapshot) && fromBase64url(recording.snapshot) !== null;
 
-/** @param {any} kept what a store has of recordings */
-const isKept = (kept) => isObject(kept) && Array.isArray(kept.ended) && [...kept.ended, kept.last].every(isPart);
+/** @param {any} kept the recordings in storage */
+const isStoredRecordings = (kept) =>
+    isObject(kept) && Array.isArray(kept.ended) && [...kept.ended, kept.last].every(isRecording);
 
-/** Judges a state whole: a TypeError says what isn't as it has to be. @param {any} state */
+/** Checks a state completely. Throws a TypeError if anything is invalid. @param {any} state */
 export const checkState = (state) => {
-    const isState = isObject(state) && state.form === FORM && Array.isArray(state.credentials);
-    checkKind("state", state, isState, `what key.state() gave ("${FORM}")`);
-    checkKind("moment", state.moment, isCount(state.moment), "whole milliseconds");
+    const isState = isObject(state) && (state.format ?? state.form) === FORMAT && Array.isArray(state.credentials);
+    checkType("state", state, isState, `a state from key.state() ("${FORMAT}")`);
+    checkType("timeMs", readTimeMs(state), isCount(readTimeMs(state)), "a whole number of milliseconds");
     const { length } = state.credentials;
-    checkKind("credentials", `${length} of them`, length <= MOST, `at most ${MOST}`);
+    checkType("credentials.length", length, length <= MAX_CREDENTIALS, `at most ${MAX_CREDENTIALS}`);
     state.credentials.forEach(checkCredential);
-    checkApart(state.credentials);
+    checkDuplicates(state.credentials);
     const { version = 0, recordings } = state;
-    checkKind("version", version, isCount(version), "a number");
-    checkKind("recordings", typeof recordings, recordings === undefined || isKept(recordings), "those of a key");
+    checkType("version", version, isCount(version), "a number");
+    checkType("recordings", typeof recordings, recordings === undefined || isStoredRecordings(recordings), "those stored by a key");
 };
 
 /**
- * The rows in a state that was judged.
+ * The rows of a checked state.
  * @param {State} state @param {import("./credentials.js").Credentials} credentials
  */
-export const rowsIn = (state, credentials) =>
-    state.credentials.map(complete).map((it) =>
-        credentials.restored(it, fromBase64url(it.rpIdHash), fromBase64url(it.coreId)));
+export const readRows = (state, credentials) =>
+    state.credentials.map(completeCredential).map((credential) =>
+        credentials.toRow(credential, fromBase64url(credential.rpIdHash), fromBase64url(credential.coreId)));

@@ -1,26 +1,26 @@
-// A store that holds the state of a key, which several tabs may share: one of them at a time changes it.
-import { checkKind } from "./checks.js";
+// Storage of the state of a key, which several tabs may share; one at a time changes it.
+import { checkType } from "./argument_checks.js";
 import { setTimeout } from "./platform.js";
 import { checkState } from "./state.js";
 
-const NAME = "hidlogKey";
-// How often, and how many times, a tab looks for what another has written.
-const LOOK_MS = 5;
-const LOOKS = 100;
+const STORAGE_KEY = "hidlogKey";
+// How often, and how many times, a tab polls for what another has written.
+const POLL_MS = 5;
+const MAX_POLLS = 100;
 
 /** @typedef {Pick<Storage, "getItem" | "setItem">} KeptIn */
 /**
  * @typedef {import("./state.js").State & { version: number, recordings?: import("./recordings.js").Kept }} Stored
  */
 
-/** @param {any} store */
-export const checkStore = (store) => {
-    const isStore = typeof store?.getItem === "function" && typeof store?.setItem === "function";
-    checkKind("store", store, isStore, "a Storage, such as sessionStorage");
+/** @param {any} storage */
+export const checkStorage = (storage) => {
+    const isStorage = typeof storage?.getItem === "function" && typeof storage?.setItem === "function";
+    checkType("storage", storage, isStorage, "a Storage, such as sessionStorage");
 };
 
-/** Whether other tabs have the same store. @param {KeptIn | undefined} storage */
-const isOfTabs = (storage) => {
+/** Whether tabs share a storage. @param {KeptIn | undefined} storage */
+const isLocalStorage = (storage) => {
     try {
         return storage !== undefined && storage === globalThis.localStorage;
     } catch {
@@ -29,19 +29,19 @@ const isOfTabs = (storage) => {
 };
 
 /** @param {number} milliseconds */
-const passed = (milliseconds) => new Promise((done) => {
+const sleep = (milliseconds) => new Promise((done) => {
     setTimeout(done, milliseconds);
 });
 
 /**
- * Waits for a lock of all tabs.
+ * Acquires a lock shared by all tabs.
  * @param {string} name
  * @param {LockMode} mode
- * @returns {Promise<() => void>} what releases it
+ * @returns {Promise<() => void>} a function that releases it
  */
-const granted = (name, mode) => new Promise((held) => {
+const acquireLock = (name, mode) => new Promise((done) => {
     navigator.locks.request(name, { mode }, () => new Promise((release) => {
-        held(() => release(undefined));
+        done(() => release(undefined));
     }));
 });
 
@@ -51,26 +51,26 @@ export class Store {
     #seen = null;
     /** @type {unknown} */
     #failure = null;
-    #unmark = () => {};
+    #releaseVersion = () => {};
     #version = 0;
 
     /** @param {KeptIn | undefined} storage */
     constructor(storage) {
         this.storage = storage;
-        this.isShared = isOfTabs(storage) && Boolean(globalThis.navigator?.locks);
+        this.isShared = isLocalStorage(storage) && Boolean(globalThis.navigator?.locks);
     }
 
-    get isThere() {
+    get isPresent() {
         return Boolean(this.storage);
     }
 
     /**
-     * The state that another has written since, or null. What is no state of a key is refused once: then the key goes
-     * on with what it has, and writes that.
+     * The state that another tab has written since, or null. Throws once if it is not a state of a key; the key then
+     * keeps its own state and overwrites it.
      * @returns {Stored | null}
      */
-    news() {
-        const text = this.storage?.getItem(NAME) ?? null;
+    readChanges() {
+        const text = this.storage?.getItem(STORAGE_KEY) ?? null;
         if (text === null || text === this.#seen) {
             return null;
         }
@@ -81,14 +81,14 @@ export class Store {
             this.#version = Math.max(this.#version, stored.version ?? 0);
             return stored;
         } catch (error) {
-            throw new TypeError(`the store holds something else under "${NAME}", and removeItem("${NAME}") removes it`
-                + ` (${error.message})`, { cause: error });
+            throw new TypeError(`storage already has another value under "${STORAGE_KEY}" (${error.message}); to remove`
+                + ` it, call removeItem("${STORAGE_KEY}")`, { cause: error });
         }
     }
 
     /**
-     * Writes a state, where there is a store, with its recordings as far as there is space. Other tabs are told its
-     * version by a lock that is held. Returns whether the recordings were written.
+     * Writes a state, if there is storage, and its recordings if they fit. A lock tells other tabs the version.
+     * Returns whether the recordings were written.
      * @param {() => { state: import("./state.js").State, recordings: import("./recordings.js").Kept }} kept
      */
     async write(kept) {
@@ -97,24 +97,24 @@ export class Store {
         }
         const { state, recordings } = kept();
         const version = this.#version + 1;
-        const whole = this.#put({ ...state, version, recordings });
-        if (!whole && !this.#put({ ...state, version })) {
+        const isComplete = this.#put({ ...state, version, recordings });
+        if (!isComplete && !this.#put({ ...state, version })) {
             throw this.#failure;
         }
         this.#version = version;
         if (this.isShared) {
-            const unmark = this.#unmark;
-            this.#unmark = await granted(`${NAME} ${this.#version}`, "shared");
-            unmark();
+            const release = this.#releaseVersion;
+            this.#releaseVersion = await acquireLock(`${STORAGE_KEY} ${this.#version}`, "shared");
+            release();
         }
-        return whole;
+        return isComplete;
     }
 
-    /** Writes a value. Returns whether there was space for it. @param {object} stored */
+    /** Writes a value. Returns whether it fit. @param {object} stored */
     #put(stored) {
         const text = JSON.stringify(stored);
         try {
-            this.storage.setItem(NAME, text);
+            this.storage.setItem(STORAGE_KEY, text);
         } catch (error) {
             this.#failure = error;
             return false;
@@ -123,8 +123,8 @@ export class Store {
         return true;
     }
 
-    /** Waits until no other holds the store. @returns {Promise<() => void>} what releases it */
-    async hold() {
+    /** Waits for exclusive access. @returns {Promise<() => void>} a function that releases it */
+    async lock() {
         const before = this.#last;
         let free = () => {};
         this.#last = new Promise((done) => {
@@ -134,7 +134,7 @@ export class Store {
         if (!this.isShared) {
             return free;
         }
-        const release = await granted(NAME, "exclusive");
+        const release = await acquireLock(STORAGE_KEY, "exclusive");
         await this.#catchUp();
         return () => {
             release();
@@ -142,27 +142,27 @@ export class Store {
         };
     }
 
-    /** Waits until this tab sees what the last holder wrote: a browser's processes tell one another later. */
+    /** Waits until this tab sees what the last tab wrote: browser processes synchronize with a delay. */
     async #catchUp() {
         const { held } = await navigator.locks.query();
-        const newest = Math.max(0, ...held.map(({ name }) => Number(name.split(`${NAME} `)[1] ?? 0)));
-        for (let looks = 0; this.#storedVersion() < newest && looks < LOOKS; looks += 1) {
-            await passed(LOOK_MS);
+        const newest = Math.max(0, ...held.map(({ name }) => Number(name.split(`${STORAGE_KEY} `)[1] ?? 0)));
+        for (let polls = 0; this.#storedVersion() < newest && polls < MAX_POLLS; polls += 1) {
+            await sleep(POLL_MS);
         }
-        // A page may have cleared the store, so that it never comes.
+        // If a page has cleared the storage, it never appears.
         this.#version = Math.max(this.#version, newest);
     }
 
-    /** Lets go of what other tabs are told. */
+    /** Releases the lock that tells other tabs the version. */
     close() {
-        this.#unmark();
-        this.#unmark = () => {};
+        this.#releaseVersion();
+        this.#releaseVersion = () => {};
     }
 
-    /** The version that is stored, or 0 where what is stored is something else. */
+    /** The stored version, or 0 if something else is stored. */
     #storedVersion() {
         try {
-            return JSON.parse(this.storage.getItem(NAME) ?? "{}").version ?? 0;
+            return JSON.parse(this.storage.getItem(STORAGE_KEY) ?? "{}").version ?? 0;
         } catch {
             return 0;
         }

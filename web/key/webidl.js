@@ -1,14 +1,14 @@
-// Conversions of arguments as WebIDL has them, with the texts of Chromium's errors. A converter takes a value and the
-// front of an error's text.
-import { copyOf, isBuffer, tagOf } from "./bytes.js";
+// WebIDL conversions of arguments, with Chromium's error messages. A converter takes a value and the prefix of an error
+// message.
+import { copyBytes, isBuffer, getTypeName } from "./bytes.js";
 
 /** @typedef {(value: any, where: string) => any} Converter */
 /** @typedef {{ convert: Converter, isRequired?: boolean, from?: string, fallback?: any }} Member */
 
-/** A member that has to be there. `from` names the dictionary that has it, where that is a base. */
+/** A required member. `from` names the base dictionary that defines it, if any. */
 export const required = (convert, from = undefined) => ({ convert, from, isRequired: true });
 
-/** A member that may be missing, and then is the fallback, where there is one. */
+/** An optional member, with a default if one is passed. */
 export const optional = (convert, ...fallback) => (fallback.length ? { convert, fallback: fallback[0] } : { convert });
 
 const isObject = (value) => (typeof value === "object" && value !== null) || typeof value === "function";
@@ -25,17 +25,17 @@ export const long = (value) => +value | 0;
 /** @type {Converter} */
 export const unsignedLong = (value) => +value >>> 0;
 
-/** A copy of a buffer's bytes. @type {Converter} */
+/** Copies the bytes of a buffer. @type {Converter} */
 export const buffer = (value, where) => {
     if (!isBuffer(value)) {
         throw new TypeError(`${where}The provided value is not of type '(ArrayBuffer or ArrayBufferView)'.`);
     }
-    return copyOf(value);
+    return copyBytes(value);
 };
 
 /** @type {Converter} */
 export const abortSignal = (value, where) => {
-    if (tagOf(value) !== "AbortSignal") {
+    if (getTypeName(value) !== "AbortSignal") {
         throw new TypeError(`${where}Failed to convert value to 'AbortSignal'.`);
     }
     return value;
@@ -71,17 +71,17 @@ export const record = (convert) => (value, where) => {
 
 /** @param {string} type @param {Record<string, Member>} members in the order of conversion @returns {Converter} */
 export const dictionary = (type, members) => {
-    const isNullable = !Object.values(members).some((it) => it.isRequired);
+    const isNullable = !Object.values(members).some((member) => member.isRequired);
     return (value, where) => {
         if (!isObject(value) && !(isNullable && (value === null || value === undefined))) {
             throw new TypeError(`${where}The provided value is not of type '${type}'.`);
         }
         const made = {};
         for (const [name, { convert, isRequired, from = type, ...rest }] of Object.entries(members)) {
-            const given = value?.[name];
+            const member = value?.[name];
             const inner = `${where}Failed to read the '${name}' property from '${from}': `;
-            if (given !== undefined) {
-                made[name] = convert(given, inner);
+            if (member !== undefined) {
+                made[name] = convert(member, inner);
             } else if (isRequired) {
                 throw new TypeError(`${inner}Required member is undefined.`);
             } else if ("fallback" in rest) {

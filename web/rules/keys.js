@@ -1,5 +1,5 @@
-// Signatures and hashes for the rules in JavaScript, in place of Python's package cryptography. The rules ask at once,
-// and a browser answers later: what isn't known yet counts as right, is looked up, and then the rules run again.
+// Signatures and hashes for the rules in JavaScript, in place of Python's package cryptography. The rules are synchronous
+// and WebCrypto is not: a signature not verified yet counts as valid, is verified, and then the rules run again.
 // It sets `globalThis.hidlogSha256` and `globalThis.hidlogVerified`.
 "use strict";
 
@@ -11,38 +11,38 @@
             primes.push(number);
         }
     }
-    const front = (root) => Math.floor((root - Math.floor(root)) * 2 ** 32);
-    const ROUND = primes.map((prime) => front(Math.cbrt(prime)));
-    const START = primes.slice(0, 8).map((prime) => front(Math.sqrt(prime)));
-    const turn = (word, by) => (word >>> by) | (word << (32 - by));
+    const takeFraction = (root) => Math.floor((root - Math.floor(root)) * 2 ** 32);
+    const ROUND_CONSTANTS = primes.map((prime) => takeFraction(Math.cbrt(prime)));
+    const INITIAL_HASH = primes.slice(0, 8).map((prime) => takeFraction(Math.sqrt(prime)));
+    const rotate = (word, by) => (word >>> by) | (word << (32 - by));
 
-    const mixed = (state, block) => {
+    const compressBlock = (state, block) => {
         const words = Array.from({ length: 64 }, (_, at) => (at < 16 ? block.getUint32(at * 4) : 0));
         for (let at = 16; at < 64; at += 1) {
             const [a, b] = [words[at - 15], words[at - 2]];
-            const low = turn(a, 7) ^ turn(a, 18) ^ (a >>> 3);
-            words[at] = (words[at - 16] + low + words[at - 7] + (turn(b, 17) ^ turn(b, 19) ^ (b >>> 10))) | 0;
+            const low = rotate(a, 7) ^ rotate(a, 18) ^ (a >>> 3);
+            words[at] = (words[at - 16] + low + words[at - 7] + (rotate(b, 17) ^ rotate(b, 19) ^ (b >>> 10))) | 0;
         }
         let [a, b, c, d, e, f, g, h] = state;
         for (let at = 0; at < 64; at += 1) {
-            const choice = (turn(e, 6) ^ turn(e, 11) ^ turn(e, 25)) + ((e & f) ^ (~e & g));
-            const first = (h + choice + ROUND[at] + words[at]) | 0;
-            const second = ((turn(a, 2) ^ turn(a, 13) ^ turn(a, 22)) + ((a & b) ^ (a & c) ^ (b & c))) | 0;
+            const choice = (rotate(e, 6) ^ rotate(e, 11) ^ rotate(e, 25)) + ((e & f) ^ (~e & g));
+            const first = (h + choice + ROUND_CONSTANTS[at] + words[at]) | 0;
+            const second = ((rotate(a, 2) ^ rotate(a, 13) ^ rotate(a, 22)) + ((a & b) ^ (a & c) ^ (b & c))) | 0;
             [h, g, f, e, d, c, b, a] = [g, f, e, (d + first) | 0, c, b, a, (first + second) | 0];
         }
         return [a, b, c, d, e, f, g, h].map((word, at) => (word + state[at]) | 0);
     };
 
-    /** SHA-256, at once. */
+    /** SHA-256, synchronous. */
     globalThis.hidlogSha256 = (data) => {
         const whole = new Uint8Array(Math.ceil((data.length + 9) / 64) * 64);
         whole.set(data);
         whole[data.length] = 0x80;
         const view = new DataView(whole.buffer);
         view.setUint32(whole.length - 4, data.length * 8);
-        let state = START;
+        let state = INITIAL_HASH;
         for (let at = 0; at < whole.length; at += 64) {
-            state = mixed(state, new DataView(whole.buffer, at, 64));
+            state = compressBlock(state, new DataView(whole.buffer, at, 64));
         }
         const made = new DataView(new ArrayBuffer(32));
         state.forEach((word, at) => made.setInt32(at * 4, word));
@@ -51,8 +51,8 @@
 
     // ---- DER
 
-    /** The element of DER at a place: its tag, its content, and where it ends. */
-    const element = (data, at) => {
+    /** The DER element at an offset: its tag, its content and its end. */
+    const readElement = (data, at) => {
         const short = data[at + 1];
         const more = short > 0x80 ? short - 0x80 : 0;
         const length = more ? data.subarray(at + 2, at + 2 + more).reduce((sum, byte) => sum * 256 + byte, 0) : short;
@@ -63,18 +63,18 @@
         return { tag: data[at], content: data.subarray(from, from + length), whole: data.subarray(at, from + length) };
     };
 
-    const elements = (data) => {
+    const readElements = (data) => {
         const found = [];
         for (let at = 0; at < data.length; at += found.at(-1).whole.length) {
-            found.push(element(data, at));
+            found.push(readElement(data, at));
         }
         return found;
     };
 
-    /** A signature of ECDSA as WebCrypto takes it: r and s, each as long as the curve's order. */
-    const halves = (signature, size) => {
-        const outer = element(signature, 0);
-        const parts = elements(outer.content);
+    /** An ECDSA signature in WebCrypto's format: r and s, each as long as the curve's order. */
+    const toRawSignature = (signature, size) => {
+        const outer = readElement(signature, 0);
+        const parts = readElements(outer.content);
         if (outer.tag !== 0x30 || outer.whole.length !== signature.length || parts.length !== 2) {
             throw new RangeError("no signature");
         }
@@ -90,55 +90,55 @@
 
     const SHA256 = "SHA-256";
     const CURVES = { "2a8648ce3d030107": ["P-256", 32], "2b81040022": ["P-384", 48], "2b81040023": ["P-521", 66] };
-    const digits = (data) => Array.from(data, (byte) => byte.toString(16).padStart(2, "0")).join("");
-    const LETTERS = { "+": "-", "/": "_", "=": "" };
-    const text64 = (data) => btoa(String.fromCharCode(...data)).replace(/[+/=]/g, (letter) => LETTERS[letter]);
+    const toHexDigits = (data) => Array.from(data, (byte) => byte.toString(16).padStart(2, "0")).join("");
+    const BASE64URL_LETTERS = { "+": "-", "/": "_", "=": "" };
+    const toBase64Url = (data) => btoa(String.fromCharCode(...data)).replace(/[+/=]/g, (letter) => BASE64URL_LETTERS[letter]);
 
-    const imported = (form, key, algorithm) => crypto.subtle.importKey(form, key, algorithm, true, ["verify"]);
-    const ofCurve = async (form, key, curve, size) => ({
-        key: await imported(form, key, { name: "ECDSA", namedCurve: curve }),
-        how: { name: "ECDSA", hash: SHA256 }, kind: -7, of: (signature) => halves(signature, size),
+    const importKey = (form, key, algorithm) => crypto.subtle.importKey(form, key, algorithm, true, ["verify"]);
+    const makeCurveKey = async (form, key, curve, size) => ({
+        key: await importKey(form, key, { name: "ECDSA", namedCurve: curve }),
+        how: { name: "ECDSA", hash: SHA256 }, kind: -7, of: (signature) => toRawSignature(signature, size),
     });
     const rsa = { name: "RSASSA-PKCS1-v1_5", hash: SHA256 };
-    const ofOther = async (form, key, how, kind) =>
-        ({ key: await imported(form, key, how), how, kind, of: (signature) => signature });
+    const makeOtherKey = async (form, key, how, kind) =>
+        ({ key: await importKey(form, key, how), how, kind, of: (signature) => signature });
 
-    /** A COSE key; none of another algorithm. */
-    const publicOf = (cose) => {
+    /** A COSE key, or null for an unsupported algorithm. */
+    const readCoseKey = (cose) => {
         const member = (key) => $.call(cose, "get", [key]);
         const [alg, x, y] = [member(3), member(-2)?.data, member(-3)?.data];
         if (alg === -7) {
-            return ofCurve("raw", Uint8Array.of(4, ...x, ...y), "P-256", 32);
+            return makeCurveKey("raw", Uint8Array.of(4, ...x, ...y), "P-256", 32);
         }
         if (alg === -8) {
-            return ofOther("raw", x, { name: "Ed25519" }, -8);
+            return makeOtherKey("raw", x, { name: "Ed25519" }, -8);
         }
-        const jwk = alg === -257 ? { kty: "RSA", n: text64(member(-1).data), e: text64(x) } : null;
-        return jwk ? ofOther("jwk", jwk, rsa, -257) : null;
+        const jwk = alg === -257 ? { kty: "RSA", n: toBase64Url(member(-1).data), e: toBase64Url(x) } : null;
+        return jwk ? makeOtherKey("jwk", jwk, rsa, -257) : null;
     };
 
-    /** The key of a certificate. */
-    const certified = (certificate) => {
-        const outer = element(certificate, 0);
-        const parts = elements(elements(outer.content)[0].content);
+    /** The public key of a certificate. */
+    const readCertificateKey = (certificate) => {
+        const outer = readElement(certificate, 0);
+        const parts = readElements(readElements(outer.content)[0].content);
         const { whole, content } = parts[parts[0].tag === 0xa0 ? 6 : 5];
-        const [kind, curve] = elements(elements(content)[0].content).map((it) => digits(it.content));
+        const [kind, curve] = readElements(readElements(content)[0].content).map((element) => toHexDigits(element.content));
         if (kind === "2a8648ce3d0201") {
-            return ofCurve("spki", whole, ...CURVES[curve]);
+            return makeCurveKey("spki", whole, ...CURVES[curve]);
         }
-        return kind === "2b6570" ? ofOther("spki", whole, { name: "Ed25519" }, -8) : ofOther("spki", whole, rsa, -257);
+        return kind === "2b6570" ? makeOtherKey("spki", whole, { name: "Ed25519" }, -8) : makeOtherKey("spki", whole, rsa, -257);
     };
 
-    const KINDS = [-7, -8, -257];
+    const ALGORITHMS = [-7, -8, -257];
 
-    /** Whether a signature verifies; null where this browser can't say. */
-    const verified = async ({ cose, certificate, alg, signed, signature }) => {
+    /** Whether a signature is valid, or null if this browser doesn't support the algorithm. */
+    const verifySignature = async ({ cose, certificate, alg, signed, signature }) => {
         try {
-            const found = await (certificate ? certified(certificate) : publicOf(cose));
+            const found = await (certificate ? readCertificateKey(certificate) : readCoseKey(cose));
             if (!found) {
                 return true;
             }
-            if (certificate && KINDS.includes(alg) && alg !== found.kind) {
+            if (certificate && ALGORITHMS.includes(alg) && alg !== found.kind) {
                 return false;
             }
             return await crypto.subtle.verify(found.how, found.key, found.of(signature), signed);
@@ -149,10 +149,10 @@
 
     const known = new Map();
     let asked = new Map();
-    /** How many signatures a browser couldn't look at. */
+    /** The number of signatures that this browser couldn't verify. */
     let unsure = 0;
 
-    const ask = (name, question) => {
+    const answerQuestion = (name, question) => {
         if (!known.has(name)) {
             asked.set(name, question);
         }
@@ -160,16 +160,16 @@
     };
 
     $.modules.keys = () => ({
-        THERE: Boolean(globalThis.crypto?.subtle),
+        AVAILABLE: Boolean(globalThis.crypto?.subtle),
         verifies: (cose, signed, signature) =>
-            ask(`${$.repr(cose)} ${signed.digits} ${signature.digits}`,
+            answerQuestion(`${$.repr(cose)} ${signed.digits} ${signature.digits}`,
                 { cose, signed: signed.data, signature: signature.data }),
         verified_by: (certificate, alg, signed, signature) =>
-            ask(`${certificate.digits} ${alg} ${signed.digits} ${signature.digits}`,
+            answerQuestion(`${certificate.digits} ${alg} ${signed.digits} ${signature.digits}`,
                 { certificate: certificate.data, alg, signed: signed.data, signature: signature.data }),
     });
 
-    /** Runs rules until each signature that they ask for is known. */
+    /** Runs the rules until each signature that they need is verified. */
     globalThis.hidlogVerified = async (rules) => {
         for (;;) {
             asked = new Map();
@@ -178,7 +178,7 @@
                 return { found, unsure };
             }
             for (const [name, question] of asked) {
-                const answer = await verified(question);
+                const answer = await verifySignature(question);
                 unsure += answer === null ? 1 : 0;
                 known.set(name, answer ?? true);
             }

@@ -1,15 +1,15 @@
-// Python's values in JavaScript, as far as the rules of the conformance corpus use them: translate.py writes calls of
-// what is here. It sets `globalThis.hidlogPython`.
+// Python's values in JavaScript, as far as the rules of the conformance tests use them: the output of translate.py calls
+// these functions. This script sets `globalThis.hidlogPython`.
 //
-// Integers are numbers while they are safe, and BigInts beyond; None is null; texts, truth values and lists are
-// JavaScript's. Byte strings, tuples, maps and sets are classes.
+// Safe integers are numbers, larger ones BigInts. None is null. Strings, booleans and lists are JavaScript's. Byte
+// strings, tuples, dictionaries and sets are classes.
 "use strict";
 
 (() => {
-    const TWO_DIGITS = Array.from({ length: 256 }, (_, byte) => byte.toString(16).padStart(2, "0"));
+    const HEX_BYTES = Array.from({ length: 256 }, (_, byte) => byte.toString(16).padStart(2, "0"));
 
-    /** A letter for each byte, in pieces that are short enough for a call. */
-    const letterOf = (data) => {
+    /** A character per byte, converted in chunks because a call has a limited number of arguments. */
+    const toCharacters = (data) => {
         let text = "";
         for (let at = 0; at < data.length; at += 8192) {
             text += String.fromCharCode(...data.subarray(at, at + 8192));
@@ -28,21 +28,21 @@
         get digits() {
             let text = "";
             for (const byte of this.data) {
-                text += TWO_DIGITS[byte];
+                text += HEX_BYTES[byte];
             }
             return text;
         }
 
-        /** A letter for each byte. */
+        /** A character per byte. */
         get letters() {
-            this.kept ??= letterOf(this.data);
+            this.kept ??= toCharacters(this.data);
             return this.kept;
         }
     }
 
     class Tuple extends Array {}
 
-    /** A map by value, in the order in which keys came. */
+    /** A map with keys compared by value, in insertion order. */
     class Dict {
         constructor() {
             this.kept = new Map();
@@ -55,7 +55,7 @@
         }
     }
 
-    /** What classes that were translated begin with. */
+    /** The base class of translated classes. */
     class PyObject {
         constructor(...words) {
             /** @type {any} */
@@ -70,99 +70,99 @@
         }
     }
 
-    /** What a pattern found: bytes, or nothing, by number. */
+    /** The match of a pattern: the groups by number, bytes or null. */
     class Match {
         constructor(found) {
             this.found = found;
         }
     }
 
-    const raised = (name, base = PyException) => ({ [name]: class extends base {} })[name];
-    const LookupError = raised("LookupError");
-    const KeyError = raised("KeyError", LookupError);
-    const IndexError = raised("IndexError", LookupError);
-    const ValueError = raised("ValueError");
-    const UnicodeDecodeError = raised("UnicodeDecodeError", ValueError);
-    const TypeError_ = raised("TypeError");
-    const AttributeError = raised("AttributeError");
+    const defineError = (name, base = PyException) => ({ [name]: class extends base {} })[name];
+    const LookupError = defineError("LookupError");
+    const KeyError = defineError("KeyError", LookupError);
+    const IndexError = defineError("IndexError", LookupError);
+    const ValueError = defineError("ValueError");
+    const UnicodeDecodeError = defineError("UnicodeDecodeError", ValueError);
+    const TypeError_ = defineError("TypeError");
+    const AttributeError = defineError("AttributeError");
 
     // ---- types
 
-    const isWhole = (it) => typeof it === "number" || typeof it === "bigint" || typeof it === "boolean";
-    const wholeOf = (it) => (typeof it === "boolean" ? Number(it) : it);
+    const isInteger = (value) => typeof value === "number" || typeof value === "bigint" || typeof value === "boolean";
+    const toInteger = (value) => (typeof value === "boolean" ? Number(value) : value);
 
     /** The name of a value's type. */
-    const nameOf = (it) => {
-        if (it === null || it === undefined) {
+    const getTypeName = (value) => {
+        if (value === null || value === undefined) {
             return "NoneType";
         }
-        const plain = { boolean: "bool", number: "int", bigint: "int", string: "str", function: "function" }[typeof it];
+        const plain = { boolean: "bool", number: "int", bigint: "int", string: "str", function: "function" }[typeof value];
         if (plain) {
             return plain;
         }
         const classes = [[Bytes, "bytes"], [Tuple, "tuple"], [Dict, "dict"], [PySet, "set"], [Type, "type"]];
-        const found = classes.find(([kind]) => it instanceof kind);
-        return found ? found[1] : Array.isArray(it) ? "list" : it.constructor.name;
+        const found = classes.find(([kind]) => value instanceof kind);
+        return found ? found[1] : Array.isArray(value) ? "list" : value.constructor.name;
     };
 
-    /** A type of Python's own: how it is called, and what is one. */
+    /** A built-in type of Python: how it is called, and which values are instances. */
     class Type {
-        constructor(name, make, check = (it) => nameOf(it) === name) {
+        constructor(name, make, check = (value) => getTypeName(value) === name) {
             Object.assign(this, { name, make, check, __name__: name });
         }
     }
 
-    const wrong = (text) => new TypeError_(text);
+    const makeTypeError = (text) => new TypeError_(text);
 
     // ---- values
 
     const objects = new WeakMap();
     let count = 0;
 
-    /** What a value is kept under in maps and sets: equal for equal ones. */
-    const keyOf = (it) => {
-        const name = nameOf(it);
-        if (isWhole(it)) {
-            return `i${wholeOf(it)}`;
+    /** The key of a value in maps and sets: the same for equal values. */
+    const toKey = (value) => {
+        const name = getTypeName(value);
+        if (isInteger(value)) {
+            return `i${toInteger(value)}`;
         }
         if (name === "str") {
-            return `s${it}`;
+            return `s${value}`;
         }
         if (name === "bytes") {
-            return `b${it.letters}`;
+            return `b${value.letters}`;
         }
         if (name === "tuple") {
-            return `(${it.map(keyOf).join()})`;
+            return `(${value.map(toKey).join()})`;
         }
-        if (it === null) {
+        if (value === null) {
             return "n";
         }
         if (["list", "dict", "set"].includes(name)) {
-            throw wrong(`unhashable type: '${name}'`);
+            throw makeTypeError(`unhashable type: '${name}'`);
         }
-        objects.set(it, objects.get(it) ?? (count += 1));
-        return `o${objects.get(it)}`;
+        objects.set(value, objects.get(value) ?? (count += 1));
+        return `o${objects.get(value)}`;
     };
 
-    const dictOf = (pairs) => {
+    const makeDict = (pairs) => {
         const made = new Dict();
-        pairs.forEach(([key, value]) => put(made, key, value));
+        pairs.forEach(([key, value]) => setItem(made, key, value));
         return made;
     };
 
-    const setOf = (items) => {
+    const makeSet = (items) => {
         const made = new PySet();
         for (const item of items) {
-            made.kept.set(keyOf(item), item);
+            made.kept.set(toKey(item), item);
         }
         return made;
     };
 
     const pairs = (dict) => [...dict.kept.values()];
-    const letters = (text) => Array.from(text);
+    const toText = (text) => Array.from(text);
     const bytes = (data) => new Bytes(Uint8Array.from(data));
 
-    const hex = (digits) => {
+    const parseHex = (digits) => {
         const data = new Uint8Array(digits.length / 2);
         for (let at = 0; at < data.length; at += 1) {
             data[at] = parseInt(digits.slice(at * 2, at * 2 + 2), 16);
@@ -170,7 +170,7 @@
         return new Bytes(data);
     };
 
-    const latin = (text) => {
+    const toLatin1 = (text) => {
         const data = new Uint8Array(text.length);
         for (let at = 0; at < text.length; at += 1) {
             data[at] = text.charCodeAt(at);
@@ -178,67 +178,67 @@
         return new Bytes(data);
     };
 
-    const iter = (it) => {
-        if (it instanceof Dict) {
-            return pairs(it).map(([key]) => key);
+    const iter = (value) => {
+        if (value instanceof Dict) {
+            return pairs(value).map(([key]) => key);
         }
-        if (it instanceof PySet) {
-            return [...it.kept.values()];
+        if (value instanceof PySet) {
+            return [...value.kept.values()];
         }
-        if (it instanceof Bytes) {
-            return it.data;
+        if (value instanceof Bytes) {
+            return value.data;
         }
-        if (typeof it === "string") {
-            return letters(it);
+        if (typeof value === "string") {
+            return toText(value);
         }
-        if (it === null || typeof it !== "object" || !it[Symbol.iterator]) {
-            throw wrong(`'${nameOf(it)}' object is not iterable`);
+        if (value === null || typeof value !== "object" || !value[Symbol.iterator]) {
+            throw makeTypeError(`'${getTypeName(value)}' object is not iterable`);
         }
-        return it;
+        return value;
     };
 
-    const len = (it) => {
-        if (it instanceof Dict || it instanceof PySet) {
-            return it.kept.size;
+    const len = (value) => {
+        if (value instanceof Dict || value instanceof PySet) {
+            return value.kept.size;
         }
-        if (it instanceof Bytes) {
-            return it.data.length;
+        if (value instanceof Bytes) {
+            return value.data.length;
         }
-        if (typeof it === "string") {
-            return letters(it).length;
+        if (typeof value === "string") {
+            return toText(value).length;
         }
-        if (Array.isArray(it)) {
-            return it.length;
+        if (Array.isArray(value)) {
+            return value.length;
         }
-        throw wrong(`object of type '${nameOf(it)}' has no len()`);
+        throw makeTypeError(`object of type '${getTypeName(value)}' has no len()`);
     };
 
-    const isTrue = (it) => {
-        if (it === null || it === undefined) {
+    const isTrue = (value) => {
+        if (value === null || value === undefined) {
             return false;
         }
-        if (isWhole(it)) {
-            return Boolean(it);
+        if (isInteger(value)) {
+            return Boolean(value);
         }
-        const isSized = Array.isArray(it) || [Dict, PySet, Bytes].some((kind) => it instanceof kind);
-        return typeof it === "string" ? it !== "" : !isSized || len(it) > 0;
+        const isSized = Array.isArray(value) || [Dict, PySet, Bytes].some((kind) => value instanceof kind);
+        return typeof value === "string" ? value !== "" : !isSized || len(value) > 0;
     };
 
-    const sameItems = (a, b) => a.length === b.length && a.every((item, place) => eq(item, b[place]));
+    const equalItems = (a, b) => a.length === b.length && a.every((item, place) => eq(item, b[place]));
 
     const eq = (a, b) => {
-        if (isWhole(a) && isWhole(b)) {
-            return wholeOf(a) == wholeOf(b);
+        if (isInteger(a) && isInteger(b)) {
+            return toInteger(a) == toInteger(b);
         }
-        const name = nameOf(a);
-        if (a === b || name !== nameOf(b)) {
+        const name = getTypeName(a);
+        if (a === b || name !== getTypeName(b)) {
             return a === b;
         }
         if (name === "bytes") {
             return a.data.length === b.data.length && a.data.every((byte, at) => byte === b.data[at]);
         }
         if (name === "list" || name === "tuple") {
-            return sameItems(a, b);
+            return equalItems(a, b);
         }
         if (name === "dict" || name === "set") {
             const has = (key) => b.kept.has(key) && (name === "set" || eq(a.kept.get(key)[1], b.kept.get(key)[1]));
@@ -249,11 +249,11 @@
     };
 
     const lt = (a, b) => {
-        if (isWhole(a) && isWhole(b)) {
-            return wholeOf(a) < wholeOf(b);
+        if (isInteger(a) && isInteger(b)) {
+            return toInteger(a) < toInteger(b);
         }
-        if (nameOf(a) !== nameOf(b) || !["str", "bytes", "list", "tuple"].includes(nameOf(a))) {
-            throw wrong(`'<' not supported between instances of '${nameOf(a)}' and '${nameOf(b)}'`);
+        if (getTypeName(a) !== getTypeName(b) || !["str", "bytes", "list", "tuple"].includes(getTypeName(a))) {
+            throw makeTypeError(`'<' not supported between instances of '${getTypeName(a)}' and '${getTypeName(b)}'`);
         }
         const left = [...iter(a)];
         const right = [...iter(b)];
@@ -265,24 +265,24 @@
         return isText ? left[place].codePointAt(0) < right[place].codePointAt(0) : lt(left[place], right[place]);
     };
 
-    /** At most: of sets, that each item is in the other. */
+    /** Less or equal; for sets: subset. */
     const le = (a, b) => {
         const isSets = a instanceof PySet && b instanceof PySet;
         return isSets ? [...a.kept.keys()].every((key) => b.kept.has(key)) : !lt(b, a);
     };
 
-    const has = (holder, it) => {
+    const contains = (holder, value) => {
         if (holder instanceof Dict || holder instanceof PySet) {
-            return holder.kept.has(keyOf(it));
+            return holder.kept.has(toKey(value));
         }
         if (typeof holder === "string") {
-            return holder.includes(it);
+            return holder.includes(value);
         }
-        if (holder instanceof Bytes && it instanceof Bytes) {
-            return holder.letters.includes(it.letters);
+        if (holder instanceof Bytes && value instanceof Bytes) {
+            return holder.letters.includes(value.letters);
         }
         for (const item of iter(holder)) {
-            if (eq(item, it)) {
+            if (eq(item, value)) {
                 return true;
             }
         }
@@ -291,29 +291,29 @@
 
     // ---- numbers
 
-    const small = (big) => {
+    const toSmallNumber = (big) => {
         const number = Number(big);
         return Number.isSafeInteger(number) ? number : big;
     };
 
-    /** An operation on integers: as numbers, or as BigInts where that isn't exact; and on other values. */
-    const operation = (sign, quick, exact, other) => (a, b) => {
-        if (isWhole(a) && isWhole(b)) {
+    /** An operation on integers (as BigInts if numbers aren't exact) and on other values. */
+    const makeOperation = (sign, quick, exact, other) => (a, b) => {
+        if (isInteger(a) && isInteger(b)) {
             const found = quick(Number(a), Number(b));
             return Number.isSafeInteger(found) && Number.isSafeInteger(Number(a)) && Number.isSafeInteger(Number(b))
                 ? found
-                : small(exact(BigInt(a), BigInt(b)));
+                : toSmallNumber(exact(BigInt(a), BigInt(b)));
         }
         const found = other?.(a, b);
         if (found === undefined) {
-            throw wrong(`unsupported operand type(s) for ${sign}: '${nameOf(a)}' and '${nameOf(b)}'`);
+            throw makeTypeError(`unsupported operand type(s) for ${sign}: '${getTypeName(a)}' and '${getTypeName(b)}'`);
         }
         return found;
     };
 
-    const joined = (a, b) => {
-        const name = nameOf(a);
-        if (name !== nameOf(b)) {
+    const concatBytes = (a, b) => {
+        const name = getTypeName(a);
+        if (name !== getTypeName(b)) {
             return undefined;
         }
         if (name === "bytes") {
@@ -328,100 +328,100 @@
         return name === "str" ? a + b : name === "list" ? [...a, ...b] : undefined;
     };
 
-    const times = (a, b) => {
-        const many = (it, number) => Array.from({ length: Math.max(0, Number(number)) }).flatMap(() => [...iter(it)]);
-        if (a instanceof Bytes && isWhole(b)) {
+    const multiply = (a, b) => {
+        const many = (value, number) => Array.from({ length: Math.max(0, Number(number)) }).flatMap(() => [...iter(value)]);
+        if (a instanceof Bytes && isInteger(b)) {
             return bytes(many(a, b));
         }
-        return typeof a === "string" && isWhole(b) ? a.repeat(Math.max(0, Number(b))) : undefined;
+        return typeof a === "string" && isInteger(b) ? a.repeat(Math.max(0, Number(b))) : undefined;
     };
 
-    const ofSets = (choose) => (a, b) =>
-        (a instanceof PySet && b instanceof PySet ? setOf(choose([...iter(a)], b)) : undefined);
-    const shared = ofSets((items, b) => items.filter((it) => has(b, it)));
+    const makeSetOperation = (choose) => (a, b) =>
+        (a instanceof PySet && b instanceof PySet ? makeSet(choose([...iter(a)], b)) : undefined);
+    const shared = makeSetOperation((items, b) => items.filter((value) => contains(b, value)));
     const none = () => NaN;
-    const bits = (quick) => (a, b) => (a >= 0 && b >= 0 && a < 2 ** 31 && b < 2 ** 31 ? quick(a, b) : NaN);
+    const makeBitOperation = (quick) => (a, b) => (a >= 0 && b >= 0 && a < 2 ** 31 && b < 2 ** 31 ? quick(a, b) : NaN);
     const floorDiv = (a, b) => a / b - ((a % b !== 0n && (a < 0n) !== (b < 0n)) ? 1n : 0n);
 
     const numbers = {
-        add: operation("+", (a, b) => a + b, (a, b) => a + b, joined),
-        sub: operation("-", (a, b) => a - b, (a, b) => a - b, ofSets((items, b) => items.filter((it) => !has(b, it)))),
-        mul: operation("*", (a, b) => a * b, (a, b) => a * b, times),
-        floorDiv: operation("//", none, floorDiv, undefined),
-        mod: operation("%", none, (a, b) => a - b * floorDiv(a, b), undefined),
-        pow: operation("**", none, (a, b) => a ** b, undefined),
-        shiftLeft: operation("<<", none, (a, b) => a << b, undefined),
-        shiftRight: operation(">>", bits((a, b) => (b < 31 ? a >> b : 0)), (a, b) => a >> b, undefined),
-        and: operation("&", bits((a, b) => a & b), (a, b) => a & b, shared),
-        or: operation("|", bits((a, b) => a | b), (a, b) => a | b, ofSets((items, b) => [...items, ...iter(b)])),
-        xor: operation("^", bits((a, b) => a ^ b), (a, b) => a ^ b, undefined),
+        add: makeOperation("+", (a, b) => a + b, (a, b) => a + b, concatBytes),
+        sub: makeOperation("-", (a, b) => a - b, (a, b) => a - b, makeSetOperation((items, b) => items.filter((value) => !contains(b, value)))),
+        mul: makeOperation("*", (a, b) => a * b, (a, b) => a * b, multiply),
+        floorDiv: makeOperation("//", none, floorDiv, undefined),
+        mod: makeOperation("%", none, (a, b) => a - b * floorDiv(a, b), undefined),
+        pow: makeOperation("**", none, (a, b) => a ** b, undefined),
+        shiftLeft: makeOperation("<<", none, (a, b) => a << b, undefined),
+        shiftRight: makeOperation(">>", makeBitOperation((a, b) => (b < 31 ? a >> b : 0)), (a, b) => a >> b, undefined),
+        and: makeOperation("&", makeBitOperation((a, b) => a & b), (a, b) => a & b, shared),
+        or: makeOperation("|", makeBitOperation((a, b) => a | b), (a, b) => a | b, makeSetOperation((items, b) => [...items, ...iter(b)])),
+        xor: makeOperation("^", makeBitOperation((a, b) => a ^ b), (a, b) => a ^ b, undefined),
     };
 
-    // ---- parts
+    // ---- items and slices
 
-    const placeIn = (length, place) => {
+    const toIndex = (length, place) => {
         const at = place < 0 ? length + place : place;
         return at >= 0 && at < length ? at : -1;
     };
 
-    const item = (holder, place) => {
+    const getItem = (holder, place) => {
         if (holder instanceof Dict) {
-            const found = holder.kept.get(keyOf(place));
+            const found = holder.kept.get(toKey(place));
             if (!found) {
                 throw new KeyError(place);
             }
             return found[1];
         }
         if (holder instanceof Match) {
-            return holder.found[place] === undefined ? null : latin(holder.found[place]);
+            return holder.found[place] === undefined ? null : toLatin1(holder.found[place]);
         }
         const isList = Array.isArray(holder) || holder instanceof Bytes || typeof holder === "string";
         if (!isList) {
-            throw wrong(`'${nameOf(holder)}' object is not subscriptable`);
+            throw makeTypeError(`'${getTypeName(holder)}' object is not subscriptable`);
         }
-        if (!isWhole(place)) {
-            throw wrong(`${nameOf(holder)} indices must be integers or slices, not ${nameOf(place)}`);
+        if (!isInteger(place)) {
+            throw makeTypeError(`${getTypeName(holder)} indices must be integers or slices, not ${getTypeName(place)}`);
         }
-        const items = typeof holder === "string" ? letters(holder) : holder instanceof Bytes ? holder.data : holder;
-        const at = placeIn(items.length, wholeOf(place));
+        const items = typeof holder === "string" ? toText(holder) : holder instanceof Bytes ? holder.data : holder;
+        const at = toIndex(items.length, toInteger(place));
         if (at < 0) {
             throw new IndexError("index out of range");
         }
         return items[at];
     };
 
-    const slice = (holder, low, high) => {
+    const getSlice = (holder, low, high) => {
         const from = low === null ? 0 : Number(low);
         const to = high === null ? undefined : Number(high);
         if (holder instanceof Bytes) {
             return new Bytes(holder.data.slice(from, to));
         }
         if (typeof holder === "string") {
-            return letters(holder).slice(from, to).join("");
+            return toText(holder).slice(from, to).join("");
         }
         if (!Array.isArray(holder)) {
-            throw wrong(`'${nameOf(holder)}' object is not subscriptable`);
+            throw makeTypeError(`'${getTypeName(holder)}' object is not subscriptable`);
         }
         return holder.slice(from, to);
     };
 
-    const put = (holder, key, value) => {
+    const setItem = (holder, key, value) => {
         if (holder instanceof Dict) {
-            const known = keyOf(key);
-            // A key stays as it first came.
+            const known = toKey(key);
+            // An existing key stays.
             holder.kept.set(known, [holder.kept.get(known)?.[0] ?? key, value]);
         } else {
-            holder[placeIn(holder.length, key)] = value;
+            holder[toIndex(holder.length, key)] = value;
         }
     };
 
-    const remove = (holder, key) => {
-        if (!holder.kept.delete(keyOf(key))) {
+    const deleteItem = (holder, key) => {
+        if (!holder.kept.delete(toKey(key))) {
             throw new KeyError(key);
         }
     };
 
-    const unpacked = (value, size) => {
+    const unpackItems = (value, size) => {
         const items = [...iter(value)];
         if (items.length !== size) {
             throw new ValueError(`${items.length} values to unpack, expected ${size}`);
@@ -431,8 +431,8 @@
 
     globalThis.hidlogPython = {
         ...numbers, AttributeError, Bytes, Dict, IndexError, KeyError, Match, Object: PyObject, PyException, PySet,
-        Tuple, Type, TypeError: TypeError_, UnicodeDecodeError, ValueError, bytes, dictOf, eq, has, hex, isTrue, isWhole,
-        item, iter, keyOf, latin, le, len, letters, lt, nameOf, pairs, placeIn, put, raised, remove, setOf, slice, small,
-        unpacked, wholeOf, wrong,
+        Tuple, Type, TypeError: TypeError_, UnicodeDecodeError, ValueError, bytes, makeDict, eq, contains, parseHex,
+        isTrue, isInteger, getItem, iter, toKey, toLatin1, le, len, toText, lt, getTypeName, pairs, toIndex, setItem,
+        defineError, deleteItem, makeSet, getSlice, toSmallNumber, unpackItems, toInteger, makeTypeError,
     };
 })();

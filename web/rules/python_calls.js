@@ -1,181 +1,182 @@
-// Texts, methods, calls and what is built in: the other half of Python's values in JavaScript. It adds to
+// Strings, methods, calls and built-in functions: the second part of Python's values in JavaScript. It adds to
 // `globalThis.hidlogPython`.
 "use strict";
 
 (() => {
     const $ = globalThis.hidlogPython;
     const {
-        Bytes, Dict, Match, Object: PyObject, PyException, PySet, Tuple, Type, bytes, dictOf, eq, hex, isTrue, isWhole,
-        item, iter, keyOf, latin, len, letters, lt, nameOf, pairs, placeIn, put, raised, setOf, slice, small, wholeOf, wrong,
-        AttributeError, IndexError, KeyError, UnicodeDecodeError, ValueError,
+        Bytes, Dict, Match, Object: PyObject, PyException, PySet, Tuple, Type, bytes, makeDict, eq, parseHex, isTrue,
+        isInteger, getItem, iter, toKey, toLatin1, len, toText, lt, getTypeName, pairs, toIndex, setItem, defineError,
+        makeSet, getSlice, toSmallNumber, toInteger, makeTypeError, AttributeError, IndexError, KeyError,
+        UnicodeDecodeError, ValueError,
     } = $;
 
-    // ---- texts
+    // ---- strings
 
-    const repr = (it) => {
-        const name = nameOf(it);
+    const repr = (value) => {
+        const name = getTypeName(value);
         if (name === "NoneType" || name === "bool") {
-            return { true: "True", false: "False" }[String(it)] ?? "None";
+            return { true: "True", false: "False" }[String(value)] ?? "None";
         }
         if (name === "str") {
-            const quote = it.includes("'") && !it.includes('"') ? '"' : "'";
-            return quote + it.replaceAll("\\", "\\\\").replaceAll(quote, `\\${quote}`) + quote;
+            const quote = value.includes("'") && !value.includes('"') ? '"' : "'";
+            return quote + value.replaceAll("\\", "\\\\").replaceAll(quote, `\\${quote}`) + quote;
         }
         if (name === "bytes") {
             const escaped = (letter) => `\\x${letter.charCodeAt(0).toString(16).padStart(2, "0")}`;
-            return `b'${it.letters.replace(/[^ -~]/g, escaped)}'`;
+            return `b'${value.letters.replace(/[^ -~]/g, escaped)}'`;
         }
         if (name === "list" || name === "tuple") {
-            const inside = it.map(repr).join(", ");
-            return name === "list" ? `[${inside}]` : `(${inside}${it.length === 1 ? "," : ""})`;
+            const inside = value.map(repr).join(", ");
+            return name === "list" ? `[${inside}]` : `(${inside}${value.length === 1 ? "," : ""})`;
         }
         if (name === "dict") {
-            return `{${pairs(it).map(([key, value]) => `${repr(key)}: ${repr(value)}`).join(", ")}}`;
+            return `{${pairs(value).map(([key, entry]) => `${repr(key)}: ${repr(entry)}`).join(", ")}}`;
         }
-        return it instanceof PyException ? `${name}(${it.args.map(repr).join(", ")})` : String(it);
+        return value instanceof PyException ? `${name}(${value.args.map(repr).join(", ")})` : String(value);
     };
 
-    const str = (it) => {
-        if (it instanceof PyException) {
-            return it.args.length === 1 ? (it instanceof KeyError ? repr(it.args[0]) : str(it.args[0])) : repr(it.args);
+    const str = (value) => {
+        if (value instanceof PyException) {
+            return value.args.length === 1 ? (value instanceof KeyError ? repr(value.args[0]) : str(value.args[0])) : repr(value.args);
         }
-        return typeof it === "string" ? it : repr(it);
+        return typeof value === "string" ? value : repr(value);
     };
 
-    const format = (it, how) => {
+    const format = (value, how) => {
         const found = /^0(\d+)x$/.exec(how);
         if (how === "") {
-            return str(it);
+            return str(value);
         }
-        if (!found || !isWhole(it)) {
-            throw new ValueError(`Unknown format code '${how}' for object of type '${nameOf(it)}'`);
+        if (!found || !isInteger(value)) {
+            throw new ValueError(`Unknown format code '${how}' for object of type '${getTypeName(value)}'`);
         }
-        return wholeOf(it).toString(16).padStart(Number(found[1]), "0");
+        return toInteger(value).toString(16).padStart(Number(found[1]), "0");
     };
 
     const encoder = new TextEncoder();
     const decoder = new TextDecoder("utf-8", { fatal: true, ignoreBOM: true });
-    const ofLatin = (it) => it.letters;
+    const fromLatin = (value) => value.letters;
 
-    const decoded = (it) => {
+    const decodeUtf8 = (value) => {
         try {
-            return decoder.decode(it.data);
+            return decoder.decode(value.data);
         } catch {
             throw new UnicodeDecodeError("utf-8");
         }
     };
 
-    const filled = (it, width, filler) => {
-        const rest = Math.max(0, Number(width) - it.data.length);
-        return bytes([...it.data, ...new Uint8Array(rest).fill(filler.data[0])]);
+    const pad = (value, width, filler) => {
+        const rest = Math.max(0, Number(width) - value.data.length);
+        return bytes([...value.data, ...new Uint8Array(rest).fill(filler.data[0])]);
     };
 
-    const fromDigits = (text) => {
+    const parseInteger = (text) => {
         const digits = text.replace(/\s/g, "");
         if (digits.length % 2 || /[^0-9a-fA-F]/.test(digits)) {
             throw new ValueError("non-hexadecimal number found in fromhex()");
         }
-        return hex(digits);
+        return parseHex(digits);
     };
 
-    const fromBytes = (it) => (it.data.length < 7
-        ? it.data.reduce((sum, byte) => sum * 256 + byte, 0)
-        : small(BigInt(`0x0${it.digits}`)));
+    const fromBytes = (value) => (value.data.length < 7
+        ? value.data.reduce((sum, byte) => sum * 256 + byte, 0)
+        : toSmallNumber(BigInt(`0x0${value.digits}`)));
 
-    const parted = (it, mark, make) => {
-        const at = it.indexOf(mark);
-        const parts = at < 0 ? [it, "", ""] : [it.slice(0, at), mark, it.slice(at + mark.length)];
+    const splitAt = (value, mark, make) => {
+        const at = value.indexOf(mark);
+        const parts = at < 0 ? [value, "", ""] : [value.slice(0, at), mark, value.slice(at + mark.length)];
         return Tuple.from(parts.map(make));
     };
 
-    const toBytes = (it, size, order) => {
-        const digits = BigInt(it).toString(16).padStart(Number(size) * 2, "0");
+    const toBytes = (value, size, order) => {
+        const digits = BigInt(value).toString(16).padStart(Number(size) * 2, "0");
         if (digits.length > Number(size) * 2) {
-            throw new (raised("OverflowError"))("int too big to convert");
+            throw new (defineError("OverflowError"))("int too big to convert");
         }
-        const made = hex(digits);
+        const made = parseHex(digits);
         return order === "little" ? bytes([...made.data].reverse()) : made;
     };
 
-    const plain = (it) => it;
-    const sortedBy = (items, key) => {
-        const keyed = [...items].map((it) => [key ? apply(key, [it]) : it, it]);
-        return keyed.sort(([a], [b]) => (lt(a, b) ? -1 : lt(b, a) ? 1 : 0)).map(([, it]) => it);
+    const toPlainValue = (value) => value;
+    const sortItems = (items, key) => {
+        const keyed = [...items].map((value) => [key ? apply(key, [value]) : value, value]);
+        return keyed.sort(([a], [b]) => (lt(a, b) ? -1 : lt(b, a) ? 1 : 0)).map(([, value]) => value);
     };
 
-    // What values of Python's own types can do.
+    // The methods of Python's built-in types.
     const METHODS = {
         dict: {
-            get: (it, key, other = null) => (it.kept.get(keyOf(key)) ?? [key, other])[1],
-            items: (it) => pairs(it).map((pair) => Tuple.from(pair)),
-            keys: (it) => setOf(iter(it)),
-            values: (it) => pairs(it).map(([, value]) => value),
-            setdefault: (it, key, value = null) => {
-                if (!it.kept.has(keyOf(key))) {
-                    put(it, key, value);
+            get: (self, key, other = null) => (self.kept.get(toKey(key)) ?? [key, other])[1],
+            items: (self) => pairs(self).map((pair) => Tuple.from(pair)),
+            keys: (self) => makeSet(iter(self)),
+            values: (self) => pairs(self).map(([, value]) => value),
+            setdefault: (self, key, value = null) => {
+                if (!self.kept.has(toKey(key))) {
+                    setItem(self, key, value);
                 }
-                return item(it, key);
+                return getItem(self, key);
             },
-            pop: (it, key, ...other) => {
-                if (!it.kept.has(keyOf(key)) && other.length) {
+            pop: (self, key, ...other) => {
+                if (!self.kept.has(toKey(key)) && other.length) {
                     return other[0];
                 }
-                const found = item(it, key);
-                it.kept.delete(keyOf(key));
+                const found = getItem(self, key);
+                self.kept.delete(toKey(key));
                 return found;
             },
-            update: (it, other) => {
+            update: (self, other) => {
                 const given = other instanceof Dict ? pairs(other) : [...iter(other)];
-                given.forEach(([key, value]) => put(it, key, value));
+                given.forEach(([key, value]) => setItem(self, key, value));
                 return null;
             },
-            clear: (it) => it.kept.clear() ?? null,
+            clear: (self) => self.kept.clear() ?? null,
         },
         set: {
-            add: (it, value) => it.kept.set(keyOf(value), value) && null,
-            clear: (it) => it.kept.clear() ?? null,
-            update: (it, other) => [...iter(other)].forEach((value) => it.kept.set(keyOf(value), value)) ?? null,
+            add: (self, value) => self.kept.set(toKey(value), value) && null,
+            clear: (self) => self.kept.clear() ?? null,
+            update: (self, other) => [...iter(other)].forEach((value) => self.kept.set(toKey(value), value)) ?? null,
         },
         list: {
-            append: (it, value) => it.push(value) && null,
-            index: (it, value) => {
-                const at = it.findIndex((one) => eq(one, value));
+            append: (self, value) => self.push(value) && null,
+            index: (self, value) => {
+                const at = self.findIndex((one) => eq(one, value));
                 if (at < 0) {
                     throw new ValueError(`${repr(value)} is not in list`);
                 }
                 return at;
             },
-            pop: (it, place = -1) => it.splice(placeIn(it.length, place), 1)[0],
-            remove: (it, value) => it.splice(METHODS.list.index(it, value), 1) && null,
-            sort: (it, words = {}) => it.splice(0, it.length, ...sortedBy(it, words.key)) && null,
+            pop: (self, place = -1) => self.splice(toIndex(self.length, place), 1)[0],
+            remove: (self, value) => self.splice(METHODS.list.index(self, value), 1) && null,
+            sort: (self, words = {}) => self.splice(0, self.length, ...sortItems(self, words.key)) && null,
         },
         str: {
-            join: (it, parts) => [...iter(parts)].join(it),
-            split: (it, mark) => it.split(mark),
-            partition: (it, mark) => parted(it, mark, plain),
-            startswith: (it, front) => it.startsWith(front),
-            endswith: (it, end) => it.endsWith(end),
-            lower: (it) => it.toLowerCase(),
-            encode: (it) => new Bytes(encoder.encode(it)),
-            replace: (it, old, made) => it.replaceAll(old, made),
+            join: (self, parts) => [...iter(parts)].join(self),
+            split: (self, mark) => self.split(mark),
+            partition: (self, mark) => splitAt(self, mark, toPlainValue),
+            startswith: (self, front) => self.startsWith(front),
+            endswith: (self, end) => self.endsWith(end),
+            lower: (self) => self.toLowerCase(),
+            encode: (self) => new Bytes(encoder.encode(self)),
+            replace: (self, old, made) => self.replaceAll(old, made),
         },
         bytes: {
-            hex: (it) => it.digits,
-            decode: decoded,
-            startswith: (it, front) => eq(slice(it, 0, front.data.length), front),
-            ljust: (it, width, filler) => filled(it, width, filler),
-            split: (it, mark) => ofLatin(it).split(ofLatin(mark)).map(latin),
-            partition: (it, mark) => parted(ofLatin(it), ofLatin(mark), latin),
-            join: (it, parts) => latin([...iter(parts)].map(ofLatin).join(ofLatin(it))),
+            hex: (self) => self.digits,
+            decode: decodeUtf8,
+            startswith: (self, front) => eq(getSlice(self, 0, front.data.length), front),
+            ljust: (self, width, filler) => pad(self, width, filler),
+            split: (self, mark) => fromLatin(self).split(fromLatin(mark)).map(toLatin1),
+            partition: (self, mark) => splitAt(fromLatin(self), fromLatin(mark), toLatin1),
+            join: (self, parts) => toLatin1([...iter(parts)].map(fromLatin).join(fromLatin(self))),
         },
         int: { to_bytes: toBytes },
-        tuple: { index: (it, value) => METHODS.list.index(it, value) },
+        tuple: { index: (self, value) => METHODS.list.index(self, value) },
     };
 
     // ---- calls
 
-    /** Puts words that have names behind the others. */
-    const bound = (names, words, named) => {
+    /** Appends keyword arguments to the positional ones. */
+    const bindArguments = (names, words, named) => {
         const found = [...words];
         for (const [name, value] of Object.entries(named)) {
             found[names.indexOf(name)] = value;
@@ -188,105 +189,105 @@
             return what.make(...words);
         }
         if (typeof what !== "function") {
-            throw wrong(`'${nameOf(what)}' object is not callable`);
+            throw makeTypeError(`'${getTypeName(what)}' object is not callable`);
         }
         if (what.prototype instanceof PyObject) {
             let owner = what;
             while (named && !owner.$names?.__init__) {
                 owner = Object.getPrototypeOf(owner);
             }
-            return new what(...(named ? bound(owner.$names.__init__, words, named) : words));
+            return new what(...(named ? bindArguments(owner.$names.__init__, words, named) : words));
         }
-        return what(...(named ? bound(what.$names ?? [], words, named) : words));
+        return what(...(named ? bindArguments(what.$names ?? [], words, named) : words));
     };
 
-    const lacking = (it, name) => new AttributeError(`'${nameOf(it)}' object has no attribute '${name}'`);
+    const makeAttributeError = (object, name) => new AttributeError(`'${getTypeName(object)}' object has no attribute '${name}'`);
 
-    const own = (self, name) => {
+    const getMember = (self, name) => {
         const found = self[name];
         if (found === undefined) {
-            throw lacking(self, name);
+            throw makeAttributeError(self, name);
         }
         return typeof found === "function" && !Object.hasOwn(self, name) ? found.bind(self) : found;
     };
 
-    const attribute = (it, name) => {
-        if (it instanceof PyObject || it instanceof Type || it?.$isModule) {
-            return own(it, name);
+    const attribute = (object, name) => {
+        if (object instanceof PyObject || object instanceof Type || object?.$isModule) {
+            return getMember(object, name);
         }
-        const found = METHODS[nameOf(it)]?.[name];
+        const found = METHODS[getTypeName(object)]?.[name];
         if (!found) {
-            throw lacking(it, name);
+            throw makeAttributeError(object, name);
         }
-        return (...words) => found(it, ...words);
+        return (...words) => found(object, ...words);
     };
 
-    const method = (it, name) => {
-        let owner = it.constructor;
+    const method = (object, name) => {
+        let owner = object.constructor;
         while (!owner.$names?.[name]) {
             owner = Object.getPrototypeOf(owner);
         }
         return owner.$names[name];
     };
 
-    const call = (it, name, words, named = undefined) => {
-        if (it instanceof PyObject && !Object.hasOwn(it, name)) {
-            if (typeof it[name] !== "function") {
-                return apply(own(it, name), words, named);
+    const call = (object, name, words, named = undefined) => {
+        if (object instanceof PyObject && !Object.hasOwn(object, name)) {
+            if (typeof object[name] !== "function") {
+                return apply(getMember(object, name), words, named);
             }
-            return it[name](...(named ? bound(method(it, name), words, named) : words));
+            return object[name](...(named ? bindArguments(method(object, name), words, named) : words));
         }
-        if (it instanceof PyObject || it instanceof Type || it?.$isModule) {
-            return apply(it.$isModule || it instanceof PyObject ? it[name] : it.statics[name], words, named);
+        if (object instanceof PyObject || object instanceof Type || object?.$isModule) {
+            return apply(object.$isModule || object instanceof PyObject ? object[name] : object.statics[name], words, named);
         }
-        const found = METHODS[nameOf(it)]?.[name];
+        const found = METHODS[getTypeName(object)]?.[name];
         if (!found) {
-            throw lacking(it, name);
+            throw makeAttributeError(object, name);
         }
-        return found(it, ...words, ...(named ? [named] : []));
+        return found(object, ...words, ...(named ? [named] : []));
     };
 
-    const isinstance = (it, kind) => {
+    const isinstance = (value, kind) => {
         if (Array.isArray(kind)) {
-            return kind.some((one) => isinstance(it, one));
+            return kind.some((one) => isinstance(value, one));
         }
-        return kind instanceof Type ? kind.check(it) : it instanceof kind;
+        return kind instanceof Type ? kind.check(value) : value instanceof kind;
     };
 
-    // ---- what is built in
+    // ---- built-in functions
 
     const made = {
-        bool: new Type("bool", (it = false) => isTrue(it)),
-        int: new Type("int", (it) => small(BigInt(it instanceof Bytes ? ofLatin(it) : it)), isWhole),
-        str: new Type("str", (it = "") => str(it)),
-        bytes: new Type("bytes", (it = 0) => (isWhole(it) ? new Bytes(new Uint8Array(Number(it))) : bytes(iter(it)))),
-        list: new Type("list", (it = []) => [...iter(it)]),
-        tuple: new Type("tuple", (it = []) => Tuple.from(iter(it))),
-        dict: new Type("dict", (it = []) => dictOf(it instanceof Dict ? pairs(it) : [...iter(it)])),
-        set: new Type("set", (it = []) => setOf(iter(it))),
+        bool: new Type("bool", (value = false) => isTrue(value)),
+        int: new Type("int", (value) => toSmallNumber(BigInt(value instanceof Bytes ? fromLatin(value) : value)), isInteger),
+        str: new Type("str", (value = "") => str(value)),
+        bytes: new Type("bytes", (value = 0) => (isInteger(value) ? new Bytes(new Uint8Array(Number(value))) : bytes(iter(value)))),
+        list: new Type("list", (value = []) => [...iter(value)]),
+        tuple: new Type("tuple", (value = []) => Tuple.from(iter(value))),
+        dict: new Type("dict", (value = []) => makeDict(value instanceof Dict ? pairs(value) : [...iter(value)])),
+        set: new Type("set", (value = []) => makeSet(iter(value))),
     };
     Object.assign(made.int, { statics: { from_bytes: fromBytes } });
-    Object.assign(made.bytes, { statics: { fromhex: fromDigits } });
+    Object.assign(made.bytes, { statics: { fromhex: parseInteger } });
 
-    const best = (isBetter) => (...words) => {
+    const makeExtremum = (isBetter) => (...words) => {
         const items = words.length === 1 ? [...iter(words[0])] : words;
         if (!items.length) {
             throw new ValueError("max() arg is an empty sequence");
         }
-        return items.reduce((found, it) => (isBetter(it, found) ? it : found));
+        return items.reduce((found, value) => (isBetter(value, found) ? value : found));
     };
 
-    const first = (items, ...other) => {
-        for (const it of items) {
-            return it;
+    const takeFirst = (items, ...other) => {
+        for (const value of items) {
+            return value;
         }
         if (!other.length) {
-            throw new (raised("StopIteration"))();
+            throw new (defineError("StopIteration"))();
         }
         return other[0];
     };
 
-    /** Numbers in a row, which may be as many as a huge length says. */
+    /** A range, which may be huge and isn't stored. */
     class Range {
         constructor(low, high) {
             Object.assign(this, { low, high });
@@ -299,27 +300,27 @@
         }
     }
 
-    const range = (from, to = undefined) =>
+    const makeRange = (from, to = undefined) =>
         (to === undefined ? new Range(0, Number(from)) : new Range(Number(from), Number(to)));
 
-    const zip = (...lists) => {
-        const all = lists.map((it) => [...iter(it)]);
-        const [shortest] = all.map((it) => it.length).sort((a, b) => a - b);
-        return Array.from({ length: shortest }, (_, at) => Tuple.from(all.map((it) => it[at])));
+    const zipIterables = (...lists) => {
+        const all = lists.map((list) => [...iter(list)]);
+        const [shortest] = all.map((list) => list.length).sort((a, b) => a - b);
+        return Array.from({ length: shortest }, (_, at) => Tuple.from(all.map((list) => list[at])));
     };
 
-    const some = (items) => {
-        for (const it of iter(items)) {
-            if (isTrue(it)) {
+    const anyItem = (items) => {
+        for (const value of iter(items)) {
+            if (isTrue(value)) {
                 return true;
             }
         }
         return false;
     };
 
-    const every = (items) => {
-        for (const it of iter(items)) {
-            if (!isTrue(it)) {
+    const allItems = (items) => {
+        for (const value of iter(items)) {
+            if (!isTrue(value)) {
                 return false;
             }
         }
@@ -327,49 +328,49 @@
     };
 
     const builtins = {
-        ...made, len, isinstance, repr, range, zip, KeyError, ValueError, IndexError, AttributeError, UnicodeDecodeError,
+        ...made, len, isinstance, repr, range: makeRange, zip: zipIterables, KeyError, ValueError, IndexError, AttributeError, UnicodeDecodeError,
         TypeError: $.TypeError,
         Exception: PyException,
-        any: some,
-        all: every,
-        max: best((a, b) => lt(b, a)),
-        min: best((a, b) => lt(a, b)),
-        sum: (items) => [...iter(items)].reduce((sum, it) => $.add(sum, it), 0),
-        next: first,
-        map: (f, items) => [...iter(items)].map((it) => apply(f, [it])),
-        enumerate: (items, from = 0) => [...iter(items)].map((it, at) => Tuple.of(at + from, it)),
-        sorted: (items) => sortedBy(iter(items), null),
-        abs: (it) => (lt(it, 0) ? $.sub(0, it) : wholeOf(it)),
-        ord: (it) => it.codePointAt(0),
-        getattr: (it, name) => own(it, name),
+        any: anyItem,
+        all: allItems,
+        max: makeExtremum((a, b) => lt(b, a)),
+        min: makeExtremum((a, b) => lt(a, b)),
+        sum: (items) => [...iter(items)].reduce((sum, value) => $.add(sum, value), 0),
+        next: takeFirst,
+        map: (f, items) => [...iter(items)].map((value) => apply(f, [value])),
+        enumerate: (items, from = 0) => [...iter(items)].map((value, at) => Tuple.of(at + from, value)),
+        sorted: (items) => sortItems(iter(items), null),
+        abs: (value) => (lt(value, 0) ? $.sub(0, value) : toInteger(value)),
+        ord: (value) => value.codePointAt(0),
+        getattr: (value, name) => getMember(value, name),
         TypeVar: () => null,
     };
 
-    // ---- modules of Python's own
+    // ---- modules of Python's standard library
 
-    const compiled = (pattern) => ({
+    const compilePattern = (pattern) => ({
         $isModule: true,
         fullmatch: (data) => {
-            const found = new RegExp(`^(?:${ofLatin(pattern)})$`, "s").exec(ofLatin(data));
+            const found = new RegExp(`^(?:${fromLatin(pattern)})$`, "s").exec(fromLatin(data));
             return found ? new Match(found) : null;
         },
     });
 
-    const HIDDEN = ["Cc", "Cf", "Cs", "Co", "Cn", "Zl", "Zp"];
-    const CATEGORIES = HIDDEN.map((name) => [name, new RegExp(`^\\p{${name}}$`, "u")]);
-    const categoryOf = (letter) => (CATEGORIES.find(([, pattern]) => pattern.test(letter)) ?? ["other"])[0];
-    const hashOf = (data) => ({ $isModule: true, digest: () => new Bytes(globalThis.hidlogSha256(data.data)) });
+    const HIDDEN_CATEGORIES = ["Cc", "Cf", "Cs", "Co", "Cn", "Zl", "Zp"];
+    const CATEGORIES = HIDDEN_CATEGORIES.map((name) => [name, new RegExp(`^\\p{${name}}$`, "u")]);
+    const getCategory = (letter) => (CATEGORIES.find(([, pattern]) => pattern.test(letter)) ?? ["other"])[0];
+    const makeSha256 = (data) => ({ $isModule: true, digest: () => new Bytes(globalThis.hidlogSha256(data.data)) });
     /** @type {Record<string, () => any>} */
     const modules = {
-        re: () => ({ compile: compiled }),
-        hashlib: () => ({ sha256: hashOf }),
-        unicodedata: () => ({ category: categoryOf }),
+        re: () => ({ compile: compilePattern }),
+        hashlib: () => ({ sha256: makeSha256 }),
+        unicodedata: () => ({ category: getCategory }),
         json: () => ({}),
         "xml.sax.saxutils": () => ({}),
     };
     const run = new Map();
 
-    /** What a module exports; it runs once. */
+    /** The exports of a module, which is executed once. */
     const module = (name) => {
         if (!run.has(name)) {
             run.set(name, { ...modules[name](), $isModule: true });
@@ -377,11 +378,11 @@
         return run.get(name);
     };
 
-    const hold = (isSo) => {
+    const assertTrue = (isSo) => {
         if (!isSo) {
             throw new Error("an assertion of the rules");
         }
     };
 
-    Object.assign($, { apply, attribute, builtins, call, format, hold, isinstance, module, modules, own, repr });
+    Object.assign($, { apply, attribute, builtins, call, format, assertTrue, isinstance, module, modules, getMember, repr });
 })();

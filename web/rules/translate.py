@@ -1,7 +1,7 @@
-"""Translates the rules of the conformance corpus into one JavaScript script: translate.py FOLDER MODULE..
+"""Translates the rules of the conformance tests into one JavaScript script: translate.py FOLDER MODULE..
 
-The rules are written in Python, and the page judges by the same ones: what this writes runs on web/rules/python.js,
-which has Python's values. It takes the part of Python that the rules are written in, and ends at anything else.
+The rules are written in Python, and the web page judges with the same rules. The output runs on web/rules/python.js,
+which implements Python's values. Only the subset of Python that the rules use is supported; anything else is an error.
 """
 
 from __future__ import annotations
@@ -13,15 +13,17 @@ from pathlib import Path
 from typing import Callable, Dict, List, Optional, Set, Tuple
 
 PACKAGE = "hidlog_conformance"
-# Modules that say something of types alone, and decorators that the class statement looks at.
-TYPES = ("__future__", "typing", "dataclasses", "functools")
-GENERIC = ("Tuple", "Dict", "List", "Optional", "Callable")
-BUILTINS = (
+# Modules that are only for type annotations, and decorators that the class statement handles.
+SKIPPED_MODULES = ("__future__", "typing", "dataclasses", "functools")
+GENERIC_TYPES = ("Tuple", "Dict", "List", "Optional", "Callable")
+BUILTIN_NAMES = (
     "len isinstance bool any all bytes set range int str dict max min sum list tuple next map enumerate sorted repr zip "
     "abs ord getattr Exception KeyError TypeError ValueError IndexError AttributeError UnicodeDecodeError TypeVar"
 ).split()
-RESERVED = set("new in of this function var let const delete case default switch do void with class arguments".split())
-BINARY = {
+RESERVED_WORDS = set(
+    "new in of this function var let const delete case default switch do void with class arguments".split()
+)
+BINARY_OPERATORS = {
     ast.Add: "add",
     ast.Sub: "sub",
     ast.Mult: "mul",
@@ -34,31 +36,31 @@ BINARY = {
     ast.BitOr: "or",
     ast.BitXor: "xor",
 }
-COMPARE = {
+COMPARISONS = {
     ast.Eq: "$.eq({0}, {1})",
     ast.NotEq: "!$.eq({0}, {1})",
     ast.Lt: "$.lt({0}, {1})",
     ast.LtE: "$.le({0}, {1})",
     ast.Gt: "$.lt({1}, {0})",
     ast.GtE: "$.le({1}, {0})",
-    ast.In: "$.has({1}, {0})",
-    ast.NotIn: "!$.has({1}, {0})",
+    ast.In: "$.contains({1}, {0})",
+    ast.NotIn: "!$.contains({1}, {0})",
     ast.Is: "({0} === {1})",
     ast.IsNot: "({0} !== {1})",
 }
 
 
-class Untranslated(Exception):
-    """Names what isn't translated."""
+class UntranslatableError(Exception):
+    """A construct that isn't supported, with its line."""
 
 
-def renamed(name: str) -> str:
-    """Returns a name that JavaScript takes."""
-    return f"{name}_" if name in RESERVED else name
+def rename(name: str) -> str:
+    """Returns a name that is valid in JavaScript."""
+    return f"{name}_" if name in RESERVED_WORDS else name
 
 
-def stored(nodes: List[ast.stmt]) -> Set[str]:
-    """Returns the names that a function's body binds; those of comprehensions and of functions inside are their own."""
+def list_stored_names(nodes: List[ast.stmt]) -> Set[str]:
+    """Returns the names that a function's body binds, without those of comprehensions and nested functions."""
     found: Set[str] = set()
     waiting: List[ast.AST] = list(nodes)
     while waiting:
@@ -80,194 +82,214 @@ class Expressions:
     def __init__(self) -> None:
         self.temporaries = 0
 
-    def temporary(self) -> str:
+    def new_name(self) -> str:
         """Returns a new name."""
         self.temporaries += 1
         return f"$t{self.temporaries}"
 
-    def of(self, node: ast.expr) -> str:
+    def write_expression(self, node: ast.expr) -> str:
         """Writes an expression."""
-        write: Optional[Callable[[ast.expr], str]] = getattr(self, f"of_{type(node).__name__}", None)
+        write: Optional[Callable[[ast.expr], str]] = getattr(self, f"write_{type(node).__name__}", None)
         if write is None:
-            raise Untranslated(f"line {node.lineno}: {type(node).__name__}")
+            raise UntranslatableError(f"line {node.lineno}: {type(node).__name__}")
         return write(node)
 
-    def true(self, node: ast.expr) -> str:
+    def write_condition(self, node: ast.expr) -> str:
         """Writes a condition."""
         if isinstance(node, ast.BoolOp):
             word = " && " if isinstance(node.op, ast.And) else " || "
-            return "(" + word.join(self.true(part) for part in node.values) + ")"
+            return "(" + word.join(self.write_condition(part) for part in node.values) + ")"
         if isinstance(node, ast.UnaryOp) and isinstance(node.op, ast.Not):
-            return f"!{self.true(node.operand)}"
+            return f"!{self.write_condition(node.operand)}"
         if isinstance(node, ast.Compare):
-            return f"({self.of(node)})"
-        return f"$.isTrue({self.of(node)})"
+            return f"({self.write_expression(node)})"
+        return f"$.isTrue({self.write_expression(node)})"
 
-    def all(self, nodes: List[ast.expr]) -> str:
-        """Writes expressions beside each other; a starred one is spread."""
+    def write_list(self, nodes: List[ast.expr]) -> str:
+        """Writes a list of expressions; a starred one is spread."""
         return ", ".join(
-            f"...$.iter({self.of(it.value)})" if isinstance(it, ast.Starred) else self.of(it) for it in nodes
+            f"...$.iter({self.write_expression(node.value)})"
+            if isinstance(node, ast.Starred)
+            else self.write_expression(node)
+            for node in nodes
         )
 
-    def of_Constant(self, node: ast.Constant) -> str:
+    def write_Constant(self, node: ast.Constant) -> str:
         value = node.value
         if value is None or isinstance(value, bool):
             return {None: "null", True: "true", False: "false"}[value]
         if isinstance(value, bytes):
-            return f'$.hex("{value.hex()}")'
+            return f'$.parseHex("{value.hex()}")'
         if isinstance(value, str):
             return json.dumps(value)
         if isinstance(value, int):
             return str(value) if value < 2**53 else f"{value}n"
-        raise Untranslated(f"line {node.lineno}: {value!r}")
+        raise UntranslatableError(f"line {node.lineno}: {value!r}")
 
-    def of_Name(self, node: ast.Name) -> str:
-        return renamed(node.id)
+    def write_Name(self, node: ast.Name) -> str:
+        return rename(node.id)
 
-    def of_Attribute(self, node: ast.Attribute) -> str:
+    def write_Attribute(self, node: ast.Attribute) -> str:
         if isinstance(node.value, ast.Name) and node.value.id == "self":
-            return f"$.own(self, {json.dumps(node.attr)})"
-        return f"$.attribute({self.of(node.value)}, {json.dumps(node.attr)})"
+            return f"$.getMember(self, {json.dumps(node.attr)})"
+        return f"$.attribute({self.write_expression(node.value)}, {json.dumps(node.attr)})"
 
-    def of_Subscript(self, node: ast.Subscript) -> str:
+    def write_Subscript(self, node: ast.Subscript) -> str:
         if isinstance(node.slice, ast.Slice):
             assert node.slice.step is None, "a step"
-            low, high = (self.of(it) if it else "null" for it in (node.slice.lower, node.slice.upper))
-            return f"$.slice({self.of(node.value)}, {low}, {high})"
-        return f"$.item({self.of(node.value)}, {self.of(node.slice)})"
+            low, high = (
+                self.write_expression(item) if item else "null" for item in (node.slice.lower, node.slice.upper)
+            )
+            return f"$.getSlice({self.write_expression(node.value)}, {low}, {high})"
+        return f"$.getItem({self.write_expression(node.value)}, {self.write_expression(node.slice)})"
 
-    def of_Tuple(self, node: ast.Tuple) -> str:
-        return f"$.Tuple.of({self.all(node.elts)})"
+    def write_Tuple(self, node: ast.Tuple) -> str:
+        return f"$.Tuple.of({self.write_list(node.elts)})"
 
-    def of_List(self, node: ast.List) -> str:
-        return f"[{self.all(node.elts)}]"
+    def write_List(self, node: ast.List) -> str:
+        return f"[{self.write_list(node.elts)}]"
 
-    def of_Set(self, node: ast.Set) -> str:
-        return f"$.setOf([{self.all(node.elts)}])"
+    def write_Set(self, node: ast.Set) -> str:
+        return f"$.makeSet([{self.write_list(node.elts)}])"
 
-    def of_Dict(self, node: ast.Dict) -> str:
+    def write_Dict(self, node: ast.Dict) -> str:
         pairs = [
-            f"...$.pairs({self.of(value)})" if key is None else f"[{self.of(key)}, {self.of(value)}]"
+            f"...$.pairs({self.write_expression(value)})"
+            if key is None
+            else f"[{self.write_expression(key)}, {self.write_expression(value)}]"
             for key, value in zip(node.keys, node.values)
         ]
-        return f"$.dictOf([{', '.join(pairs)}])"
+        return f"$.makeDict([{', '.join(pairs)}])"
 
-    def of_UnaryOp(self, node: ast.UnaryOp) -> str:
+    def write_UnaryOp(self, node: ast.UnaryOp) -> str:
         if isinstance(node.op, ast.Not):
-            return f"!{self.true(node.operand)}"
+            return f"!{self.write_condition(node.operand)}"
         if isinstance(node.op, ast.USub):
-            return f"$.sub(0, {self.of(node.operand)})"
-        raise Untranslated(f"line {node.lineno}: {ast.dump(node.op)}")
+            return f"$.sub(0, {self.write_expression(node.operand)})"
+        raise UntranslatableError(f"line {node.lineno}: {ast.dump(node.op)}")
 
-    def of_BinOp(self, node: ast.BinOp) -> str:
-        return f"$.{BINARY[type(node.op)]}({self.of(node.left)}, {self.of(node.right)})"
+    def write_BinOp(self, node: ast.BinOp) -> str:
+        return f"$.{BINARY_OPERATORS[type(node.op)]}({self.write_expression(node.left)}, {self.write_expression(node.right)})"
 
-    def of_BoolOp(self, node: ast.BoolOp) -> str:
-        *first, last = (self.of(part) for part in node.values)
+    def write_BoolOp(self, node: ast.BoolOp) -> str:
+        *first, last = (self.write_expression(part) for part in node.values)
         text = last
         for part in reversed(first):
-            name = self.temporary()
+            name = self.new_name()
             chosen = f"{text} : {name}" if isinstance(node.op, ast.And) else f"{name} : {text}"
             text = f"($.isTrue({name} = {part}) ? {chosen})"
         return text
 
-    def of_Compare(self, node: ast.Compare) -> str:
+    def write_Compare(self, node: ast.Compare) -> str:
         if len(node.ops) == 1:
-            return COMPARE[type(node.ops[0])].format(self.of(node.left), self.of(node.comparators[0]))
-        parts, before = [], self.of(node.left)
+            return COMPARISONS[type(node.ops[0])].format(
+                self.write_expression(node.left), self.write_expression(node.comparators[0])
+            )
+        parts, before = [], self.write_expression(node.left)
         for operator, right in zip(node.ops, node.comparators):
-            name = self.temporary()
+            name = self.new_name()
             # The right side is kept for the next comparison.
-            parts.append(f"({name} = {self.of(right)}, {COMPARE[type(operator)].format(before, name)})")
+            parts.append(
+                f"({name} = {self.write_expression(right)}, {COMPARISONS[type(operator)].format(before, name)})"
+            )
             before = name
         if not parts[0].count("$.l") and not isinstance(node.left, (ast.Name, ast.Constant, ast.Attribute, ast.Call)):
-            raise Untranslated(f"line {node.lineno}: a chain")
+            raise UntranslatableError(f"line {node.lineno}: chained comparison")
         return "(" + " && ".join(parts) + ")"
 
-    def of_IfExp(self, node: ast.IfExp) -> str:
-        return f"({self.true(node.test)} ? {self.of(node.body)} : {self.of(node.orelse)})"
+    def write_IfExp(self, node: ast.IfExp) -> str:
+        return f"({self.write_condition(node.test)} ? {self.write_expression(node.body)} : {self.write_expression(node.orelse)})"
 
-    def of_JoinedStr(self, node: ast.JoinedStr) -> str:
+    def write_JoinedStr(self, node: ast.JoinedStr) -> str:
         parts = ['""']
         for part in node.values:
             if isinstance(part, ast.Constant):
                 parts.append(json.dumps(part.value))
                 continue
             assert isinstance(part, ast.FormattedValue)
-            spec = self.spec(part.format_spec)
-            value = self.of(part.value)
+            spec = self.write_format_spec(part.format_spec)
+            value = self.write_expression(part.value)
             parts.append(f"$.repr({value})" if part.conversion == 114 else f"$.format({value}, {json.dumps(spec)})")
         return "(" + " + ".join(parts) + ")"
 
-    def spec(self, node: Optional[ast.expr]) -> str:
-        """Returns how a value is formatted."""
+    def write_format_spec(self, node: Optional[ast.expr]) -> str:
+        """Returns the format specification of a value."""
         if node is None:
             return ""
-        assert isinstance(node, ast.JoinedStr) and all(isinstance(it, ast.Constant) for it in node.values)
-        return "".join(str(it.value) for it in node.values if isinstance(it, ast.Constant))
+        assert isinstance(node, ast.JoinedStr) and all(isinstance(item, ast.Constant) for item in node.values)
+        return "".join(str(other_value.value) for other_value in node.values if isinstance(other_value, ast.Constant))
 
-    def of_Lambda(self, node: ast.Lambda) -> str:
-        return f"(({self.parameters(node.args)}) => {self.of(node.body)})"
+    def write_Lambda(self, node: ast.Lambda) -> str:
+        return f"(({self.write_parameters(node.args)}) => {self.write_expression(node.body)})"
 
-    def of_Call(self, node: ast.Call) -> str:
-        """Writes a call: of a method by its name, of anything else by its value."""
-        words, keywords = self.all(node.args), ""
+    def write_Call(self, node: ast.Call) -> str:
+        """Writes a call: of a method by name, of anything else by value."""
+        words, keywords = self.write_list(node.args), ""
         if node.keywords:
-            keywords = "{" + ", ".join(f"{it.arg}: {self.of(it.value)}" for it in node.keywords) + "}"
+            keywords = (
+                "{"
+                + ", ".join(f"{keyword.arg}: {self.write_expression(keyword.value)}" for keyword in node.keywords)
+                + "}"
+            )
         if isinstance(node.func, ast.Attribute):
-            if isinstance(node.func.value, ast.Call) and self.of(node.func.value.func) == "super":
+            if isinstance(node.func.value, ast.Call) and self.write_expression(node.func.value.func) == "super":
                 return f"super.{node.func.attr}({words})"
             name = json.dumps(node.func.attr)
-            return f"$.call({self.of(node.func.value)}, {name}, [{words}]{', ' + keywords if keywords else ''})"
-        return f"$.apply({self.of(node.func)}, [{words}]{', ' + keywords if keywords else ''})"
+            return f"$.call({self.write_expression(node.func.value)}, {name}, [{words}]{', ' + keywords if keywords else ''})"
+        return f"$.apply({self.write_expression(node.func)}, [{words}]{', ' + keywords if keywords else ''})"
 
-    def of_ListComp(self, node: ast.ListComp) -> str:
-        return self.collected(node.generators, "$r.push({})", self.of(node.elt), "$r")
+    def write_ListComp(self, node: ast.ListComp) -> str:
+        return self.write_comprehension(node.generators, "$r.push({})", self.write_expression(node.elt), "$r")
 
-    def of_SetComp(self, node: ast.SetComp) -> str:
-        return self.collected(node.generators, "$r.push({})", self.of(node.elt), "$.setOf($r)")
+    def write_SetComp(self, node: ast.SetComp) -> str:
+        return self.write_comprehension(
+            node.generators, "$r.push({})", self.write_expression(node.elt), "$.makeSet($r)"
+        )
 
-    def of_DictComp(self, node: ast.DictComp) -> str:
-        pair = f"[{self.of(node.key)}, {self.of(node.value)}]"
-        return self.collected(node.generators, "$r.push({})", pair, "$.dictOf($r)")
+    def write_DictComp(self, node: ast.DictComp) -> str:
+        pair = f"[{self.write_expression(node.key)}, {self.write_expression(node.value)}]"
+        return self.write_comprehension(node.generators, "$r.push({})", pair, "$.makeDict($r)")
 
-    def of_GeneratorExp(self, node: ast.GeneratorExp) -> str:
-        return f"(function* () {{ {self.loops(node.generators, 'yield ' + self.of(node.elt))} }})()"
+    def write_GeneratorExp(self, node: ast.GeneratorExp) -> str:
+        return f"(function* () {{ {self.write_loops(node.generators, 'yield ' + self.write_expression(node.elt))} }})()"
 
-    def collected(self, generators: List[ast.comprehension], push: str, value: str, result: str) -> str:
-        """Writes a comprehension that is collected at once."""
-        return f"(() => {{ const $r = []; {self.loops(generators, push.format(value))} return {result}; }})()"
+    def write_comprehension(self, generators: List[ast.comprehension], push: str, value: str, result: str) -> str:
+        """Writes a comprehension that is evaluated immediately."""
+        return f"(() => {{ const $r = []; {self.write_loops(generators, push.format(value))} return {result}; }})()"
 
-    def loops(self, generators: List[ast.comprehension], inside: str) -> str:
+    def write_loops(self, generators: List[ast.comprehension], inside: str) -> str:
         """Writes a comprehension's loops."""
         for part in reversed(generators):
-            tests = "".join(f"if (!{self.true(test)}) {{ continue; }} " for test in part.ifs)
-            value = self.temporary()
-            names = sorted(stored([ast.Expr(part.target)]))
-            bound = f"let {', '.join(map(renamed, names))}; " + self.assigned(part.target, value)
-            inside = f"for (const {value} of $.iter({self.of(part.iter)})) {{ {bound}{tests}{inside}; }}"
+            tests = "".join(f"if (!{self.write_condition(test)}) {{ continue; }} " for test in part.ifs)
+            value = self.new_name()
+            names = sorted(list_stored_names([ast.Expr(part.target)]))
+            bound = f"let {', '.join(map(rename, names))}; " + self.write_assignment(part.target, value)
+            inside = f"for (const {value} of $.iter({self.write_expression(part.iter)})) {{ {bound}{tests}{inside}; }}"
         return inside
 
-    def assigned(self, target: ast.expr, value: str) -> str:
-        """Writes what gives a target a value."""
+    def write_assignment(self, target: ast.expr, value: str) -> str:
+        """Writes an assignment to a target."""
         if isinstance(target, ast.Name):
-            return f"{renamed(target.id)} = {value}; "
+            return f"{rename(target.id)} = {value}; "
         if isinstance(target, ast.Attribute):
-            return f"{self.of(target.value)}.{target.attr} = {value}; "
+            return f"{self.write_expression(target.value)}.{target.attr} = {value}; "
         if isinstance(target, ast.Subscript):
-            return f"$.put({self.of(target.value)}, {self.of(target.slice)}, {value}); "
-        if isinstance(target, (ast.Tuple, ast.List)) and not any(isinstance(it, ast.Starred) for it in target.elts):
-            name = self.temporary()
-            parts = [self.assigned(it, f"{name}[{place}]") for place, it in enumerate(target.elts)]
-            return f"{name} = $.unpacked({value}, {len(parts)}); " + "".join(parts)
-        raise Untranslated(f"line {target.lineno}: {ast.dump(target)}")
+            return f"$.setItem({self.write_expression(target.value)}, {self.write_expression(target.slice)}, {value}); "
+        if isinstance(target, (ast.Tuple, ast.List)) and not any(isinstance(elt, ast.Starred) for elt in target.elts):
+            name = self.new_name()
+            parts = [self.write_assignment(element, f"{name}[{place}]") for place, element in enumerate(target.elts)]
+            return f"{name} = $.unpackItems({value}, {len(parts)}); " + "".join(parts)
+        raise UntranslatableError(f"line {target.lineno}: {ast.dump(target)}")
 
-    def parameters(self, arguments: ast.arguments, skip: int = 0) -> str:
+    def write_parameters(self, arguments: ast.arguments, skip: int = 0) -> str:
         """Writes parameters with their defaults."""
-        assert not arguments.kwonlyargs and not arguments.kwarg, "words with names alone"
+        assert not arguments.kwonlyargs and not arguments.kwarg, "keyword-only parameters"
         defaults: List[Optional[ast.expr]] = [None] * (len(arguments.args) - len(arguments.defaults))
         pairs = list(zip(arguments.args, [*defaults, *arguments.defaults]))[skip:]
-        found = [renamed(it.arg) + (f" = {self.of(default)}" if default else "") for it, default in pairs]
+        found = [
+            rename(argument.arg) + (f" = {self.write_expression(default)}" if default else "")
+            for argument, default in pairs
+        ]
         return ", ".join(found + ([f"...{arguments.vararg.arg}"] if arguments.vararg else []))
 
 
@@ -278,191 +300,207 @@ class Statements(Expressions):
         super().__init__()
         self.caught: List[str] = []
 
-    def block(self, nodes: List[ast.stmt]) -> str:
-        """Writes statements; a first text that documents is left out."""
-        return "".join(self.statement(node) for node in nodes)
+    def write_block(self, nodes: List[ast.stmt]) -> str:
+        """Writes statements, without the docstring."""
+        return "".join(self.write_statement(node) for node in nodes)
 
-    def statement(self, node: ast.stmt) -> str:
+    def write_statement(self, node: ast.stmt) -> str:
         """Writes a statement."""
-        write: Optional[Callable[[ast.stmt], str]] = getattr(self, f"do_{type(node).__name__}", None)
+        write: Optional[Callable[[ast.stmt], str]] = getattr(self, f"write_{type(node).__name__}", None)
         if write is None:
-            raise Untranslated(f"line {node.lineno}: {type(node).__name__}")
+            raise UntranslatableError(f"line {node.lineno}: {type(node).__name__}")
         return write(node)
 
-    def do_Expr(self, node: ast.Expr) -> str:
-        return "" if isinstance(node.value, ast.Constant) else f"{self.of(node.value)};\n"
+    def write_Expr(self, node: ast.Expr) -> str:
+        return "" if isinstance(node.value, ast.Constant) else f"{self.write_expression(node.value)};\n"
 
-    def do_Pass(self, node: ast.Pass) -> str:
+    def write_Pass(self, node: ast.Pass) -> str:
         return ""
 
-    def do_Continue(self, node: ast.Continue) -> str:
+    def write_Continue(self, node: ast.Continue) -> str:
         return "continue;\n"
 
-    def do_Break(self, node: ast.Break) -> str:
+    def write_Break(self, node: ast.Break) -> str:
         return "break;\n"
 
-    def do_Return(self, node: ast.Return) -> str:
-        return f"return {self.of(node.value) if node.value else 'null'};\n"
+    def write_Return(self, node: ast.Return) -> str:
+        return f"return {self.write_expression(node.value) if node.value else 'null'};\n"
 
-    def do_Assign(self, node: ast.Assign) -> str:
-        if isinstance(node.value, ast.Subscript) and ast.unparse(node.value.value) in GENERIC:
+    def write_Assign(self, node: ast.Assign) -> str:
+        if isinstance(node.value, ast.Subscript) and ast.unparse(node.value.value) in GENERIC_TYPES:
             return ""
-        value = self.of(node.value)
+        value = self.write_expression(node.value)
         if len(node.targets) == 1 and isinstance(node.targets[0], ast.Name):
-            return self.assigned(node.targets[0], value) + "\n"
-        name = self.temporary()
-        return f"{name} = {value}; " + "".join(self.assigned(it, name) for it in node.targets) + "\n"
+            return self.write_assignment(node.targets[0], value) + "\n"
+        name = self.new_name()
+        return f"{name} = {value}; " + "".join(self.write_assignment(target, name) for target in node.targets) + "\n"
 
-    def do_AnnAssign(self, node: ast.AnnAssign) -> str:
-        return self.assigned(node.target, self.of(node.value)) + "\n" if node.value else ""
+    def write_AnnAssign(self, node: ast.AnnAssign) -> str:
+        return self.write_assignment(node.target, self.write_expression(node.value)) + "\n" if node.value else ""
 
-    def do_AugAssign(self, node: ast.AugAssign) -> str:
-        value = f"$.{BINARY[type(node.op)]}({self.of(self.read(node.target))}, {self.of(node.value)})"
-        return self.assigned(node.target, value) + "\n"
+    def write_AugAssign(self, node: ast.AugAssign) -> str:
+        value = f"$.{BINARY_OPERATORS[type(node.op)]}({self.write_expression(self.write_target(node.target))}, {self.write_expression(node.value)})"
+        return self.write_assignment(node.target, value) + "\n"
 
-    def read(self, target: ast.expr) -> ast.expr:
-        """Returns a target as a value."""
+    def write_target(self, target: ast.expr) -> ast.expr:
+        """Returns a target as an expression that is read."""
         return ast.parse(ast.unparse(target), mode="eval").body
 
-    def do_If(self, node: ast.If) -> str:
+    def write_If(self, node: ast.If) -> str:
         if isinstance(node.test, ast.Name) and node.test.id == "TYPE_CHECKING":
             return ""
-        text = f"if ({self.true(node.test)}) {{\n{self.block(node.body)}}}"
-        return text + (f" else {{\n{self.block(node.orelse)}}}\n" if node.orelse else "\n")
+        text = f"if ({self.write_condition(node.test)}) {{\n{self.write_block(node.body)}}}"
+        return text + (f" else {{\n{self.write_block(node.orelse)}}}\n" if node.orelse else "\n")
 
-    def do_While(self, node: ast.While) -> str:
+    def write_While(self, node: ast.While) -> str:
         assert not node.orelse
-        return f"while ({self.true(node.test)}) {{\n{self.block(node.body)}}}\n"
+        return f"while ({self.write_condition(node.test)}) {{\n{self.write_block(node.body)}}}\n"
 
-    def do_For(self, node: ast.For) -> str:
+    def write_For(self, node: ast.For) -> str:
         assert not node.orelse
-        value = self.temporary()
-        bound = self.assigned(node.target, f"{value}$")
-        return f"for (const {value}$ of $.iter({self.of(node.iter)})) {{\n{bound}\n{self.block(node.body)}}}\n"
+        value = self.new_name()
+        bound = self.write_assignment(node.target, f"{value}$")
+        return f"for (const {value}$ of $.iter({self.write_expression(node.iter)})) {{\n{bound}\n{self.write_block(node.body)}}}\n"
 
-    def do_Raise(self, node: ast.Raise) -> str:
-        return f"throw {self.of(node.exc) if node.exc else self.caught[-1]};\n"
+    def write_Raise(self, node: ast.Raise) -> str:
+        return f"throw {self.write_expression(node.exc) if node.exc else self.caught[-1]};\n"
 
-    def do_Assert(self, node: ast.Assert) -> str:
-        return f"$.hold({self.true(node.test)});\n"
+    def write_Assert(self, node: ast.Assert) -> str:
+        return f"$.assertTrue({self.write_condition(node.test)});\n"
 
-    def do_Delete(self, node: ast.Delete) -> str:
-        found = [it for it in node.targets if isinstance(it, ast.Subscript)]
+    def write_Delete(self, node: ast.Delete) -> str:
+        found = [target for target in node.targets if isinstance(target, ast.Subscript)]
         assert len(found) == len(node.targets), "del of a name"
-        return "".join(f"$.remove({self.of(it.value)}, {self.of(it.slice)});\n" for it in found)
+        return "".join(
+            f"$.deleteItem({self.write_expression(result.value)}, {self.write_expression(result.slice)});\n"
+            for result in found
+        )
 
-    def do_Try(self, node: ast.Try) -> str:
+    def write_Try(self, node: ast.Try) -> str:
         assert not node.orelse and not node.finalbody
-        name = self.temporary() + "e"
+        name = self.new_name() + "e"
         self.caught.append(name)
-        text = f"try {{\n{self.block(node.body)}}} catch ({name}) {{\n"
+        text = f"try {{\n{self.write_block(node.body)}}} catch ({name}) {{\n"
         for handler in node.handlers:
             assert handler.type is not None
-            bound = f"{renamed(handler.name)} = {name};\n" if handler.name else ""
-            text += f"if ($.isinstance({name}, {self.of(handler.type)})) {{\n{bound}{self.block(handler.body)}}} else "
+            bound = f"{rename(handler.name)} = {name};\n" if handler.name else ""
+            text += f"if ($.isinstance({name}, {self.write_expression(handler.type)})) {{\n{bound}{self.write_block(handler.body)}}} else "
         self.caught.pop()
         return text + f"{{ throw {name}; }}\n}}\n"
 
-    def do_FunctionDef(self, node: ast.FunctionDef) -> str:
-        names = json.dumps([it.arg for it in node.args.args])
-        text = f"function {renamed(node.name)}({self.parameters(node.args)}) {{\n{self.body(node, 0)}}}\n"
-        return text + f"{renamed(node.name)}.$names = {names};\n"
+    def write_FunctionDef(self, node: ast.FunctionDef) -> str:
+        names = json.dumps([arg.arg for arg in node.args.args])
+        text = f"function {rename(node.name)}({self.write_parameters(node.args)}) {{\n{self.write_body(node, 0)}}}\n"
+        return text + f"{rename(node.name)}.$names = {names};\n"
 
-    def body(self, node: ast.FunctionDef, skip: int) -> str:
-        """Writes a function's body, with the names that it binds before."""
+    def write_body(self, node: ast.FunctionDef, skip: int) -> str:
+        """Writes a function's body, preceded by the declarations of the names that it binds."""
         before, self.temporaries = self.temporaries, 0
-        text = self.block(node.body)
-        given = {it.arg for it in node.args.args}
-        names = sorted(map(renamed, stored(node.body) - given)) + [f"$t{n + 1}" for n in range(self.temporaries)]
+        text = self.write_block(node.body)
+        given = {arg.arg for arg in node.args.args}
+        names = sorted(map(rename, list_stored_names(node.body) - given)) + [
+            f"$t{n + 1}" for n in range(self.temporaries)
+        ]
         self.temporaries = before
         bound = f"let {', '.join(names)};\n" if names else ""
         return ("const self = this;\n" if skip else "") + bound + text + "return null;\n"
 
-    def do_ClassDef(self, node: ast.ClassDef) -> str:
-        """Writes a class; of a dataclass its first method too."""
-        base = self.of(node.bases[0]) if node.bases else "$.Object"
-        methods = [it for it in node.body if isinstance(it, ast.FunctionDef)]
-        said = [ast.unparse(it) for it in node.decorator_list]
+    def write_ClassDef(self, node: ast.ClassDef) -> str:
+        """Writes a class; for a dataclass also its __init__."""
+        base = self.write_expression(node.bases[0]) if node.bases else "$.Object"
+        methods = [each for each in node.body if isinstance(each, ast.FunctionDef)]
+        said = [ast.unparse(element) for element in node.decorator_list]
         text, names = f"class {node.name} extends {base} {{\n", {}
-        if any(it.startswith("dataclass") for it in said):
-            found, names["__init__"] = self.first_method(node)
+        if any(item.startswith("dataclass") for item in said):
+            found, names["__init__"] = self.write_dataclass_init(node)
             text += found
         for method in methods:
-            is_property = any(ast.unparse(it) == "property" for it in method.decorator_list)
-            names[method.name] = [it.arg for it in method.args.args[1:]]
+            is_property = any(ast.unparse(decorator) == "property" for decorator in method.decorator_list)
+            names[method.name] = [arg.arg for arg in method.args.args[1:]]
             word = "get " if is_property else ""
-            text += f"{word}{method.name}({self.parameters(method.args, 1)}) {{\n{self.body(method, 1)}}}\n"
+            text += f"{word}{method.name}({self.write_parameters(method.args, 1)}) {{\n{self.write_body(method, 1)}}}\n"
         text += f"}}\n{node.name}.$names = {json.dumps(names)};\n"
         if said == ["dataclass"]:
             text += f"{node.name}.$fields = {json.dumps(names['__init__'])};\n"
         return text
 
-    def first_method(self, node: ast.ClassDef) -> Tuple[str, List[str]]:
-        """Writes the first method of a dataclass: each field with its default."""
-        fields = [it for it in node.body if isinstance(it, ast.AnnAssign)]
+    def write_dataclass_init(self, node: ast.ClassDef) -> Tuple[str, List[str]]:
+        """Writes the __init__ of a dataclass: each field with its default."""
+        fields = [item for item in node.body if isinstance(item, ast.AnnAssign)]
         base = node.bases[0].id if node.bases and isinstance(node.bases[0], ast.Name) else ""
-        names = [it.target.id for it in fields if isinstance(it.target, ast.Name)]
+        names = [other_field.target.id for other_field in fields if isinstance(other_field.target, ast.Name)]
         inherited = self.fields.get(base, [])
-        self.fields[node.name] = inherited + [(name, it.value) for name, it in zip(names, fields)]
-        words = [renamed(name) + self.default(value) for name, value in self.fields[node.name]]
-        body = "".join(f"this.{name} = {renamed(name)};\n" for name, _ in self.fields[node.name])
+        self.fields[node.name] = inherited + [(name, field.value) for name, field in zip(names, fields)]
+        words = [rename(name) + self.write_default(value) for name, value in self.fields[node.name]]
+        body = "".join(f"this.{name} = {rename(name)};\n" for name, _ in self.fields[node.name])
         return f"__init__({', '.join(words)}) {{\n{body}}}\n", [name for name, _ in self.fields[node.name]]
 
     fields: Dict[str, List[Tuple[str, Optional[ast.expr]]]] = {}
 
-    def default(self, value: Optional[ast.expr]) -> str:
+    def write_default(self, value: Optional[ast.expr]) -> str:
         """Writes a field's default."""
         if value is None:
             return ""
         if isinstance(value, ast.Call) and isinstance(value.func, ast.Name) and value.func.id == "field":
-            return f" = $.apply({self.of(value.keywords[0].value)}, [])"
-        return f" = {self.of(value)}"
+            return f" = $.apply({self.write_expression(value.keywords[0].value)}, [])"
+        return f" = {self.write_expression(value)}"
 
-    def do_Import(self, node: ast.Import) -> str:
-        return "".join(f"{it.name} = $.module({json.dumps(it.name)});\n" for it in node.names if it.name not in TYPES)
+    def write_Import(self, node: ast.Import) -> str:
+        return "".join(
+            f"{name.name} = $.module({json.dumps(name.name)});\n"
+            for name in node.names
+            if name.name not in SKIPPED_MODULES
+        )
 
-    def do_ImportFrom(self, node: ast.ImportFrom) -> str:
-        if node.module in TYPES:
+    def write_ImportFrom(self, node: ast.ImportFrom) -> str:
+        if node.module in SKIPPED_MODULES:
             return ""
         assert node.module is not None
         if node.module == PACKAGE:
-            return "".join(f"{it.asname or it.name} = $.module({json.dumps(it.name)});\n" for it in node.names)
+            return "".join(
+                f"{other_name.asname or other_name.name} = $.module({json.dumps(other_name.name)});\n"
+                for other_name in node.names
+            )
         name = json.dumps(node.module.removeprefix(PACKAGE + "."))
-        return "".join(f"{it.asname or it.name} = $.module({name}).{it.name};\n" for it in node.names)
+        return "".join(f"{item.asname or item.name} = $.module({name}).{item.name};\n" for item in node.names)
 
 
-def imported(nodes: List[ast.stmt]) -> Set[str]:
-    """Returns the names that imports bind, also those inside of functions."""
+def list_imported_names(nodes: List[ast.stmt]) -> Set[str]:
+    """Returns the names that imports bind, also those inside functions."""
     found: Set[str] = set()
     for node in nodes:
         for part in ast.walk(node):
-            if isinstance(part, ast.Import) or (isinstance(part, ast.ImportFrom) and part.module not in TYPES):
-                found |= {it.asname or it.name for it in part.names if it.name not in TYPES}
+            if isinstance(part, ast.Import) or (
+                isinstance(part, ast.ImportFrom) and part.module not in SKIPPED_MODULES
+            ):
+                found |= {name.asname or name.name for name in part.names if name.name not in SKIPPED_MODULES}
     return found
 
 
-def module(path: Path) -> str:
-    """Writes a module as a function that runs once."""
+def translate_module(path: Path) -> str:
+    """Writes a module as a function that is executed once."""
     tree = ast.parse(path.read_text(encoding="utf-8"))
     writer = Statements()
-    text = writer.block(tree.body)
-    made = {it.name for it in tree.body if isinstance(it, (ast.FunctionDef, ast.ClassDef))}
-    bound = imported(tree.body) | stored(tree.body)
-    names = sorted(map(renamed, bound)) + [f"$t{n + 1}" for n in range(writer.temporaries)]
-    exported = ", ".join(sorted(map(renamed, made | stored(tree.body))))
+    text = writer.write_block(tree.body)
+    made = {item.name for item in tree.body if isinstance(item, (ast.FunctionDef, ast.ClassDef))}
+    bound = list_imported_names(tree.body) | list_stored_names(tree.body)
+    names = sorted(map(rename, bound)) + [f"$t{n + 1}" for n in range(writer.temporaries)]
+    exported = ", ".join(sorted(map(rename, made | list_stored_names(tree.body))))
     head = f"let {', '.join(names)};\n" if names else ""
     return f'$.modules["{path.stem}"] = () => {{\n{head}{text}return {{ {exported} }};\n}};\n'
 
 
 def main() -> int:
     folder, *names = sys.argv[1:]
-    print("// Made by web/build.sh from conformance/hidlog_conformance: the rules by which the page judges a log.")
+    print(
+        "// Generated by web/build.sh from conformance/hidlog_conformance: the rules with which the page judges a log."
+    )
     print('(() => {\n"use strict";\nconst $ = globalThis.hidlogPython;')
-    print(f"const {{ {', '.join(BUILTINS)} }} = $.builtins;")
+    print(f"const {{ {', '.join(BUILTIN_NAMES)} }} = $.builtins;")
     for name in names:
         try:
-            print(module(Path(folder, f"{name}.py")))
-        except (Untranslated, AssertionError) as fault:
+            print(translate_module(Path(folder, f"{name}.py")))
+        except (UntranslatableError, AssertionError) as fault:
             print(f"translate.py: {name}.py: {fault}", file=sys.stderr)
             return 1
     print("})();")

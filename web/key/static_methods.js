@@ -1,6 +1,6 @@
-// The static functions of PublicKeyCredential, which say what this key does.
+// The static methods of PublicKeyCredential, with the capabilities of this key.
 import { fromBase64url } from "./bytes.js";
-import { failure } from "./errors.js";
+import { makeDomError } from "./errors.js";
 import { readCreationJson, readRequestJson } from "./options.js";
 
 const CAPABILITIES = {
@@ -12,20 +12,20 @@ const CAPABILITIES = {
     "extension:largeBlob": false, "extension:minPinLength": false, "extension:prf": false,
 };
 
-/** Returns the buffer of a text in base64url, by the name of its member. @param {string} where */
-const decoding = (where) => (name, text) => {
+/** Returns a function that decodes a base64url member. @param {string} where */
+const makeDecoder = (where) => (name, text) => {
     const bytes = fromBase64url(text);
     if (!bytes) {
-        throw failure("EncodingError", `${where}'${name}' contains invalid base64url data`);
+        throw makeDomError("EncodingError", `${where}'${name}' contains invalid base64url data`);
     }
     return bytes.buffer;
 };
 
-const withBuffers = (values, decode, path) =>
+const decodeMembers = (values, decode, path) =>
     Object.fromEntries(Object.entries(values).map(([name, text]) => [name, decode(`${path}.${name}`, text)]));
 
-/** Extensions with buffers for their texts in base64url. */
-const decodedExtensions = (extensions, decode) => {
+/** Extensions with their base64url members decoded. */
+const decodeExtensions = (extensions, decode) => {
     const made = { ...extensions };
     if (made.credBlob !== undefined) {
         made.credBlob = decode("extensions.credBlob", made.credBlob);
@@ -34,34 +34,35 @@ const decodedExtensions = (extensions, decode) => {
         made.largeBlob = { ...made.largeBlob, write: decode("extensions.largeBlob.write", made.largeBlob.write) };
     }
     if (made.prf?.eval) {
-        made.prf = { ...made.prf, eval: withBuffers(made.prf.eval, decode, "extensions.prf.eval") };
+        made.prf = { ...made.prf, eval: decodeMembers(made.prf.eval, decode, "extensions.prf.eval") };
     }
     if (made.prf?.evalByCredential) {
         const each = Object.entries(made.prf.evalByCredential);
         const path = "extensions.prf.evalByCredential";
-        made.prf.evalByCredential = Object.fromEntries(each.map(([id, it]) => [id, withBuffers(it, decode, path)]));
+        made.prf.evalByCredential = Object.fromEntries(
+            each.map(([id, values]) => [id, decodeMembers(values, decode, path)]));
     }
     return made;
 };
 
-/** Options with buffers for their texts in base64url. */
-const decodedOptions = ({ where, options }, lists) => {
-    const decode = decoding(where);
+/** Options with their base64url members decoded. */
+const decodeOptions = ({ where, options }, lists) => {
+    const decode = makeDecoder(where);
     const made = { hints: [], ...options, challenge: decode("challenge", options.challenge) };
-    for (const name of lists.filter((it) => options[it])) {
-        made[name] = options[name].map((it) => ({ ...it, id: decode(`${name}.id`, it.id) }));
+    for (const name of lists.filter((list) => options[list])) {
+        made[name] = options[name].map((descriptor) => ({ ...descriptor, id: decode(`${name}.id`, descriptor.id) }));
     }
     if (options.user) {
         made.user = { ...options.user, id: decode("user.id", options.user.id) };
     }
     if (options.extensions) {
-        made.extensions = decodedExtensions(options.extensions, decode);
+        made.extensions = decodeExtensions(options.extensions, decode);
     }
     return made;
 };
 
-/** Static functions of a key by their names. @param {import("./security_key.js").SecurityKey} key */
-export const staticsOf = (key) => ({
+/** The static methods for a key. @param {import("./security_key.js").SecurityKey} key */
+export const makeStaticMethods = (key) => ({
     async isUserVerifyingPlatformAuthenticatorAvailable() {
         return key.capabilities.userVerifyingPlatformAuthenticator;
     },
@@ -71,12 +72,12 @@ export const staticsOf = (key) => ({
     async getClientCapabilities() {
         return { ...CAPABILITIES, ...key.capabilities };
     },
-    parseCreationOptionsFromJSON(...given) {
-        return decodedOptions(readCreationJson(given), ["excludeCredentials"]);
+    parseCreationOptionsFromJSON(...args) {
+        return decodeOptions(readCreationJson(args), ["excludeCredentials"]);
     },
-    parseRequestOptionsFromJSON(...given) {
-        const read = readRequestJson(given);
+    parseRequestOptionsFromJSON(...args) {
+        const read = readRequestJson(args);
         read.options.userVerification ??= "preferred";
-        return decodedOptions(read, ["allowCredentials"]);
+        return decodeOptions(read, ["allowCredentials"]);
     },
 });

@@ -1,11 +1,11 @@
-// What is kept of credentials outside of the proved core: ids of other lengths than its 32 bytes, and backup flags.
+// What is stored of credentials outside the verified core: IDs that do not have its 32 bytes, and backup flags.
 import { fromBase64url, toBase64url } from "./bytes.js";
 
-export const CORE_ID = 32;
-export const ID_MOST = 1023;
-// An unknown id that is longer goes to the core as its hash, so that 64 of them fit into a message.
-const SENT_MOST = 64;
-// The bits of the flags (WebAuthn Level 3, section 6.1).
+export const CORE_ID_BYTES = 32;
+export const MAX_ID_BYTES = 1023;
+// A longer unknown ID is sent to the core as its hash, so that 64 of them fit into a message.
+const MAX_SENT_IDS = 64;
+// Flags of the authenticator data (WebAuthn Level 3, section 6.1).
 const FLAGS = { UV: 0x04, BE: 0x08, BS: 0x10 };
 export const { UV } = FLAGS;
 
@@ -14,12 +14,12 @@ export const { UV } = FLAGS;
 /** @type {Backup} */
 const NO_BACKUP = { eligibility: false, state: false };
 
-/** The names of flags. @param {number} flags */
-export const namesOf = (flags) =>
+/** The names of flags, comma-separated. @param {number} flags */
+export const formatFlags = (flags) =>
     Object.entries(FLAGS).filter(([, bit]) => flags & bit).map(([name]) => name).join(", ");
 
-/** The ids and the backup flags, by the ids that the core has, in base64url. */
-export class Outside {
+/** IDs and backup flags, by the core's IDs in base64url. */
+export class CredentialMetadata {
     /** @type {Map<string, string>} */
     #pages = new Map();
     /** @type {Map<string, string>} */
@@ -27,8 +27,8 @@ export class Outside {
     /** @type {Map<string, Backup>} */
     #backups = new Map();
 
-    /** Names a credential of the core for the page. @param {Uint8Array} coreId @param {Uint8Array} pageId */
-    name(coreId, pageId) {
+    /** Sets the ID that the page sees for a credential. @param {Uint8Array} coreId @param {Uint8Array} pageId */
+    setPageId(coreId, pageId) {
         const [core, page] = [coreId, pageId].map(toBase64url);
         if (core !== page) {
             this.#pages.set(core, page);
@@ -36,28 +36,28 @@ export class Outside {
         }
     }
 
-    /** The id that a page sees. @param {Uint8Array} coreId @returns {Uint8Array} */
+    /** The ID that the page sees. @param {Uint8Array} coreId @returns {Uint8Array} */
     pageId(coreId) {
         const found = this.#pages.get(toBase64url(coreId));
         return found ? fromBase64url(found) : coreId;
     }
 
-    /** The id that the core has. @param {Uint8Array} pageId @returns {Uint8Array} */
+    /** The ID that the core has. @param {Uint8Array} pageId @returns {Uint8Array} */
     coreId(pageId) {
         const found = this.#cores.get(toBase64url(pageId));
         return found ? fromBase64url(found) : pageId;
     }
 
     /**
-     * The ids by which a request names credentials.
+     * The credential IDs to send in a request.
      * @param {Uint8Array[]} pageIds @param {(bytes: Uint8Array) => Promise<Uint8Array>} hash SHA-256
      */
     sentIds(pageIds, hash) {
-        return Promise.all(pageIds.map(this.coreId, this).map((id) => (id.length > SENT_MOST ? hash(id) : id)));
+        return Promise.all(pageIds.map(this.coreId, this).map((id) => (id.length > MAX_SENT_IDS ? hash(id) : id)));
     }
 
-    /** Sets the flags of a credential. @param {Uint8Array} coreId @param {Backup} backup */
-    backUp(coreId, backup) {
+    /** Sets the backup flags of a credential. @param {Uint8Array} coreId @param {Backup} backup */
+    setBackup(coreId, backup) {
         this.#backups.set(toBase64url(coreId), backup);
     }
 
@@ -67,7 +67,7 @@ export class Outside {
     }
 
     /**
-     * The bits that are set in what a credential signs.
+     * The flags to set in what a credential signs.
      * @param {Uint8Array} coreId @param {boolean} isVerified
      */
     flags(coreId, isVerified) {

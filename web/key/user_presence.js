@@ -1,13 +1,13 @@
-// What the user does: the presence that a test chooses, after a delay.
-import { checkKind, checkName } from "./checks.js";
-import { pause, unlessEnded } from "./platform.js";
+// The simulated user: provides the presence that a test sets, after a delay.
+import { checkType, checkName } from "./argument_checks.js";
+import { sleepUnlessAborted, raceWithSignal } from "./platform.js";
 
-const WORDS = ["granted", "denied", "timeout"];
-const PRESENCE = [...WORDS, "click", "none"];
-const WANTED = `one of ${PRESENCE.map((it) => `"${it}"`).join(", ")}, or a function that gives one of them`;
+const PRESENCE_WORDS = ["granted", "denied", "timeout"];
+const PRESENCE_VALUES = [...PRESENCE_WORDS, "click", "none"];
+const EXPECTED_PRESENCE = `one of ${PRESENCE_VALUES.map((word) => `"${word}"`).join(", ")}, or a function that returns one of them`;
 
-/** Asks in the page, by two buttons. @param {string} question @param {AbortSignal} signal */
-const clicked = async (question, signal) => {
+/** Asks with a dialog of two buttons. @param {string} question @param {AbortSignal} signal */
+const askInDialog = async (question, signal) => {
     const dialog = document.createElement("dialog");
     dialog.append(`${question} `);
     const answered = new Promise((done) => {
@@ -21,7 +21,7 @@ const clicked = async (question, signal) => {
     (document.body ?? document.documentElement).append(dialog);
     dialog.showModal();
     try {
-        return await unlessEnded(answered, signal);
+        return await raceWithSignal(answered, signal);
     } finally {
         dialog.remove();
     }
@@ -29,9 +29,9 @@ const clicked = async (question, signal) => {
 
 /** @param {unknown} presence */
 const checkPresence = (presence) => {
-    checkKind("presence", presence, typeof presence === "string" || typeof presence === "function", WANTED);
+    checkType("presence", presence, typeof presence === "string" || typeof presence === "function", EXPECTED_PRESENCE);
     if (typeof presence === "string") {
-        checkName("presence", presence, PRESENCE);
+        checkName("presence", presence, PRESENCE_VALUES);
     }
 };
 
@@ -61,36 +61,37 @@ export class User {
     }
 
     set delay(delay) {
-        checkKind("delay", delay, typeof delay === "number" && delay >= 0 && delay < 2 ** 31, "milliseconds");
+        checkType("delay", delay, typeof delay === "number" && delay >= 0 && delay < 2 ** 31, "milliseconds");
         this.#delay = delay;
     }
 
-    /** Waits until presence is another. @param {AbortSignal} signal */
+    /** Waits until presence changes. @param {AbortSignal} signal */
     #changed(signal) {
         const changed = new Promise((done) => {
             this.#changes.addEventListener("change", done, { once: true });
         });
-        return unlessEnded(changed, signal);
+        return raceWithSignal(changed, signal);
     }
 
     /**
-     * What the user does at a question, once they have done it.
+     * Waits for what the user does at a question.
      * @param {string} question @param {AbortSignal} signal @returns {Promise<string>}
      */
     async answer(question, signal) {
         if (this.#delay > 0) {
-            await pause(this.#delay, signal);
+            await sleepUnlessAborted(this.#delay, signal);
         }
         const presence = this.#presence;
-        const word = typeof presence === "function" ? await unlessEnded(presence(question, signal), signal) : presence;
+        const word = typeof presence === "function"
+            ? await raceWithSignal(presence(question, signal), signal) : presence;
         if (word === "none") {
             await this.#changed(signal);
             return this.answer(question, signal);
         }
         if (word === "click") {
-            return clicked(question, signal);
+            return askInDialog(question, signal);
         }
-        checkKind("what presence gave", word, WORDS.includes(word), WANTED);
+        checkType("the result of presence", word, PRESENCE_WORDS.includes(word), EXPECTED_PRESENCE);
         return word;
     }
 }

@@ -1,16 +1,17 @@
-// The rows that are in sight as a sequence drawing: a lifeline for each channel of the hosts, one for the key
-// and one for its caller. It sets `globalThis.hidlogDrawing`.
+// Draws the visible rows as a sequence diagram: a lifeline for each channel, one for the key and one for its caller.
+// Sets `globalThis.hidlogDrawing`.
 "use strict";
 
 (() => {
     const { BROADCAST } = globalThis.hidlogSession;
-    const HEAD = 28;
-    const MOST_CHANNELS = 6;
+    const HEAD_HEIGHT = 28;
+    const MAX_CHANNELS = 6;
 
-    /** Places the lifelines in a width. Channels past the last place share it. */
+    /** Places the lifelines in a width. Channels beyond the maximum share the last one. */
     const placeLifelines = (channels, width) => {
-        const own = channels.slice(0, MOST_CHANNELS);
-        const names = [...own.map((it) => (it === BROADCAST ? "broadcast" : `host ${it}`)), "key", "caller"];
+        const own = channels.slice(0, MAX_CHANNELS);
+        const hosts = own.map((channel) => (channel === BROADCAST ? "broadcast" : `host ${channel}`));
+        const names = [...hosts, "key", "caller"];
         const left = width < 700 ? 84 : 120;
         const step = (width - left - 40) / Math.max(1, names.length - 1);
         const places = names.map((_, at) => left + at * step);
@@ -19,8 +20,8 @@
         return { names, places, ofChannel, key, caller, isNarrow: width < 700 };
     };
 
-    /** A pen over a canvas, in the page's colours. */
-    class Pen {
+    /** Draws on a canvas in the colours of the page. */
+    class CanvasPen {
         constructor(canvas) {
             const scale = globalThis.devicePixelRatio || 1;
             const { clientWidth: width, clientHeight: height } = canvas.parentElement;
@@ -74,7 +75,7 @@
             return this.to.measureText(text).width;
         }
 
-        /** A text over whatever is drawn there, cut to a width. */
+        /** Draws a text with a background, truncated to a width. */
         label(text, x, y, colour, most, align = "center") {
             const { to } = this;
             let shown = text;
@@ -91,39 +92,39 @@
     }
 
     /** The colour behind a row. */
-    const behindRow = (row, isChosen) => {
+    const rowColour = (row, isChosen) => {
         if (row.differs) {
             return "fault-paper";
         }
         return isChosen ? "chosen" : "paper";
     };
 
-    /** What a row says, in fewer words. */
-    const brief = (says) => says.replace(/^CBOR \d+ {2}|^KEEPALIVE 1 \d\d {2}/, "");
+    /** A row's text, shortened. */
+    const shortenText = (says) => says.replace(/^CBOR \d+ {2}|^KEEPALIVE 1 \d\d {2}/, "");
 
     /**
-     * A text between two lifelines; else a whole one beside them, where it has the space. Where there is little space it
-     * begins at the first lifeline.
+     * Draws a text between two lifelines, or beside them if it only fits there. On narrow pages it starts at the first
+     * lifeline.
      */
-    const between = (pen, lanes, [from, to], y, text, colour) => {
-        const said = brief(text);
+    const drawTextBetween = (pen, lanes, [from, to], y, text, colour) => {
+        const label = shortenText(text);
         const [least, most] = [Math.min(from, to), Math.max(from, to)];
         if (lanes.isNarrow) {
             const left = lanes.places[0] + 12;
-            pen.label(said, left, y, colour, pen.width - left - 12, "left");
-        } else if (pen.widthOf(said) > most - least - 26 && pen.widthOf(said) < pen.width - most - 20) {
-            pen.label(said, most + 10, y, colour, pen.width - most - 20, "left");
+            pen.label(label, left, y, colour, pen.width - left - 12, "left");
+        } else if (pen.widthOf(label) > most - least - 26 && pen.widthOf(label) < pen.width - most - 20) {
+            pen.label(label, most + 10, y, colour, pen.width - most - 20, "left");
         } else {
-            pen.label(said, (from + to) / 2, y, colour, most - least - 26);
+            pen.label(label, (from + to) / 2, y, colour, most - least - 26);
         }
     };
 
-    const arrow = (pen, lanes, ends, y, text, colour, dashes) => {
+    const drawArrow = (pen, lanes, ends, y, text, colour, dashes) => {
         pen.arrow(ends[0], ends[1], y, colour, dashes);
-        between(pen, lanes, ends, y, text, colour);
+        drawTextBetween(pen, lanes, ends, y, text, colour);
     };
 
-    /** How each kind of row is drawn. */
+    /** Draws a row by its kind. */
     const drawRow = (pen, lanes, row, y) => {
         const { line } = row;
         const host = lanes.ofChannel(line.channel);
@@ -132,55 +133,55 @@
         const left = lanes.places[0] + 8;
         const comment = (colour) => pen.label(row.says, left, y, colour, pen.width - left - 12, "left");
         const drawers = {
-            host: () => arrow(pen, lanes, [host, lanes.key], y, row.says, row.noise ? "faint" : "host", noise ?? []),
-            key: () => arrow(pen, lanes, [lanes.key, host], y, row.says, "key", keepalive),
-            caller: () => arrow(pen, lanes, [lanes.caller, lanes.key], y, row.says, "caller", noise ?? []),
-            need: () => arrow(pen, lanes, [lanes.key, lanes.caller], y, row.says, "need", [4, 4]),
+            host: () => drawArrow(pen, lanes, [host, lanes.key], y, row.says, row.noise ? "faint" : "host", noise ?? []),
+            key: () => drawArrow(pen, lanes, [lanes.key, host], y, row.says, "key", keepalive),
+            caller: () => drawArrow(pen, lanes, [lanes.caller, lanes.key], y, row.says, "caller", noise ?? []),
+            need: () => drawArrow(pen, lanes, [lanes.key, lanes.caller], y, row.says, "need", [4, 4]),
             time: () => pen.line(lanes.places[0], y, lanes.caller, y, "line", [1, 4]),
             fault: () => comment("fault"),
         };
         (drawers[row.kind] ?? (() => comment("faint")))();
-        if (line.moment !== undefined) {
-            pen.label(`${line.moment} ms`, lanes.isNarrow ? 2 : 10, y, "faint", lanes.isNarrow ? 62 : 90, "left");
+        if (line.timeMs !== undefined) {
+            pen.label(`${line.timeMs} ms`, lanes.isNarrow ? 2 : 10, y, "faint", lanes.isNarrow ? 62 : 90, "left");
         }
     };
 
-    /** A bar from its host to the key, and what came of it, over all that is to the right of its host. */
+    /** Draws a transaction as a bar from its host to the key, with its result. */
     const drawTransaction = (pen, lanes, row, y) => {
         const host = lanes.ofChannel(row.transaction.channel);
         const colour = row.isRefused ? "fault" : "host";
         const left = lanes.isNarrow ? lanes.places[0] + 12 : host + 24;
         pen.line(host, y, lanes.key, y, colour, [], 3);
         pen.label(row.outcome, left, y, row.isRefused ? "fault" : "ink", pen.width - left - 12, "left");
-        pen.label(`${row.line.moment} ms`, lanes.isNarrow ? 2 : 10, y, "faint", lanes.isNarrow ? 62 : 90, "left");
+        pen.label(`${row.line.timeMs} ms`, lanes.isNarrow ? 2 : 10, y, "faint", lanes.isNarrow ? 62 : 90, "left");
     };
 
     const drawHeads = (pen, lanes) => {
         pen.to.fillStyle = pen.colour("raised");
-        pen.to.fillRect(0, 0, pen.width, HEAD);
-        pen.line(0, HEAD, pen.width, HEAD, "line");
+        pen.to.fillRect(0, 0, pen.width, HEAD_HEIGHT);
+        pen.line(0, HEAD_HEIGHT, pen.width, HEAD_HEIGHT, "line");
         const most = lanes.places.length > 1 ? lanes.places[1] - lanes.places[0] - 8 : 200;
         lanes.names.forEach((name, at) => {
             const x = Math.min(lanes.places[at], pen.width - 28);
             pen.to.fillStyle = pen.colour("ink");
             pen.to.textAlign = "center";
-            pen.to.fillText(name, x, HEAD / 2, most);
+            pen.to.fillText(name, x, HEAD_HEIGHT / 2, most);
             pen.to.textAlign = "start";
         });
     };
 
-    /** Draws the rows from `first` on, as far as the canvas reaches, the first one's top at `top`. */
+    /** Draws the rows from `first` on, as far as they fit. `top` is the top of the first one. */
     const draw = (canvas, { count, rowAt, first, top, rowHeight, channels, chosen }) => {
-        const pen = new Pen(canvas);
+        const pen = new CanvasPen(canvas);
         const lanes = placeLifelines(channels, pen.width);
         const last = Math.min(count, first + Math.ceil(pen.height / rowHeight) + 1);
         for (const place of lanes.places) {
-            pen.line(place, HEAD, place, pen.height, "line");
+            pen.line(place, HEAD_HEIGHT, place, pen.height, "line");
         }
         for (let at = first; at < last; at += 1) {
-            const y = HEAD + top + (at - first) * rowHeight;
+            const y = HEAD_HEIGHT + top + (at - first) * rowHeight;
             const row = rowAt(at);
-            pen.behind = behindRow(row, at === chosen);
+            pen.behind = rowColour(row, at === chosen);
             if (pen.behind !== "paper") {
                 pen.to.fillStyle = pen.colour(pen.behind);
                 pen.to.fillRect(0, y, pen.width, rowHeight);
@@ -190,5 +191,5 @@
         drawHeads(pen, lanes);
     };
 
-    globalThis.hidlogDrawing = { draw, HEAD };
+    globalThis.hidlogDrawing = { draw, HEAD_HEIGHT };
 })();

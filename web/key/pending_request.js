@@ -1,17 +1,17 @@
-// The requests of a page: one at a time, each ended by its answer, its signal, its time-out, or another that takes
-// over.
-import { busy, failure, notAllowed } from "./errors.js";
+// The requests of a page: one at a time, each ended by its response, its signal, its timeout, or another that replaces
+// it.
+import { makeBusy, makeDomError, makeNotAllowed } from "./errors.js";
 import { clearTimeout, setTimeout } from "./platform.js";
 
-// Chromium's upper bound of what pages ask for.
-const DEFAULT_TIMEOUT = 600_000;
-const TIMER_MOST = 2 ** 31 - 1;
+// Chromium's maximum timeout.
+const DEFAULT_TIMEOUT_MS = 600_000;
+const MAX_TIMER_MS = 2 ** 31 - 1;
 
 /**
  * @typedef {object} Limits what ends a request early
  * @property {AbortSignal} [signal] the page's
  * @property {number} [timeout] in milliseconds
- * @property {boolean} isConditional it waits for an account without a dialog, until another request takes over
+ * @property {boolean} isConditional whether it waits for an account without a dialog, until another request replaces it
  */
 
 export class Requests {
@@ -19,23 +19,23 @@ export class Requests {
     #current = null;
 
     /**
-     * Serves a request. Once it is over, which is at once where it is aborted, the next can begin.
+     * Runs a request. The next can start once it has ended, at once if it is aborted.
      * @template T @param {Limits} limits @param {(signal: AbortSignal) => Promise<T>} serve @returns {Promise<T>}
      */
-    async run({ signal, timeout = DEFAULT_TIMEOUT, isConditional }, serve) {
+    async run({ signal, timeout = DEFAULT_TIMEOUT_MS, isConditional }, serve) {
         if (this.#current && (isConditional || !this.#current.isConditional)) {
-            throw busy();
+            throw makeBusy();
         }
-        this.#current?.end(failure("AbortError", "Another request took over."));
+        this.#current?.end(makeDomError("AbortError", "Another request took over."));
         if (timeout === 0 && !isConditional) {
-            throw notAllowed("its timeout is 0");
+            throw makeNotAllowed("the timeout is 0");
         }
         const ending = new AbortController();
         const current = { isConditional, end: (reason) => this.#end(current, ending, reason) };
         this.#current = current;
         const abort = () => current.end(signal.reason);
-        const late = () => current.end(notAllowed(`the user did nothing for ${timeout} ms`));
-        const timer = isConditional ? undefined : setTimeout(late, Math.min(timeout, TIMER_MOST));
+        const late = () => current.end(makeNotAllowed(`no user action within ${timeout} ms`));
+        const timer = isConditional ? undefined : setTimeout(late, Math.min(timeout, MAX_TIMER_MS));
         signal?.addEventListener("abort", abort);
         try {
             return await serve(ending.signal);
@@ -46,7 +46,7 @@ export class Requests {
         }
     }
 
-    /** Ends the request that waits, where one does. @param {unknown} reason */
+    /** Aborts the pending request, if any. @param {unknown} reason */
     end(reason) {
         this.#current?.end(reason);
     }

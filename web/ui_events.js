@@ -1,122 +1,124 @@
-// What a person does with the page: opens logs, compares them, moves about.
+// User input: opening and comparing logs, and navigation.
 "use strict";
 
 (() => {
     const {
-        AT_ONCE, FINDING_WORDS, MOST_BYTES, ROW, at, choose, commanded, decoder, firstLines, hasAnswers, inMegabytes,
-        readSession, reading, refresh, render, rest, rowAt, session, setView, showDetail, state, tell, tellStory, withBar,
-        withView, withWords,
+        MAX_BYTES_AT_ONCE, EXPLAIN_OPTIONS, MAX_BYTES, ROW_HEIGHT, getElement, choose, decoder, firstLines,
+        hasResponses, formatMegabytes, readSession, readInSlices, refresh, render, finishReading, rowAt, runCommand,
+        currentSession, setView, showDetail, state, showNotice, showSummary, runWithProgressBar, prepareView,
+        afterExplaining,
     } = globalThis.hidlogViewer;
-    const { Shown } = globalThis.hidlogShown;
-    const { HEAD } = globalThis.hidlogDrawing;
+    const { LineTexts } = globalThis.hidlogShown;
+    const { HEAD_HEIGHT } = globalThis.hidlogDrawing;
     const difference = globalThis.hidlogDifference;
-    const TOOLS = ["view", "check", "judge", "download", "save", "search", "channel", "fold"];
+    const TOOL_IDS = ["view", "check", "judge", "download", "save", "search", "channel", "fold"];
 
     // ---- opening
 
-    const enable = (isOpen) => {
-        TOOLS.forEach((id) => {
-            at(id).disabled = !isOpen;
+    const enableTools = (isOpen) => {
+        TOOL_IDS.forEach((id) => {
+            getElement(id).disabled = !isOpen;
         });
-        at("empty").hidden = isOpen;
-        at("empty").style.display = isOpen ? "none" : "";
+        getElement("empty").hidden = isOpen;
+        getElement("empty").style.display = isOpen ? "none" : "";
     };
 
-    const lineAt = (number) => {
+    const readLine = (number) => {
         const from = firstLines(state.bytes, number - 1).length;
         const end = state.bytes.indexOf(10, from);
         return { from, to: end < 0 ? state.bytes.length : end, isCut: end < 0 };
     };
 
-    /** Why a line is none, for whoever made the file. */
-    const reasonOf = (number) => {
+    /** Why a line is invalid, if the file tells. */
+    const findReason = (number) => {
         const { bytes } = state;
-        const { from, to, isCut } = lineAt(number);
+        const { from, to, isCut } = readLine(number);
         if (number === 1 && bytes.subarray(0, 512).some((byte) => byte > 126 || (byte < 32 && ![9, 10, 13].includes(byte)))) {
             const first = Array.from(bytes.subarray(0, 4), (byte) => byte.toString(16).padStart(2, "0")).join(" ");
-            return `This file is no text: it begins with the bytes ${first}. A log is a file of lines.`;
+            return `This is not a text file: it starts with the bytes ${first}. A log is a text file.`;
         }
         if (bytes[to - 1] === 13) {
-            return "Its lines end with CR LF, as on Windows: save it with LF alone.";
+            return "Lines end with CR LF, as on Windows; save the file with LF.";
         }
         if (isCut) {
-            return `The file is cut: its last line ends after ${to - from} characters.`;
+            return `The file is truncated: its last line ends after ${to - from} characters.`;
         }
         return to - from > 255 ? "The line is longer than 255 characters." : "";
     };
 
-    const faultyLine = (outcome) => {
-        const { from, to } = lineAt(outcome.line);
+    const getInvalidLine = (outcome) => {
+        const { from, to } = readLine(outcome.line);
         return {
             number: outcome.line, place: outcome.line - 1, text: decoder.decode(state.bytes.subarray(from, Math.min(to, from + 200))),
             kind: "comment", isFault: true, at: null, channel: null, message: null, transaction: null,
-            says: globalThis.hidlog.faultText(outcome),
+            says: globalThis.hidlog.formatError(outcome),
         };
     };
 
-    /** Words for what came of playing the log. */
-    const describe = (outcome) => {
+    /** Reports the result of playing the log. */
+    const reportOutcome = (outcome) => {
         if (outcome.status === 2) {
-            tell(`The snapshot was refused (${outcome.fault}).`, true);
+            showNotice(`The snapshot was rejected (${outcome.errorCode}).`, true);
         } else if (outcome.status === 1) {
-            const text = globalThis.hidlog.faultText(outcome);
-            const words = { 0: "Not all can be played", 1: "This is no session log" };
-            tell(`${words[outcome.line] ?? "The log is shown up to its faulty line"}: ${text}.`, true);
+            const text = globalThis.hidlog.formatError(outcome);
+            const words = { 0: "The log cannot be played completely", 1: "This is not a session log" };
+            showNotice(`${words[outcome.line] ?? "The log is shown up to its first invalid line"}: ${text}.`, true);
         } else {
-            const from = state.snapshotName ? `, on the credentials of ${state.snapshotName}` : "";
+            const from = state.snapshotName ? `, with the credentials of ${state.snapshotName}` : "";
             const count = state.sessions.recorded.length;
-            tell(`${state.name}: ${count} lines${from}, not compared yet: Check does it.`);
+            showNotice(`${state.name}: ${count} lines${from}. Press Check to compare them with the key.`);
         }
     };
 
-    /** Shows a session that was read. */
+    /** Shows a session after reading it. */
     const showRead = (recorded, outcome) => {
         state.sessions = { recorded };
         if (outcome.line > 0 && outcome.status === 1) {
-            state.sessions.recorded.fault = faultyLine(outcome);
-            state.reason = reasonOf(outcome.line);
+            state.sessions.recorded.invalidLine = getInvalidLine(outcome);
+            state.reason = findReason(outcome.line);
         }
-        enable(true);
+        enableTools(true);
         setView("recorded");
-        describe(outcome);
-        if (!outcome.status && !hasAnswers() && state.sessions.recorded.length && state.bytes.length <= AT_ONCE) {
+        reportOutcome(outcome);
+        if (!outcome.status && !hasResponses() && state.sessions.recorded.length && state.bytes.length <= MAX_BYTES_AT_ONCE) {
             setView("replayed");
-            tell(`${state.name} has inputs alone: what the key sends is shown with them.`);
+            showNotice(`${state.name} has only inputs. They are shown with the packets that the key sends.`);
         }
     };
 
     const playAtOnce = () => {
         const outcome = state.core.run("replay", state.bytes, state.snapshot);
         const isFaulty = outcome.status === 1 && outcome.line > 0;
-        const sound = isFaulty ? firstLines(state.bytes, outcome.line - 1) : state.bytes;
-        state.texts = { recorded: sound, replayed: outcome.text };
-        showRead(readSession(sound, state.core), outcome);
+        const valid = isFaulty ? firstLines(state.bytes, outcome.line - 1) : state.bytes;
+        state.texts = { recorded: valid, replayed: outcome.text };
+        showRead(readSession(valid, state.core), outcome);
     };
 
-    /** The fault of a long log: the core's, or what was seen in reading it, where the core gave up before. */
-    const faultOf = ({ faulty, outcome }) => {
+    /** The error of a long log: the core's, or one found while reading it if the core stopped before. */
+    const findError = ({ invalidLineNumber, outcome }) => {
         if (outcome.status === 1 && outcome.line) {
             return outcome;
         }
-        return faulty ? { status: 1, fault: 1, line: faulty, packet: 0 } : { status: 0, line: 0 };
+        const error = { status: 1, errorCode: 1, line: invalidLineNumber, packet: 0 };
+        return invalidLineNumber ? error : { status: 0, line: 0 };
     };
 
-    /** Reads a long log, and shows its first lines meanwhile. */
+    /** Reads a long log, and meanwhile shows its first lines. */
     const playLong = () => {
         const { bytes } = state;
-        tell(`${state.name}: ${inMegabytes(bytes.length)} are read.`);
+        showNotice(`${state.name}: reading ${formatMegabytes(bytes.length)}.`);
         const first = (reader) => {
             state.sessions = { recorded: reader.soFar() };
-            at("empty").style.display = "none";
+            getElement("empty").style.display = "none";
             refresh();
         };
-        withBar(reading(bytes), `${state.name} is read …`, (reader) => {
-            const fault = faultOf(reader);
-            state.texts = { recorded: fault.line ? firstLines(bytes, fault.line - 1) : bytes };
-            showRead(reader.session(fault.line ? fault.line - 1 : undefined), fault);
-            const { error } = reader.outcome;
-            if (error) {
-                tell(`${state.name}: its transactions aren't known: ${error}`, true);
+        runWithProgressBar(readInSlices(bytes), `Reading ${state.name} …`, (reader) => {
+            const error = findError(reader);
+            state.texts = { recorded: error.line ? firstLines(bytes, error.line - 1) : bytes };
+            showRead(reader.session(error.line ? error.line - 1 : undefined), error);
+            const { error: unread } = reader.outcome;
+            if (unread) {
+                showNotice(`${state.name}: cannot find its transactions: ${unread}`, true);
             }
         }, first);
     };
@@ -126,7 +128,7 @@
         state.shown.endAll();
         globalThis.hidlogJudge.clear();
         Object.assign(state, { difference: null, reason: "", view: "recorded", sessions: {}, texts: {} });
-        if (state.bytes.length > AT_ONCE) {
+        if (state.bytes.length > MAX_BYTES_AT_ONCE) {
             playLong();
         } else {
             playAtOnce();
@@ -135,93 +137,93 @@
 
     const openBytes = (name, bytes) => {
         if (!bytes.length) {
-            tell(`${name} is empty: a log has a line at least.`, true);
+            showNotice(`${name} is empty; a log must have at least one line.`, true);
             return;
         }
-        // A snapshot begins as a CBOR map of two members, which no line of a log does.
+        // A snapshot starts like a CBOR map of two members; no log line does.
         if (bytes[0] === 0xa2) {
             Object.assign(state, { snapshot: bytes, snapshotName: name });
-            tell(`Logs are played from the credentials of ${name} now.`);
+            showNotice(`Logs are now played with the credentials of ${name}.`);
             if (state.bytes) {
                 play();
             }
             return;
         }
-        // Of a capture with several keys the first is shown.
-        const [log, ...others] = globalThis.hidlogCaptures.logsIn(bytes);
+        // Of a capture with several keys, the first is shown.
+        const [log, ...others] = globalThis.hidlogCaptures.readLogs(bytes);
         Object.assign(state, { name, bytes: log.bytes });
         play();
         if (others.length) {
-            tell(`${name}: ${log.name} is shown; the capture has ${others.map((it) => it.name).join(", ")} too.`);
+            showNotice(`${name}: showing ${log.name}; the capture also has ${others.map((other) => other.name).join(", ")}.`);
         }
     };
 
     const openFile = async (file) => {
-        if (file.size > MOST_BYTES) {
-            const most = inMegabytes(MOST_BYTES);
-            tell(`${file.name} has ${inMegabytes(file.size)}: the page takes logs of up to ${most}.`, true);
+        if (file.size > MAX_BYTES) {
+            const most = formatMegabytes(MAX_BYTES);
+            showNotice(`${file.name} has ${formatMegabytes(file.size)}; the maximum is ${most}.`, true);
             return;
         }
         try {
             openBytes(file.name, new Uint8Array(await file.arrayBuffer()));
         } catch (error) {
-            tell(`${file.name} could not be opened: ${error.message}`, true);
+            showNotice(`cannot open ${file.name}: ${error.message}`, true);
         }
     };
 
     // ---- comparing
 
-    /** Opens the transaction of the line that differs, and brings that line into the middle. */
+    /** Unfolds the transaction of the line that differs, and centers that line. */
     const goToDifference = () => {
         const { marked } = state.difference;
-        const line = session().line(marked - 1);
+        const line = currentSession().line(marked - 1);
         if (line?.transaction) {
             state.unfolded.add(line.transaction.place);
         }
-        at("search").value = "";
-        at("channel").value = "";
+        getElement("search").value = "";
+        getElement("channel").value = "";
         const find = () => state.rows.findIndex((number) => number === marked - 1);
         refresh(() => {
             if (find() >= 0) {
                 choose(find(), true);
                 return;
             }
-            at("fold").checked = false;
+            getElement("fold").checked = false;
             refresh(() => choose(find(), true));
         });
     };
 
-    const showDifference = (outcome) => setView("recorded", () => withView("replayed", () => {
+    const showDifference = (outcome) => setView("recorded", () => prepareView("replayed", () => {
         state.difference = difference.find(state.sessions.recorded, state.sessions.replayed, outcome);
-        tell(`${state.name}: ${state.difference.says}.`, true);
+        showNotice(`${state.name}: ${state.difference.says}.`, true);
         const { recorded, replayed } = state.sessions;
-        withWords([recorded, replayed], () => {
+        afterExplaining([recorded, replayed], () => {
             state.difference.explained = difference.explain(state.difference, state.shown);
-            state.reason = difference.inWords(state.difference);
+            state.reason = difference.toSentence(state.difference);
             state.shown.keep([recorded.log], [replayed.log]);
-            tellStory();
+            showSummary();
             showDetail();
         });
         goToDifference();
     }));
 
     const check = () => {
-        if (!hasAnswers()) {
-            tell(`${state.name} has inputs alone: there is no packet of the key to compare.`);
+        if (!hasResponses()) {
+            showNotice(`${state.name} has only inputs: there are no packets of the key to compare.`);
             return;
         }
-        commanded("check", (outcome) => {
+        runCommand("check", (outcome) => {
             if (outcome.status === 0) {
-                tell(`Compared, the key sends just this: ${decoder.decode(outcome.text).trim()}.`);
-            } else if (outcome.status === 1 && outcome.fault === 3) {
+                showNotice(`The log matches the key: ${decoder.decode(outcome.text).trim()}.`);
+            } else if (outcome.status === 1 && outcome.errorCode === 3) {
                 showDifference(outcome);
             } else {
-                describe(outcome);
+                reportOutcome(outcome);
             }
         });
     };
 
-    const offer = (parts, name, type) => {
+    const offerDownload = (parts, name, type) => {
         const link = document.createElement("a");
         link.href = URL.createObjectURL(new Blob(parts, { type }));
         link.download = name;
@@ -232,25 +234,25 @@
     const download = () => {
         const isOwn = state.view === "recorded";
         const name = isOwn ? state.name : `${state.view}_${state.name}`;
-        offer([isOwn ? state.bytes : state.texts[state.view]], name, "text/plain");
+        offerDownload([isOwn ? state.bytes : state.texts[state.view]], name, "text/plain");
     };
 
     const savePage = async () => {
         try {
-            offer([await globalThis.hidlogSave.pageOf(state)], `${state.name.replace(/\.log$/, "")}.html`, "text/html");
+            offerDownload([await globalThis.hidlogSave.makePage(state)], `${state.name.replace(/\.log$/, "")}.html`, "text/html");
         } catch (error) {
-            tell(`The page can't be saved: ${error.message}`, true);
+            showNotice(`Cannot save the page: ${error.message}`, true);
         }
     };
 
-    // ---- hands
+    // ---- controls
 
     const setDrawn = (isDrawn) => {
         state.isDrawn = isDrawn;
-        at("table-tab").setAttribute("aria-selected", String(!isDrawn));
-        at("drawing-tab").setAttribute("aria-selected", String(isDrawn));
-        at("rows-pane").classList.toggle("drawn", isDrawn);
-        at("space").style.marginTop = isDrawn ? `${HEAD}px` : "0";
+        getElement("table-tab").setAttribute("aria-selected", String(!isDrawn));
+        getElement("drawing-tab").setAttribute("aria-selected", String(isDrawn));
+        getElement("rows-pane").classList.toggle("drawn", isDrawn);
+        getElement("space").style.marginTop = isDrawn ? `${HEAD_HEIGHT}px` : "0";
         refresh();
     };
 
@@ -271,8 +273,8 @@
 
     const changeView = (view) => setView(view, () => {
         if (view === "quiet") {
-            const count = session().log.sources.size;
-            tell(count ? `${count} inputs are noise, and ticks stand in their place.` : "No input is noise.");
+            const count = currentSession().log.sources.size;
+            showNotice(count ? `The key ignores ${count} inputs; ticks replace them.` : "The key ignores no input.");
         }
     });
 
@@ -284,14 +286,14 @@
     const KEYS = {
         ArrowDown: () => choose(state.chosen + 1),
         ArrowUp: () => choose(state.chosen - 1),
-        PageDown: () => choose(state.chosen + Math.floor(at("scroller").clientHeight / ROW)),
-        PageUp: () => choose(state.chosen - Math.floor(at("scroller").clientHeight / ROW)),
+        PageDown: () => choose(state.chosen + Math.floor(getElement("scroller").clientHeight / ROW_HEIGHT)),
+        PageUp: () => choose(state.chosen - Math.floor(getElement("scroller").clientHeight / ROW_HEIGHT)),
         Home: () => choose(0),
         End: () => choose(state.rows.length - 1),
         Enter: () => toggleFold(state.chosen),
-        "/": () => at("search").focus(),
+        "/": () => getElement("search").focus(),
         c: check,
-        j: globalThis.hidlogJudge.press,
+        j: globalThis.hidlogJudge.onPress,
         v: nextView,
         t: () => setDrawn(!state.isDrawn),
         d: download,
@@ -301,18 +303,18 @@
     const cancel = () => {
         state.job.end();
         state.making.end();
-        rest();
-        tell(`${state.name}: cancelled.`);
+        finishReading();
+        showNotice(`${state.name}: cancelled.`);
     };
 
     const onKey = (event) => {
         const isField = ["INPUT", "SELECT"].includes(event.target.tagName) && event.target.type !== "checkbox";
         const isButton = event.target.tagName === "BUTTON" && event.key === "Enter";
         if (event.key === "Escape") {
-            at("scroller").focus();
+            getElement("scroller").focus();
         }
         if (event.target.id === "open" && (event.key === "Enter" || event.key === " ")) {
-            at("file").click();
+            getElement("file").click();
             event.preventDefault();
             return;
         }
@@ -326,7 +328,7 @@
 
     const onDrop = (event) => {
         event.preventDefault();
-        at("main").classList.remove("dropping");
+        getElement("main").classList.remove("dropping");
         const file = event.dataTransfer.files[0];
         if (file) {
             openFile(file);
@@ -344,11 +346,11 @@
         choose(state.rows.findIndex((_, place) => rowAt(place).says.includes("MakeCredential")));
     };
 
-    const listen = () => {
-        const on = (id, name, call) => at(id).addEventListener(name, call);
-        on("file", "change", () => at("file").files[0] && openFile(at("file").files[0]));
+    const addListeners = () => {
+        const on = (id, name, call) => getElement(id).addEventListener(name, call);
+        on("file", "change", () => getElement("file").files[0] && openFile(getElement("file").files[0]));
         on("example", "click", openExample);
-        on("view", "change", () => changeView(at("view").value));
+        on("view", "change", () => changeView(getElement("view").value));
         on("check", "click", check);
         on("download", "click", download);
         on("save", "click", savePage);
@@ -367,15 +369,15 @@
         document.addEventListener("paste", onPaste);
         document.addEventListener("dragover", (event) => {
             event.preventDefault();
-            at("main").classList.add("dropping");
+            getElement("main").classList.add("dropping");
         });
-        document.addEventListener("dragleave", () => at("main").classList.remove("dropping"));
+        document.addEventListener("dragleave", () => getElement("main").classList.remove("dropping"));
         document.addEventListener("drop", onDrop);
         globalThis.addEventListener("resize", render);
     };
 
-    /** Opens the log that a saved page has inside. */
-    const openOwn = () => {
+    /** Opens the log inside a saved page. */
+    const openEmbeddedLog = () => {
         const { fromBase64 } = globalThis.hidlogBytes;
         if (globalThis.HIDLOG_SNAPSHOT) {
             Object.assign(state, { snapshot: fromBase64(globalThis.HIDLOG_SNAPSHOT), snapshotName: "this page" });
@@ -384,16 +386,16 @@
     };
 
     const start = async () => {
-        listen();
+        addListeners();
         try {
             state.core = await globalThis.hidlog.load();
-            state.shown = new Shown(state.core, FINDING_WORDS);
+            state.shown = new LineTexts(state.core, EXPLAIN_OPTIONS);
         } catch (error) {
-            tell(`This browser can't run the core: it needs WebAssembly with BigInt (${error.message})`, true);
+            showNotice(`This browser cannot run the core: WebAssembly with BigInt is needed (${error.message})`, true);
             return;
         }
         if (globalThis.HIDLOG_LOG) {
-            openOwn();
+            openEmbeddedLog();
         } else if (location.hash.startsWith("#registration")) {
             openExample();
             setDrawn(location.hash.endsWith("drawing"));
