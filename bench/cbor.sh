@@ -2,8 +2,8 @@
 # Counts the instructions of `ctap_cbor::check` for a message of about 450 bytes, by callgrind, over 1,000 varied
 # makeCredential and getAssertion requests. Needs rt, valgrind and Python 3.
 #
-# The count is that of ten rounds over all messages, less that of none, so start-up and reading don't count. The
-# program is made in a folder of its own, beside a copy of the crate.
+# The count is that of ten rounds over all messages minus that of none, so startup and reading are excluded. The program
+# is built in a separate directory, with a copy of the crate.
 set -eu
 here=$(cd "$(dirname "$0")" && pwd)
 work=${1:-$(mktemp -d)}
@@ -13,7 +13,7 @@ rm -rf "$work/crates/ctap_cbor"
 cp -r "$here/../crates/ctap_cbor" "$work/crates/"
 printf 'ctap_cbor: byteorder thiserror\ncbor_bench: ctap_cbor\n' > "$work/crates.txt"
 cat > "$work/crates/cbor_bench/src/main.rt" <<'PROGRAM'
-//! Checks the messages of standard input, so many rounds as its first byte says, and tells how many are canonical.
+//! Checks the messages on standard input, for as many rounds as its first byte, and prints how many are canonical.
 #![tactic(auto)]
 
 use ctap_cbor::check;
@@ -58,10 +58,10 @@ cd "$work/crates/cbor_bench"
 rt run < "$work/ten" > "$work/answer"
 echo "canonical in ten rounds: $(tail -n 1 "$work/answer")"
 program=$(find out -maxdepth 3 -type f -executable -name 'cbor_bench*' | head -n 1)
-instructions() {
+count_instructions() {
     valgrind --tool=callgrind --callgrind-out-file="$work/callgrind.$1" "$program" < "$work/$1" 2>&1 > "$work/answer" |
         sed -n 's/.*Collected : //p'
 }
-none=$(instructions none)
-ten=$(instructions ten)
+none=$(count_instructions none)
+ten=$(count_instructions ten)
 echo "instructions for each check: $(((ten - none) / 10000))"

@@ -1,8 +1,8 @@
 #!/usr/bin/env python3
 """Writes 1,000 varied makeCredential and getAssertion requests as canonical CBOR, without the command byte.
 
-Each comes after its length, two bytes, low first. The first byte of the output is how often the program shall
-check them all: the first argument. The second argument, if given, is a file for a table of the lengths.
+Each is preceded by its length, two bytes, little-endian. The first byte of the output is the number of rounds, from the
+first argument. The second argument, if given, is a file for a table of the lengths.
 """
 import random
 import sys
@@ -35,14 +35,14 @@ def encode(value):
     return head(5, len(pairs)) + b"".join(k + v for k, v in pairs)
 
 
-def word(rng, least, most):
+def encode_text(rng, least, most):
     letters = "abcdefghijklmnopqrstuvwxyz-."
     if rng.random() < 0.2:
         letters += "äöüéñ"
     return "".join(rng.choice(letters) for _ in range(rng.randint(least, most)))
 
 
-def descriptor(rng):
+def encode_descriptor(rng):
     entry = {"id": rng.randbytes(rng.choice((16, 32, 48, 64))), "type": "public-key"}
     if rng.random() < 0.5:
         entry["transports"] = rng.sample(["usb", "nfc", "ble", "internal", "hybrid"], rng.randint(1, 3))
@@ -53,25 +53,29 @@ def make_credential(rng):
     algorithms = rng.sample([-7, -8, -35, -36, -37, -257, -258], rng.randint(1, 7))
     return {
         1: rng.randbytes(32),
-        2: {"id": word(rng, 8, 30), "name": word(rng, 5, 30)},
-        3: {"id": rng.randbytes(rng.randint(8, 64)), "name": word(rng, 5, 40), "displayName": word(rng, 5, 40)},
+        2: {"id": encode_text(rng, 8, 30), "name": encode_text(rng, 5, 30)},
+        3: {
+            "id": rng.randbytes(rng.randint(8, 64)),
+            "name": encode_text(rng, 5, 40),
+            "displayName": encode_text(rng, 5, 40),
+        },
         4: [{"alg": alg, "type": "public-key"} for alg in algorithms],
         7: {"rk": True} if rng.random() < 0.5 else {"rk": False, "uv": False},
     }
 
 
 def get_assertion(rng):
-    return {1: word(rng, 8, 30), 2: rng.randbytes(32), 5: {"up": True}}
+    return {1: encode_text(rng, 8, 30), 2: rng.randbytes(32), 5: {"up": True}}
 
 
 def request(rng):
-    """A request of 430 to 470 bytes: descriptors are added until it is that long."""
+    """Returns a request of 430 to 470 bytes, filled up with descriptors."""
     while True:
         made = rng.random() < 0.5
         value = make_credential(rng) if made else get_assertion(rng)
         listed = 5 if made else 3
         while len(encode(value)) < 430:
-            value.setdefault(listed, []).append(descriptor(rng))
+            value.setdefault(listed, []).append(encode_descriptor(rng))
         if len(encode(value)) <= 470:
             return encode(value)
 

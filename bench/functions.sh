@@ -1,11 +1,11 @@
 #!/usr/bin/env bash
-# Lists the functions of this repository's libraries that a registration runs: crates/hello_key, built without inlining,
-# under callgrind, from where an input is stepped to the packets that are taken out. What a derive writes, closures and
-# laws are left out, and so are a session's start and the host's part of the program; its PING is in. Then come their
-# number and the values that they only hand on (handed_on.py). hello_key is proved first, which takes a minute, or half an
-# hour where no library was proved yet. Needs rt and valgrind.
+# Lists the library functions that a registration runs: crates/hello_key, built without inlining, under callgrind, from
+# Session::step to the packets taken out. Derived functions, closures and laws are excluded, and so are the start of a
+# session and the host's part of the program; its PING is included. Then prints their number, and the values that they
+# only pass on (pass_through_args.py). hello_key is proved first, which takes a minute, or half an hour if no library
+# was proved yet. Needs rt and valgrind.
 #
-#     bench/functions.sh [FOLDER]
+#     bench/functions.sh [DIR]
 set -euo pipefail
 top=$(cd "$(dirname "$0")/.." && pwd)
 work=${1:-$(mktemp -d)}
@@ -21,4 +21,4 @@ callgrind_annotate --threshold=100 --inclusive=yes "$work/profile" |
     grep -E "^($libraries)::" | grep -vE '(Destruct|Debug|Default|PartialEq)[^:]*::|::(fn|laws)::' |
     tee "$work/functions"
 wc -l <"$work/functions"
-"$top/bench/handed_on.py" "$work/functions"
+"$top/bench/pass_through_args.py" "$work/functions"

@@ -1,6 +1,6 @@
-// Registers a credential on a key that is held, and signs in so many times. What is timed is the calls alone.
+// Registers a credential on an in-memory key, and signs in COUNT times. Only the calls are timed.
 //
-//     key COUNT     writes seconds for the first and for the last thousand sign-ins
+//     key [COUNT]     prints the seconds for the first and the last thousand sign-ins; COUNT is at least 1000, or 10000
 #define _POSIX_C_SOURCE 199309L
 #include "hidlog.h"
 
@@ -13,17 +13,17 @@ static struct hidlog_key key;
 
 static void expect(int32_t found, int32_t expected, const char *what) {
     if (found != expected) {
-        fprintf(stderr, "key: %s returned %d and not %d\n", what, (int)found, (int)expected);
+        fprintf(stderr, "key: %s returned %d, expected %d\n", what, (int)found, (int)expected);
         exit(1);
     }
 }
 
-// Takes the packets that wait.
-static void take(int32_t waiting, int32_t expected, const char *what) {
+// Reads the queued packets.
+static void read_packets(int32_t waiting, int32_t expected, const char *what) {
     uint8_t packet[64];
     expect(waiting, expected, what);
     while (waiting > 0) {
-        waiting = hidlog_key_next(&key, packet);
+        waiting = hidlog_key_read_packet(&key, packet);
     }
 }
 
@@ -32,11 +32,11 @@ static int32_t send(uint64_t at, uint32_t channel, uint8_t command, const uint8_
     uint8_t packet[64] = {channel >> 24, channel >> 16, channel >> 8, channel, 0x80 | command, len >> 8, len};
     size_t first = len < 57 ? len : 57;
     memcpy(packet + 7, message, first);
-    int32_t waiting = hidlog_key_packet(&key, at, packet);
+    int32_t waiting = hidlog_key_write_packet(&key, at, packet);
     if (len > first) {
         memset(packet + 4, 0, 60);
         memcpy(packet + 5, message + first, len - first);
-        waiting = hidlog_key_packet(&key, at, packet);
+        waiting = hidlog_key_write_packet(&key, at, packet);
     }
     return waiting;
 }
@@ -52,24 +52,24 @@ static const uint8_t get_assertion[] = "\x02\xa2\x01\x6b" "example.com" "\x02\x5
 static void register_credential(void) {
     uint8_t id[32], nonce[8] = {0};
     memset(id, 0xaa, sizeof id);
-    take(send(0, 0xffffffff, 6, nonce, 8), 1, "INIT");
-    take(send(0, 1, 0x10, make_credential, sizeof make_credential - 1), 1, "authenticatorMakeCredential");
-    take(hidlog_key_presence(&key, 0, HIDLOG_GRANTED), 1, "presence");
-    take(hidlog_key_new_key(&key, 0, id, id, id), 0, "a new key");
-    take(hidlog_key_signature(&key, 0, nonce, 8), 4, "a signature");
+    read_packets(send(0, 0xffffffff, 6, nonce, 8), 1, "INIT");
+    read_packets(send(0, 1, 0x10, make_credential, sizeof make_credential - 1), 1, "authenticatorMakeCredential");
+    read_packets(hidlog_key_provide_presence(&key, 0, HIDLOG_PRESENCE_GRANTED), 1, "presence");
+    read_packets(hidlog_key_provide_key_pair(&key, 0, id, id, id), 0, "a new key");
+    read_packets(hidlog_key_provide_signature(&key, 0, nonce, 8), 4, "a signature");
 }
 
 static void sign_in(uint64_t at) {
     static const uint8_t signature[70] = {0x30, 0x44};
     struct hidlog_need need;
-    take(send(at, 1, 0x10, get_assertion, sizeof get_assertion - 1), 1, "authenticatorGetAssertion");
-    expect(hidlog_key_need(&key, &need), HIDLOG_NEED_PRESENCE, "need");
-    take(hidlog_key_presence(&key, at, HIDLOG_GRANTED), 1, "presence");
-    expect(hidlog_key_need(&key, &need), HIDLOG_NEED_SIGNATURE, "need");
-    take(hidlog_key_signature(&key, at, signature, sizeof signature), 4, "a signature");
+    read_packets(send(at, 1, 0x10, get_assertion, sizeof get_assertion - 1), 1, "authenticatorGetAssertion");
+    expect(hidlog_key_get_need(&key, &need), HIDLOG_NEED_PRESENCE, "need");
+    read_packets(hidlog_key_provide_presence(&key, at, HIDLOG_PRESENCE_GRANTED), 1, "presence");
+    expect(hidlog_key_get_need(&key, &need), HIDLOG_NEED_SIGNATURE, "need");
+    read_packets(hidlog_key_provide_signature(&key, at, signature, sizeof signature), 4, "a signature");
 }
 
-static double now(void) {
+static double now_seconds(void) {
     struct timespec t;
     clock_gettime(CLOCK_MONOTONIC, &t);
     return (double)t.tv_sec + (double)t.tv_nsec / 1e9;
@@ -77,21 +77,26 @@ static double now(void) {
 
 int main(int count, char **words) {
     static const uint8_t aaguid[16];
-    unsigned long sign_ins = count == 2 ? strtoul(words[1], NULL, 10) : 0;
+    char *end = "";
+    unsigned long sign_ins = count == 1 ? 10000 : strtoul(words[1], &end, 10);
+    if (count > 2 || *end != 0 || sign_ins < 1000) {
+        fputs("usage: key [COUNT], at least 1000\n", stderr);
+        return 2;
+    }
     double first = 0, last = 0, begun = 0;
     key.memory = aligned_alloc(16, (hidlog_key_size() + 15) / 16 * 16);
-    expect(hidlog_key_make(&key, aaguid, 0, aaguid, 0), 0, "make");
+    expect(hidlog_key_init(&key, aaguid, 0, aaguid, 0), 0, "make");
     register_credential();
     for (unsigned long i = 0; i < sign_ins; i++) {
         if (i == 0 || i + 1000 == sign_ins) {
-            begun = now();
+            begun = now_seconds();
         }
         sign_in(i);
         if (i == 999) {
-            first = now() - begun;
+            first = now_seconds() - begun;
         }
     }
-    last = now() - begun;
+    last = now_seconds() - begun;
     printf("%lu sign-ins: the first 1000 took %.6f s, the last 1000 %.6f s\n", sign_ins, first, last);
     return 0;
 }

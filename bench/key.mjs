@@ -1,12 +1,22 @@
-// Registers a credential on a key that is held, in the WebAssembly module, and signs in so many times: what bench/key.c
-// does. What is timed is the calls alone.
+// Registers a credential on an in-memory key of the WebAssembly module, and signs in COUNT times, like bench/key.c.
+// Only the calls are timed.
 //
-//     node bench/key.mjs MODULE COUNT     writes seconds for the first and for the last thousand sign-ins, the least and
-//                                         the median of all thousands (beside other work: chrt -f 1 node ..)
+//     node bench/key.mjs [MODULE [COUNT]]     prints the seconds for the first and the last thousand sign-ins, and the
+//                                             minimum and median of all thousands
+//
+// On a busy machine: chrt -f 1 node bench/key.mjs.
+//
+// MODULE is release/hidlog.wasm by default, COUNT 10000.
 import { readFileSync } from "node:fs";
+import { fileURLToPath } from "node:url";
 import { INITIALIZATION_DATA, PACKET_SIZE } from "../web/key/standard.js";
 
-const [path, count] = process.argv.slice(2);
+const MODULE = fileURLToPath(new URL("../release/hidlog.wasm", import.meta.url));
+const [path = MODULE, count = "10000"] = process.argv.slice(2);
+if (!/^[0-9]+$/.test(count) || Number(count) < 1000 || process.argv.length > 4) {
+    console.error("usage: node bench/key.mjs [MODULE [COUNT]], at least 1000");
+    process.exit(2);
+}
 const { instance } = await WebAssembly.instantiate(readFileSync(path), {});
 const { exports: core } = instance;
 const base = Math.ceil(Number(core.__heap_base.value) / 16) * 16;
@@ -22,63 +32,63 @@ const at = Object.fromEntries(Object.entries(places).map(([name, place]) => [nam
 
 const expect = (found, expected, what) => {
     if (found !== expected) {
-        throw new Error(`${what} returned ${found} and not ${expected}`);
+        throw new Error(`${what} returned ${found}, expected ${expected}`);
     }
 };
 
-/** Takes the packets that wait. */
-const take = (waiting, expected, what) => {
-    expect(waiting, expected, what);
-    for (let left = waiting; left > 0; ) {
-        left = core.hidlog_key_next(at.key, at.packet);
+/** Reads the queued packets. */
+const readPackets = (queued, expected, what) => {
+    expect(queued, expected, what);
+    for (let left = queued; left > 0; ) {
+        left = core.hidlog_key_read_packet(at.key, at.packet);
     }
 };
 
 /** Sends a message of at most 116 bytes on a channel. */
-const send = (moment, channel, command, message) => {
+const send = (nowMs, channel, command, message) => {
     bytes.fill(0, places.packet, places.packet + PACKET_SIZE);
     view.setUint32(places.packet, channel);
     view.setUint8(places.packet + 4, 0x80 | command);
     view.setUint16(places.packet + 5, message.length);
     bytes.set(message.subarray(0, INITIALIZATION_DATA), places.packet + 7);
-    let waiting = core.hidlog_key_packet(at.key, moment, at.packet);
+    let queued = core.hidlog_key_write_packet(at.key, nowMs, at.packet);
     if (message.length > INITIALIZATION_DATA) {
         bytes.fill(0, places.packet + 4, places.packet + 64);
         bytes.set(message.subarray(INITIALIZATION_DATA), places.packet + 5);
-        waiting = core.hidlog_key_packet(at.key, moment, at.packet);
+        queued = core.hidlog_key_write_packet(at.key, nowMs, at.packet);
     }
-    return waiting;
+    return queued;
 };
 
-const bytesOf = (text) => Uint8Array.from(text, (letter) => letter.charCodeAt(0));
+const parseHex = (text) => Uint8Array.from(text, (letter) => letter.charCodeAt(0));
 
 // {1: hash, 2: {"id": "example.com"}, 3: {"id": h'01'}, 4: [{"alg": -7, "type": "public-key"}], 7: {"rk": true}}
-const makeCredential = bytesOf(
+const makeCredential = parseHex(
     "\x01\xa5\x01\x58\x20" + "1".repeat(32) + "\x02\xa1\x62id\x6bexample.com\x03\xa1\x62id\x41\x01" +
     "\x04\x81\xa2\x63alg\x26\x64type\x6apublic-key\x07\xa1\x62rk\xf5",
 );
 
 // {1: "example.com", 2: hash}
-const getAssertion = bytesOf("\x02\xa2\x01\x6bexample.com\x02\x58\x20" + "2".repeat(32));
+const getAssertion = parseHex("\x02\xa2\x01\x6bexample.com\x02\x58\x20" + "2".repeat(32));
 
 view.setBigUint64(places.key, at.memory, true);
 bytes.fill(0xaa, places.id, places.id + 32);
-expect(core.hidlog_key_make(at.key, at.packet, 0n, at.packet, 0n), 0, "make");
-take(send(0n, 0xffffffff, 6, new Uint8Array(8)), 1, "INIT");
-take(send(0n, 1, 0x10, makeCredential), 1, "authenticatorMakeCredential");
-take(core.hidlog_key_presence(at.key, 0n, 0), 1, "presence");
-take(core.hidlog_key_new_key(at.key, 0n, at.id, at.id, at.id), 0, "a new key");
-take(core.hidlog_key_signature(at.key, 0n, at.id, 8n), 4, "a signature");
+expect(core.hidlog_key_init(at.key, at.packet, 0n, at.packet, 0n), 0, "init");
+readPackets(send(0n, 0xffffffff, 6, new Uint8Array(8)), 1, "INIT");
+readPackets(send(0n, 1, 0x10, makeCredential), 1, "authenticatorMakeCredential");
+readPackets(core.hidlog_key_provide_presence(at.key, 0n, 0), 1, "presence");
+readPackets(core.hidlog_key_provide_key_pair(at.key, 0n, at.id, at.id, at.id), 0, "a new key");
+readPackets(core.hidlog_key_provide_signature(at.key, 0n, at.id, 8n), 4, "a signature");
 
-const signIn = (moment) => {
-    take(send(moment, 1, 0x10, getAssertion), 1, "authenticatorGetAssertion");
-    expect(core.hidlog_key_need(at.key, at.need), 1, "need");
-    take(core.hidlog_key_presence(at.key, moment, 0), 1, "presence");
-    expect(core.hidlog_key_need(at.key, at.need), 3, "need");
-    take(core.hidlog_key_signature(at.key, moment, at.need, 70n), 4, "a signature");
+const signIn = (nowMs) => {
+    readPackets(send(nowMs, 1, 0x10, getAssertion), 1, "authenticatorGetAssertion");
+    expect(core.hidlog_key_get_need(at.key, at.need), 1, "need");
+    readPackets(core.hidlog_key_provide_presence(at.key, nowMs, 0), 1, "presence");
+    expect(core.hidlog_key_get_need(at.key, at.need), 3, "need");
+    readPackets(core.hidlog_key_provide_signature(at.key, nowMs, at.need, 70n), 4, "a signature");
 };
 
-const timed = (from, to) => {
+const timeSignIns = (from, to) => {
     const begun = performance.now();
     for (let i = from; i < to; i += 1) {
         signIn(BigInt(i));
@@ -88,7 +98,7 @@ const timed = (from, to) => {
 
 const THOUSAND = 1000;
 const seconds = Array.from({ length: Math.ceil(Number(count) / THOUSAND) }, (_, at) =>
-    timed(at * THOUSAND, (at + 1) * THOUSAND));
+    timeSignIns(at * THOUSAND, (at + 1) * THOUSAND));
 const sorted = [...seconds].sort();
-console.log(`${seconds.length * THOUSAND} sign-ins: the first 1000 took ${seconds[0]} s, the last 1000 ${seconds.at(-1)} s; `
-    + `of all thousands the least ${sorted[0]} s, the median ${sorted[sorted.length >> 1]} s`);
+console.log(`${seconds.length * THOUSAND} sign-ins: the first 1000 took ${seconds[0]} s, the last 1000 ${seconds.at(-1)} s;`
+    + ` minimum of all thousands ${sorted[0]} s, median ${sorted[sorted.length >> 1]} s`);

@@ -1,8 +1,7 @@
 #!/usr/bin/env bash
-# Counts the instructions of an outbox's calls, by callgrind: a longest message put and its 129 packets taken, and a
-# PING of one byte. Needs rt and valgrind. A count is that of 200 rounds less that of none, over 200. A first
-# argument names a folder with the crates to measure, instead of this repository's: say a checkout of an earlier
-# commit.
+# Counts the instructions of an outbox's calls, by callgrind: a message of maximum length put and its 129 packets
+# popped, and a message of one byte. Needs rt and valgrind. A count is that of 200 rounds minus that of none, over 200.
+# The first argument may name a directory with the crates to measure, such as a checkout of an earlier commit.
 set -eu
 here=$(cd "$(dirname "$0")/.." && pwd)
 from=${1:-$here}
@@ -61,12 +60,12 @@ cd "$work/crates/outbox_bench"
 printf '\0\0' > "$work/none"
 rt run < "$work/none" > /dev/null
 program=$(find out -maxdepth 3 -type f -executable -name 'outbox_bench*' | head -n 1)
-instructions() {
+count_instructions() {
     printf "$1" > "$work/words"
     valgrind --tool=callgrind --callgrind-out-file="$work/callgrind" "$program" < "$work/words" 2>&1 > "$work/answer" |
         sed -n 's/.*Collected : //p'
 }
-none=$(instructions '\0\0')
-echo "7609 bytes: $((($(instructions '\310\0') - none) / 200)) instructions to put it and take its 129 packets"
-echo "1 byte: $((($(instructions '\310\1') - none) / 200)) instructions to put it and take its packet"
+none=$(count_instructions '\0\0')
+echo "7609 bytes: $((($(count_instructions '\310\0') - none) / 200)) instructions to put it and take its 129 packets"
+echo "1 byte: $((($(count_instructions '\310\1') - none) / 200)) instructions to put it and take its packet"
 rm -rf "$work"

@@ -1,6 +1,6 @@
-// Signs in so many times with the key in node, and says what a sign-in took, and how much memory the key holds then.
+// Signs in COUNT times with the key in node, and prints the time of a sign-in and the memory the key uses.
 //
-//     node --expose-gc bench/page_key.mjs COUNT [no]      with `no` nothing is recorded
+//     node --expose-gc bench/page_key.mjs COUNT [no]      with `no`, without a recording
 import { SecurityKey } from "../web/dist/security_key.mjs";
 
 const [count = "10000", record] = process.argv.slice(2);
@@ -18,5 +18,5 @@ for (let time = 0; time < Number(count); time += 1) {
 const { user: took } = process.cpuUsage(begun);
 globalThis.gc();
 const after = process.memoryUsage();
-const held = (after.heapUsed + after.external - before.heapUsed - before.external) / 1024 / 1024;
-console.log(`${count} sign-ins, ${key.recordings().length} recordings: ${(took / Number(count)).toFixed(0)} us each, ${held.toFixed(1)} MB more are held`);
+const megabytes = (after.heapUsed + after.external - before.heapUsed - before.external) / 1024 / 1024;
+console.log(`${count} sign-ins, ${key.recordings().length} recordings: ${(took / Number(count)).toFixed(0)} us each, ${megabytes.toFixed(1)} MB more memory`);

@@ -1,9 +1,9 @@
 #!/usr/bin/env bash
-# Compares the instructions that `hidlog replay` takes for a PING, a getInfo, a registration and a sign-in (flows.py) with
-# those of a program in C that keeps the same promises for these (peer/peer.h says which). Before that it looks that both
-# write the same of the flows, and of the worked logs that the peer knows. Needs gcc, libssl-dev, valgrind and Python 3.
+# Compares the instructions of `hidlog replay` for a PING, a getInfo, a registration and a sign-in (flows.py) with those
+# of a C program with the same behavior for these (see peer/peer.h). First checks that both write the same output for
+# the flows and for the worked logs that the C program supports. Needs gcc, libssl-dev, valgrind and Python 3.
 #
-#     bench/peer.sh [PROGRAM]        release/hidlog where none is named
+#     bench/peer.sh [PROGRAM]        [default: release/hidlog]
 set -euo pipefail
 cd "$(dirname "${BASH_SOURCE[0]}")/.."
 program=${1:-release/hidlog}
@@ -12,20 +12,22 @@ trap 'rm -rf "$work"' EXIT
 gcc -std=c11 -D_GNU_SOURCE -O3 -march=x86-64-v2 -flto -Wall -Wextra -Werror -Wno-deprecated-declarations -o "$work/peer" \
     bench/peer/*.c -lcrypto
 
-# Whether both write the same of a log: same LOG
-same() {
+# Whether both write the same output for a log: is_same_output LOG
+is_same_output() {
     "$program" replay <"$1" >"$work/wanted" 2>"$work/fault" && "$work/peer" <"$1" >"$work/written" &&
         cmp -s "$work/wanted" "$work/written"
 }
 
 python3 bench/flows.py --logs "$work"
 for flow in "$work"/*.log; do
-    same "$flow" || { echo "bench/peer.sh: the peer differs at $flow" >&2; exit 1; }
+    is_same_output "$flow" || { echo "bench/peer.sh: the outputs differ for $flow" >&2; exit 1; }
 done
 count=0
 for log in crates/hidlog/data/capacity_64/*.log; do
-    ! same "$log" || count=$((count + 1))
+    ! is_same_output "$log" || count=$((count + 1))
 done
-echo "the same text of each flow, and of $count worked logs"
-paste <(python3 bench/flows.py "$program") <(python3 bench/flows.py "$work/peer") |
-    awk '{ printf "%-12s %8d %8d %6.2f\n", $1, $2, $4, $2 / $4 }'
+echo "same output for each flow, and for $count worked logs"
+# The columns: hidlog, the peer with a scalar SHA-256 and the ratio, the peer with OpenSSL's choice and the ratio.
+paste <(python3 bench/flows.py "$program") <(OPENSSL_ia32cap=0:0 python3 bench/flows.py "$work/peer") \
+    <(python3 bench/flows.py "$work/peer") |
+    awk '{ printf "%-12s %8d  %8d %6.2f  %8d %6.2f\n", $1, $2, $4, $2 / $4, $6, $2 / $6 }'

@@ -1,12 +1,10 @@
 #!/usr/bin/env bash
-# Counts what a line costs that `hidlog replay` plays: instructions (callgrind), system calls (strace) and processor
-# time, for logs of PINGs of 5 and of 57 bytes, authenticatorGetInfo, ticks and comments, of 1,000 and 100,000 lines,
-# from a file to a file; beside bench/peer, a program in C that keeps the same promises for these lines. Needs gcc,
-# libssl-dev, valgrind, strace and Python 3.
+# Measures the cost per line of `hidlog replay`: instructions (callgrind), system calls (strace) and processor time, for
+# logs of 1,000 and 100,000 PINGs of 5 and of 57 bytes, authenticatorGetInfo, ticks and comments, from a file to a file;
+# compared with bench/peer, a C program with the same behavior for these lines. Needs gcc, libssl-dev, valgrind, strace
+# and Python 3. The cost of an empty log is subtracted, so startup is excluded.
 #
-# What a log of no line costs is taken off, so start-up doesn't count.
-#
-#     bench/replay.sh [FOLDER]
+#     bench/replay.sh [DIR]
 set -euo pipefail
 here=$(cd "$(dirname "$0")" && pwd)
 work=${1:-$(mktemp -d)}
@@ -14,8 +12,8 @@ mkdir -p "$work"
 program=$here/../release/hidlog
 gcc -std=c11 -D_GNU_SOURCE -O3 -march=x86-64-v2 -flto -Wno-deprecated-declarations -o "$work/peer" "$here"/peer/*.c -lcrypto
 
-# A log of so many lines of a kind, after the INIT that gives channel 1.
-log() {
+# Prints a log with an INIT, for channel 1, and then lines of one kind: print_log KIND COUNT
+print_log() {
     python3 - "$1" "$2" <<'PYTHON'
 import sys
 kind, count = sys.argv[1], int(sys.argv[2])
@@ -27,19 +25,19 @@ sys.stdout.write(line * count)
 PYTHON
 }
 
-instructions() {
+count_instructions() {
     valgrind --tool=callgrind --callgrind-out-file=/dev/null "${@:2}" <"$1" 2>&1 >/dev/null |
         sed -n 's/.*Collected : \([0-9]*\).*/\1/p'
 }
 
-calls() {
+count_calls() {
     strace -f -c -o "$work/calls" "${@:2}" <"$1" >"$work/output"
     awk '$NF == "total" { print $4 }' "$work/calls"
 }
 
-# Processor time of a line in nanoseconds, of both programs: medians of 25 runs in turn, since a machine's speed changes
-# from minute to minute. Where there are few lines they would be lost in what starting takes.
-nanoseconds() {
+# Processor time per line in nanoseconds, of both programs: medians of 25 alternating runs, because a machine's speed
+# changes. Not measured for short logs, where startup dominates.
+measure_nanoseconds() {
     python3 - "$work" "$1" "$2" "$program" <<'PYTHON'
 import resource, statistics, subprocess, sys
 
@@ -61,7 +59,7 @@ print(f"  {1e9 * (whole - none) / count:10.0f} {f'({1e9 * (whole_c - none_c) / c
 PYTHON
 }
 
-per_line() {
+print_cost_per_line() {
     local measure=$1 kind=$2 count=$3
     shift 3
     awk -v all="$("$measure" "$work/$kind.$count" "$@")" -v none="$("$measure" "$work/$kind.0" "$@")" -v n="$count" \
@@ -70,18 +68,18 @@ per_line() {
 
 printf '%-9s %7s  %21s  %21s  %21s\n' lines '' 'instructions (C)' 'system calls (C)' 'ns (C)'
 for kind in ping long_ping get_info tick long_tick comment; do
-    log "$kind" 0 >"$work/$kind.0"
+    print_log "$kind" 0 >"$work/$kind.0"
     for count in 1000 100000; do
-        log "$kind" "$count" >"$work/$kind.$count"
+        print_log "$kind" "$count" >"$work/$kind.$count"
         "$program" replay <"$work/$kind.$count" >"$work/first"
         "$work/peer" <"$work/$kind.$count" | cmp - "$work/first"
         printf '%-9s %7s' "$kind" "$count"
-        for measure in instructions calls; do
-            printf '  %10s %10s' "$(per_line $measure $kind $count "$program" replay)" \
-                "($(per_line $measure $kind $count "$work/peer"))"
+        for measure in count_instructions count_calls; do
+            printf '  %10s %10s' "$(print_cost_per_line $measure $kind $count "$program" replay)" \
+                "($(print_cost_per_line $measure $kind $count "$work/peer"))"
         done
         if [ "$count" -gt 1000 ]; then
-            nanoseconds "$kind" "$count"
+            measure_nanoseconds "$kind" "$count"
         fi
         printf '\n'
     done

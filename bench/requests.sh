@@ -1,11 +1,11 @@
 #!/usr/bin/env bash
 # Counts the instructions of `ctap_message::read_request` and, on the bytes after the command byte alone, of
 # `ctap_cbor::check`, by callgrind: for a makeCredential of 91 bytes, a getAssertion of 50 and one with an allowList
-# of 64 descriptors. Goal: at most three times `check`, since a request is checked and then read. Needs rt, valgrind
+# of 64 descriptors. Goal: at most three times `check`, because a request is checked and then parsed. Needs rt, valgrind
 # and Python 3.
 #
-# Each count is that of 250 rounds, less that of none, so start-up doesn't count. The program is made in a folder of its
-# own, beside copies of the crates.
+# Each count is that of 250 rounds minus that of none, so startup is excluded. The program is built in a separate
+# directory, with copies of the crates.
 set -eu
 here=$(cd "$(dirname "$0")" && pwd)
 work=${1:-$(mktemp -d)}
@@ -18,8 +18,8 @@ done
 printf '%s\n' 'ctap_cbor: byteorder thiserror' 'ctap_message: ctap_cbor arrayvec' \
     'requests_bench: ctap_cbor ctap_message' > "$work/crates.txt"
 cat > "$work/crates/requests_bench/src/main.rt" <<'PROGRAM'
-//! Reads the message of standard input after two bytes, so many rounds as the first says: by `read_request` where
-//! the second is 0, else by `check`. Tells the steps of all rounds.
+//! Reads the message on standard input after two bytes, for as many rounds as the first: by `read_request` if the second is
+//! 0, otherwise by `check`. Prints the steps of all rounds.
 #![tactic(auto)]
 
 use ctap_cbor::check;
@@ -83,13 +83,13 @@ MESSAGES
 cd "$work/crates/requests_bench"
 rt run < "$work/makeCredential.0.0" > "$work/answer"
 program=$(find out -maxdepth 3 -type f -executable -name 'requests_bench*' | head -n 1)
-instructions() {
+count_instructions() {
     valgrind --tool=callgrind --callgrind-out-file="$work/callgrind" "$program" < "$1" 2>&1 > "$work/answer" |
         sed -n 's/.*Collected : //p'
 }
 for name in makeCredential getAssertion "64 descriptors"; do
-    read=$((($(instructions "$work/$name.0.250") - $(instructions "$work/$name.0.0")) / 250))
-    check=$((($(instructions "$work/$name.1.250") - $(instructions "$work/$name.1.0")) / 250))
+    read=$((($(count_instructions "$work/$name.0.250") - $(count_instructions "$work/$name.0.0")) / 250))
+    check=$((($(count_instructions "$work/$name.1.250") - $(count_instructions "$work/$name.1.0")) / 250))
     steps=$(($("$program" < "$work/$name.0.250") / 250))
     echo "$name: $read instructions to read in $steps steps, $check to check, $((100 * read / check)) %"
 done

@@ -1,7 +1,7 @@
 #!/usr/bin/env bash
-# Prints how many megabytes of log a second of processor time a program shows: bench/show.sh [PROGRAM], by default
-# release/hidlog. The logs have 24 MB: the worked ones again and again; requests of one long byte string; and requests
-# of one long text of control characters, of which each is written in six.
+# Prints the throughput of `hidlog show`, in MB of log per second of processor time: bench/show.sh [PROGRAM], by default
+# release/hidlog. The logs have 24 MB: the worked logs, repeated; requests with one long byte string; and requests with
+# one long text string of control characters, each of which is escaped in six characters.
 set -euo pipefail
 top=$(cd "$(dirname "$0")/.." && pwd)
 program=${1:-$top/release/hidlog}
@@ -14,7 +14,7 @@ from pathlib import Path
 
 top, work = map(Path, sys.argv[1:])
 sys.path.insert(0, str(top / "tests/fuzz"))
-from framing import LONGEST, packets
+from framing import MAX_MESSAGE_BYTES, packets
 
 SIZE = 24_000_000
 
@@ -24,8 +24,8 @@ def repeated(log):
 
 
 def request(head, byte):
-    """The lines of a request of 7609 bytes: the command 1, and a map with one string."""
-    length = LONGEST - 6
+    """Returns the lines of a request of 7609 bytes: command 1, and a map with one string."""
+    length = MAX_MESSAGE_BYTES - 6
     message = b"\x01\xa1\x01" + bytes([head]) + length.to_bytes(2, "big") + byte * length
     return "".join(f"> 0 {packet.hex()}\n" for packet in packets(1, 0x10, message)).encode()
 
@@ -52,6 +52,6 @@ def took():
 
 
 seconds = statistics.median(took() for _ in range(5))
-print(f"{name}: {os.path.getsize(log) / 1e6 / seconds:.0f} MB a second")
+print(f"{name}: {os.path.getsize(log) / 1e6 / seconds:.0f} MB/s")
 PYTHON
 done

@@ -1,6 +1,5 @@
-/* Measures how much of the stack each call of the C library takes: it is made on a thread whose stack was filled with a
- * pattern, and what of that is gone afterwards was written by the call. A call that writes only below a part that it
- * left alone counts down to the deepest byte.
+/* Measures the stack use of each call of the C library: the call runs on a thread whose stack is filled with a pattern,
+ * and the deepest overwritten byte is its stack use.
  *
  *     stack LOG SNAPSHOT */
 #include <pthread.h>
@@ -37,10 +36,10 @@ static struct bytes read_whole(const char *path) {
 static void nothing(void) {}
 
 static void on_log(void (*command)(const uint8_t *, size_t, const uint8_t *, size_t, uint8_t *, size_t,
-                                   struct hidlog_outcome *),
+                                   struct hidlog_result *),
                    size_t held) {
-    struct hidlog_outcome outcome;
-    command(session_log.data, session_log.len, snapshot.data, held, out, sizeof out, &outcome);
+    struct hidlog_result result;
+    command(session_log.data, session_log.len, snapshot.data, held, out, sizeof out, &result);
 }
 
 static void replay(void) { on_log(hidlog_replay, 0); }
@@ -50,74 +49,74 @@ static void check(void) { on_log(hidlog_check, 0); }
 static void quiet(void) { on_log(hidlog_quiet, 0); }
 
 static void show(void) {
-    struct hidlog_outcome outcome;
-    hidlog_show(session_log.data, session_log.len, 1, out, sizeof out, &outcome);
+    struct hidlog_result result;
+    hidlog_show(session_log.data, session_log.len, 1, out, sizeof out, &result);
 }
 
 static void transactions(void) {
-    struct hidlog_outcome outcome;
-    hidlog_transactions(session_log.data, session_log.len, out, sizeof out, &outcome);
+    struct hidlog_result result;
+    hidlog_transactions(session_log.data, session_log.len, out, sizeof out, &result);
 }
 
 static void make(void) {
     static const uint8_t aaguid[16];
-    hidlog_key_make(&key, aaguid, 0, snapshot.data, snapshot.len);
+    hidlog_key_init(&key, aaguid, 0, snapshot.data, snapshot.len);
 }
 
 static void lines(void) {
-    struct hidlog_outcome outcome;
-    hidlog_key_lines(&key, session_log.data, session_log.len, out, sizeof out, &outcome);
+    struct hidlog_result result;
+    hidlog_key_replay_lines(&key, session_log.data, session_log.len, out, sizeof out, &result);
 }
 
-/* An INIT that comes in a packet, and its answer. */
+/* INIT and its response. */
 static void packet(void) {
     uint8_t bytes[64] = {0xff, 0xff, 0xff, 0xff, 0x86, 0, 8, 0, 1, 2, 3, 4, 5, 6, 7};
-    hidlog_key_packet(&key, 100000, bytes);
-    while (hidlog_key_next(&key, bytes) >= 0) {
+    hidlog_key_write_packet(&key, 100000, bytes);
+    while (hidlog_key_read_packet(&key, bytes) >= 0) {
     }
 }
 
 static void need(void) {
     struct hidlog_need needed;
-    hidlog_key_need(&key, &needed);
+    hidlog_key_get_need(&key, &needed);
 }
 
 static void credential(void) {
     struct hidlog_credential found;
-    hidlog_key_credential(&key, 0, &found);
+    hidlog_key_get_credential(&key, 0, &found);
 }
 
 static void add(void) {
     struct hidlog_credential added;
     memset(&added, 7, sizeof added);
-    added.user_len = added.name_len = 1;
+    added.user_id_len = added.user_name_len = 1;
     added.discoverable = 1;
-    hidlog_key_add(&key, 200000, &added);
+    hidlog_key_add_credential(&key, 200000, &added);
 }
 
 static void take_out(void) {
     uint8_t id[32];
     memset(id, 7, sizeof id);
-    hidlog_key_remove(&key, 300000, id);
+    hidlog_key_remove_credential(&key, 300000, id);
 }
 
-static void save(void) { hidlog_key_save(&key, out, sizeof out); }
-static void clear(void) { hidlog_key_clear(&key, 400000); }
+static void save(void) { hidlog_key_save_snapshot(&key, out, sizeof out); }
+static void clear(void) { hidlog_key_clear_credentials(&key, 400000); }
 
-static void *runs(void *call) {
+static void *run_call(void *call) {
     (*(void (**)(void))call)();
     return NULL;
 }
 
-/* Returns how many bytes of the stack a thread takes that makes this call. */
-static size_t taken(void (*call)(void)) {
+/* Returns the stack use in bytes of a thread that makes this call. */
+static size_t stack_use(void (*call)(void)) {
     pthread_attr_t how;
     pthread_t thread;
     size_t left = 0;
     memset(stack, PATTERN, STACK);
     if (pthread_attr_init(&how) || pthread_attr_setstack(&how, stack, STACK) ||
-        pthread_create(&thread, &how, runs, &call) || pthread_join(thread, NULL)) {
-        fputs("no thread\n", stderr);
+        pthread_create(&thread, &how, run_call, &call) || pthread_join(thread, NULL)) {
+        fputs("cannot start a thread\n", stderr);
         exit(2);
     }
     pthread_attr_destroy(&how);
@@ -139,15 +138,15 @@ int main(int count, char **words) {
         {"hidlog_quiet", quiet},
         {"hidlog_show", show},
         {"hidlog_transactions", transactions},
-        {"hidlog_key_make", make},
-        {"hidlog_key_packet, _next", packet},
-        {"hidlog_key_lines", lines},
-        {"hidlog_key_need", need},
-        {"hidlog_key_credential", credential},
-        {"hidlog_key_add", add},
-        {"hidlog_key_remove", take_out},
-        {"hidlog_key_save", save},
-        {"hidlog_key_clear", clear},
+        {"hidlog_key_init", make},
+        {"hidlog_key_write_packet, hidlog_key_read_packet", packet},
+        {"hidlog_key_replay_lines", lines},
+        {"hidlog_key_get_need", need},
+        {"hidlog_key_get_credential", credential},
+        {"hidlog_key_add_credential", add},
+        {"hidlog_key_remove_credential", take_out},
+        {"hidlog_key_save_snapshot", save},
+        {"hidlog_key_clear_credentials", clear},
     };
     size_t own;
     if (count != 3) {
@@ -161,9 +160,9 @@ int main(int count, char **words) {
     if (key.memory == NULL || stack == NULL) {
         return 2;
     }
-    own = taken(nothing);
+    own = stack_use(nothing);
     for (size_t i = 0; i < sizeof calls / sizeof calls[0]; i++) {
-        printf("%7zu  %s\n", taken(calls[i].call) - own, calls[i].name);
+        printf("%7zu  %s\n", stack_use(calls[i].call) - own, calls[i].name);
     }
     return 0;
 }

@@ -1,13 +1,13 @@
 #!/usr/bin/env bash
-# Measures what the program takes before its first line, and how much stack: instructions (callgrind) of each command on
-# a log of one INIT, and the least stack, in kB, with which each runs a whole session; then the stack of each call of the
-# C library (bench/stack.c). Needs valgrind, gcc and Python 3.
+# Measures the program's startup cost and stack: instructions (callgrind) of each command on a log with one INIT, and
+# the smallest stack, in kB, with which each can run a whole session; then the stack of each call of the C library
+# (bench/stack.c). Needs valgrind, gcc and Python 3.
 #
-# Valgrind takes each byte of `rep stos` and `rep movs` for an instruction, with which glibc clears and copies more than a
-# few kB: 140,000 of 221,000 for an INIT. A processor takes some ten bytes or more a cycle. So glibc is told to use its
-# loops, and what valgrind says of the program as it runs is beside that.
+# Valgrind counts each byte of `rep stos` and `rep movs`, with which glibc clears and copies more than a few kB, as an
+# instruction: 140,000 of 221,000 for an INIT. A processor takes ten bytes or more per cycle, so glibc is told to use
+# its loops; the count without that is in parentheses.
 #
-#     bench/start.sh [PROGRAM [LIBRARY]]        release/hidlog and release/libhidlog.a where none is named
+#     bench/start.sh [PROGRAM [LIBRARY]]        [default: release/hidlog and release/libhidlog.a]
 set -euo pipefail
 cd "$(dirname "${BASH_SOURCE[0]}")/.."
 program=$(readlink -f "${1:-release/hidlog}")
@@ -17,26 +17,26 @@ trap 'rm -rf "$work"' EXIT
 printf '> 0 ffffffff8600080001020304050607%098d\n' 0 >"$work/init"
 "$program" replay <"$work/init" >"$work/log"
 
-# Instructions with glibc's settings: instructions TUNABLES WORD ..
-instructions() {
+# Instructions with glibc's settings: count_instructions TUNABLES WORD ..
+count_instructions() {
     GLIBC_TUNABLES=$1 valgrind --tool=callgrind --callgrind-out-file=/dev/null "$program" "${@:2}" <"$work/log" 2>&1 >/dev/null |
         sed -n 's/.*Collected : \([0-9]*\).*/\1/p'
 }
 
 loops=glibc.cpu.x86_rep_stosb_threshold=100000000:glibc.cpu.x86_rep_movsb_threshold=100000000
-echo "instructions to start and to answer an INIT (with each byte of a string instruction as one):"
+echo "instructions to start and to respond to an INIT (in parentheses: each byte of a string instruction as one):"
 for words in replay live check quiet show --help --version "replay --load examples/example_com.snapshot"; do
-    # shellcheck disable=SC2086  # the words are to be split
-    echo "$(instructions $loops $words) ($(instructions "" $words))  $words"
+    # shellcheck disable=SC2086  # the words must be split
+    echo "$(count_instructions $loops $words) ($(count_instructions "" $words))  $words"
 done
-echo "the least stack in kB, for whole sessions:"
+echo "smallest stack in kB for whole sessions:"
 python3 - "$program" <<'PYTHON'
 import ctypes
 import resource
 import subprocess
 import sys
 
-# Without it the system begins a stack at a random place in its last 8 kB.
+# Otherwise the stack starts at a random offset in its last 8 kB.
 ADDR_NO_RANDOMIZE = 0x0040000
 SYSTEM = ctypes.CDLL(None)
 SNAPSHOT = ["--load", "examples/example_com.snapshot"]
@@ -58,6 +58,6 @@ def runs(words, log, kilobytes):
 for words, log in RUNS:
     print(next(stack for stack in range(8, 8192, 4) if runs(words, log, stack)), "", *words)
 PYTHON
-echo "the stack of calls of the C library, in bytes:"
+echo "stack of C library calls, in bytes:"
 gcc -std=c11 -O2 -D_GNU_SOURCE -I release -o "$work/stack" bench/stack.c "$library" -lpthread
 "$work/stack" examples/sign_in.log examples/example_com.snapshot

@@ -1,10 +1,11 @@
 #!/usr/bin/env bash
-# Counts the instructions of a credential table's calls, by callgrind, on both tables: with 1, 64 and 256 rows, in
+# Counts the instructions of a credential table's calls, by callgrind, for both tables: with 1, 64 and 256 rows, in
 # tables for 256. Needs rt and valgrind.
 #
-# A count is that of 1,020 rounds less that of none, over 1,020. A round is one call with what its condition asks: `put`
-# and `raise` with a `find`, `replace` with a `find` and a `same_user`. `put` is that of filling a table, less that of
-# clearing it, over its rows. The program is made in a folder of its own, beside copies of the crates.
+# A count is that of 1,020 rounds minus that of none, over 1,020. A round is one call, with those that its precondition
+# needs: `put` and `raise` with a `find`, `replace` with a `find` and a `same_user`. The count of `put` is that of
+# filling a table minus that of clearing it, per row. The program is built in a separate directory, with copies of the
+# crates.
 set -eu
 here=$(cd "$(dirname "$0")" && pwd)
 work=${1:-$(mktemp -d)}
@@ -17,15 +18,15 @@ done
 printf '%s\n' 'ctap_cbor: byteorder thiserror' 'cred_table: ctap_cbor arrayvec thiserror' \
     'table_bench: cred_table' > "$work/crates.txt"
 cat > "$work/crates/table_bench/src/main.rt" <<'PROGRAM'
-//! Makes calls on a table, as four bytes of standard input say: the table, the call, its rows less one, and the rounds
-//! over four.
+//! Calls a table, as specified by four bytes on standard input: the table, the call, its number of rows minus one, and a
+//! quarter of the number of rounds.
 #![tactic(auto)]
 
 use cred_table::{Chained, Listed, Row, Table};
 use std::io;
 use std::io::Read;
 
-/// A row, by a number: its id is spread over the 256 first bytes.
+/// A row by number. Its ID starts with any of the 256 bytes.
 fn row_of(number: u32, user: u32) -> Row {
     let mut row = Row {
         discoverable: true,
@@ -39,7 +40,7 @@ fn row_of(number: u32, user: u32) -> Row {
     row
 }
 
-/// Puts a row in, where its id and user are new.
+/// Puts a row, if its ID and user are new.
 fn put<T: Table<256>>(table: &mut T, row: Row) {
     if table.len() >= 256 {
         return;
@@ -53,7 +54,7 @@ fn put<T: Table<256>>(table: &mut T, row: Row) {
     table.put(row);
 }
 
-/// Puts so many rows in. Hidden ones ask for no user.
+/// Puts a number of rows. Rows that are not discoverable need no check of the user.
 fn fill<T: Table<256>>(table: &mut T, rows: u32, discoverable: bool) {
     for number in 0..rows {
         let mut row = row_of(number, number);
@@ -62,7 +63,7 @@ fn fill<T: Table<256>>(table: &mut T, rows: u32, discoverable: bool) {
     }
 }
 
-/// Puts a row in the place of its user's.
+/// Replaces the row of a user.
 fn replace<T: Table<256>>(table: &mut T, row: Row) {
     if table.find(&row.id).is_some() {
         return;
@@ -81,7 +82,7 @@ fn raise<T: Table<256>>(table: &mut T, id: &[u8; 32]) -> u32 {
     }
 }
 
-/// One round of a call, on the row of a number. What it gives depends on what was found.
+/// One round of a call on a row. The result depends on what was found.
 fn round<T: Table<256>>(table: &mut T, call: u8, rows: u32, number: u32) -> u32 {
     let row = row_of(number, number);
     match call {
@@ -104,7 +105,7 @@ fn round<T: Table<256>>(table: &mut T, call: u8, rows: u32, number: u32) -> u32 
     }
 }
 
-/// The rounds of a call. Rows are taken in a mixed order, and replaced ones get new ids.
+/// The rounds of a call. Rows are used in a mixed order, and replacements have new IDs.
 fn run<T: Table<256>>(table: &mut T, call: u8, rows: u32, rounds: u32) -> u32 {
     fill(table, rows, true);
     let mut sum: u32 = 0;
@@ -139,27 +140,27 @@ cd "$work/crates/table_bench"
 printf 'cf\0\0' > "$work/input"
 rt run < "$work/input" > "$work/answer"
 program=$(find out -maxdepth 3 -type f -executable -name 'table_bench*' | head -n 1)
-# instructions TABLE CALL ROWS QUARTERS: all of a run's
-instructions() {
+# The instructions of a whole run: count_instructions TABLE CALL ROWS QUARTERS
+count_instructions() {
     printf "$1$2\\x$(printf %x $(($3 - 1)))\\x$(printf %x "$4")" > "$work/input"
     valgrind --tool=callgrind --callgrind-out-file="$work/callgrind" "$program" < "$work/input" 2>&1 > "$work/answer" |
         sed -n 's/.*Collected : //p'
 }
-# round TABLE CALL ROWS: a round's
-round() {
+# The instructions of a round: count_round_instructions TABLE CALL ROWS
+count_round_instructions() {
     local quarters=$((256 - 1))
     if [ "$2" = p ]; then quarters=4; fi
-    echo $((($(instructions "$1" "$2" "$3" "$quarters") - $(instructions "$1" "$2" "$3" 0)) / (quarters * 4)))
+    echo $((($(count_instructions "$1" "$2" "$3" "$quarters") - $(count_instructions "$1" "$2" "$3" 0)) / (quarters * 4)))
 }
 declare -A put
 printf '%-10s %6s %8s %8s\n' call rows Listed Chained
 for rows in 1 64 256; do
     for call in find:f named:n same_user:u replace:x raise:r clear:c; do
         printf '%-10s %6s %8s %8s\n' "${call%:*}" "$rows" \
-            "$(round l "${call#*:}" "$rows")" "$(round c "${call#*:}" "$rows")"
+            "$(count_round_instructions l "${call#*:}" "$rows")" "$(count_round_instructions c "${call#*:}" "$rows")"
     done
     for table in l c; do
-        put[$table]=$((($(round $table p "$rows") - $(round $table c 1)) / rows))
+        put[$table]=$((($(count_round_instructions $table p "$rows") - $(count_round_instructions $table c 1)) / rows))
     done
     printf '%-10s %6s %8s %8s\n' put "$rows" "${put[l]}" "${put[c]}"
 done

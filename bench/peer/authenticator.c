@@ -23,78 +23,87 @@ enum {
     NO_CREDENTIALS = 0x2e,
     OTHER = 0x7f,
 };
-enum { MAKE = 1, GET = 2, INFO = 4, PERIOD = 100, PROCESSING = 1, PRESENCE_NEEDED = 2, HASH = 32, ANSWER_MOST = 300 };
-
-struct credential {
-    uint8_t rp[HASH], id[HASH], x[HASH], y[HASH], user[USER_MOST];
-    uint8_t user_len;
-    bool is_discoverable;
-    uint32_t counter;
+enum {
+    MAKE_CREDENTIAL = 1,
+    GET_ASSERTION = 2,
+    GET_INFO = 4,
+    KEEPALIVE_PERIOD_MS = 100,
+    PROCESSING = 1,
+    UP_NEEDED = 2,
+    HASH_BYTES = 32,
+    MAX_RESPONSE_BYTES = 300
 };
 
-/* What a request says, by its members. */
+struct credential {
+    uint8_t rp_id_hash[HASH_BYTES], id[HASH_BYTES], x[HASH_BYTES], y[HASH_BYTES], user_id[MAX_USER_ID_BYTES];
+    uint8_t user_id_len;
+    bool is_discoverable;
+    uint32_t sign_count;
+};
+
+/* A request's members. */
 struct request {
-    struct text hash, rp, user, list[CREDENTIALS];
-    size_t listed;
+    struct text client_data_hash, rp_id, user_id, list[MAX_CREDENTIALS];
+    size_t list_len;
     bool has_list, has_algorithms, has_algorithm, has_pin, has_attestation;
     bool rk, is_rk_given, up, uv;
 };
 
-static struct credential held[CREDENTIALS];
-static int count;
-static struct counts counts;
+static struct credential credentials[MAX_CREDENTIALS];
+static int credential_count;
+static struct stats stats;
 static struct {
     enum need need;
     uint32_t channel;
-    uint64_t kept_alive_at;
-    bool is_making, is_excluded, is_present;
+    uint64_t last_keepalive_ms;
+    bool is_make_credential, is_excluded, is_user_present;
     struct credential made;
     struct credential *used;
-    uint8_t hash[HASH];
-} work;
+    uint8_t client_data_hash[HASH_BYTES];
+} pending;
 
-static void answer_status(uint32_t channel, uint8_t status) {
+static void send_status(uint32_t channel, uint8_t status) {
     transport_send(channel, CBOR, &status, 1);
 }
 
-static void end(uint8_t status) {
-    work.need = NOTHING;
-    answer_status(work.channel, status);
+static void finish(uint8_t status) {
+    pending.need = NO_NEED;
+    send_status(pending.channel, status);
 }
 
-static void keep_alive(uint64_t at) {
-    uint8_t status = work.need == PRESENCE ? PRESENCE_NEEDED : PROCESSING;
-    work.kept_alive_at = at;
-    transport_send(work.channel, KEEPALIVE, &status, 1);
+static void send_keepalive(uint64_t now_ms) {
+    uint8_t status = pending.need == PRESENCE ? UP_NEEDED : PROCESSING;
+    pending.last_keepalive_ms = now_ms;
+    transport_send(pending.channel, KEEPALIVE, &status, 1);
 }
 
-bool authenticator_waits(void) {
-    return work.need != NOTHING;
+bool authenticator_is_pending(void) {
+    return pending.need != NO_NEED;
 }
 
-bool authenticator_waits_on(uint32_t channel) {
-    return work.need != NOTHING && work.channel == channel;
+bool authenticator_is_pending_on(uint32_t channel) {
+    return pending.need != NO_NEED && pending.channel == channel;
 }
 
 void authenticator_cancel(void) {
-    end(KEEPALIVE_CANCEL);
+    finish(KEEPALIVE_CANCEL);
 }
 
 void authenticator_drop(void) {
-    work.need = NOTHING;
+    pending.need = NO_NEED;
 }
 
-void authenticator_pass(uint64_t at) {
-    if (work.need != NOTHING && at - work.kept_alive_at >= PERIOD) {
-        keep_alive(at);
+void authenticator_advance_time(uint64_t now_ms) {
+    if (pending.need != NO_NEED && now_ms - pending.last_keepalive_ms >= KEEPALIVE_PERIOD_MS) {
+        send_keepalive(now_ms);
     }
 }
 
-struct counts authenticator_counts(void) {
-    return counts;
+struct stats authenticator_stats(void) {
+    return stats;
 }
 
-/* Members of requests. Each returns a status, and OK where the member is of the right types. */
+/* Readers of a request's members. Each returns OK if the member has the right types, or an error status. */
 
 static struct text key_of(struct reader *reader) {
     struct text key;
@@ -109,7 +118,7 @@ static uint8_t read_rp(struct reader *reader, struct request *request) {
     for (; pairs > 0; pairs--) {
         struct text key = key_of(reader), name;
         if (text_is(key, "id")) {
-            if (!cbor_text(reader, TEXT, &request->rp)) {
+            if (!cbor_text(reader, TEXT, &request->rp_id)) {
                 return UNEXPECTED_TYPE;
             }
         } else if (!text_is(key, "name")) {
@@ -129,7 +138,7 @@ static uint8_t read_user(struct reader *reader, struct request *request) {
     for (; pairs > 0; pairs--) {
         struct text key = key_of(reader), name;
         if (text_is(key, "id")) {
-            if (!cbor_text(reader, BYTES, &request->user)) {
+            if (!cbor_text(reader, BYTES, &request->user_id)) {
                 return UNEXPECTED_TYPE;
             }
         } else if (!text_is(key, "name") && !text_is(key, "displayName")) {
@@ -161,7 +170,7 @@ static uint8_t read_algorithm(struct reader *reader, struct request *request) {
             return UNEXPECTED_TYPE;
         }
     }
-    if (major == SIMPLE || type.at == NULL) {
+    if (major == SIMPLE || type.data == NULL) {
         return MISSING_PARAMETER;
     }
     request->has_algorithm |= major == NEGATIVE && number == 6 && text_is(type, "public-key");
@@ -199,11 +208,11 @@ static uint8_t read_descriptor(struct reader *reader, struct request *request) {
             return UNEXPECTED_TYPE;
         }
     }
-    if (id.at == NULL || type.at == NULL) {
+    if (id.data == NULL || type.data == NULL) {
         return MISSING_PARAMETER;
     }
-    if (text_is(type, "public-key") && request->listed < CREDENTIALS) {
-        request->list[request->listed++] = id;
+    if (text_is(type, "public-key") && request->list_len < MAX_CREDENTIALS) {
+        request->list[request->list_len++] = id;
     }
     return OK;
 }
@@ -253,10 +262,10 @@ static uint8_t read_flag(struct reader *reader, bool *flag) {
     return OK;
 }
 
-static uint8_t read_make_member(struct reader *reader, uint64_t member, struct request *request) {
+static uint8_t read_make_credential_member(struct reader *reader, uint64_t member, struct request *request) {
     switch (member) {
     case 1:
-        return cbor_text(reader, BYTES, &request->hash) ? OK : UNEXPECTED_TYPE;
+        return cbor_text(reader, BYTES, &request->client_data_hash) ? OK : UNEXPECTED_TYPE;
     case 2:
         return read_rp(reader, request);
     case 3:
@@ -277,12 +286,12 @@ static uint8_t read_make_member(struct reader *reader, uint64_t member, struct r
     }
 }
 
-static uint8_t read_get_member(struct reader *reader, uint64_t member, struct request *request) {
+static uint8_t read_get_assertion_member(struct reader *reader, uint64_t member, struct request *request) {
     switch (member) {
     case 1:
-        return cbor_text(reader, TEXT, &request->rp) ? OK : UNEXPECTED_TYPE;
+        return cbor_text(reader, TEXT, &request->rp_id) ? OK : UNEXPECTED_TYPE;
     case 2:
-        return cbor_text(reader, BYTES, &request->hash) ? OK : UNEXPECTED_TYPE;
+        return cbor_text(reader, BYTES, &request->client_data_hash) ? OK : UNEXPECTED_TYPE;
     case 3:
         return read_list(reader, request);
     case 5:
@@ -306,12 +315,12 @@ static uint8_t read_request(const uint8_t *map, size_t len, read_member *member,
     uint8_t status = OK;
     for (; pairs > 0 && status == OK; pairs--) {
         enum major major;
-        const uint8_t *key = reader.at;
+        const uint8_t *key = reader.next;
         uint64_t number = cbor_head(&reader, &major);
         if (major == UNSIGNED) {
             status = member(&reader, number, request);
         } else {
-            reader.at = key;
+            reader.next = key;
             cbor_skip(&reader);
             cbor_skip(&reader);
         }
@@ -319,11 +328,12 @@ static uint8_t read_request(const uint8_t *map, size_t len, read_member *member,
     return status;
 }
 
-static uint8_t judge_make(const struct request *request) {
-    if (request->hash.at == NULL || request->rp.at == NULL || request->user.at == NULL || !request->has_algorithms) {
+static uint8_t validate_make_credential(const struct request *request) {
+    if (request->client_data_hash.data == NULL || request->rp_id.data == NULL || request->user_id.data == NULL ||
+        !request->has_algorithms) {
         return MISSING_PARAMETER;
     }
-    if (request->hash.len != HASH || request->user.len > USER_MOST) {
+    if (request->client_data_hash.len != HASH_BYTES || request->user_id.len > MAX_USER_ID_BYTES) {
         return INVALID_LENGTH;
     }
     if (request->has_pin) {
@@ -338,11 +348,11 @@ static uint8_t judge_make(const struct request *request) {
     return request->has_attestation ? INVALID_PARAMETER : OK;
 }
 
-static uint8_t judge_get(const struct request *request) {
-    if (request->hash.at == NULL || request->rp.at == NULL) {
+static uint8_t validate_get_assertion(const struct request *request) {
+    if (request->client_data_hash.data == NULL || request->rp_id.data == NULL) {
         return MISSING_PARAMETER;
     }
-    if (request->hash.len != HASH) {
+    if (request->client_data_hash.len != HASH_BYTES) {
         return INVALID_LENGTH;
     }
     if (request->has_pin) {
@@ -354,53 +364,55 @@ static uint8_t judge_get(const struct request *request) {
     return request->is_rk_given ? UNSUPPORTED_OPTION : OK;
 }
 
-static struct credential *find(const uint8_t *rp, struct text id) {
-    for (int i = 0; id.len == HASH && i < count; i++) {
-        if (memcmp(held[i].id, id.at, HASH) == 0 && memcmp(held[i].rp, rp, HASH) == 0) {
-            return &held[i];
+static struct credential *find_credential(const uint8_t *rp_id_hash, struct text id) {
+    for (int i = 0; id.len == HASH_BYTES && i < credential_count; i++) {
+        if (memcmp(credentials[i].id, id.data, HASH_BYTES) == 0 &&
+            memcmp(credentials[i].rp_id_hash, rp_id_hash, HASH_BYTES) == 0) {
+            return &credentials[i];
         }
     }
     return NULL;
 }
 
-static struct credential *find_listed(const uint8_t *rp, const struct request *request) {
+static struct credential *find_listed(const uint8_t *rp_id_hash, const struct request *request) {
     struct credential *found = NULL;
-    for (size_t i = 0; i < request->listed && found == NULL; i++) {
-        found = find(rp, request->list[i]);
+    for (size_t i = 0; i < request->list_len && found == NULL; i++) {
+        found = find_credential(rp_id_hash, request->list[i]);
     }
     return found;
 }
 
-static struct credential *find_newest(const uint8_t *rp) {
-    for (int i = count - 1; i >= 0; i--) {
-        if (held[i].is_discoverable && memcmp(held[i].rp, rp, HASH) == 0) {
-            return &held[i];
+static struct credential *find_newest(const uint8_t *rp_id_hash) {
+    for (int i = credential_count - 1; i >= 0; i--) {
+        if (credentials[i].is_discoverable && memcmp(credentials[i].rp_id_hash, rp_id_hash, HASH_BYTES) == 0) {
+            return &credentials[i];
         }
     }
     return NULL;
 }
 
 static struct credential *find_same_user(const struct credential *made) {
-    for (int i = 0; made->is_discoverable && i < count; i++) {
-        if (held[i].is_discoverable && held[i].user_len == made->user_len && memcmp(held[i].rp, made->rp, HASH) == 0 &&
-            memcmp(held[i].user, made->user, made->user_len) == 0) {
-            return &held[i];
+    for (int i = 0; made->is_discoverable && i < credential_count; i++) {
+        if (credentials[i].is_discoverable && credentials[i].user_id_len == made->user_id_len &&
+            memcmp(credentials[i].rp_id_hash, made->rp_id_hash, HASH_BYTES) == 0 &&
+            memcmp(credentials[i].user_id, made->user_id, made->user_id_len) == 0) {
+            return &credentials[i];
         }
     }
     return NULL;
 }
 
-/* SHA-256 of a text of one block by the block function alone. */
-static void hash_rp(struct text rp, uint8_t hash[HASH]) {
-    if (rp.len > 55) {
-        SHA256(rp.at, rp.len, hash);
+/* SHA-256; a text that fits in one block is hashed by the block function alone. */
+static void hash_rp(struct text rp_id, uint8_t hash[HASH_BYTES]) {
+    if (rp_id.len > 55) {
+        SHA256(rp_id.data, rp_id.len, hash);
         return;
     }
     uint8_t block[64] = {0};
-    memcpy(block, rp.at, rp.len);
-    block[rp.len] = 0x80;
-    block[62] = (uint8_t)(rp.len >> 5);
-    block[63] = (uint8_t)(rp.len << 3);
+    memcpy(block, rp_id.data, rp_id.len);
+    block[rp_id.len] = 0x80;
+    block[62] = (uint8_t)(rp_id.len >> 5);
+    block[63] = (uint8_t)(rp_id.len << 3);
     SHA256_CTX context;
     SHA256_Init(&context);
     SHA256_Transform(&context, block);
@@ -410,40 +422,40 @@ static void hash_rp(struct text rp, uint8_t hash[HASH]) {
     }
 }
 
-static void wait_for(uint64_t at, enum need need) {
-    work.need = need;
-    keep_alive(at);
+static void wait_for_need(uint64_t now_ms, enum need need) {
+    pending.need = need;
+    send_keepalive(now_ms);
 }
 
-static void begin_make(uint64_t at, const struct request *request) {
-    struct credential *made = &work.made;
-    hash_rp(request->rp, made->rp);
-    memcpy(made->user, request->user.at, request->user.len);
-    made->user_len = (uint8_t)request->user.len;
+static void begin_make_credential(uint64_t now_ms, const struct request *request) {
+    struct credential *made = &pending.made;
+    hash_rp(request->rp_id, made->rp_id_hash);
+    memcpy(made->user_id, request->user_id.data, request->user_id.len);
+    made->user_id_len = (uint8_t)request->user_id.len;
     made->is_discoverable = request->rk;
-    work.is_making = true;
-    work.is_excluded = find_listed(made->rp, request) != NULL;
-    wait_for(at, PRESENCE);
+    pending.is_make_credential = true;
+    pending.is_excluded = find_listed(made->rp_id_hash, request) != NULL;
+    wait_for_need(now_ms, PRESENCE);
 }
 
-static void begin_get(uint64_t at, const struct request *request) {
-    uint8_t rp[HASH];
-    hash_rp(request->rp, rp);
-    work.used = request->has_list ? find_listed(rp, request) : find_newest(rp);
-    if (work.used == NULL) {
-        end(NO_CREDENTIALS);
+static void begin_get_assertion(uint64_t now_ms, const struct request *request) {
+    uint8_t rp_id_hash[HASH_BYTES];
+    hash_rp(request->rp_id, rp_id_hash);
+    pending.used = request->has_list ? find_listed(rp_id_hash, request) : find_newest(rp_id_hash);
+    if (pending.used == NULL) {
+        finish(NO_CREDENTIALS);
         return;
     }
-    if (work.used->counter == UINT32_MAX) {
-        end(LIMIT_EXCEEDED);
+    if (pending.used->sign_count == UINT32_MAX) {
+        finish(LIMIT_EXCEEDED);
         return;
     }
-    work.is_making = false;
-    work.is_present = request->up;
+    pending.is_make_credential = false;
+    pending.is_user_present = request->up;
     if (!request->up) {
-        work.used->counter++;
+        pending.used->sign_count++;
     }
-    wait_for(at, request->up ? PRESENCE : SIGNATURE);
+    wait_for_need(now_ms, request->up ? PRESENCE : SIGNATURE);
 }
 
 static const uint8_t info[] = "\x00\xa6\x01\x81\x68"
@@ -464,170 +476,173 @@ static const uint8_t info[] = "\x00\xa6\x01\x81\x68"
                               "\x6a"
                               "public-key";
 
-void authenticator_request(uint64_t at, uint32_t channel, const uint8_t *message, size_t len) {
-    counts.requests++;
-    counts.bytes += len - 1;
-    if (message[0] == INFO) {
-        len == 1 ? transport_send(channel, CBOR, info, sizeof info - 1) : answer_status(channel, INVALID_LENGTH);
+void authenticator_request(uint64_t now_ms, uint32_t channel, const uint8_t *message, size_t len) {
+    stats.requests++;
+    stats.bytes += len - 1;
+    if (message[0] == GET_INFO) {
+        len == 1 ? transport_send(channel, CBOR, info, sizeof info - 1) : send_status(channel, INVALID_LENGTH);
         return;
     }
-    if (message[0] != MAKE && message[0] != GET) {
-        answer_status(channel, INVALID_COMMAND);
+    if (message[0] != MAKE_CREDENTIAL && message[0] != GET_ASSERTION) {
+        send_status(channel, INVALID_COMMAND);
         return;
     }
     uint64_t steps;
     bool is_canonical = cbor_check(message + 1, len - 1, &steps);
-    counts.steps += is_canonical ? 2 * steps : steps;
+    stats.steps += is_canonical ? 2 * steps : steps;
     if (!is_canonical) {
-        answer_status(channel, INVALID_CBOR);
+        send_status(channel, INVALID_CBOR);
         return;
     }
-    bool is_make = message[0] == MAKE;
+    bool is_make_credential = message[0] == MAKE_CREDENTIAL;
     struct request request;
     memset(&request, 0, offsetof(struct request, list));
-    memset(&request.listed, 0, sizeof request - offsetof(struct request, listed));
+    memset(&request.list_len, 0, sizeof request - offsetof(struct request, list_len));
     request.up = true;
-    uint8_t status = read_request(message + 1, len - 1, is_make ? read_make_member : read_get_member, &request);
+    uint8_t status = read_request(
+        message + 1, len - 1, is_make_credential ? read_make_credential_member : read_get_assertion_member, &request);
     if (status == OK) {
-        status = is_make ? judge_make(&request) : judge_get(&request);
+        status = is_make_credential ? validate_make_credential(&request) : validate_get_assertion(&request);
     }
     if (status != OK) {
-        answer_status(channel, status);
+        send_status(channel, status);
         return;
     }
-    memcpy(work.hash, request.hash.at, HASH);
-    work.channel = channel;
-    is_make ? begin_make(at, &request) : begin_get(at, &request);
+    memcpy(pending.client_data_hash, request.client_data_hash.data, HASH_BYTES);
+    pending.channel = channel;
+    is_make_credential ? begin_make_credential(now_ms, &request) : begin_get_assertion(now_ms, &request);
 }
 
-void authenticator_presence(uint64_t at, bool granted) {
-    if (work.need != PRESENCE) {
+void authenticator_presence(uint64_t now_ms, bool is_granted) {
+    if (pending.need != PRESENCE) {
         return;
     }
-    if (work.is_making && work.is_excluded) {
-        end(CREDENTIAL_EXCLUDED);
-    } else if (!granted) {
-        end(OPERATION_DENIED);
-    } else if (work.is_making && count == CREDENTIALS && find_same_user(&work.made) == NULL) {
-        end(KEY_STORE_FULL);
+    if (pending.is_make_credential && pending.is_excluded) {
+        finish(CREDENTIAL_EXCLUDED);
+    } else if (!is_granted) {
+        finish(OPERATION_DENIED);
+    } else if (pending.is_make_credential && credential_count == MAX_CREDENTIALS &&
+               find_same_user(&pending.made) == NULL) {
+        finish(KEY_STORE_FULL);
     } else {
-        if (!work.is_making) {
-            work.used->counter++;
+        if (!pending.is_make_credential) {
+            pending.used->sign_count++;
         }
-        wait_for(at, work.is_making ? KEY : SIGNATURE);
+        wait_for_need(now_ms, pending.is_make_credential ? KEY_PAIR : SIGNATURE);
     }
 }
 
-void authenticator_key(uint64_t at, const uint8_t *key) {
-    (void)at;
-    if (work.need != KEY) {
+void authenticator_key_pair(uint64_t now_ms, const uint8_t *key_pair) {
+    (void)now_ms;
+    if (pending.need != KEY_PAIR) {
         return;
     }
-    if (key == NULL) {
-        end(OTHER);
+    if (key_pair == NULL) {
+        finish(OTHER);
         return;
     }
-    for (int i = 0; i < count; i++) {
-        if (memcmp(held[i].id, key, HASH) == 0) {
-            end(OTHER);
+    for (int i = 0; i < credential_count; i++) {
+        if (memcmp(credentials[i].id, key_pair, HASH_BYTES) == 0) {
+            finish(OTHER);
             return;
         }
     }
-    memcpy(work.made.id, key, HASH);
-    memcpy(work.made.x, key + HASH, HASH);
-    memcpy(work.made.y, key + 2 * HASH, HASH);
-    work.need = SIGNATURE;
+    memcpy(pending.made.id, key_pair, HASH_BYTES);
+    memcpy(pending.made.x, key_pair + HASH_BYTES, HASH_BYTES);
+    memcpy(pending.made.y, key_pair + 2 * HASH_BYTES, HASH_BYTES);
+    pending.need = SIGNATURE;
 }
 
-/* Answers are written by appending. */
-struct answer {
-    uint8_t bytes[ANSWER_MOST];
+/* A response, written by appending. */
+struct response {
+    uint8_t bytes[MAX_RESPONSE_BYTES];
     size_t len;
 };
 
-static void append(struct answer *answer, const void *bytes, size_t len) {
-    memcpy(answer->bytes + answer->len, bytes, len);
-    answer->len += len;
+static void append(struct response *response, const void *bytes, size_t len) {
+    memcpy(response->bytes + response->len, bytes, len);
+    response->len += len;
 }
 
-#define APPEND_TEXT(answer, text) append(answer, text, sizeof(text) - 1)
+#define APPEND_TEXT(response, text) append(response, text, sizeof(text) - 1)
 
-static void append_string(struct answer *answer, const uint8_t *bytes, size_t len) {
+static void append_string(struct response *response, const uint8_t *bytes, size_t len) {
     if (len >= 24) {
-        answer->bytes[answer->len++] = 0x58;
-        answer->bytes[answer->len++] = (uint8_t)len;
+        response->bytes[response->len++] = 0x58;
+        response->bytes[response->len++] = (uint8_t)len;
     } else {
-        answer->bytes[answer->len++] = (uint8_t)(0x40 | len);
+        response->bytes[response->len++] = (uint8_t)(0x40 | len);
     }
-    append(answer, bytes, len);
+    append(response, bytes, len);
 }
 
-static void keep_made(void) {
-    struct credential *same = find_same_user(&work.made);
+static void store_credential(void) {
+    struct credential *same = find_same_user(&pending.made);
     if (same != NULL) {
-        memmove(same, same + 1, (size_t)(held + count - same - 1) * sizeof *same);
-        count--;
+        memmove(same, same + 1, (size_t)(credentials + credential_count - same - 1) * sizeof *same);
+        credential_count--;
     }
-    held[count++] = work.made;
-    held[count - 1].counter = 0;
-    counts.rows = counts.rows < count ? count : counts.rows;
+    credentials[credential_count++] = pending.made;
+    credentials[credential_count - 1].sign_count = 0;
+    stats.peak_credentials = stats.peak_credentials < credential_count ? credential_count : stats.peak_credentials;
 }
 
-static void answer_make(struct answer *answer, const uint8_t *signature, size_t len) {
-    const struct credential *made = &work.made;
-    APPEND_TEXT(answer, "\x00\xa3\x01\x66"
-                        "packed"
-                        "\x02\x58\xa4");
-    append(answer, made->rp, HASH);
-    APPEND_TEXT(answer, "\x41\0\0\0\0"
-                        "\0\0\0\0\0\0\0\0\0\0\0\0\0\0\0\0"
-                        "\0\x20");
-    append(answer, made->id, HASH);
-    APPEND_TEXT(answer, "\xa5\x01\x02\x03\x26\x20\x01\x21\x58\x20");
-    append(answer, made->x, HASH);
-    APPEND_TEXT(answer, "\x22\x58\x20");
-    append(answer, made->y, HASH);
-    APPEND_TEXT(answer, "\x03\xa2\x63"
-                        "alg\x26\x63"
-                        "sig");
-    append_string(answer, signature, len);
-    keep_made();
+static void write_make_credential(struct response *response, const uint8_t *signature, size_t len) {
+    const struct credential *made = &pending.made;
+    APPEND_TEXT(response, "\x00\xa3\x01\x66"
+                          "packed"
+                          "\x02\x58\xa4");
+    append(response, made->rp_id_hash, HASH_BYTES);
+    APPEND_TEXT(response, "\x41\0\0\0\0"
+                          "\0\0\0\0\0\0\0\0\0\0\0\0\0\0\0\0"
+                          "\0\x20");
+    append(response, made->id, HASH_BYTES);
+    APPEND_TEXT(response, "\xa5\x01\x02\x03\x26\x20\x01\x21\x58\x20");
+    append(response, made->x, HASH_BYTES);
+    APPEND_TEXT(response, "\x22\x58\x20");
+    append(response, made->y, HASH_BYTES);
+    APPEND_TEXT(response, "\x03\xa2\x63"
+                          "alg\x26\x63"
+                          "sig");
+    append_string(response, signature, len);
+    store_credential();
 }
 
-static void answer_get(struct answer *answer, const uint8_t *signature, size_t len) {
-    const struct credential *used = work.used;
-    uint32_t counter = __builtin_bswap32(used->counter);
-    used->is_discoverable ? APPEND_TEXT(answer, "\x00\xa4") : APPEND_TEXT(answer, "\x00\xa3");
-    APPEND_TEXT(answer, "\x01\xa2\x62"
-                        "id\x58\x20");
-    append(answer, used->id, HASH);
-    APPEND_TEXT(answer, "\x64"
-                        "type\x6a"
-                        "public-key\x02\x58\x25");
-    append(answer, used->rp, HASH);
-    answer->bytes[answer->len++] = work.is_present;
-    append(answer, &counter, sizeof counter);
-    APPEND_TEXT(answer, "\x03");
-    append_string(answer, signature, len);
+static void write_get_assertion(struct response *response, const uint8_t *signature, size_t len) {
+    const struct credential *used = pending.used;
+    uint32_t sign_count = __builtin_bswap32(used->sign_count);
+    used->is_discoverable ? APPEND_TEXT(response, "\x00\xa4") : APPEND_TEXT(response, "\x00\xa3");
+    APPEND_TEXT(response, "\x01\xa2\x62"
+                          "id\x58\x20");
+    append(response, used->id, HASH_BYTES);
+    APPEND_TEXT(response, "\x64"
+                          "type\x6a"
+                          "public-key\x02\x58\x25");
+    append(response, used->rp_id_hash, HASH_BYTES);
+    response->bytes[response->len++] = pending.is_user_present;
+    append(response, &sign_count, sizeof sign_count);
+    APPEND_TEXT(response, "\x03");
+    append_string(response, signature, len);
     if (used->is_discoverable) {
-        APPEND_TEXT(answer, "\x04\xa1\x62"
-                            "id");
-        append_string(answer, used->user, used->user_len);
+        APPEND_TEXT(response, "\x04\xa1\x62"
+                              "id");
+        append_string(response, used->user_id, used->user_id_len);
     }
 }
 
-void authenticator_signature(uint64_t at, const uint8_t *signature, size_t len) {
-    (void)at;
-    if (work.need != SIGNATURE) {
+void authenticator_signature(uint64_t now_ms, const uint8_t *signature, size_t len) {
+    (void)now_ms;
+    if (pending.need != SIGNATURE) {
         return;
     }
     if (len == 0) {
-        end(OTHER);
+        finish(OTHER);
         return;
     }
-    work.need = NOTHING;
-    struct answer answer;
-    answer.len = 0;
-    work.is_making ? answer_make(&answer, signature, len) : answer_get(&answer, signature, len);
-    transport_send(work.channel, CBOR, answer.bytes, answer.len);
+    pending.need = NO_NEED;
+    struct response response;
+    response.len = 0;
+    pending.is_make_credential ? write_make_credential(&response, signature, len)
+                               : write_get_assertion(&response, signature, len);
+    transport_send(pending.channel, CBOR, response.bytes, response.len);
 }

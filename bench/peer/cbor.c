@@ -1,33 +1,33 @@
-/* The CTAP2 canonical form: one strict check of a whole text, and readers over a text that passed it. */
+/* The CTAP2 canonical CBOR form: a strict check of an encoding, and readers for an encoding that passed it. */
 #include "peer.h"
 
 #include <string.h>
 
-enum { DEPTH_MOST = 4 };
+enum { MAX_DEPTH = 4 };
 
 struct check {
-    const uint8_t *start, *at, *end;
-    uint64_t compared; /* bytes of keys that were compared with the key before */
+    const uint8_t *start, *next, *end;
+    uint64_t compared; /* bytes of map keys compared with the previous key */
 };
 
-static bool is_utf8(const uint8_t *at, size_t len) {
-    const uint8_t *end = at + len;
-    while (at < end) {
-        uint8_t first = *at++;
+static bool is_utf8(const uint8_t *next, size_t len) {
+    const uint8_t *end = next + len;
+    while (next < end) {
+        uint8_t first = *next++;
         if (first < 0x80) {
             continue;
         }
         int more = first >= 0xf0 ? 3 : first >= 0xe0 ? 2 : 1;
-        if (first < 0xc2 || first > 0xf4 || end - at < more) {
+        if (first < 0xc2 || first > 0xf4 || end - next < more) {
             return false;
         }
         uint8_t low = first == 0xe0 ? 0xa0 : first == 0xf0 ? 0x90 : 0x80;
         uint8_t high = first == 0xed ? 0x9f : first == 0xf4 ? 0x8f : 0xbf;
-        if (*at < low || *at > high) {
+        if (*next < low || *next > high) {
             return false;
         }
-        for (at++; --more > 0; at++) {
-            if ((*at & 0xc0) != 0x80) {
+        for (next++; --more > 0; next++) {
+            if ((*next & 0xc0) != 0x80) {
                 return false;
             }
         }
@@ -36,10 +36,10 @@ static bool is_utf8(const uint8_t *at, size_t len) {
 }
 
 static bool check_head(struct check *check, enum major *major, uint64_t *number) {
-    if (check->at == check->end) {
+    if (check->next == check->end) {
         return false;
     }
-    uint8_t first = *check->at++, low = first & 31;
+    uint8_t first = *check->next++, low = first & 31;
     *major = first >> 5;
     *number = low;
     if (low < 24) {
@@ -49,30 +49,30 @@ static bool check_head(struct check *check, enum major *major, uint64_t *number)
         return false;
     }
     ptrdiff_t bytes = (ptrdiff_t)1 << (low - 24);
-    if (check->end - check->at < bytes) {
+    if (check->end - check->next < bytes) {
         return false;
     }
     uint64_t read = 0;
     for (ptrdiff_t i = 0; i < bytes; i++) {
-        read = read << 8 | check->at[i];
+        read = read << 8 | check->next[i];
     }
-    check->at += bytes;
+    check->next += bytes;
     *number = read;
     return bytes == 1 ? read >= 24 : read >> (4 * bytes) != 0;
 }
 
 static bool check_item(struct check *check, int level, bool is_key);
 
-/* Keys rise: the shorter one comes first, of two of one length the lower one. Heads are shortest, so bytes decide. */
+/* Keys must be in canonical order, shorter ones first. Heads are the shortest, so comparing the bytes is enough. */
 static bool check_map(struct check *check, uint64_t pairs, int level) {
     const uint8_t *last = NULL;
     size_t last_len = 0;
     for (uint64_t i = 0; i < pairs; i++) {
-        const uint8_t *key = check->at;
+        const uint8_t *key = check->next;
         if (!check_item(check, level + 1, true)) {
             return false;
         }
-        size_t len = (size_t)(check->at - key);
+        size_t len = (size_t)(check->next - key);
         if (last != NULL) {
             check->compared += len;
             int order = memcmp(last, key, last_len < len ? last_len : len);
@@ -98,41 +98,41 @@ static bool check_item(struct check *check, int level, bool is_key) {
     switch (major) {
     case BYTES:
     case TEXT:
-        if (number > (uint64_t)(check->end - check->at) || (major == TEXT && !is_utf8(check->at, number))) {
+        if (number > (uint64_t)(check->end - check->next) || (major == TEXT && !is_utf8(check->next, number))) {
             return false;
         }
-        check->at += number;
+        check->next += number;
         return true;
     case ARRAY:
-        for (uint64_t i = 0; level <= DEPTH_MOST && i < number; i++) {
+        for (uint64_t i = 0; level <= MAX_DEPTH && i < number; i++) {
             if (!check_item(check, level + 1, false)) {
                 return false;
             }
         }
-        return level <= DEPTH_MOST;
+        return level <= MAX_DEPTH;
     case MAP:
-        return level <= DEPTH_MOST && check_map(check, number, level);
+        return level <= MAX_DEPTH && check_map(check, number, level);
     default:
         return true;
     }
 }
 
-bool cbor_check(const uint8_t *text, size_t len, uint64_t *steps) {
-    struct check check = {text, text, text + len, 0};
-    bool is_whole = check_item(&check, 1, false) && check.at == check.end;
-    *steps = (uint64_t)(check.at - check.start) + check.compared + 1;
-    return is_whole;
+bool cbor_check(const uint8_t *encoded, size_t len, uint64_t *steps) {
+    struct check check = {encoded, encoded, encoded + len, 0};
+    bool is_canonical = check_item(&check, 1, false) && check.next == check.end;
+    *steps = (uint64_t)(check.next - check.start) + check.compared + 1;
+    return is_canonical;
 }
 
 uint64_t cbor_head(struct reader *reader, enum major *major) {
-    uint8_t first = *reader->at++, low = first & 31;
+    uint8_t first = *reader->next++, low = first & 31;
     *major = first >> 5;
     if (low < 24) {
         return low;
     }
     uint64_t number = 0;
     for (int bytes = 1 << (low - 24); bytes > 0; bytes--) {
-        number = number << 8 | *reader->at++;
+        number = number << 8 | *reader->next++;
     }
     return number;
 }
@@ -145,15 +145,15 @@ bool cbor_count(struct reader *reader, enum major major, uint64_t *count) {
 
 bool cbor_text(struct reader *reader, enum major major, struct text *text) {
     enum major found;
-    const uint8_t *start = reader->at;
+    const uint8_t *start = reader->next;
     text->len = cbor_head(reader, &found);
-    text->at = reader->at;
+    text->data = reader->next;
     if (found != major) {
-        reader->at = start;
+        reader->next = start;
         cbor_skip(reader);
         return false;
     }
-    reader->at += text->len;
+    reader->next += text->len;
     return true;
 }
 
@@ -161,7 +161,7 @@ void cbor_skip(struct reader *reader) {
     enum major major;
     uint64_t number = cbor_head(reader, &major);
     if (major == BYTES || major == TEXT) {
-        reader->at += number;
+        reader->next += number;
     }
     for (uint64_t i = 0; major == ARRAY && i < number; i++) {
         cbor_skip(reader);
@@ -171,6 +171,6 @@ void cbor_skip(struct reader *reader) {
     }
 }
 
-bool text_is(struct text text, const char *word) {
-    return text.at != NULL && text.len == strlen(word) && memcmp(text.at, word, text.len) == 0;
+bool text_is(struct text text, const char *expected) {
+    return text.data != NULL && text.len == strlen(expected) && memcmp(text.data, expected, text.len) == 0;
 }

@@ -1,49 +1,47 @@
-/* The log: lines of at most 255 bytes from standard input, each written again with what is sent for it, in one write.
- */
+/* The log: reads lines of at most 255 bytes from standard input, and writes each with the packets sent in response, in
+ * one write. */
 #include "peer.h"
 
 #include <stdio.h>
 #include <string.h>
 #include <unistd.h>
 
-enum { WINDOW = 8192, SENT_LINE = 2 + 2 * PACKET + 1, KEY_FIELDS = 96 };
+enum { WINDOW_BYTES = 8192, SENT_LINE_BYTES = 2 + 2 * PACKET_BYTES + 1, KEY_PAIR_BYTES = 96 };
 
-static uint8_t window[WINDOW];
-static size_t held, front;
-static char text[LINE_MOST + 1 + SENT_MOST * SENT_LINE];
-static size_t written;
-static int8_t values[256];
-static uint64_t now;
+static uint8_t window[WINDOW_BYTES];
+static size_t window_len, window_start;
+static char text[MAX_LINE_BYTES + 1 + MAX_SENT_PACKETS * SENT_LINE_BYTES];
+static size_t text_len;
+static int8_t digit_values[256];
+static char digit_pairs[256][2];
+static uint64_t now_ms;
 
-void log_send(const uint8_t packet[PACKET]) {
-    static const char digits[] = "0123456789abcdef";
-    char *out = text + written;
-    *out++ = '<';
-    *out++ = ' ';
-    for (size_t i = 0; i < PACKET; i++) {
-        *out++ = digits[packet[i] >> 4];
-        *out++ = digits[packet[i] & 15];
+void log_send(const uint8_t packet[PACKET_BYTES]) {
+    char *out = text + text_len;
+    memcpy(out, "< ", 2);
+    for (size_t i = 0; i < PACKET_BYTES; i++) {
+        memcpy(out + 2 + 2 * i, digit_pairs[packet[i]], 2);
     }
-    *out = '\n';
-    written += SENT_LINE;
+    out[SENT_LINE_BYTES - 1] = '\n';
+    text_len += SENT_LINE_BYTES;
 }
 
 static bool flush(void) {
     size_t done = 0;
-    while (done < written) {
-        ssize_t n = write(1, text + done, written - done);
-        if (n <= 0) {
+    while (done < text_len) {
+        ssize_t count = write(1, text + done, text_len - done);
+        if (count <= 0) {
             return false;
         }
-        done += (size_t)n;
+        done += (size_t)count;
     }
-    written = 0;
+    text_len = 0;
     return true;
 }
 
 static bool decode(const uint8_t *digits, size_t len, uint8_t *out) {
     for (size_t i = 0; i < len; i += 2) {
-        int high = values[digits[i]], low = values[digits[i + 1]];
+        int high = digit_values[digits[i]], low = digit_values[digits[i + 1]];
         if ((high | low) < 0) {
             return false;
         }
@@ -52,107 +50,108 @@ static bool decode(const uint8_t *digits, size_t len, uint8_t *out) {
     return true;
 }
 
-/* Reads a moment: decimal digits of a number below 2^64, with no zero before them. */
-static bool read_moment(const uint8_t *digits, size_t len, uint64_t *at) {
-    *at = 0;
+/* Reads a time in milliseconds: a decimal number below 2^64 without leading zeros. */
+static bool read_time(const uint8_t *digits, size_t len, uint64_t *time_ms) {
+    *time_ms = 0;
     for (size_t i = 0; i < len; i++) {
-        if (digits[i] < '0' || digits[i] > '9' || __builtin_mul_overflow(*at, 10, at) ||
-            __builtin_add_overflow(*at, (uint64_t)(digits[i] - '0'), at)) {
+        if (digits[i] < '0' || digits[i] > '9' || __builtin_mul_overflow(*time_ms, 10, time_ms) ||
+            __builtin_add_overflow(*time_ms, (uint64_t)(digits[i] - '0'), time_ms)) {
             return false;
         }
     }
     return len == 1 || (len > 1 && digits[0] != '0');
 }
 
-static bool is_word(const uint8_t *field, size_t len, const char *word) {
-    return len == strlen(word) && memcmp(field, word, len) == 0;
+static bool field_is(const uint8_t *field, size_t len, const char *expected) {
+    return len == strlen(expected) && memcmp(field, expected, len) == 0;
 }
 
 static void echo(const uint8_t *line, size_t len) {
-    memcpy(text + written, line, len);
-    text[written + len] = '\n';
-    written += len + 1;
+    memcpy(text + text_len, line, len);
+    text[text_len + len] = '\n';
+    text_len += len + 1;
 }
 
-static void pass_to(uint64_t at) {
-    now = at > now ? at : now;
-    transport_pass(now);
+static void advance_to(uint64_t time_ms) {
+    now_ms = time_ms > now_ms ? time_ms : now_ms;
+    transport_advance_time(now_ms);
 }
 
-static bool play_packet(const uint8_t *line, size_t line_len, uint64_t at, const uint8_t *field, size_t len) {
-    uint8_t packet[PACKET];
-    if (len != 2 * PACKET || !decode(field, len, packet)) {
+static bool play_packet(const uint8_t *line, size_t line_len, uint64_t time_ms, const uint8_t *field, size_t len) {
+    uint8_t packet[PACKET_BYTES];
+    if (len != 2 * PACKET_BYTES || !decode(field, len, packet)) {
         return false;
     }
     echo(line, line_len);
-    pass_to(at);
-    transport_take(now, packet);
+    advance_to(time_ms);
+    transport_handle_packet(now_ms, packet);
     return true;
 }
 
-static bool play_presence(const uint8_t *line, size_t line_len, uint64_t at, const uint8_t *field, size_t len) {
-    bool granted = is_word(field, len, "granted");
-    if (!granted && !is_word(field, len, "denied") && !is_word(field, len, "timeout")) {
+static bool play_presence(const uint8_t *line, size_t line_len, uint64_t time_ms, const uint8_t *field, size_t len) {
+    bool is_granted = field_is(field, len, "granted");
+    if (!is_granted && !field_is(field, len, "denied") && !field_is(field, len, "timeout")) {
         return false;
     }
     echo(line, line_len);
-    pass_to(at);
-    authenticator_presence(now, granted);
+    advance_to(time_ms);
+    authenticator_presence(now_ms, is_granted);
     return true;
 }
 
-static bool play_key(const uint8_t *line, size_t line_len, uint64_t at, const uint8_t *field, size_t len) {
-    uint8_t key[KEY_FIELDS];
-    bool is_no = is_word(field, len, "no");
-    if (!is_no && !(len == 2 * KEY_FIELDS + 2 && field[64] == ' ' && field[129] == ' ' && decode(field, 64, key) &&
-                    decode(field + 65, 64, key + 32) && decode(field + 130, 64, key + 64))) {
+static bool play_key_pair(const uint8_t *line, size_t line_len, uint64_t time_ms, const uint8_t *field, size_t len) {
+    uint8_t key_pair[KEY_PAIR_BYTES];
+    bool is_refused = field_is(field, len, "no");
+    if (!is_refused &&
+        !(len == 2 * KEY_PAIR_BYTES + 2 && field[64] == ' ' && field[129] == ' ' && decode(field, 64, key_pair) &&
+          decode(field + 65, 64, key_pair + 32) && decode(field + 130, 64, key_pair + 64))) {
         return false;
     }
     echo(line, line_len);
-    pass_to(at);
-    authenticator_key(now, is_no ? NULL : key);
+    advance_to(time_ms);
+    authenticator_key_pair(now_ms, is_refused ? NULL : key_pair);
     return true;
 }
 
-static bool play_signature(const uint8_t *line, size_t line_len, uint64_t at, const uint8_t *field, size_t len) {
+static bool play_signature(const uint8_t *line, size_t line_len, uint64_t time_ms, const uint8_t *field, size_t len) {
     uint8_t signature[72];
-    bool is_no = is_word(field, len, "no");
-    if (!is_no && (len < 2 || len > 144 || len % 2 != 0 || !decode(field, len, signature))) {
+    bool is_refused = field_is(field, len, "no");
+    if (!is_refused && (len < 2 || len > 144 || len % 2 != 0 || !decode(field, len, signature))) {
         return false;
     }
     echo(line, line_len);
-    pass_to(at);
-    authenticator_signature(now, signature, is_no ? 0 : len / 2);
+    advance_to(time_ms);
+    authenticator_signature(now_ms, signature, is_refused ? 0 : len / 2);
     return true;
 }
 
 static bool play_tick(const uint8_t *line, size_t len) {
-    uint64_t at;
-    if (!read_moment(line + 2, len - 2, &at)) {
+    uint64_t time_ms;
+    if (!read_time(line + 2, len - 2, &time_ms)) {
         return false;
     }
     echo(line, len);
-    pass_to(at);
+    advance_to(time_ms);
     return true;
 }
 
 static bool play_input(const uint8_t *line, size_t len) {
     const uint8_t *space = memchr(line + 2, ' ', len - 2);
-    uint64_t at;
-    if (space == NULL || !read_moment(line + 2, (size_t)(space - line - 2), &at)) {
+    uint64_t time_ms;
+    if (space == NULL || !read_time(line + 2, (size_t)(space - line - 2), &time_ms)) {
         return false;
     }
     const uint8_t *field = space + 1;
     size_t field_len = (size_t)(line + len - field);
     switch (line[0]) {
     case '>':
-        return play_packet(line, len, at, field, field_len);
+        return play_packet(line, len, time_ms, field, field_len);
     case 'p':
-        return play_presence(line, len, at, field, field_len);
+        return play_presence(line, len, time_ms, field, field_len);
     case 'k':
-        return play_key(line, len, at, field, field_len);
+        return play_key_pair(line, len, time_ms, field, field_len);
     case 's':
-        return play_signature(line, len, at, field, field_len);
+        return play_signature(line, len, time_ms, field, field_len);
     default:
         return false;
     }
@@ -170,56 +169,64 @@ static bool play(const uint8_t *line, size_t len) {
         return false;
     }
     if (line[0] == '<') {
-        uint8_t packet[PACKET];
-        return len == 2 + 2 * PACKET && decode(line + 2, len - 2, packet);
+        uint8_t packet[PACKET_BYTES];
+        return len == 2 + 2 * PACKET_BYTES && decode(line + 2, len - 2, packet);
     }
-    bool is_good = line[0] == 't' ? play_tick(line, len) : play_input(line, len);
-    return is_good && flush();
+    bool is_valid = line[0] == 't' ? play_tick(line, len) : play_input(line, len);
+    return is_valid && flush();
 }
 
-/* Reads more of the log behind what is held. Returns how many bytes, or -1. */
+/* Reads more of the log into the window. Returns how many bytes, or -1. */
 static ssize_t fill(void) {
-    memmove(window, window + front, held - front);
-    held -= front;
-    front = 0;
-    ssize_t n = read(0, window + held, WINDOW - held);
-    held += n > 0 ? (size_t)n : 0;
-    return n;
+    memmove(window, window + window_start, window_len - window_start);
+    window_len -= window_start;
+    window_start = 0;
+    ssize_t count = read(0, window + window_len, WINDOW_BYTES - window_len);
+    window_len += count > 0 ? (size_t)count : 0;
+    return count;
 }
 
 static bool play_all(void) {
     for (;;) {
-        const uint8_t *feed = memchr(window + front, '\n', held - front);
-        if (feed != NULL) {
-            size_t len = (size_t)(feed - (window + front));
-            if (len > LINE_MOST || !play(window + front, len)) {
+        const uint8_t *newline = memchr(window + window_start, '\n', window_len - window_start);
+        if (newline != NULL) {
+            size_t len = (size_t)(newline - (window + window_start));
+            if (len > MAX_LINE_BYTES || !play(window + window_start, len)) {
                 return false;
             }
-            front += len + 1;
+            window_start += len + 1;
             continue;
         }
-        if (held - front > LINE_MOST) {
+        if (window_len - window_start > MAX_LINE_BYTES) {
             return false;
         }
-        ssize_t n = fill();
-        if (n <= 0) {
-            return n == 0 && (held == front || play(window + front, held - front));
+        ssize_t count = fill();
+        if (count <= 0) {
+            return count == 0 && (window_len == window_start || play(window + window_start, window_len - window_start));
         }
     }
 }
 
-int main(void) {
-    memset(values, -1, sizeof values);
-    for (int i = 0; i < 16; i++) {
-        values[(uint8_t) "0123456789abcdef"[i]] = (int8_t)i;
-        values[(uint8_t) "0123456789ABCDEF"[i]] = (int8_t)i;
+static void fill_tables(void) {
+    static const char digits[] = "0123456789abcdef", capitals[] = "0123456789ABCDEF";
+    memset(digit_values, -1, sizeof digit_values);
+    for (int i = 0; i < 256; i++) {
+        digit_values[(uint8_t)digits[i & 15]] = (int8_t)(i & 15);
+        digit_values[(uint8_t)capitals[i & 15]] = (int8_t)(i & 15);
+        digit_pairs[i][0] = digits[i >> 4];
+        digit_pairs[i][1] = digits[i & 15];
     }
+}
+
+int main(void) {
+    fill_tables();
     if (!play_all()) {
         return 1;
     }
-    struct counts counts = authenticator_counts();
-    written = (size_t)snprintf(text, sizeof text, "= held %zu rows %d pending 0 requests %llu bytes %llu steps %llu\n",
-                               transport_most_held(), counts.rows, (unsigned long long)counts.requests,
-                               (unsigned long long)counts.bytes, (unsigned long long)counts.steps);
+    struct stats stats = authenticator_stats();
+    text_len =
+        (size_t)snprintf(text, sizeof text, "= held %zu rows %d pending 0 requests %llu bytes %llu steps %llu\n",
+                         transport_peak_message_bytes(), stats.peak_credentials, (unsigned long long)stats.requests,
+                         (unsigned long long)stats.bytes, (unsigned long long)stats.steps);
     return flush() ? 0 : 1;
 }

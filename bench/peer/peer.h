@@ -1,11 +1,12 @@
-/* A key in C that keeps the promises of `hidlog replay` for the flows of bench/flows.py, as a measure for it: written
- * for speed, with no library but OpenSSL's SHA-256, scalar code. For a log of INIT, PING, getInfo, makeCredential,
- * getAssertion, replies, ticks and comments it writes what hidlog replay writes, byte for byte: strict canonical CBOR
- * with its steps counted, the order of a request's checks, KEEPALIVEs, time-outs, busy, unknown channels, wrong
- * sequences, 64 credentials, both lists, counters, CANCEL, INIT on a channel.
+/* A security key in C with the same output as `hidlog replay` for the flows of bench/flows.py, to compare their speed.
+ * Written for speed: scalar code with tables for hexadecimal digits, and OpenSSL's SHA-256, which bench/peer.sh runs
+ * without and with vector instructions. For a log of INIT, PING, getInfo, makeCredential, getAssertion, replies, ticks
+ * and comments it writes what hidlog replay writes, byte for byte: strict canonical CBOR with its steps counted, the
+ * order of a request's checks, KEEPALIVEs, timeouts, busy channels, unknown channels, wrong sequence numbers, 64
+ * credentials, allow and exclude lists, signature counters, CANCEL, and INIT on an allocated channel.
  *
- * Left out: getNextAssertion (a sign-in with several credentials finds the newest, and its answer has no number),
- * reset, selection, users' names, snapshots, and of a request with two faults which comes first. */
+ * Left out: getNextAssertion (a sign-in with several credentials uses the newest one, and its response has no
+ * numberOfCredentials), reset, selection, users' names, snapshots, and which error a request with two errors gets. */
 #ifndef PEER_H
 #define PEER_H
 
@@ -14,58 +15,58 @@
 #include <stdint.h>
 
 enum {
-    PACKET = 64,
-    FIRST_DATA = 57,
-    NEXT_DATA = 59,
-    MESSAGE_MOST = 7609,
-    CREDENTIALS = 64,
-    USER_MOST = 64,
-    LINE_MOST = 255,
-    SENT_MOST = 130,
+    PACKET_BYTES = 64,
+    INIT_DATA_BYTES = 57,
+    CONT_DATA_BYTES = 59,
+    MAX_MESSAGE_BYTES = 7609,
+    MAX_CREDENTIALS = 64,
+    MAX_USER_ID_BYTES = 64,
+    MAX_LINE_BYTES = 255,
+    MAX_SENT_PACKETS = 130,
 };
 
 enum command { PING = 0x01, INIT = 0x06, CBOR = 0x10, CANCEL = 0x11, KEEPALIVE = 0x3b, ERROR = 0x3f };
 
-/* The log's lines: what is sent is written as lines after the line that was read. */
-void log_send(const uint8_t packet[PACKET]);
+/* The log: each packet sent is written as a line after the line that was read. */
+void log_send(const uint8_t packet[PACKET_BYTES]);
 
 /* The transport. */
-void transport_take(uint64_t at, const uint8_t packet[PACKET]);
-void transport_pass(uint64_t at);
+void transport_handle_packet(uint64_t now_ms, const uint8_t packet[PACKET_BYTES]);
+void transport_advance_time(uint64_t now_ms);
 void transport_send(uint32_t channel, enum command command, const uint8_t *message, size_t len);
-size_t transport_most_held(void);
+size_t transport_peak_message_bytes(void);
 
-/* The authenticator. Work that waits belongs to a channel. */
-enum need { NOTHING, PRESENCE, KEY, SIGNATURE };
-struct counts {
+/* The authenticator. A pending request belongs to a channel. */
+enum need { NO_NEED, PRESENCE, KEY_PAIR, SIGNATURE };
+struct stats {
     uint64_t requests, bytes, steps;
-    int rows;
+    int peak_credentials;
 };
-void authenticator_request(uint64_t at, uint32_t channel, const uint8_t *message, size_t len);
-bool authenticator_waits(void);
-bool authenticator_waits_on(uint32_t channel);
-void authenticator_cancel(void); /* with an answer */
-void authenticator_drop(void);   /* without one */
-void authenticator_pass(uint64_t at);
-void authenticator_presence(uint64_t at, bool granted);
-void authenticator_key(uint64_t at, const uint8_t *key); /* id, x and y, or NULL */
-void authenticator_signature(uint64_t at, const uint8_t *signature, size_t len);
-struct counts authenticator_counts(void);
+void authenticator_request(uint64_t now_ms, uint32_t channel, const uint8_t *message, size_t len);
+bool authenticator_is_pending(void);
+bool authenticator_is_pending_on(uint32_t channel);
+void authenticator_cancel(void); /* with a response */
+void authenticator_drop(void);   /* without a response */
+void authenticator_advance_time(uint64_t now_ms);
+void authenticator_presence(uint64_t now_ms, bool granted);
+void authenticator_key_pair(uint64_t now_ms, const uint8_t *key_pair); /* id, x and y, or NULL */
+void authenticator_signature(uint64_t now_ms, const uint8_t *signature, size_t len);
+struct stats authenticator_stats(void);
 
-/* Canonical CBOR. */
+/* CTAP2 canonical CBOR. */
 struct reader {
-    const uint8_t *at, *end;
+    const uint8_t *next, *end;
 };
 struct text {
-    const uint8_t *at;
+    const uint8_t *data;
     size_t len;
 };
 enum major { UNSIGNED, NEGATIVE, BYTES, TEXT, ARRAY, MAP, TAG, SIMPLE };
-bool cbor_check(const uint8_t *text, size_t len, uint64_t *steps);
+bool cbor_check(const uint8_t *encoded, size_t len, uint64_t *steps);
 uint64_t cbor_head(struct reader *reader, enum major *major);
 bool cbor_text(struct reader *reader, enum major major, struct text *text);
 bool cbor_count(struct reader *reader, enum major major, uint64_t *count);
 void cbor_skip(struct reader *reader);
-bool text_is(struct text text, const char *word);
+bool text_is(struct text text, const char *expected);
 
 #endif

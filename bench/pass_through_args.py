@@ -1,10 +1,10 @@
 #!/usr/bin/env python3
-"""Lists the values that functions of the libraries only hand on, unchanged.
+"""Lists the arguments that library functions only pass on, unchanged.
 
-    bench/handed_on.py FUNCTIONS    a file that names the functions, as bench/functions.sh writes it
+    bench/pass_through_args.py FUNCTIONS    a file with names of functions, written by bench/functions.sh
 
-Each line is a chain: every function in it does nothing with its parameter except hand it to the next, the last to one
-that uses it. The chain's length comes first. The sources are read as text, and calls are known by their names.
+Each line is a chain of functions that only pass their parameter to the next one; the last function passes it to one
+that uses it. The chain's length comes first. The sources are parsed as text, and calls are matched by name.
 """
 
 from __future__ import annotations
@@ -21,7 +21,7 @@ OPENING, CLOSING = "([{<", ")]}>"
 
 @dataclass(frozen=True)
 class Function:
-    """A function of the sources: its parameters' names in order, with `self` first in a method."""
+    """A function, with its parameters' names in order; `self` is first in a method."""
 
     crate: str
     name: str
@@ -41,8 +41,8 @@ class Value:
         return f"{self.crate}::{self.function}({self.parameter})"
 
 
-def closing(text: str, start: int) -> int:
-    """Returns the place of the bracket that closes the one at `start`; its kind alone counts."""
+def find_closing(text: str, start: int) -> int:
+    """Returns the index of the bracket that closes the one at `start`, counting only its kind."""
     opened, closed = text[start], CLOSING[OPENING.index(text[start])]
     depth = 0
     for place in range(start, len(text)):
@@ -52,42 +52,42 @@ def closing(text: str, start: int) -> int:
     raise ValueError(f"no {closed} closes {text[start:start + 40]!r}")
 
 
-def parts(text: str) -> list[str]:
-    """Returns what commas outside of brackets separate."""
-    found, depth, begun = [], 0, 0
-    for place, letter in enumerate(text.replace("->", "--").replace("=>", "==") + ","):
+def split_arguments(text: str) -> list[str]:
+    """Splits a text at commas outside of brackets."""
+    found, depth, start = [], 0, 0
+    for index, letter in enumerate(text.replace("->", "--").replace("=>", "==") + ","):
         depth += (letter in OPENING) - (letter in CLOSING)
         if letter == "," and depth == 0:
-            found.append(text[begun:place].strip())
-            begun = place + 1
+            found.append(text[start:index].strip())
+            start = index + 1
     return [part for part in found if part]
 
 
-def functions_of(crate: str, text: str) -> list[Function]:
-    """Returns the functions of a file that have a body."""
+def parse_functions(crate: str, text: str) -> list[Function]:
+    """Returns the functions with a body in a file."""
     found = []
     text = re.sub(r"//[^\n]*", "", text)
     for head in re.finditer(r"\bfn (\w+)", text):
         begin = text.index("(", head.end())
-        end = closing(text, begin)
-        # Clauses come between the head and the body, each on lines of its own, and the body's brace begins a line.
+        end = find_closing(text, begin)
+        # Clauses are on lines between the head and the body, and the body's brace starts a line.
         brace = re.compile(r"^\s*\{", re.MULTILINE).search(text, end)
         following = re.compile(r"\bfn \w+").search(text, end)
         if not brace or (following and following.start() < brace.start()):
             continue
-        names = [re.match(r"(?:mut )?(\w+)\s*:", part) for part in parts(text[begin + 1 : end])]
+        names = [re.match(r"(?:mut )?(\w+)\s*:", part) for part in split_arguments(text[begin + 1 : end])]
         parameters = tuple(name.group(1) if name else "self" for name in names)
         opened = brace.end() - 1
-        found.append(Function(crate, head.group(1), parameters, text[opened + 1 : closing(text, opened)]))
+        found.append(Function(crate, head.group(1), parameters, text[opened + 1 : find_closing(text, opened)]))
     return found
 
 
-def handed(function: Function, called: dict[str, list[Function]]) -> dict[str, list[Value]]:
-    """Returns the parameters that a function only hands on, each with those that take it."""
+def find_passed_on(function: Function, called: dict[str, list[Function]]) -> dict[str, list[Value]]:
+    """Returns the parameters that a function only passes on, each with those that receive it."""
     takers: dict[str, list[Value]] = {}
     count: dict[str, int] = {}
     for call in re.finditer(r"(\.?)\b(\w+)(?:::<[^>]*>)?\(", function.body):
-        arguments = parts(function.body[call.end() : closing(function.body, call.end() - 1)])
+        arguments = split_arguments(function.body[call.end() : find_closing(function.body, call.end() - 1)])
         for place, argument in enumerate(arguments):
             name = re.sub(r"^(&mut |&|\*)", "", argument)
             if name not in function.parameters or call.group(2) not in called:
@@ -101,14 +101,16 @@ def handed(function: Function, called: dict[str, list[Function]]) -> dict[str, l
     return {name: values for name, values in takers.items() if count[name] == uses[name]}
 
 
-def chain(value: Value, hands: dict[Value, list[Value]], seen: frozenset[Value]) -> list[Value]:
-    """Returns the longest chain that begins with a value."""
-    following = [chain(taker, hands, seen | {taker}) for taker in hands[value] if taker in hands and taker not in seen]
+def find_chain(value: Value, hands: dict[Value, list[Value]], seen: frozenset[Value]) -> list[Value]:
+    """Returns the longest chain that starts with a value."""
+    following = [
+        find_chain(taker, hands, seen | {taker}) for taker in hands[value] if taker in hands and taker not in seen
+    ]
     return [value, *max(following, key=len, default=[])]
 
 
 def main() -> int:
-    # A reader that closes the pipe ends it in silence.
+    # Exit silently if the reader closes the pipe.
     signal.signal(signal.SIGPIPE, signal.SIG_DFL)
     if len(sys.argv) != 2:
         print(__doc__, file=sys.stderr)
@@ -118,15 +120,15 @@ def main() -> int:
     called: dict[str, list[Function]] = {}
     for file in sorted(CRATES.glob("*/src/**/*.rt")):
         crate = file.relative_to(CRATES).parts[0]
-        for function in functions_of(crate, file.read_text(encoding="utf-8")):
+        for function in parse_functions(crate, file.read_text(encoding="utf-8")):
             if (crate, function.name) in listed:
                 called.setdefault(function.name, []).append(function)
     hands: dict[Value, list[Value]] = {}
     for function in [one for several in called.values() for one in several]:
-        for name, takers in handed(function, called).items():
+        for name, takers in find_passed_on(function, called).items():
             hands[Value(function.crate, function.name, name)] = takers
     inner = {taker for takers in hands.values() for taker in takers}
-    chains = [chain(value, hands, frozenset({value})) for value in hands if value not in inner]
+    chains = [find_chain(value, hands, frozenset({value})) for value in hands if value not in inner]
     for values in sorted(chains, key=lambda values: (-len(values), str(values[0]))):
         print(len(values), " -> ".join(map(str, values)))
     return 0

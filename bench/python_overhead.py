@@ -1,17 +1,16 @@
 #!/usr/bin/env python3
-"""Measures what the Python package costs its users, here and in another clone, in turns: bench/sign_in.py OTHER [ROUNDS]
+"""Measures the Python package of this clone and of another one, alternating: bench/python_overhead.py OTHER [ROUNDS]
 
     import      milliseconds that `import hidlog` adds to starting Python
-    sign in     milliseconds of a sign-in by an allow list, through the package's browser
-    register    milliseconds of a registration with a sign-in after it, with a new key each time
-    count       milliseconds of `len(key.credentials)` where 64 are held
-    change      milliseconds of one change to the counter of the oldest of 64
-    newest      the same of the newest
-    memory      megabytes that pytest has held at most after 4,000 tests with a key, beyond as many without
+    sign in     milliseconds of a sign-in with an allow list, through the package's browser
+    register    milliseconds of a registration and a sign-in, with a new key each time
+    count       milliseconds of `len(key.credentials)` with 64 credentials
+    change      milliseconds of a change of the signature counter of the oldest of 64 credentials
+    newest      the same for the newest one
+    memory      peak megabytes of pytest with 4,000 tests with a key, minus 4,000 without
 
-Each figure is the median of ROUNDS runs (by default 15) of a process; of the processes of both clones one runs after
-the other. OTHER may be an older main: what it needs (python-fido2, before the package had a browser of its own) is
-Debian's. Ends with 2 where it isn't a clone.
+Each figure is the median of ROUNDS runs [default: 15] in separate processes, alternating between the clones. OTHER must
+have the same names (sign_count, update), or an error ends the measurement. Exits with 2 if OTHER is not a clone.
 """
 
 from __future__ import annotations
@@ -27,15 +26,15 @@ OPTIONS = """
 import time, hidlog
 made = {"challenge": "AAAA", "rp": {"id": "example.com", "name": "A"}, "user": {"id": "AQ", "name": "a", "displayName": "A"},
         "pubKeyCredParams": [{"type": "public-key", "alg": -7}]}
-def asked(it):
-    return {"challenge": "AAAA", "rpId": "example.com", "allowCredentials": [{"type": "public-key", "id": it["id"]}]}
+def request(credential):
+    return {"challenge": "AAAA", "rpId": "example.com", "allowCredentials": [{"type": "public-key", "id": credential["id"]}]}
 """
-SIGN_IN = (
+SIGN_IN_CODE = (
     OPTIONS
     + """
 with hidlog.SecurityKey() as key:
     browser = key.browser("https://example.com")
-    options = asked(browser.create(made))
+    options = request(browser.create(made))
     for _ in range(20):
         browser.get(options)
     times = []
@@ -46,7 +45,7 @@ with hidlog.SecurityKey() as key:
 print(sorted(times)[150])
 """
 )
-REGISTER = (
+REGISTER_CODE = (
     OPTIONS
     + """
 times = []
@@ -54,20 +53,20 @@ for _ in range(60):
     began = time.perf_counter()
     with hidlog.SecurityKey() as key:
         browser = key.browser("https://example.com")
-        browser.get(asked(browser.create(made)))
+        browser.get(request(browser.create(made)))
     times.append(time.perf_counter() - began)
 print(sorted(times)[30])
 """
 )
-IMPORT = """
+IMPORT_CODE = """
 import subprocess, sys, time
-def taken(words):
+def measure_wall_time(words):
     began = time.perf_counter()
     subprocess.run([sys.executable, "-c", words], check=True)
     return time.perf_counter() - began
 print(sorted(taken("import hidlog") - taken("pass") for _ in range(9))[4])
 """
-HELD = """
+HELD_CODE = """
 import time, hidlog
 key = hidlog.SecurityKey()
 for number in range(64):
@@ -79,9 +78,9 @@ for number in range(1, 20):
     times.append(time.perf_counter() - began)
 print(sorted(times)[9])
 """
-MEMORY = """
+MEMORY_CODE = """
 import resource, subprocess, sys, tempfile
-def most(fixture):
+def measure_peak_memory(fixture):
     with tempfile.NamedTemporaryFile("w", suffix="_test.py") as file:
         file.write(f"import pytest\\n@pytest.mark.parametrize('n', range(4000))\\ndef test_it(n{fixture}): pass\\n")
         file.flush()
@@ -89,25 +88,25 @@ def most(fixture):
         ran = subprocess.Popen(words, stdout=subprocess.DEVNULL, cwd=tempfile.gettempdir())
         import os
         return os.wait4(ran.pid, 0)[2].ru_maxrss / 1024
-print((most(", security_key") - most("")) / 1000)
+print((measure_peak_memory(", security_key") - measure_peak_memory("")) / 1000)
 """
-PARTS = {
-    "import": IMPORT,
-    "sign in": SIGN_IN,
-    "register": REGISTER,
-    "count": HELD.format("len(key.credentials)"),
-    "change": HELD.format("key.credentials.change(first, counter=number)"),
-    "newest": HELD.format("key.credentials.change(newest, counter=number)"),
-    "memory": MEMORY,
+MEASUREMENTS = {
+    "import": IMPORT_CODE,
+    "sign in": SIGN_IN_CODE,
+    "register": REGISTER_CODE,
+    "count": HELD_CODE.format("len(key.credentials)"),
+    "change": HELD_CODE.format("key.credentials.update(first, sign_count=number)"),
+    "newest": HELD_CODE.format("key.credentials.update(newest, sign_count=number)"),
+    "memory": MEMORY_CODE,
 }
 
 
-def milliseconds(clone: Path, text: str) -> float:
-    """Runs a part with a clone's package."""
-    paths = {"PYTHONPATH": str(clone / "python" / "src"), "HIDLOG_LIBRARY": str(clone / "release" / "libhidlog.so.0")}
+def format_milliseconds(clone: Path, text: str) -> float:
+    """Runs a measurement with a clone's package."""
+    paths = {"PYTHONPATH": str(clone / "python" / "src"), "HIDLOG_LIBRARY": str(clone / "release" / "libhidlog.so.1")}
     words = ["/usr/bin/python3", "-W", "ignore", "-c", text]
-    said = subprocess.run(words, env={**os.environ, **paths}, capture_output=True, text=True, check=True)
-    return float(said.stdout) * 1000
+    ran = subprocess.run(words, env={**os.environ, **paths}, capture_output=True, text=True, check=True)
+    return float(ran.stdout) * 1000
 
 
 def main() -> int:
@@ -115,8 +114,8 @@ def main() -> int:
         print(__doc__, file=sys.stderr)
         return 2
     other, rounds = Path(sys.argv[1]).resolve(), int(sys.argv[2]) if len(sys.argv) > 2 else 15
-    for name, text in PARTS.items():
-        pairs = [(milliseconds(other, text), milliseconds(TOP, text)) for _ in range(rounds)]
+    for name, text in MEASUREMENTS.items():
+        pairs = [(format_milliseconds(other, text), format_milliseconds(TOP, text)) for _ in range(rounds)]
         there, here = (statistics.median(times) for times in zip(*pairs))
         print(f"{name:9} there {there:8.4f}, here {here:8.4f}, ratio {here / there:.3f}", flush=True)
     return 0
