@@ -1,10 +1,11 @@
 # shellcheck shell=sh
-# The command `hidlog` of a clone and of the Debian packages: the proved program, or the Python package for the commands
-# that this has. It is sourced by ./hidlog, and packages/debian.sh puts it into /usr/bin/hidlog.
+# The command `hidlog` of a clone and of the Debian packages: the verified program, or the Python package for its
+# commands. Sourced by ./hidlog, and copied by packages/debian.sh into /usr/bin/hidlog.
 #
-# Both set $program, the path of the proved program, and run_python, a function that runs the Python package's command.
-# Nothing is looked for on PATH but python3, in a clone. tests/one_command.py compares the list with the other packages'.
-# shellcheck disable=SC2154  # $program is set by who sources this
+# Both set $program, the path of the verified program, and run_python, a function that runs the Python package's
+# command. Only python3, in a clone, is searched on PATH. tests/one_command.py compares the list with the other
+# packages'.
+# shellcheck disable=SC2154  # $program is set by the sourcing script
 case ${1-} in
 webdriver | browser | import | export | judge | shrink | check-many | mermaid) run_python "$@" ;;
 help)

@@ -1,7 +1,7 @@
 #!/usr/bin/env python3
-"""Writes the completions of `hidlog` for bash, zsh and fish, from the program's help and the Python package's commands.
+"""Writes completions of `hidlog` for bash, zsh and fish, from the program's help and the Python package's commands.
 
-    packages/completions.py PROGRAM FOLDER      writes hidlog.bash, _hidlog and hidlog.fish into FOLDER
+    packages/completions.py PROGRAM DIR      write hidlog.bash, _hidlog and hidlog.fish to DIR
 """
 
 from __future__ import annotations
@@ -16,7 +16,7 @@ TOP = Path(__file__).resolve().parent.parent
 sys.path.insert(0, str(TOP / "python/src"))
 sys.dont_write_bytecode = True
 
-from hidlog.__main__ import CHECK_SIGNATURES, COMMANDS as OF_PYTHON
+from hidlog.__main__ import CHECK_SIGNATURES, COMMANDS as PYTHON_COMMANDS
 
 COMMAND = re.compile(r"^  (\w+) +(\S.*)$", re.MULTILINE)
 OPTION = re.compile(r"^ +(?:(-\w), )?(--[\w-]+)( <\w+>)? +(\S.*)$", re.MULTILINE)
@@ -24,48 +24,48 @@ OPTION = re.compile(r"^ +(?:(-\w), )?(--[\w-]+)( <\w+>)? +(\S.*)$", re.MULTILINE
 
 @dataclass(frozen=True)
 class Option:
-    """An option: its names, whether a file's path follows, and what it does."""
+    """An option: its names, whether it takes a file, and its help text."""
 
     short: str
     long: str
     takes_file: bool
-    says: str
+    summary: str
 
 
 @dataclass(frozen=True)
 class Command:
-    """A command, what it does, its options, and whether logs are named after it."""
+    """A command: its name, help text and options, and whether it takes log files."""
 
     name: str
-    says: str
+    summary: str
     options: list[Option]
     takes_logs: bool
 
 
-def help_of(program: str, *words: str) -> str:
-    """Returns what the program says for --help."""
+def read_help(program: str, *words: str) -> str:
+    """Returns the program's output for --help."""
     return subprocess.run([program, *words, "--help"], check=True, capture_output=True, text=True).stdout
 
 
-def options_in(text: str) -> list[Option]:
-    """Returns the options that a help lists."""
+def parse_options(text: str) -> list[Option]:
+    """Parses the options in a help text."""
     listed = text.partition("Options:\n")[2]
     return [Option(row[1] or "", row[2], bool(row[3]), row[4]) for row in OPTION.finditer(listed)]
 
 
-def commands_of(program: str) -> list[Command]:
+def read_commands(program: str) -> list[Command]:
     """Returns the commands of the program and of the Python package."""
-    listed = help_of(program).partition("Commands:\n")[2].partition("\n\n")[0]
+    listed = read_help(program).partition("Commands:\n")[2].partition("\n\n")[0]
     found = [(row[1], row[2]) for row in COMMAND.finditer(listed + "\n")]
-    helps = [(name, says, help_of(program, name)) for name, says in found if name != "help"]
-    own = [Command(name, says, options_in(text), "Arguments:\n" in text) for name, says, text in helps]
+    helps = [(name, summary, read_help(program, name)) for name, summary in found if name != "help"]
+    own = [Command(name, summary, parse_options(text), "Arguments:\n" in text) for name, summary, text in helps]
     (check,) = (command for command in own if command.name == "check")
     check.options.append(Option("", "--signatures", False, CHECK_SIGNATURES.summary))
-    return own + [Command(name, command.summary, [], True) for name, command in OF_PYTHON.items()]
+    return own + [Command(name, command.summary, [], True) for name, command in PYTHON_COMMANDS.items()]
 
 
-def for_bash(commands: list[Command]) -> str:
-    """Returns the completion of bash. A path is completed after an option that takes one, and as a log."""
+def to_bash(commands: list[Command]) -> str:
+    """Returns the completions for bash. Paths are completed after options that take a file, and for logs."""
     words = {command.name: [option.long for option in command.options] for command in commands}
     options = (option for command in commands for option in command.options)
     files = "|".join(sorted({option.long for option in options if option.takes_file}))
@@ -93,18 +93,18 @@ def for_bash(commands: list[Command]) -> str:
     )
 
 
-def quoted(text: str) -> str:
-    """Returns a text in single quotes of a shell."""
+def quote_zsh(text: str) -> str:
+    """Quotes a text for a shell."""
     return "'" + text.replace("'", "'\\''") + "'"
 
 
-def for_zsh(commands: list[Command]) -> str:
-    """Returns the completion of zsh."""
+def to_zsh(commands: list[Command]) -> str:
+    """Returns the completions for zsh."""
 
     def spec(option: Option) -> str:
-        return quoted(f"{option.long}[{option.says}]" + (":file:_files" if option.takes_file else ""))
+        return quote_zsh(f"{option.long}[{option.summary}]" + (":file:_files" if option.takes_file else ""))
 
-    listed = "".join(f"        {quoted(f'{command.name}:{command.says}')}\n" for command in commands)
+    listed = "".join(f"        {quote_zsh(f'{command.name}:{command.summary}')}\n" for command in commands)
 
     def case(command: Command) -> str:
         specs = [spec(option) for option in command.options] + ["'*:log:_files'"] * command.takes_logs
@@ -122,19 +122,19 @@ def for_zsh(commands: list[Command]) -> str:
     )
 
 
-def for_fish(commands: list[Command]) -> str:
-    """Returns the completion of fish."""
+def to_fish(commands: list[Command]) -> str:
+    """Returns the completions for fish."""
     lines = ["# Completion of hidlog for fish. Made by packages/completions.py from the program's help."]
     lines.append("complete -c hidlog -n __fish_use_subcommand -f")
     lines += [
-        f"complete -c hidlog -n __fish_use_subcommand -a {command.name} -d {quoted(command.says)}"
+        f"complete -c hidlog -n __fish_use_subcommand -a {command.name} -d {quote_zsh(command.summary)}"
         for command in commands
     ]
     for command in commands:
         for option in command.options:
             file = " -r -F" if option.takes_file else ""
             seen = f"-n '__fish_seen_subcommand_from {command.name}'"
-            lines.append(f"complete -c hidlog {seen} -l {option.long[2:]}{file} -d {quoted(option.says)}")
+            lines.append(f"complete -c hidlog {seen} -l {option.long[2:]}{file} -d {quote_zsh(option.summary)}")
     return "\n".join(lines) + "\n"
 
 
@@ -143,12 +143,12 @@ def main() -> int:
     if len(words) != 2:
         print((__doc__ or "").strip(), file=sys.stderr)
         return 2
-    commands, folder = commands_of(words[0]), Path(words[1])
+    commands, folder = read_commands(words[0]), Path(words[1])
     folder.mkdir(parents=True, exist_ok=True)
     for name, text in (
-        ("hidlog.bash", for_bash(commands)),
-        ("_hidlog", for_zsh(commands)),
-        ("hidlog.fish", for_fish(commands)),
+        ("hidlog.bash", to_bash(commands)),
+        ("_hidlog", to_zsh(commands)),
+        ("hidlog.fish", to_fish(commands)),
     ):
         (folder / name).write_text(text, encoding="utf-8")
     return 0

@@ -1,8 +1,8 @@
 #!/usr/bin/env python3
 """Copies pages of docs/use into a package: documents.py ROOT NAME ..
 
-A link to what the package hasn't got becomes its text and the path in the sources, so that none leads nowhere. Below a
-page's title it is said where other paths are.
+A link to a file that is not in the package becomes its text and the path in the sources. A note below the title
+explains that.
 """
 
 from __future__ import annotations
@@ -13,13 +13,13 @@ import sys
 from pathlib import Path
 
 TOP = Path(__file__).resolve().parent.parent
-USE = TOP / "docs" / "use"
+DOCS_FOLDER = TOP / "docs" / "use"
 LINK = re.compile(r"\[([^\]]*)\]\(([^)#\s]+)(#[^)]*)?\)")
-NOTE = "In this package `./hidlog` is `hidlog`, and paths that aren't here are those of the sources.\n\n"
+NOTE = "In this package `./hidlog` is `hidlog`. Paths that are not here are those of the sources.\n\n"
 
 
-def packed(name: str, names: list[str]) -> str:
-    """Returns the text of a page as the package has it."""
+def rewrite_links(name: str, names: list[str]) -> str:
+    """Returns the text of a page for the package."""
 
     def link(found: re.Match[str]) -> str:
         text, target = found[1], found[2]
@@ -28,7 +28,7 @@ def packed(name: str, names: list[str]) -> str:
         path = os.path.normpath(f"docs/use/{target}")
         return f"`{path}`" if text in (path, Path(path).name, Path(path).stem) else f"{text} (`{path}` of the sources)"
 
-    title, _, rest = (USE / f"{name}.md").read_text(encoding="utf-8").partition("\n\n")
+    title, _, rest = (DOCS_FOLDER / f"{name}.md").read_text(encoding="utf-8").partition("\n\n")
     return f"{title}\n\n{NOTE}{LINK.sub(link, rest)}"
 
 
@@ -40,7 +40,7 @@ def main() -> int:
     folder.mkdir(parents=True, exist_ok=True)
     for name in sys.argv[2:]:
         path = folder / f"{name}.md"
-        path.write_text(packed(name, sys.argv[2:]), encoding="utf-8")
+        path.write_text(rewrite_links(name, sys.argv[2:]), encoding="utf-8")
         path.chmod(0o644)
     return 0
 

@@ -1,11 +1,11 @@
 #!/usr/bin/env python3
-"""Writes what the packages of a folder hold, and what they were made from (packages/build.sh calls it).
+"""Writes the bill of materials and the provenance of the packages in a directory. Called by packages/build.sh.
 
-    packages/statements.py FOLDER
+    packages/statements.py DIR
 
-Two files of JSON, the same for the same packages: hidlog-VERSION.spdx.json, a list of materials in SPDX 2.3, and
-hidlog-VERSION.provenance.json, a statement of in-toto with SLSA's provenance. Neither is signed. The facts are those of
-release/BUILD, the commit and the sums of what the Python and npm packages are made from beside it; the moment is that of
+Writes two JSON files, reproducibly: hidlog-VERSION.spdx.json, a bill of materials in SPDX 2.3, and
+hidlog-VERSION.provenance.json, an in-toto statement with SLSA provenance. Neither is signed. The data is from
+release/BUILD, the commit, and checksums of the sources of the Python and npm packages; the timestamp is
 SOURCE_DATE_EPOCH.
 """
 
@@ -21,8 +21,8 @@ from pathlib import Path
 from typing import Any
 
 TOP = Path(__file__).resolve().parent.parent
-# The crates of the toolchain's kit that the program and the library are built with: the version of the Rust crate that
-# each was written after, by its README, and its licence.
+# The crates of the toolchain's kit used by the program and the library: the version of the Rust crate on which each is
+# based, according to its README, and its license.
 CRATES = {
     "arrayvec": ("0.7.8", "MIT OR Apache-2.0"),
     "base64": ("0.23.1", "MIT OR Apache-2.0"),
@@ -34,12 +34,12 @@ CRATES = {
     "sha2": ("0.11.1", "MIT OR Apache-2.0"),
     "thiserror": ("2.0.21", "MIT OR Apache-2.0"),
 }
-# Debian's versions of libc6-dev and libc6-dev-arm64-cross, by the front of the sum of their libc.a, which release/BUILD has.
+# Debian's versions of libc6-dev and libc6-dev-arm64-cross, by the prefix of the checksum of libc.a in release/BUILD.
 LIBC = {"8e5252c4b87e3d58": "2.36-9+deb12u14", "e8e575befa51c934": "2.36-8cross1"}
-# The C libraries in programs, by the lines of release/BUILD that say how these are linked: a name, and Debian's package.
+# The C libraries in the programs, by the lines in release/BUILD on how they are linked: name, and Debian package.
 LIBRARIES = {"linker": ("glibc", "libc6-dev"), "linker for aarch64": ("glibc-arm64", "libc6-dev-arm64-cross")}
-# What is packed beside release/: the folders and files of each set of sources.
-OTHERS = {
+# Sources of packages other than release/: directories and files of each set.
+OTHER_SOURCES = {
     "python": ("python", "conformance/hidlog_conformance", "web/dist/security_key.js"),
     "npm": ("web/dist", "web/core.js", "packages/npm"),
     "uhid": ("examples/uhid", "examples/ssh/state.c", "examples/ssh/state.h", "examples/c", "packages/uhid"),
@@ -48,8 +48,8 @@ OTHERS = {
     "docs": ("docs", "packages/readme", "examples"),
     "arm64": ("packages/arm64",),
 }
-# Of which sets each package is made, beside release/, by the front of its name: the first that fits.
-MADE_OF = (
+# The sets of sources of each package, by the prefix of its name; the first match counts.
+PACKAGE_PARTS = (
     ("hidlog-uhid_", ("uhid", "docs")),
     ("python3-hidlog_", ("python", "docs")),
     ("libhidlog", ("docs",)),
@@ -65,46 +65,46 @@ MADE_OF = (
     ("hidlog-VERSION.tar.gz", ("python", "arm64")),
     ("hidlog-VERSION", ("python",)),
 )
-# Packages that have the program, which holds parts of the C library.
-WITH_PROGRAM = (
+# Packages with the program, which includes parts of the C library.
+PACKAGES_WITH_PROGRAM = (
     "hidlog_",
     "hidlog-VERSION.tgz",
     "hidlog-VERSION-linux-",
     "hidlog-VERSION-py3-none-manylinux_2_17_",
 )
-# The sources of the Python package, which have the programs for both processors.
-SDIST = "hidlog-VERSION.tar.gz"
-# Names of these forms; they lead nowhere.
+# The source package for Python, which has the programs for both processors.
+SDIST_PATTERN = "hidlog-VERSION.tar.gz"
+# Identifiers, not URLs.
 BUILD_TYPE, BUILDER = "urn:x-hidlog:packages:1", "urn:x-hidlog:release-build:1"
-COMMANDS = ("rt ci", "release/build.sh", "packages/build.sh FOLDER")
+COMMANDS = ("rt ci", "release/build.sh", "packages/build.sh DIR")
 Json = dict[str, Any]
 
 
-def build_facts() -> dict[str, str]:
-    """Returns the lines of release/BUILD by their names."""
+def read_build_info() -> dict[str, str]:
+    """Returns the lines of release/BUILD by name."""
     lines = (TOP / "release" / "BUILD").read_text(encoding="utf-8").splitlines()
     return {name: value for name, _, value in (line.partition(": ") for line in lines)}
 
 
-def git(*words: str) -> str:
-    """Returns what git says of this repository; nothing where there is none."""
+def run_git(*words: str) -> str:
+    """Returns git's output for this repository, or "" if there is none."""
     try:
-        said = subprocess.run(["git", "-C", str(TOP), *words], capture_output=True, text=True, check=True)
+        ran = subprocess.run(["git", "-C", str(TOP), *words], capture_output=True, text=True, check=True)
     except (OSError, subprocess.CalledProcessError):
         return ""
-    return said.stdout.strip()
+    return ran.stdout.strip()
 
 
-def commit() -> list[Json]:
-    """Returns the commit that is built, and whether a file differs from it; nothing in an unpacked archive."""
-    if not (TOP / ".git").exists() or not (name := git("rev-parse", "HEAD")):
+def read_commit() -> list[Json]:
+    """Returns the current commit, and whether a file differs from it; an empty list in an unpacked archive."""
+    if not (TOP / ".git").exists() or not (name := run_git("rev-parse", "HEAD")):
         return []
-    is_changed = git("status", "--porcelain", "--untracked-files=no") != ""
+    is_changed = run_git("status", "--porcelain", "--untracked-files=no") != ""
     return [{"name": "commit", "digest": {"gitCommit": name}, "annotations": {"changed": is_changed}}]
 
 
-def sum_of(paths: tuple[str, ...]) -> str:
-    """Returns a SHA-256 sum of files: of a line for each, with its own sum and its path, as sha256sum prints them."""
+def compute_sha256(paths: tuple[str, ...]) -> str:
+    """Returns a SHA-256 sum of files: that of the output of sha256sum for them."""
     files = sorted(
         source for path in paths for source in ([TOP / path] if (TOP / path).is_file() else (TOP / path).rglob("*"))
     )
@@ -113,14 +113,14 @@ def sum_of(paths: tuple[str, ...]) -> str:
     return hashlib.sha256("".join(lines).encode()).hexdigest()
 
 
-def packages_of(folder: Path, version: str) -> dict[str, str]:
-    """Returns the packages of this version with their SHA-256 sums."""
+def list_packages(folder: Path, version: str) -> dict[str, str]:
+    """Returns the SHA-256 sums of the packages of this version."""
     found = (package for package in sorted(folder.iterdir()) if version in package.name and package.suffix != ".json")
     return {package.name: hashlib.sha256(package.read_bytes()).hexdigest() for package in found}
 
 
-def spdx_package(name: str, version: str, licence: str, **more: Any) -> Json:
-    """Returns a package of SPDX. Its identifier is made of its name."""
+def make_spdx_package(name: str, version: str, licence: str, **more: Any) -> Json:
+    """Returns an SPDX package. Its identifier is derived from its name."""
     letters = "".join(letter if letter.isalnum() or letter in ".-" else "-" for letter in name)
     return {
         "SPDXID": f"SPDXRef-{letters}",
@@ -135,12 +135,15 @@ def spdx_package(name: str, version: str, licence: str, **more: Any) -> Json:
     }
 
 
-def materials(facts: dict[str, str]) -> list[Json]:
-    """Returns what the packages are made from: the sources, the toolchain's crates, and the C library that is linked."""
+def list_materials(facts: dict[str, str]) -> list[Json]:
+    """Returns the materials: the sources, the toolchain's crates, and the linked C library."""
     kit = facts["kit"].split(" ")[0]
-    sums = {"sources": facts["sources"], **{f"sources-{name}": sum_of(paths) for name, paths in OTHERS.items()}}
+    sums = {
+        "sources": facts["sources"],
+        **{f"sources-{name}": compute_sha256(paths) for name, paths in OTHER_SOURCES.items()},
+    }
     sources = (
-        spdx_package(
+        make_spdx_package(
             f"hidlog-{name}",
             facts["version"],
             "MIT OR Apache-2.0",
@@ -149,11 +152,11 @@ def materials(facts: dict[str, str]) -> list[Json]:
         for name, digest in sums.items()
     )
     crates = (
-        spdx_package(f"{kit}-{name}", version, licence, comment=f"Of the kit {kit}, after the Rust crate {name}.")
+        make_spdx_package(f"{kit}-{name}", version, licence, comment=f"Of the kit {kit}, after the Rust crate {name}.")
         for name, (version, licence) in CRATES.items()
     )
     libraries = (
-        spdx_package(
+        make_spdx_package(
             name,
             LIBC.get(facts[line].split(" ")[-2], "NOASSERTION"),
             "LGPL-2.1-or-later",
@@ -163,40 +166,40 @@ def materials(facts: dict[str, str]) -> list[Json]:
         for line, (name, package) in LIBRARIES.items()
         if line in facts
     )
-    return [*sources, spdx_package(kit, facts["kit"], "NOASSERTION"), *crates, *libraries]
+    return [*sources, make_spdx_package(kit, facts["kit"], "NOASSERTION"), *crates, *libraries]
 
 
-def parts_of(name: str, version: str, parts: list[Json]) -> list[Json]:
-    """Returns the parts that a package is made from: all crates, its own sources, and the C library of its program."""
+def list_parts(name: str, version: str, parts: list[Json]) -> list[Json]:
+    """Returns the materials of a package: all crates, its own sources, and the C library of its program."""
     plain = name.replace(version, "VERSION")
-    sets = next(found for front, found in MADE_OF if plain.startswith(front))
-    own = {f"hidlog-sources-{name}" for name in OTHERS if name not in sets}
+    sets = next(found for front, found in PACKAGE_PARTS if plain.startswith(front))
+    own = {f"hidlog-sources-{name}" for name in OTHER_SOURCES if name not in sets}
     own |= {library for library, _ in LIBRARIES.values()}
-    if plain == SDIST:
+    if plain == SDIST_PATTERN:
         own -= {"glibc", "glibc-arm64"}
-    elif plain.startswith(WITH_PROGRAM):
+    elif plain.startswith(PACKAGES_WITH_PROGRAM):
         own.remove("glibc-arm64" if "arm64" in sets else "glibc")
     return [part for part in parts if part["name"] not in own]
 
 
-def relationships(packages: list[Json], parts: list[Json], version: str) -> list[Json]:
-    """Returns that the document describes each package, and that each is made from its parts."""
+def make_relationships(packages: list[Json], parts: list[Json], version: str) -> list[Json]:
+    """Returns the relationships: the document describes each package, each of which is generated from its materials."""
 
     def relation(first: str, kind: str, second: str) -> Json:
         return {"spdxElementId": first, "relationshipType": kind, "relatedSpdxElement": second}
 
     described = [relation("SPDXRef-DOCUMENT", "DESCRIBES", package["SPDXID"]) for package in packages]
     made = (
-        (package["SPDXID"], of["SPDXID"]) for package in packages for of in parts_of(package["name"], version, parts)
+        (package["SPDXID"], of["SPDXID"]) for package in packages for of in list_parts(package["name"], version, parts)
     )
     return described + [relation(one, "GENERATED_FROM", other) for one, other in made]
 
 
-def spdx(facts: dict[str, str], sums: dict[str, str]) -> Json:
-    """Returns the list of materials."""
-    version, parts = facts["version"], materials(facts)
+def make_spdx(facts: dict[str, str], sums: dict[str, str]) -> Json:
+    """Returns the SPDX document."""
+    version, parts = facts["version"], list_materials(facts)
     packages = [
-        spdx_package(
+        make_spdx_package(
             name,
             version,
             "MIT OR Apache-2.0",
@@ -215,12 +218,12 @@ def spdx(facts: dict[str, str], sums: dict[str, str]) -> Json:
         "documentNamespace": f"urn:x-hidlog:spdx:{version}:{namespace}",
         "creationInfo": {"created": f"{moment:%Y-%m-%dT%H:%M:%SZ}", "creators": ["Tool: packages/statements.py"]},
         "packages": packages + parts,
-        "relationships": relationships(packages, parts, version),
+        "relationships": make_relationships(packages, parts, version),
     }
 
 
-def provenance(facts: dict[str, str], sums: dict[str, str]) -> Json:
-    """Returns the statement of what the packages were made from, and by which commands."""
+def make_provenance(facts: dict[str, str], sums: dict[str, str]) -> Json:
+    """Returns the provenance: the sources of the packages, and the build commands."""
     return {
         "_type": "https://in-toto.io/Statement/v1",
         "subject": [{"name": name, "digest": {"sha256": digest}} for name, digest in sums.items()],
@@ -233,11 +236,11 @@ def provenance(facts: dict[str, str], sums: dict[str, str]) -> Json:
                     fact: facts[fact] for fact in sorted(facts) if fact not in ("version", "sources", "kit")
                 },
                 "resolvedDependencies": [
-                    *commit(),
+                    *read_commit(),
                     {"name": "sources", "digest": {"sha256": facts["sources"]}},
                     *(
-                        {"name": f"sources-{name}", "digest": {"sha256": sum_of(paths)}}
-                        for name, paths in OTHERS.items()
+                        {"name": f"sources-{name}", "digest": {"sha256": compute_sha256(paths)}}
+                        for name, paths in OTHER_SOURCES.items()
                     ),
                     {"name": facts["kit"]},
                 ],
@@ -252,9 +255,9 @@ def main() -> int:
     if len(words) != 1 or not Path(words[0]).is_dir():
         print((__doc__ or "").strip(), file=sys.stderr)
         return 2
-    folder, facts = Path(words[0]), build_facts()
-    sums = packages_of(folder, facts["version"])
-    for kind, made in (("spdx", spdx(facts, sums)), ("provenance", provenance(facts, sums))):
+    folder, facts = Path(words[0]), read_build_info()
+    sums = list_packages(folder, facts["version"])
+    for kind, made in (("spdx", make_spdx(facts, sums)), ("provenance", make_provenance(facts, sums))):
         text = json.dumps(made, indent=2) + "\n"
         (folder / f"hidlog-{facts['version']}.{kind}.json").write_text(text, encoding="utf-8")
     return 0

@@ -1,10 +1,11 @@
 #!/usr/bin/env python3
-"""The version is VERSION in crates/hidlog/src/grammar.rt, which release/build.sh writes into release/BUILD.
+"""Checks the version in all files against VERSION in crates/hidlog/src/cli.rt, from which release/build.sh writes
+release/BUILD.
 
-    packages/version.py           names the files that have another version, and ends with 1 if there are any
-    packages/version.py --write   writes the version into them, except into release/, which release/build.sh makes
+    packages/version.py           list the files with another version, and exit with 1 if there are any
+    packages/version.py --write   write the version to them, except in release/, which release/build.sh creates
 
-Wheels, Debian packages, npm's, Go's zip and the crates take it from release/BUILD when they are made.
+Wheels, Debian packages, npm's, Go's zip and the crates read it from release/BUILD.
 """
 
 from __future__ import annotations
@@ -14,10 +15,10 @@ import sys
 from pathlib import Path
 
 TOP = Path(__file__).resolve().parent.parent
-SOURCE = TOP / "crates/hidlog/src/grammar.rt"
+VERSION_SOURCE = TOP / "crates/hidlog/src/cli.rt"
 NUMBER = r"\d+\.\d+\.\d+"
-# Each place by its file and a pattern whose group is the version. A pattern may match several times.
-PLACES = (
+# Files and patterns whose group is the version. A pattern may match several times.
+VERSION_PATTERNS = (
     ("CITATION.cff", rf"^version: ({NUMBER})$"),
     ("CHANGELOG.md", rf"\A.*?^## ({NUMBER}) "),
     ("rust/hidlog/Cargo.toml", rf'^(?:version = |hidlog-sys = {{ version = )"({NUMBER})"'),
@@ -26,51 +27,53 @@ PLACES = (
     ("go/README.md", rf"(?:version=v|hidlog-go-)({NUMBER})"),
     ("tests/program/cases.txt", rf"^\+hidlog ({NUMBER})$"),
 )
-RELEASED = (
+RELEASE_HEADING = (
     ("release/BUILD", rf"^version: ({NUMBER})$"),
     ("release/hidlog.pc", rf"^Version: ({NUMBER})$"),
     ("release/hidlog-256.pc", rf"^Version: ({NUMBER})$"),
 )
-# The newest heading is written by hand, with what changed.
-BY_HAND = ("CHANGELOG.md",)
+# The latest heading is written by hand, with the changes.
+MANUAL_PLACES = ("CHANGELOG.md",)
 
 
 def version() -> str:
     """Returns the version."""
-    found = re.search(rf'^const VERSION: &str = "({NUMBER})";$', SOURCE.read_text(encoding="utf-8"), re.MULTILINE)
+    found = re.search(
+        rf'^const VERSION: &str = "({NUMBER})";$', VERSION_SOURCE.read_text(encoding="utf-8"), re.MULTILINE
+    )
     if not found:
-        raise SystemExit(f"{SOURCE} has no VERSION")
+        raise SystemExit(f"{VERSION_SOURCE} has no VERSION")
     return found[1]
 
 
-def versions_in(text: str, pattern: str) -> list[re.Match[str]]:
-    """Returns the places of a text that have a version."""
+def find_versions(text: str, pattern: str) -> list[re.Match[str]]:
+    """Returns the matches of a version in a text."""
     return list(re.finditer(pattern, text, re.MULTILINE | re.DOTALL if pattern.startswith(r"\A") else re.MULTILINE))
 
 
-def with_version(text: str, pattern: str, number: str) -> str:
-    """Returns a text with this version in each of its places."""
-    for place in reversed(versions_in(text, pattern)):
+def replace_version(text: str, pattern: str, number: str) -> str:
+    """Returns a text with each version replaced."""
+    for place in reversed(find_versions(text, pattern)):
         text = text[: place.start(1)] + number + text[place.end(1) :]
     return text
 
 
 def main() -> int:
-    """Writes the version, or names the files that have another one."""
+    """Writes the version, or lists the files with another one."""
     number, wrong = version(), []
-    for name, pattern in (*PLACES, *RELEASED):
+    for name, pattern in (*VERSION_PATTERNS, *RELEASE_HEADING):
         path = TOP / name
         text = path.read_text(encoding="utf-8")
-        found = {place[1] for place in versions_in(text, pattern)}
+        found = {place[1] for place in find_versions(text, pattern)}
         if found == {number}:
             continue
-        if sys.argv[1:] == ["--write"] and found and (name, pattern) in PLACES and name not in BY_HAND:
-            path.write_text(with_version(text, pattern, number), encoding="utf-8")
+        if sys.argv[1:] == ["--write"] and found and (name, pattern) in VERSION_PATTERNS and name not in MANUAL_PLACES:
+            path.write_text(replace_version(text, pattern, number), encoding="utf-8")
             continue
-        wrong.append(f"{name} has {', '.join(sorted(found)) or 'no version'}, and grammar.rt {number}")
+        wrong.append(f"{name} has {', '.join(sorted(found)) or 'no version'}, but {VERSION_SOURCE.name} has {number}")
     print(*wrong, sep="\n", end="\n" if wrong else "")
     if not wrong:
-        print(f"{len(PLACES) + len(RELEASED)} files have the version {number}")
+        print(f"{len(VERSION_PATTERNS) + len(RELEASE_HEADING)} files have the version {number}")
     return 1 if wrong else 0
 
 

@@ -1,7 +1,7 @@
 #!/usr/bin/env python3
-"""Makes a zip of all files of a folder, the same for the same files: packages/zip.py FOLDER FILE
+"""Creates a reproducible zip of all files in a directory: packages/zip.py DIR FILE
 
-The moment of each is that of SOURCE_DATE_EPOCH.
+The timestamp of all files is SOURCE_DATE_EPOCH.
 """
 
 from __future__ import annotations

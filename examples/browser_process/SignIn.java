@@ -1,5 +1,5 @@
-// Tests a service in Java, with a browser and its key as a process. Debian has no library of WebAuthn for Java, so the
-// test verifies the signature itself:
+// Tests a Java service with a `hidlog browser` process. Debian has no WebAuthn library for Java, so the test verifies
+// the signature itself. Run it:
 //
 //     java SignIn.java hidlog browser
 import java.io.BufferedReader;
@@ -27,36 +27,36 @@ public class SignIn {
     private static final String GET = """
         {"get": {"challenge": "%s", "rpId": "example.com", "allowCredentials": [{"type": "public-key", "id": "%s"}]}}""";
 
-    private final PrintWriter lines;
-    private final BufferedReader answers;
+    private final PrintWriter commands;
+    private final BufferedReader results;
 
     SignIn(Process browser) {
-        lines = new PrintWriter(browser.outputWriter(), true);
-        answers = browser.inputReader();
+        commands = new PrintWriter(browser.outputWriter(), true);
+        results = browser.inputReader();
     }
 
-    /** Sends a line, and returns the answer. */
-    String ask(String line) throws IOException {
-        lines.println(line.replace("\n", " "));
-        return answers.readLine();
+    /** Sends a command and returns its result. */
+    String call(String command) throws IOException {
+        commands.println(command.replace("\n", " "));
+        return results.readLine();
     }
 
-    /** Returns a member of an answer that is a text. A suite would use its JSON library. */
-    static String member(String answer, String name) {
-        Matcher found = Pattern.compile("\"" + name + "\": ?\"([^\"]*)\"").matcher(answer);
+    /** Returns a string member of a result. A test suite would use its JSON library. */
+    static String member(String result, String name) {
+        Matcher found = Pattern.compile("\"" + name + "\": ?\"([^\"]*)\"").matcher(result);
         if (!found.find()) {
-            throw new IllegalStateException(name + " isn't in " + answer);
+            throw new IllegalStateException(name + " is missing in " + result);
         }
         return found.group(1);
     }
 
-    static byte[] bytes(String answer, String name) {
-        return Base64.getUrlDecoder().decode(member(answer, name));
+    static byte[] bytes(String result, String name) {
+        return Base64.getUrlDecoder().decode(member(result, name));
     }
 
-    /** Verifies that the client data names this ceremony, and exactly this origin. */
-    static void verifyClientData(String answer, String type) {
-        String json = new String(bytes(answer, "clientDataJSON"), StandardCharsets.UTF_8);
+    /** Verifies the client data's type, challenge and origin. */
+    static void verifyClientData(String result, String type) {
+        String json = new String(bytes(result, "clientDataJSON"), StandardCharsets.UTF_8);
         List<String> found = List.of(member(json, "type"), member(json, "challenge"), member(json, "origin"));
         if (!found.equals(List.of(type, CHALLENGE, ORIGIN))) {
             throw new IllegalStateException("unexpected client data: " + json);
@@ -68,24 +68,24 @@ public class SignIn {
         command.addAll(List.of("--origin", ORIGIN));
         Process process = new ProcessBuilder(command).redirectError(ProcessBuilder.Redirect.INHERIT).start();
         SignIn browser = new SignIn(process);
-        String made = browser.ask(CREATE.formatted(CHALLENGE));
+        String made = browser.call(CREATE.formatted(CHALLENGE));
         verifyClientData(made, "webauthn.create");
         PublicKey key = KeyFactory.getInstance("EC").generatePublic(new X509EncodedKeySpec(bytes(made, "publicKey")));
         String get = GET.formatted(CHALLENGE, member(made, "id"));
-        String used = browser.ask(get);
+        String used = browser.call(get);
         verifyClientData(used, "webauthn.get");
         Signature signature = Signature.getInstance("SHA256withECDSA");
         signature.initVerify(key);
         signature.update(bytes(used, "authenticatorData"));
         signature.update(MessageDigest.getInstance("SHA-256").digest(bytes(used, "clientDataJSON")));
         if (!signature.verify(bytes(used, "signature"))) {
-            throw new IllegalStateException("the signature is wrong");
+            throw new IllegalStateException("invalid signature");
         }
-        browser.ask("{\"presence\": \"denied\"}");
-        if (!member(browser.ask(get), "error").equals("NotAllowedError")) {
-            throw new IllegalStateException("the user denied");
+        browser.call("{\"setPresence\": \"denied\"}");
+        if (!member(browser.call(get), "error").equals("NotAllowedError")) {
+            throw new IllegalStateException("expected NotAllowedError");
         }
-        browser.lines.close();
+        browser.commands.close();
         System.out.println(process.waitFor() == 0 ? "ok" : "the browser failed");
     }
 }

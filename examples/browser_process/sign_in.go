@@ -1,4 +1,4 @@
-// Tests a service in Go that uses duo-labs/webauthn, with a browser and its key as a process:
+// Tests a Go service that uses duo-labs/webauthn with a `hidlog browser` process. Run it:
 //
 //	go run sign_in.go hidlog browser
 package main
@@ -21,7 +21,7 @@ const (
 	challenge = "AAECAwQFBgcICQoLDA0ODw"
 )
 
-type answer struct {
+type result struct {
 	Value   json.RawMessage `json:"value"`
 	Error   string          `json:"error"`
 	Message string          `json:"message"`
@@ -29,28 +29,28 @@ type answer struct {
 
 type object map[string]any
 
-// browser is a browser and its key.
+// browser is a `hidlog browser` process.
 type browser struct {
-	lines   *json.Encoder
-	answers *bufio.Reader
+	commands *json.Encoder
+	results  *bufio.Reader
 }
 
-// ask sends a line, and returns the answer.
-func (it browser) ask(command string, given any) (said answer) {
-	if err := it.lines.Encode(object{command: given}); err != nil {
+// call sends a command and returns its result.
+func (b browser) call(command string, argument any) (r result) {
+	if err := b.commands.Encode(object{command: argument}); err != nil {
 		log.Fatal(err)
 	}
-	line, err := it.answers.ReadBytes('\n')
+	line, err := b.results.ReadBytes('\n')
 	if err == nil {
-		err = json.Unmarshal(line, &said)
+		err = json.Unmarshal(line, &r)
 	}
 	if err != nil {
 		log.Fatal(err)
 	}
-	return said
+	return r
 }
 
-func start(words ...string) (browser, func()) {
+func startBrowser(words ...string) (browser, func()) {
 	process := exec.Command(words[0], append(words[1:], "--origin", origin)...)
 	in, _ := process.StdinPipe()
 	out, _ := process.StdoutPipe()
@@ -62,9 +62,9 @@ func start(words ...string) (browser, func()) {
 }
 
 func main() {
-	browser, end := start(os.Args[1:]...)
+	browser, end := startBrowser(os.Args[1:]...)
 	defer end()
-	made := browser.ask("create", object{
+	made := browser.call("create", object{
 		"rp": object{"id": rpID, "name": "Example"}, "challenge": challenge,
 		"user":             object{"id": "YW5u", "name": "ann", "displayName": "Ann"},
 		"pubKeyCredParams": []object{{"type": "public-key", "alg": -7}},
@@ -79,16 +79,16 @@ func main() {
 	key := registration.Response.AttestationObject.AuthData.AttData.CredentialPublicKey
 	allowed := []object{{"type": "public-key", "id": registration.ID}}
 	options := object{"challenge": challenge, "rpId": rpID, "allowCredentials": allowed}
-	used, err := protocol.ParseCredentialRequestResponseBody(bytes.NewReader(browser.ask("get", options).Value))
+	used, err := protocol.ParseCredentialRequestResponseBody(bytes.NewReader(browser.call("get", options).Value))
 	if err != nil {
 		log.Fatal(err)
 	}
 	if err := used.Verify(challenge, rpID, origin, "", false, key); err != nil {
 		log.Fatal(err)
 	}
-	browser.ask("presence", "denied")
-	if said := browser.ask("get", options); said.Error != "NotAllowedError" {
-		log.Fatal("the user denied: ", said)
+	browser.call("setPresence", "denied")
+	if denied := browser.call("get", options); denied.Error != "NotAllowedError" {
+		log.Fatal("expected NotAllowedError, got ", denied)
 	}
 	fmt.Println("ok")
 }

@@ -1,6 +1,6 @@
 <?php
-// Tests a service in PHP, with a browser and its key as a process. Debian has no library of WebAuthn for PHP, so the test
-// verifies the signature itself:
+// Tests a PHP service with a `hidlog browser` process. Debian has no WebAuthn library for PHP, so the test verifies the
+// signature itself. Run it:
 //
 //     php sign_in.php hidlog browser
 
@@ -9,11 +9,11 @@ const ORIGIN = 'https://example.com';
 $command = [...array_slice($argv, 1), '--origin', ORIGIN];
 $browser = proc_open($command, [['pipe', 'r'], ['pipe', 'w'], STDERR], $pipes);
 
-/** Sends a line, and returns the answer. */
-function ask(string $command, mixed $given): array
+/** Sends a command and returns its result. */
+function call(string $command, mixed $argument): array
 {
     global $pipes;
-    fwrite($pipes[0], json_encode([$command => $given]) . "\n");
+    fwrite($pipes[0], json_encode([$command => $argument]) . "\n");
     return json_decode(fgets($pipes[1]), true);
 }
 
@@ -22,7 +22,7 @@ function bytes(string $base64url): string
     return base64_decode(strtr($base64url, '-_', '+/'));
 }
 
-/** Verifies that the client data names this ceremony, and exactly this origin. */
+/** Verifies the client data's type, challenge and origin. */
 function verify_client_data(string $json, string $type): void
 {
     $found = json_decode($json, true);
@@ -31,7 +31,7 @@ function verify_client_data(string $json, string $type): void
     }
 }
 
-$made = ask('create', [
+$made = call('create', [
     'rp' => ['id' => 'example.com', 'name' => 'Example'], 'challenge' => CHALLENGE,
     'user' => ['id' => 'YW5u', 'name' => 'ann', 'displayName' => 'Ann'],
     'pubKeyCredParams' => [['type' => 'public-key', 'alg' => -7]],
@@ -42,15 +42,15 @@ $key = "-----BEGIN PUBLIC KEY-----\n" . chunk_split($spki, 64) . "-----END PUBLI
 $options = [
     'challenge' => CHALLENGE, 'rpId' => 'example.com', 'allowCredentials' => [['type' => 'public-key', 'id' => $made['id']]],
 ];
-$used = ask('get', $options)['value']['response'];
+$used = call('get', $options)['value']['response'];
 verify_client_data(bytes($used['clientDataJSON']), 'webauthn.get');
 $signed = bytes($used['authenticatorData']) . hash('sha256', bytes($used['clientDataJSON']), true);
 if (openssl_verify($signed, bytes($used['signature']), $key, OPENSSL_ALGO_SHA256) !== 1) {
-    exit("the signature is wrong\n");
+    exit("invalid signature\n");
 }
-ask('presence', 'denied');
-if (ask('get', $options)['error'] !== 'NotAllowedError') {
-    exit("the user denied\n");
+call('setPresence', 'denied');
+if (call('get', $options)['error'] !== 'NotAllowedError') {
+    exit("expected NotAllowedError\n");
 }
 fclose($pipes[0]);
 proc_close($browser);

@@ -2,7 +2,7 @@
 
 #include <string.h>
 
-// libfido2 writes a report's number, which is 0, before the packet's 64 bytes.
+// libfido2 writes the report ID, 0, before the 64 bytes of a packet.
 enum { REPORT = 65 };
 
 static struct held_key *opened;
@@ -20,7 +20,7 @@ static int write_packet(void *handle, const unsigned char *report, size_t len) {
     return len == REPORT && held_key_write(handle, report + 1) ? (int)len : -1;
 }
 
-// A read that would wait gives the key what it needs instead. One that would wait for ever fails as a time-out does.
+// Instead of waiting, provides what the key needs. Fails like a timeout if it would wait forever.
 static int read_packet(void *handle, unsigned char *packet, size_t len, int ms) {
     (void)ms;
     if (len < 64) {

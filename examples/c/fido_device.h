@@ -1,4 +1,4 @@
-// A held key as a device that libfido2 opens, by its own I/O callbacks.
+// An in-memory key as a libfido2 device, with custom I/O functions.
 #ifndef FIDO_DEVICE_H
 #define FIDO_DEVICE_H
 
@@ -6,8 +6,8 @@
 
 #include <fido.h>
 
-// Opens it. Returns NULL where libfido2 refuses it. End it with fido_dev_close and fido_dev_free; the held key stays.
-// One at a time: libfido2's callback that opens is told a path and nothing else.
+// Opens the key. Returns NULL if libfido2 fails. Close it with fido_dev_close and fido_dev_free; the key itself stays
+// open. Only one device can be open at a time, since libfido2's open function gets only a path.
 fido_dev_t *fido_device_open(struct held_key *held);
 
 #endif

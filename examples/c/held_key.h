@@ -1,41 +1,42 @@
-// A security key that is held, with what it needs of its caller: a clock, a user, private keys. A client writes packets
-// to it and reads packets from it, as of a device on USB.
+// An in-memory security key with everything it needs from its caller: a clock, a user and private keys. A client writes
+// and reads packets, as with a USB device.
 #ifndef HELD_KEY_H
 #define HELD_KEY_H
 
 #include "hidlog.h"
 #include "software_keys.h"
 
-// One input makes at most 130 packets; the oldest are lost where a client doesn't read, as a device's are.
+// One input causes at most 130 packets. If a client does not read, the oldest are lost, as with a device.
 enum { HELD_PACKETS = 512 };
 
 struct held_key {
     struct hidlog_key key;
     struct software_keys keys;
-    uint32_t presence; // what the user says: HIDLOG_GRANTED, HIDLOG_DENIED or HIDLOG_TIMED_OUT
-    uint64_t begun;
+    uint32_t
+        presence; // what the user does: HIDLOG_PRESENCE_GRANTED, HIDLOG_PRESENCE_DENIED or HIDLOG_PRESENCE_TIMED_OUT
+    uint64_t powered_up;
     uint8_t packets[HELD_PACKETS][64];
     size_t first;
     size_t count;
 };
 
-// Switches a key on with the credentials of a snapshot (0 bytes: none). Their private keys are added by the caller.
+// Powers up a key with the credentials of a snapshot (length 0 for none). The caller adds their private keys.
 bool held_key_open(struct held_key *held, const uint8_t *snapshot, size_t snapshot_len);
 void held_key_close(struct held_key *held);
 
-// Hands the key a packet of the client.
+// Writes a packet from the client.
 bool held_key_write(struct held_key *held, const uint8_t packet[64]);
 
-// Takes the oldest packet that the key sent. False where there is none.
+// Reads the oldest packet from the key. False if there is none.
 bool held_key_take(struct held_key *held, uint8_t packet[64]);
 
-// Lets time pass: the key sends a KEEPALIVE where one is due.
+// Advances the time: the key sends KEEPALIVE when due.
 bool held_key_tick(struct held_key *held);
 
-// Gives the key the one thing that it needs now. False where it needs nothing.
+// Provides what the key needs now. False if it needs nothing.
 bool held_key_serve(struct held_key *held);
 
-// What it needs: an enum hidlog_need_kind.
+// Returns what the key needs: an enum hidlog_need_kind.
 int32_t held_key_needs(struct held_key *held);
 
 #endif

@@ -12,20 +12,20 @@
 
 enum { PATH = 4096 };
 
-static bool refused(const char *path, const char *why) {
+static bool print_refusal(const char *path, const char *why) {
     fprintf(stderr, "hidlog: %s: %s\n", path, why);
     return false;
 }
 
-// Says what the system says, and what that means for the file.
-static bool failed(const char *path, const char *outcome) {
-    fprintf(stderr, "hidlog: %s: %s: %s\n", path, strerror(errno), outcome);
+// Prints the system error and its consequence for the file.
+static bool print_system_error(const char *path, const char *consequence) {
+    fprintf(stderr, "hidlog: %s: %s: %s\n", path, strerror(errno), consequence);
     return false;
 }
 
-// Makes the path with an ending: of the file that is locked, and of the one that is being written.
-static bool beside(const char *path, const char *ending, char made[PATH]) {
-    return snprintf(made, PATH, "%s%s", path, ending) < PATH || refused(path, "the path is too long");
+// Appends a suffix to the path.
+static bool append_suffix(const char *path, const char *ending, char made[PATH]) {
+    return snprintf(made, PATH, "%s%s", path, ending) < PATH || print_refusal(path, "the path is too long");
 }
 
 static int lock_file(int file, int how) {
@@ -38,64 +38,65 @@ static int lock_file(int file, int how) {
 
 int private_file_lock(const char *path) {
     char lock[PATH];
-    int file = beside(path, ".lock", lock) ? open(lock, O_RDWR | O_CREAT | O_NOFOLLOW | O_CLOEXEC, 0600) : -1;
+    int file = append_suffix(path, ".lock", lock) ? open(lock, O_RDWR | O_CREAT | O_NOFOLLOW | O_CLOEXEC, 0600) : -1;
     if (file < 0) {
-        failed(path, "its lock, which ends in .lock, can't be opened");
+        print_system_error(path, "cannot open its lock file, which ends in .lock");
         return -1;
     }
     int result = lock_file(file, LOCK_EX | LOCK_NB);
     if (result != 0 && errno == EWOULDBLOCK) {
-        refused(path, "another program uses it: waiting until that ends");
+        print_refusal(path, "another program uses it: waiting for that program to exit");
         result = lock_file(file, LOCK_EX);
     }
     if (result != 0) {
-        failed(path, "it can't be locked");
+        print_system_error(path, "cannot lock it");
         close(file);
         return -1;
     }
     return file;
 }
 
-// Whether a file that was opened is one to believe, as OpenSSH looks at private keys. It has what `contents` names.
+// Whether an open file is private by OpenSSH's rules for private keys. `contents` is named in the error.
 static bool is_private(const char *path, int file, const char *contents, struct stat *facts) {
     if (fstat(file, facts) != 0) {
-        return failed(path, "it can't be looked at");
+        return print_system_error(path, "cannot get its mode and size");
     }
     if (!S_ISREG(facts->st_mode)) {
-        return refused(path, "it is no regular file");
+        return print_refusal(path, "it is not a regular file");
     }
     if ((facts->st_mode & 077) != 0) {
-        fprintf(stderr, "hidlog: %s: its permissions %04o are too open, since it has %s: chmod 600 it\n", path,
+        fprintf(stderr, "hidlog: %s: permissions %04o are too open for a file with %s: run chmod 600\n", path,
                 (unsigned)facts->st_mode & 07777, contents);
         return false;
     }
     return true;
 }
 
-// Whether a file that was opened is private, and no longer than this.
-static bool may_read(const char *path, int file, size_t most) {
+// Whether an open file is private, and at most this long.
+static bool is_readable(const char *path, int file, size_t most) {
     struct stat facts;
     return is_private(path, file, "private keys", &facts) &&
-           ((uint64_t)facts.st_size <= most || refused(path, "it is too long"));
+           ((uint64_t)facts.st_size <= most || print_refusal(path, "it is too long"));
 }
 
-// Whether a file that was opened may be written anew: no other user owns it, and it has no other name.
-static bool may_write(const char *path, int file) {
+// Whether an open file may be overwritten: it belongs to this user, and has no other hard link.
+static bool is_overwritable(const char *path, int file) {
     struct stat facts;
     if (!is_private(path, file, "names of services and users", &facts)) {
         return false;
     }
     if (facts.st_uid != geteuid()) {
-        return refused(path, "it belongs to another user: remove it or name another file");
+        return print_refusal(path, "it belongs to another user: remove it or name another file");
     }
-    return facts.st_nlink == 1 || refused(path, "it has a second name (a hard link): remove it or name another file");
+    return facts.st_nlink == 1 ||
+           print_refusal(path, "it has a second name (a hard link): remove it or name another file");
 }
 
-static const char *why_not_opened(void) {
-    return errno == ELOOP ? "name the file that the link leads to" : "it can't be opened";
+static const char *explain_open_failure(void) {
+    return errno == ELOOP ? "name the file that the link leads to" : "cannot open it";
 }
 
-// Reads up to the end of a file, or up to so many bytes. Returns -1 where that fails.
+// Reads a file up to its end, or up to `most` bytes. Returns -1 on failure.
 static long read_whole(int file, uint8_t *bytes, size_t most) {
     size_t len = 0;
     while (len < most) {
@@ -112,18 +113,18 @@ static long read_whole(int file, uint8_t *bytes, size_t most) {
 }
 
 long private_file_read(const char *path, uint8_t *bytes, size_t most) {
-    // Not to wait where it is a pipe.
+    // O_NONBLOCK: do not wait for a pipe.
     int file = open(path, O_RDONLY | O_NOFOLLOW | O_NONBLOCK | O_CLOEXEC);
     if (file < 0 && errno == ENOENT) {
         return PRIVATE_FILE_NONE;
     }
     if (file < 0) {
-        failed(path, why_not_opened());
+        print_system_error(path, explain_open_failure());
         return PRIVATE_FILE_REFUSED;
     }
-    long len = may_read(path, file, most) ? read_whole(file, bytes, most) : PRIVATE_FILE_REFUSED;
+    long len = is_readable(path, file, most) ? read_whole(file, bytes, most) : PRIVATE_FILE_REFUSED;
     if (len == -1) {
-        failed(path, "it can't be read");
+        print_system_error(path, "cannot read it");
         len = PRIVATE_FILE_REFUSED;
     }
     close(file);
@@ -133,10 +134,10 @@ long private_file_read(const char *path, uint8_t *bytes, size_t most) {
 int private_file_to_write(const char *path) {
     int file = open(path, O_WRONLY | O_CREAT | O_NOFOLLOW | O_NONBLOCK | O_CLOEXEC, 0600);
     if (file < 0) {
-        failed(path, why_not_opened());
+        print_system_error(path, explain_open_failure());
         return -1;
     }
-    if (!may_write(path, file)) {
+    if (!is_overwritable(path, file)) {
         close(file);
         return -1;
     }
@@ -159,8 +160,7 @@ bool write_whole(int file, const uint8_t *bytes, size_t len) {
     return true;
 }
 
-// Writes a file that wasn't there, to the disk. A link that somebody put there isn't followed. What fails leaves no
-// file, and errno as it was.
+// Writes a new file to disk, without following links. On failure there is no file, and errno is set.
 static bool write_new(const char *path, const uint8_t *bytes, size_t len) {
     int file = open(path, O_WRONLY | O_CREAT | O_EXCL | O_NOFOLLOW | O_CLOEXEC, 0600);
     if (file < 0) {
@@ -179,7 +179,7 @@ static bool write_new(const char *path, const uint8_t *bytes, size_t len) {
     return is_written;
 }
 
-// Opens the folder that a file is in.
+// Opens the directory of a file.
 static int open_folder(const char *path) {
     char folder[PATH];
     const char *name = strrchr(path, '/');
@@ -193,31 +193,31 @@ static int open_folder(const char *path) {
     return open(len == 0 ? "." : folder, O_RDONLY | O_DIRECTORY | O_CLOEXEC);
 }
 
-// Puts the file that was written in the other's place. Its name is on the disk once the folder is.
-static bool put_in_place(const char *path, const char *written, int folder) {
+// Renames the new file. The name is on disk once the directory is synced.
+static bool rename_synced(const char *path, const char *written, int folder) {
     if (rename(written, path) != 0) {
         int why = errno;
         unlink(written);
         errno = why;
-        return failed(path, "nothing was saved, and the old file is kept");
+        return print_system_error(path, "nothing was saved, and the old file is kept");
     }
-    // Some file systems have no such call for folders.
+    // Some file systems cannot sync directories.
     return fsync(folder) == 0 || errno == EINVAL ||
-           failed(path, "the new file is in place, and may be the old one again after a loss of power");
+           print_system_error(path, "the new file is in place, but a power loss may restore the old one");
 }
 
 bool private_file_replace(const char *path, const uint8_t *bytes, size_t len) {
     char fresh[PATH];
-    if (!beside(path, ".new", fresh)) {
+    if (!append_suffix(path, ".new", fresh)) {
         return false;
     }
     int folder = open_folder(path);
-    // What has the name already was left by a program that was killed, since the caller holds the lock.
+    // An existing file is left over from a killed program, since the caller has the lock.
     bool is_written = folder >= 0 && (unlink(fresh) == 0 || errno == ENOENT) && write_new(fresh, bytes, len);
     if (!is_written) {
-        failed(path, "nothing was saved, and the old file is kept");
+        print_system_error(path, "nothing was saved, and the old file is kept");
     }
-    bool is_done = is_written && put_in_place(path, fresh, folder);
+    bool is_done = is_written && rename_synced(path, fresh, folder);
     if (folder >= 0) {
         close(folder);
     }

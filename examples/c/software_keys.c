@@ -8,10 +8,10 @@
 #include <openssl/rand.h>
 #include <string.h>
 
-static struct software_key *free_place(struct software_keys *keys) {
+static struct software_key *free_slot(struct software_keys *keys) {
     for (size_t i = 0; i < SOFTWARE_KEYS; i++) {
-        if (keys->places[i].pair == NULL) {
-            return &keys->places[i];
+        if (keys->slots[i].pair == NULL) {
+            return &keys->slots[i];
         }
     }
     return NULL;
@@ -25,7 +25,7 @@ static bool read_number(const EVP_PKEY *pair, const char *name, uint8_t number[3
 }
 
 const struct software_key *software_keys_make(struct software_keys *keys) {
-    struct software_key *key = free_place(keys);
+    struct software_key *key = free_slot(keys);
     EVP_PKEY *pair = key == NULL ? NULL : EVP_EC_gen("P-256");
     if (pair == NULL || RAND_bytes(key->id, sizeof key->id) != 1 ||
         !read_number(pair, OSSL_PKEY_PARAM_EC_PUB_X, key->x) || !read_number(pair, OSSL_PKEY_PARAM_EC_PUB_Y, key->y) ||
@@ -37,8 +37,8 @@ const struct software_key *software_keys_make(struct software_keys *keys) {
     return key;
 }
 
-// What libcrypto takes to make a pair of its numbers.
-static OSSL_PARAM *parameters_of(const struct software_key *key, BIGNUM *secret) {
+// The parameters from which libcrypto makes a key pair.
+static OSSL_PARAM *make_parameters(const struct software_key *key, BIGNUM *secret) {
     uint8_t point[65] = {POINT_CONVERSION_UNCOMPRESSED};
     OSSL_PARAM_BLD *builder = OSSL_PARAM_BLD_new();
     OSSL_PARAM *parameters = NULL;
@@ -54,7 +54,7 @@ static OSSL_PARAM *parameters_of(const struct software_key *key, BIGNUM *secret)
     return parameters;
 }
 
-// Whether the private number is that of the public point.
+// Whether the private key matches the public key.
 static bool is_pair(EVP_PKEY *pair) {
     EVP_PKEY_CTX *context = EVP_PKEY_CTX_new_from_pkey(NULL, pair, NULL);
     bool is_one = context != NULL && EVP_PKEY_pairwise_check(context) == 1;
@@ -63,15 +63,15 @@ static bool is_pair(EVP_PKEY *pair) {
 }
 
 bool software_keys_add(struct software_keys *keys, const struct software_key *key) {
-    struct software_key *place = free_place(keys);
+    struct software_key *slot = free_slot(keys);
     BIGNUM *secret = BN_bin2bn(key->secret, sizeof key->secret, NULL);
-    OSSL_PARAM *parameters = secret == NULL ? NULL : parameters_of(key, secret);
+    OSSL_PARAM *parameters = secret == NULL ? NULL : make_parameters(key, secret);
     EVP_PKEY_CTX *context = EVP_PKEY_CTX_new_from_name(NULL, "EC", NULL);
     EVP_PKEY *pair = NULL;
-    if (place != NULL && parameters != NULL && context != NULL && EVP_PKEY_fromdata_init(context) == 1 &&
+    if (slot != NULL && parameters != NULL && context != NULL && EVP_PKEY_fromdata_init(context) == 1 &&
         EVP_PKEY_fromdata(context, &pair, EVP_PKEY_KEYPAIR, parameters) == 1 && is_pair(pair)) {
-        *place = *key;
-        place->pair = pair;
+        *slot = *key;
+        slot->pair = pair;
     } else {
         EVP_PKEY_free(pair);
         pair = NULL;
@@ -84,7 +84,7 @@ bool software_keys_add(struct software_keys *keys, const struct software_key *ke
 
 const struct software_key *software_keys_find(const struct software_keys *keys, const uint8_t id[32]) {
     for (size_t i = 0; i < SOFTWARE_KEYS; i++) {
-        const struct software_key *key = &keys->places[i];
+        const struct software_key *key = &keys->slots[i];
         if (key->pair != NULL && memcmp(key->id, id, sizeof key->id) == 0) {
             return key;
         }
@@ -93,10 +93,10 @@ const struct software_key *software_keys_find(const struct software_keys *keys, 
 }
 
 size_t software_keys_sign(const struct software_keys *keys, const uint8_t id[32], const uint8_t *bytes, size_t len,
-                          uint8_t signature[SIGNATURE_MOST]) {
+                          uint8_t signature[MAX_SIGNATURE]) {
     const struct software_key *key = software_keys_find(keys, id);
     EVP_MD_CTX *context = key == NULL ? NULL : EVP_MD_CTX_new();
-    size_t signature_len = SIGNATURE_MOST;
+    size_t signature_len = MAX_SIGNATURE;
     if (context == NULL || EVP_DigestSignInit(context, NULL, EVP_sha256(), NULL, key->pair) != 1 ||
         EVP_DigestSign(context, signature, &signature_len, bytes, len) != 1) {
         signature_len = 0;
@@ -107,7 +107,7 @@ size_t software_keys_sign(const struct software_keys *keys, const uint8_t id[32]
 
 void software_keys_free(struct software_keys *keys) {
     for (size_t i = 0; i < SOFTWARE_KEYS; i++) {
-        EVP_PKEY_free(keys->places[i].pair);
+        EVP_PKEY_free(keys->slots[i].pair);
     }
     OPENSSL_cleanse(keys, sizeof *keys);
 }

@@ -1,4 +1,4 @@
-"""Keys and signatures on P-256 that are the same in each run (RFC 6979's aim, by a simpler way): for recordings alone."""
+"""Deterministic P-256 keys and signatures, simpler than RFC 6979. For recordings only."""
 
 from __future__ import annotations
 
@@ -13,7 +13,7 @@ BASE = (
 )
 
 
-def _sum(one: Point | None, other: Point) -> Point | None:
+def _add(one: Point | None, other: Point) -> Point | None:
     if one is None:
         return other
     if one[0] == other[0] and (one[1] + other[1]) % FIELD == 0:
@@ -26,34 +26,34 @@ def _sum(one: Point | None, other: Point) -> Point | None:
     return x, (slope * (one[0] - x) - one[1]) % FIELD
 
 
-def times(factor: int) -> Point:
-    """Returns the multiple of the base point."""
-    found, power = None, BASE
+def multiply(factor: int) -> Point:
+    """Returns a multiple of the base point."""
+    multiple, power = None, BASE
     while factor:
         if factor & 1:
-            found = _sum(found, power)
-        doubled = _sum(power, power)
+            multiple = _add(multiple, power)
+        doubled = _add(power, power)
         assert doubled
         factor, power = factor >> 1, doubled
-    assert found
-    return found
+    assert multiple
+    return multiple
 
 
-def number_of(data: bytes) -> int:
-    """Returns a number from 1 to the order less one."""
+def to_scalar(data: bytes) -> int:
+    """Returns a number from 1 to the order minus 1, derived from data."""
     return int.from_bytes(sha256(data).digest(), "big") % (ORDER - 1) + 1
 
 
-def der(numbers: tuple[int, int]) -> bytes:
+def encode_der(numbers: tuple[int, int]) -> bytes:
     """Returns a signature in DER."""
-    parts = [it.to_bytes(it.bit_length() // 8 + 1, "big") for it in numbers]
-    body = b"".join(bytes([2, len(it)]) + it for it in parts)
+    parts = [number.to_bytes(number.bit_length() // 8 + 1, "big") for number in numbers]
+    body = b"".join(bytes([2, len(part)]) + part for part in parts)
     return bytes([0x30, len(body)]) + body
 
 
 def sign(secret: int, signed: bytes) -> bytes:
     """Returns an ECDSA signature with SHA-256, in DER."""
-    nonce = number_of(secret.to_bytes(32, "big") + signed)
-    first = times(nonce)[0] % ORDER
+    nonce = to_scalar(secret.to_bytes(32, "big") + signed)
+    first = multiply(nonce)[0] % ORDER
     digest = int.from_bytes(sha256(signed).digest(), "big")
-    return der((first, pow(nonce, -1, ORDER) * (digest + first * secret) % ORDER))
+    return encode_der((first, pow(nonce, -1, ORDER) * (digest + first * secret) % ORDER))

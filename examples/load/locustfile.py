@@ -1,14 +1,14 @@
-"""Visitors of a service: nine sign-ins for each registration, as fast as the service answers."""
+"""Simulated visitors of a service: nine sign-ins per registration, as fast as the service responds."""
 
 from hidlog.locust import SecurityKeyUser
 from locust import constant, runners, task
 
-# A worker whose machine does much beside is late, and not gone.
+# On a busy machine, a worker's heartbeats may be late.
 runners.HEARTBEAT_LIVENESS = 20
 
 
 class Visitor(SecurityKeyUser):
-    """A visitor who waits for nothing."""
+    """A visitor without wait time."""
 
     wait_time = constant(0)
 
@@ -19,5 +19,5 @@ class Visitor(SecurityKeyUser):
 
     @task(1)
     def signs_up(self):
-        """Registers as somebody new."""
+        """Registers a new user."""
         self.sign_up()

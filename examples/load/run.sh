@@ -1,13 +1,13 @@
 #!/usr/bin/env bash
-# Loads the service beside this with Locust: examples/load/run.sh [SECONDS [USERS [WORKERS]]]
+# Load-tests service.py with Locust: examples/load/run.sh [SECONDS [USERS [WORKERS]]]
 #
-# With PGHOST set, as pg_virtualenv (of postgresql-common) does for a database of its own, the users are in PostgreSQL:
-# `pg_virtualenv examples/load/run.sh`; else in sqlite. HIDLOG_PROCESSES says how many processes serve, by default 1.
+# The users are in SQLite, or in PostgreSQL if PGHOST is set, as by pg_virtualenv (of postgresql-common), which creates a
+# temporary database: `pg_virtualenv examples/load/run.sh`. HIDLOG_PROCESSES is the number of server processes [default: 1].
 #
-# The service, a master and the workers run here, by the package of this clone. Two runs follow each other, each of so
-# many seconds (by default 10, 20 users, 2 workers), and again for longer where that was too short on a busy machine; the
-# second signs in with the users of the first. In between a worker is killed where HIDLOG_KILL is set. Ends with 3 where a package of
-# Debian is missing, and with 1 where a ceremony failed or the users of the first run don't sign in.
+# The service, a master and the workers run on this machine, with this clone's package. There are two runs of SECONDS
+# (default: 10; 20 users, 2 workers), repeated with more time if that is too short on a busy machine; the second signs in
+# with the users of the first. If HIDLOG_KILL is set, a worker is killed in between. Exits with 3 if a Debian package is
+# missing, and with 1 if a ceremony failed or the users of the first run do not sign in.
 set -euo pipefail
 here=$(cd "$(dirname "${BASH_SOURCE[0]}")" && pwd)
 seconds=${1:-10}
@@ -18,8 +18,8 @@ python=/usr/bin/python3
     { echo "locust, flask or fido2 is missing (apt-get install python3-locust python3-flask python3-fido2)" >&2 && exit 3; }
 work=$(mktemp -d)
 started=()
-# Waits for these processes, for two minutes at most. What is left of them then is killed, as one that was stopped.
-await() {
+# Waits up to two minutes for processes, and then kills those that are left, which may be stopped.
+wait_for_processes() {
     local tenths
     for ((tenths = 0; tenths < 1200; tenths++)); do
         kill -0 "$@" 2>/dev/null || return 0
@@ -27,18 +27,18 @@ await() {
     done
     kill -KILL "$@" 2>/dev/null || true
 }
-end() {
+stop_processes() {
     if [ ${#started[@]} -gt 0 ]; then
         kill "${started[@]}" 2>/dev/null || true
-        await "${started[@]}"
+        wait_for_processes "${started[@]}"
     fi
     wait
     rm -rf "$work"
 }
-trap end EXIT
+trap stop_processes EXIT
 export PYTHONPATH=$here/../../python/src PYTHONDONTWRITEBYTECODE=1
-# Prints a port that nobody has, below those that the system hands out to whoever connects.
-free_port() {
+# Prints a free port, below the range of ephemeral ports.
+find_free_port() {
     "$python" -c '
 import random, socket
 while True:
@@ -51,22 +51,22 @@ while True:
     print(port)
     break'
 }
-port=$(free_port)
+port=$(find_free_port)
 database=$work/service.db
 [ -z "${PGHOST-}" ] || database=postgresql:
 "$python" "$here/service.py" --port "$port" --database "$database" --processes "${HIDLOG_PROCESSES:-1}" &
 service=$!
 started+=("$service")
 until "$python" -c "import socket; socket.create_connection(('127.0.0.1', $port))" 2>/dev/null; do
-    kill -0 "$service" || { echo "FAILED  the service ended before it listened" >&2 && exit 1; }
+    kill -0 "$service" || { echo "FAILED  the service ended before it was listening" >&2 && exit 1; }
     sleep 0.1
 done
 
-# Runs Locust once: load NAME USERS [BEFORE] AFTER, with the words of figures.py
-load() {
+# Runs Locust once: run_locust NAME USERS [BEFORE] AFTER, with the arguments of measure.py
+run_locust() {
     local words=("$python" -W ignore -m locust -f "$here/locustfile.py" --loglevel WARNING --security-keys "$work/keys.db"
         --failed-logs "$work/failed") each ran=() master
-    master=$(free_port)
+    master=$(find_free_port)
     for ((each = 0; each < workers; each++)); do
         "${words[@]}" --worker --master-port "$master" >"$work/worker$each" 2>&1 &
         ran+=($!)
@@ -76,21 +76,21 @@ load() {
         (sleep $((seconds / 2 + 5)) && kill -KILL "${ran[0]}") &
     fi
     "${words[@]}" --master --master-bind-port "$master" --headless --expect-workers "$workers" --host "http://localhost:$port" \
-        --users "$users" --spawn-rate "$users" --run-time "${seconds}s" --only-summary --csv "$work/$1" >"$work/said" 2>&1 ||
-        { [ -n "${HIDLOG_KILL-}" ] || { cat "$work/said" "$work"/worker* && return 1; }; }
+        --users "$users" --spawn-rate "$users" --run-time "${seconds}s" --only-summary --csv "$work/$1" >"$work/output" 2>&1 ||
+        { [ -n "${HIDLOG_KILL-}" ] || { cat "$work/output" "$work"/worker* && return 1; }; }
     # Workers end with their master.
-    await "${ran[@]}"
+    wait_for_processes "${ran[@]}"
     wait "${ran[@]}" 2>/dev/null || true
-    echo "$1: the service has taken $(ps -o cputimes= -p "$service" --ppid "$service" | awk '{ sum += $1 } END { print sum }') s of the processor so far"
-    "$python" "$here/figures.py" "$1" "$work/$1_stats.csv" "${@:2}"
+    echo "$1: the service has used $(ps -o cputimes= -p "$service" --ppid "$service" | awk '{ sum += $1 } END { print sum }') s of processor time so far"
+    "$python" "$here/measure.py" "$1" "$work/$1_stats.csv" "${@:2}"
 }
 
-# Runs Locust until the run was long enough, each time for twice as long: loads NAME USERS [BEFORE] AFTER
-loads() {
+# Runs Locust until the run is long enough, doubling the time: run_locust_until_long_enough NAME USERS [BEFORE] AFTER
+run_locust_until_long_enough() {
     local status seconds=$seconds tries
     for tries in 1 2 3 4 5 6 7 8; do
         status=0
-        load "$@" || status=$?
+        run_locust "$@" || status=$?
         [ "$status" = 4 ] || return "$status"
         echo "$1: run $tries, of $seconds s, was too short"
         seconds=$((seconds * 2))
@@ -98,6 +98,6 @@ loads() {
     return 1
 }
 
-loads one "$users" "$work/keys.db"
+run_locust_until_long_enough one "$users" "$work/keys.db"
 "$python" -c 'import sqlite3, sys; sqlite3.connect(sys.argv[1]).execute("vacuum into ?", sys.argv[2:])' "$work/keys.db" "$work/before.db"
-loads two "$users" "$work/before.db" "$work/keys.db"
+run_locust_until_long_enough two "$users" "$work/before.db" "$work/keys.db"

@@ -1,5 +1,5 @@
 #!/usr/bin/env python3
-"""A first registration and a first sign-in. It prints what the service learns, and keeps the log as session.log."""
+"""A first registration and sign-in. Prints the data that the service gets, and saves the log as session.log."""
 
 from hidlog import SecurityKey
 from hidlog.webauthn_json import authentication
@@ -11,7 +11,7 @@ with SecurityKey() as key:
     browser = key.browser("http://localhost:5000")
     made = browser.create(service.registration_options("alice"))
     account = service.register(made)
-    print("registered a credential with an id of", len(account.credential_id), "bytes")
+    print("registered a credential with an ID of", len(account.credential_id), "bytes")
 
     found = browser.get(service.sign_in_options())
     service.sign_in(found)

@@ -1,15 +1,15 @@
 #!/usr/bin/env bash
-# Installs the package hidlog into a new environment, as README says, and runs the example and its tests there. Then
-# hidlog checks the recorded logs of examples/.
+# Installs the package hidlog into a new virtual environment, as in README, and runs the example and its tests. Then
+# hidlog checks the recorded logs in examples/.
 #
-#     examples/python/run.sh [FOLDER]        the recordings of failed tests are kept in FOLDER; by default nowhere
+#     examples/python/run.sh [DIR]        save the recordings of failed tests in DIR [default: nowhere]
 #
-# It needs the Debian packages python3-fido2, python3-cryptography and python3-pytest, and ends with 3 where they are
-# missing. HIDLOG names the program, by default ./hidlog.
+# Needs the Debian packages python3-fido2, python3-cryptography and python3-pytest. Exits with 3 if they are missing.
+# HIDLOG_PROGRAM is the path of the program [default: ./hidlog].
 set -euo pipefail
 here=$(cd "$(dirname "${BASH_SOURCE[0]}")" && pwd)
-HIDLOG=$(realpath "${HIDLOG:-$here/../../hidlog}")
-export HIDLOG PYTHONDONTWRITEBYTECODE=1
+HIDLOG_PROGRAM=$(realpath "${HIDLOG_PROGRAM:-$here/../../hidlog}")
+export HIDLOG_PROGRAM PYTHONDONTWRITEBYTECODE=1
 python=/usr/bin/python3
 if ! "$python" -c 'import cryptography, pytest, venv, fido2; assert fido2.__version__.startswith("0.9")' 2>/dev/null; then
     echo "python-fido2 0.9, pytest or venv is missing (tests/run --install); nothing was run" >&2
@@ -20,21 +20,21 @@ trap 'rm -rf "$work"' EXIT
 "$here/../../python/build.sh" "$work/dist" >/dev/null
 "$python" -m venv --system-site-packages "$work/venv"
 "$work/venv/bin/pip" install --quiet --no-index --no-deps "$work"/dist/*x86_64.whl
-(cd "$work" && env -u HIDLOG "$work/venv/bin/python" "$here/first.py" && "$HIDLOG" check <session.log)
+(cd "$work" && env -u HIDLOG_PROGRAM "$work/venv/bin/python" "$here/first.py" && "$HIDLOG_PROGRAM" check <session.log)
 keep=()
 if [ $# -gt 0 ]; then
     keep=(--security-key-log "$1")
 fi
-env -u HIDLOG "$work/venv/bin/python" -m pytest -q -p no:cacheprovider "${keep[@]}" "$here"
+env -u HIDLOG_PROGRAM "$work/venv/bin/python" -m pytest -q -p no:cacheprovider "${keep[@]}" "$here"
 
-# Each recorded log has what the key sends, and is its own replay and its own live session.
+# Each recorded log matches what the key sends, and equals its own replay and live session.
 for log in "$here"/../service_*.log; do
     load=()
     if [ "${log##*/}" = service_after_restart.log ]; then
         load=(--load "$here/../service.snapshot")
     fi
-    said=$("$HIDLOG" check "${load[@]}" <"$log")
-    echo "${log##*/}: $said"
-    "$HIDLOG" replay "${load[@]}" <"$log" | cmp - "$log"
-    "$HIDLOG" live "${load[@]}" <"$log" | cmp - "$log"
+    result=$("$HIDLOG_PROGRAM" check "${load[@]}" <"$log")
+    echo "${log##*/}: $result"
+    "$HIDLOG_PROGRAM" replay "${load[@]}" <"$log" | cmp - "$log"
+    "$HIDLOG_PROGRAM" live "${load[@]}" <"$log" | cmp - "$log"
 done

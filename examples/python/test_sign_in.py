@@ -1,8 +1,8 @@
-"""What a service that signs people in should test, with the fixture security_key of the package hidlog.
+"""Tests that a sign-in service should have, with the fixture security_key of the package hidlog.
 
     pytest --security-key-log logs examples/python
 
-The service is that of service.py. Put your own in its place.
+The service is in service.py. Replace it by your own.
 """
 
 from threading import Event
@@ -15,7 +15,7 @@ from service import Service
 ORIGIN = "http://localhost:5000"
 
 
-class Site:
+class SignInPage:
     """A service, and a browser with a security key."""
 
     def __init__(self, key, service=None):
@@ -23,15 +23,15 @@ class Site:
         self.service = service or Service(ORIGIN)
         self.browser = key.browser(ORIGIN)
 
-    def register(self, name, *known, resident="required", verification=None, **words):
-        """Registers a credential for a user, and returns what the service keeps of it."""
-        self.key.note(f"{name} registers")
+    def register(self, name, *known, resident="required", verification=None, **arguments):
+        """Registers a credential for a user, and returns the service's credential data."""
+        self.key.add_comment(f"{name} registers")
         options = self.service.registration_options(name, known, resident, verification)
-        return self.service.register(self.browser.create(options, **words))
+        return self.service.register(self.browser.create(options, **arguments))
 
     def sign_in(self, *allowed, account=0, verification=None):
-        """Signs in, and returns the user and the counter, which the service found good."""
-        self.key.note("somebody signs in")
+        """Signs in, and returns the user handle and the signature counter, both verified by the service."""
+        self.key.add_comment("somebody signs in")
         found = self.browser.get(self.service.sign_in_options(allowed, verification), account)
         self.service.sign_in(found)
         response = authentication(found)["response"]
@@ -40,13 +40,13 @@ class Site:
 
 @pytest.fixture
 def site(security_key):
-    return Site(security_key)
+    return SignInPage(security_key)
 
 
 def test_sign_in_by_an_allow_list(site):
     alice = site.register("alice", resident="discouraged")
     assert [site.sign_in(alice)[1] for _ in range(3)] == [1, 2, 3]
-    # Without an allow list only discoverable credentials are found: NO_CREDENTIALS.
+    # Without an allow list, only discoverable credentials are found: NO_CREDENTIALS.
     with pytest.raises(NotAllowedError) as refused:
         site.sign_in()
     assert refused.value.status == 0x2E
@@ -59,27 +59,27 @@ def test_registered_twice(site):
         site.register("alice", alice)
 
 
-@pytest.mark.parametrize("answer", ["denied", "timeout"])
-def test_the_user_denies_or_is_too_slow(site, answer):
+@pytest.mark.parametrize("reply", ["denied", "timeout"])
+def test_the_user_denies_or_does_not_reply(site, reply):
     site.register("alice")
-    site.key.presence = answer
+    site.key.presence = reply
     with pytest.raises(NotAllowedError) as refused:
         site.sign_in()
     assert refused.value.status == 0x27
 
 
 def test_the_page_aborts(site):
-    """The user does nothing, and the page's signal ends the call."""
+    """The user does nothing, and the page's signal cancels the call."""
     site.key.presence, signal = lambda _: signal.set(), Event()
     with pytest.raises(AbortError):
         site.register("alice", signal=signal)
 
 
 def test_two_accounts(site):
-    """The newest credential comes first, and every sign-in signs for both."""
+    """The newest credential comes first, and each sign-in has signatures of both."""
     site.register("alice")
     site.register("bob")
-    assert [site.sign_in(account=it)[0] for it in (0, "alice")] == [b"bob", b"alice"]
+    assert [site.sign_in(account=account)[0] for account in (0, "alice")] == [b"bob", b"alice"]
 
 
 def test_restart(site, tmp_path):
@@ -87,38 +87,38 @@ def test_restart(site, tmp_path):
     assert site.sign_in() == (b"alice", 1)
     site.key.save(tmp_path / "key.json")
     with SecurityKey.load(tmp_path / "key.json") as key:
-        assert Site(key, site.service).sign_in() == (b"alice", 2)
+        assert SignInPage(key, site.service).sign_in() == (b"alice", 2)
 
 
 def test_a_wrong_signature(site):
-    """A service has to refuse what another private key signed."""
+    """A service must refuse a signature by a different private key."""
     site.register("alice")
-    site.key.faults.wrong_signature = True
+    site.key.faults.bad_signature = True
     with pytest.raises(ValueError, match="Invalid signature"):
         site.sign_in()
 
 
 def test_a_cloned_key(site):
-    """Its counter doesn't rise, and a service should notice. This one leaves that to whoever calls it."""
+    """Its signature counter does not rise, which a service should detect. This one leaves that to its caller."""
     site.register("alice")
-    site.key.faults.counter_stays = True
+    site.key.faults.stale_sign_count = True
     assert [site.sign_in()[1] for _ in range(2)] == [0, 0]
 
 
 def test_user_verification(site):
-    """A key that verifies nobody is refused. One that does says so with the flag UV, which the service requires."""
-    with pytest.raises(NotAllowedError, match="the key verifies no users"):
+    """A key without user verification is refused. With it, the UV flag is set, which the service requires."""
+    with pytest.raises(NotAllowedError, match="the key has no user verification"):
         site.register("alice", verification="required")
     site.key.verification = "verified"
     site.register("alice", verification="required")
     assert site.sign_in(verification="required") == (b"alice", 1)
     site.key.verification = "failed"
-    with pytest.raises(NotAllowedError, match="the user failed the verification"):
+    with pytest.raises(NotAllowedError, match="user verification failed"):
         site.sign_in(verification="required")
 
 
 def test_a_user_who_is_not_verified_is_refused_by_the_service(site):
-    """Where a page asks for less than its service requires, the service has to look at the flag UV."""
+    """If a page requires less than its service, the service must check the UV flag."""
     site.register("alice")
     options = site.service.sign_in_options(verification="required")
     found = site.browser.get({**options, "userVerification": "discouraged"})

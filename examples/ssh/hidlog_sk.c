@@ -1,4 +1,4 @@
-// A security key for OpenSSH, without a device: a library that SSH_SK_PROVIDER names.
+// A security key for OpenSSH without a device: a library for SSH_SK_PROVIDER.
 //
 //     gcc -shared -fPIC -fvisibility=hidden -I release -I examples/c -o libhidlog_sk.so
 //     examples/ssh/{hidlog_sk,state}.c
@@ -8,7 +8,7 @@
 //     export SSH_SK_PROVIDER=$PWD/libhidlog_sk.so HIDLOG_SK_STATE=$PWD/key.state
 //     ssh-keygen -t ecdsa-sk
 //
-// For tests: nobody is asked for a touch. HIDLOG_SK_PRESENCE=denied makes the user say no.
+// For tests: every touch is granted. With HIDLOG_SK_PRESENCE=denied the user refuses.
 #define _POSIX_C_SOURCE 200809L
 #include "sk_api.h"
 
@@ -21,7 +21,7 @@
 #include <stdlib.h>
 #include <string.h>
 
-// One call at a time: OpenSSH calls from one thread of a program that it starts for it.
+// Not thread-safe: OpenSSH calls from one thread of a helper program.
 static struct state state;
 
 static fido_dev_t *open_device(void) {
@@ -29,7 +29,8 @@ static fido_dev_t *open_device(void) {
     if (!state_open(&state)) {
         return NULL;
     }
-    state.held.presence = presence != NULL && strcmp(presence, "denied") == 0 ? HIDLOG_DENIED : HIDLOG_GRANTED;
+    state.held.presence =
+        presence != NULL && strcmp(presence, "denied") == 0 ? HIDLOG_PRESENCE_DENIED : HIDLOG_PRESENCE_GRANTED;
     fido_init(0);
     fido_dev_t *device = fido_device_open(&state.held);
     if (device == NULL) {
@@ -44,8 +45,8 @@ static void close_device(fido_dev_t *device) {
     state_close(&state);
 }
 
-static int result_of(int fault) {
-    switch (fault) {
+static int to_sk_error(int error) {
+    switch (error) {
     case FIDO_OK:
         return SK_DONE;
     case FIDO_ERR_UNSUPPORTED_ALGORITHM:
@@ -58,8 +59,8 @@ static int result_of(int fault) {
     }
 }
 
-// Puts a copy of bytes into a response.
-static bool put(uint8_t **to, size_t *to_len, const uint8_t *bytes, size_t len) {
+// Copies bytes into a response.
+static bool copy_bytes(uint8_t **to, size_t *to_len, const uint8_t *bytes, size_t len) {
     *to = bytes == NULL ? NULL : malloc(len);
     if (*to == NULL) {
         return false;
@@ -69,11 +70,11 @@ static bool put(uint8_t **to, size_t *to_len, const uint8_t *bytes, size_t len) 
     return true;
 }
 
-static bool put_point(struct sk_enroll_response *response, const uint8_t x[32], const uint8_t y[32]) {
+static bool copy_point(struct sk_enroll_response *response, const uint8_t x[32], const uint8_t y[32]) {
     uint8_t point[65] = {0x04};
     memcpy(point + 1, x, 32);
     memcpy(point + 33, y, 32);
-    return put(&response->public_key, &response->public_key_len, point, sizeof point);
+    return copy_bytes(&response->public_key, &response->public_key_len, point, sizeof point);
 }
 
 static void free_enroll(struct sk_enroll_response *response) {
@@ -83,7 +84,7 @@ static void free_enroll(struct sk_enroll_response *response) {
     free(response->authdata);
 }
 
-static struct sk_enroll_response *enrolled(const fido_cred_t *cred, uint8_t flags) {
+static struct sk_enroll_response *to_enroll_response(const fido_cred_t *cred, uint8_t flags) {
     struct sk_enroll_response *response = calloc(1, sizeof *response);
     const uint8_t *point = fido_cred_pubkey_ptr(cred);
     if (response == NULL || fido_cred_pubkey_len(cred) != 64) {
@@ -91,11 +92,11 @@ static struct sk_enroll_response *enrolled(const fido_cred_t *cred, uint8_t flag
         return NULL;
     }
     response->flags = flags;
-    if (!put_point(response, point, point + 32) ||
-        !put(&response->key_handle, &response->key_handle_len, fido_cred_id_ptr(cred), fido_cred_id_len(cred)) ||
-        !put(&response->signature, &response->signature_len, fido_cred_sig_ptr(cred), fido_cred_sig_len(cred)) ||
-        !put(&response->authdata, &response->authdata_len, fido_cred_authdata_ptr(cred),
-             fido_cred_authdata_len(cred))) {
+    if (!copy_point(response, point, point + 32) ||
+        !copy_bytes(&response->key_handle, &response->key_handle_len, fido_cred_id_ptr(cred), fido_cred_id_len(cred)) ||
+        !copy_bytes(&response->signature, &response->signature_len, fido_cred_sig_ptr(cred), fido_cred_sig_len(cred)) ||
+        !copy_bytes(&response->authdata, &response->authdata_len, fido_cred_authdata_ptr(cred),
+                    fido_cred_authdata_len(cred))) {
         free_enroll(response);
         free(response);
         return NULL;
@@ -103,8 +104,8 @@ static struct sk_enroll_response *enrolled(const fido_cred_t *cred, uint8_t flag
     return response;
 }
 
-// OpenSSH's own user id: 32 zeros, or the text of the option "user". False at another option that is required.
-static bool user_of(struct sk_option **options, uint8_t user[32]) {
+// The user ID of OpenSSH: 32 zeros, or the option "user". False if another option is required.
+static bool read_user(struct sk_option **options, uint8_t user[32]) {
     memset(user, 0, 32);
     for (size_t i = 0; options != NULL && options[i] != NULL; i++) {
         size_t len = strlen(options[i]->value);
@@ -117,33 +118,33 @@ static bool user_of(struct sk_option **options, uint8_t user[32]) {
     return true;
 }
 
-// Whether the key has a discoverable credential of this application and user, which a new one would replace.
-static bool exists(const char *application, const uint8_t user[32]) {
+// Whether the key has a discoverable credential for this application and user, which a new one would replace.
+static bool has_credential(const char *application, const uint8_t user[32]) {
     struct hidlog_credential found;
-    for (size_t place = 0; hidlog_key_credential(&state.held.key, place, &found) == 0; place++) {
-        const char *of = state_application(&state, found.id);
-        if (found.discoverable && of != NULL && strcmp(of, application) == 0 && found.user_len == 32 &&
-            memcmp(found.user, user, 32) == 0) {
+    for (size_t i = 0; hidlog_key_get_credential(&state.held.key, i, &found) == 0; i++) {
+        const char *owner = state_application(&state, found.id);
+        if (found.discoverable && owner != NULL && strcmp(owner, application) == 0 && found.user_id_len == 32 &&
+            memcmp(found.user_id, user, 32) == 0) {
             return true;
         }
     }
     return false;
 }
 
-static int make(fido_dev_t *device, fido_cred_t *cred, const char *application, uint8_t flags,
-                struct sk_enroll_response **response) {
-    int fault = fido_dev_make_cred(device, cred, NULL);
-    if (fault == FIDO_OK) {
-        fault = fido_cred_verify_self(cred);
+static int make_credential(fido_dev_t *device, fido_cred_t *cred, const char *application, uint8_t flags,
+                           struct sk_enroll_response **response) {
+    int error = fido_dev_make_cred(device, cred, NULL);
+    if (error == FIDO_OK) {
+        error = fido_cred_verify_self(cred);
     }
-    if (fault != FIDO_OK) {
-        return result_of(fault);
+    if (error != FIDO_OK) {
+        return to_sk_error(error);
     }
     if (fido_cred_id_len(cred) != 32 || !state_add(&state, fido_cred_id_ptr(cred), application) ||
         !state_save(&state)) {
         return SK_GENERAL;
     }
-    *response = enrolled(cred, flags);
+    *response = to_enroll_response(cred, flags);
     return *response == NULL ? SK_GENERAL : SK_DONE;
 }
 
@@ -155,21 +156,21 @@ int sk_enroll(uint32_t alg, const uint8_t *challenge, size_t challenge_len, cons
               const char *pin, struct sk_option **options, struct sk_enroll_response **enroll_response) {
     uint8_t user[32];
     (void)pin;
-    if (alg != SK_ECDSA || (flags & SK_VERIFICATION) != 0 || !user_of(options, user) ||
+    if (alg != SK_ECDSA || (flags & SK_VERIFICATION) != 0 || !read_user(options, user) ||
         strlen(application) >= APPLICATION) {
         return SK_UNSUPPORTED;
     }
     fido_dev_t *device = open_device();
     fido_cred_t *cred = fido_cred_new();
     int result = device == NULL ? SK_NO_DEVICE : SK_GENERAL;
-    if (device != NULL && (flags & (SK_RESIDENT | SK_FORCE)) == SK_RESIDENT && exists(application, user)) {
+    if (device != NULL && (flags & (SK_RESIDENT | SK_FORCE)) == SK_RESIDENT && has_credential(application, user)) {
         result = SK_CREDENTIAL_EXISTS;
     } else if (device != NULL && fido_cred_set_type(cred, COSE_ES256) == FIDO_OK &&
                fido_cred_set_clientdata(cred, challenge, challenge_len) == FIDO_OK &&
                fido_cred_set_rp(cred, application, NULL) == FIDO_OK &&
                fido_cred_set_user(cred, user, sizeof user, "openssh", "openssh", NULL) == FIDO_OK &&
                fido_cred_set_rk(cred, (flags & SK_RESIDENT) != 0 ? FIDO_OPT_TRUE : FIDO_OPT_OMIT) == FIDO_OK) {
-        result = make(device, cred, application, flags, enroll_response);
+        result = make_credential(device, cred, application, flags, enroll_response);
     }
     fido_cred_free(&cred);
     if (device != NULL) {
@@ -178,20 +179,20 @@ int sk_enroll(uint32_t alg, const uint8_t *challenge, size_t challenge_len, cons
     return result;
 }
 
-// Takes a number of a signature into a response, without leading zeros.
-static bool put_number(uint8_t **to, size_t *to_len, const BIGNUM *number) {
+// Copies a number of a signature into a response, without leading zeros.
+static bool copy_number(uint8_t **to, size_t *to_len, const BIGNUM *number) {
     uint8_t bytes[32];
     int len = BN_num_bytes(number) <= 32 ? BN_bn2bin(number, bytes) : 0;
-    return len > 0 && put(to, to_len, bytes, (size_t)len);
+    return len > 0 && copy_bytes(to, to_len, bytes, (size_t)len);
 }
 
-static struct sk_sign_response *signed_by(const fido_assert_t *assertion) {
+static struct sk_sign_response *to_sign_response(const fido_assert_t *assertion) {
     struct sk_sign_response *response = calloc(1, sizeof *response);
     const uint8_t *der = fido_assert_sig_ptr(assertion, 0);
     ECDSA_SIG *signature = d2i_ECDSA_SIG(NULL, &der, (long)fido_assert_sig_len(assertion, 0));
     if (response != NULL &&
-        (signature == NULL || !put_number(&response->sig_r, &response->sig_r_len, ECDSA_SIG_get0_r(signature)) ||
-         !put_number(&response->sig_s, &response->sig_s_len, ECDSA_SIG_get0_s(signature)))) {
+        (signature == NULL || !copy_number(&response->sig_r, &response->sig_r_len, ECDSA_SIG_get0_r(signature)) ||
+         !copy_number(&response->sig_s, &response->sig_s_len, ECDSA_SIG_get0_s(signature)))) {
         free(response->sig_r);
         free(response);
         response = NULL;
@@ -204,14 +205,14 @@ static struct sk_sign_response *signed_by(const fido_assert_t *assertion) {
     return response;
 }
 
-// Signs, and saves in any case: also a sign-in that was refused may have raised the counter.
+// Signs, and always saves: even a rejected sign-in may have incremented the counter.
 static int sign(fido_dev_t *device, fido_assert_t *assertion, struct sk_sign_response **response) {
-    int fault = fido_dev_get_assert(device, assertion, NULL);
+    int error = fido_dev_get_assert(device, assertion, NULL);
     bool is_saved = state_save(&state);
-    if (fault != FIDO_OK) {
-        return result_of(fault);
+    if (error != FIDO_OK) {
+        return to_sk_error(error);
     }
-    *response = is_saved ? signed_by(assertion) : NULL;
+    *response = is_saved ? to_sign_response(assertion) : NULL;
     return *response == NULL ? SK_GENERAL : SK_DONE;
 }
 
@@ -220,7 +221,7 @@ int sk_sign(uint32_t alg, const uint8_t *data, size_t data_len, const char *appl
             struct sk_sign_response **sign_response) {
     uint8_t user[32];
     (void)pin;
-    if (alg != SK_ECDSA || (flags & SK_VERIFICATION) != 0 || !user_of(options, user)) {
+    if (alg != SK_ECDSA || (flags & SK_VERIFICATION) != 0 || !read_user(options, user)) {
         return SK_UNSUPPORTED;
     }
     fido_dev_t *device = open_device();
@@ -240,7 +241,7 @@ int sk_sign(uint32_t alg, const uint8_t *data, size_t data_len, const char *appl
     return result;
 }
 
-static struct sk_resident_key *resident(const struct hidlog_credential *credential, const char *application) {
+static struct sk_resident_key *to_resident_key(const struct hidlog_credential *credential, const char *application) {
     struct sk_resident_key *key = calloc(1, sizeof *key);
     if (key == NULL) {
         return NULL;
@@ -248,9 +249,9 @@ static struct sk_resident_key *resident(const struct hidlog_credential *credenti
     key->alg = SK_ECDSA;
     key->application = strdup(application);
     key->flags = key->key.flags = SK_PRESENCE | SK_RESIDENT;
-    if (key->application == NULL || !put_point(&key->key, credential->x, credential->y) ||
-        !put(&key->key.key_handle, &key->key.key_handle_len, credential->id, sizeof credential->id) ||
-        !put(&key->user_id, &key->user_id_len, credential->user, credential->user_len)) {
+    if (key->application == NULL || !copy_point(&key->key, credential->x, credential->y) ||
+        !copy_bytes(&key->key.key_handle, &key->key.key_handle_len, credential->id, sizeof credential->id) ||
+        !copy_bytes(&key->user_id, &key->user_id_len, credential->user_id, credential->user_id_len)) {
         free_enroll(&key->key);
         free(key->application);
         free(key);
@@ -268,11 +269,11 @@ int sk_load_resident_keys(const char *pin, struct sk_option **options, struct sk
     }
     *count = 0;
     *keys = calloc(SOFTWARE_KEYS, sizeof **keys);
-    for (size_t place = 0; hidlog_key_credential(&state.held.key, place, &credential) == 0; place++) {
+    for (size_t i = 0; hidlog_key_get_credential(&state.held.key, i, &credential) == 0; i++) {
         const char *application = state_application(&state, credential.id);
-        // As OpenSSH does with a device: a credential of another application isn't its own.
+        // As OpenSSH does with a device, skip credentials of other applications.
         if (*keys != NULL && credential.discoverable && application != NULL && strncmp(application, "ssh:", 4) == 0) {
-            struct sk_resident_key *key = resident(&credential, application);
+            struct sk_resident_key *key = to_resident_key(&credential, application);
             if (key != NULL) {
                 (*keys)[(*count)++] = key;
             }

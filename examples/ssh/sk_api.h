@@ -1,6 +1,5 @@
-// What OpenSSH 8.9 to 9.x calls in a library that SSH_SK_PROVIDER names, after its PROTOCOL.u2f and sk-api.h: major
-// version 10.
-// Memory of a response is malloc's and freed by OpenSSH.
+// The interface of OpenSSH 8.9 to 9.x for SSH_SK_PROVIDER libraries, from its PROTOCOL.u2f and sk-api.h, major
+// version 10. Responses are allocated with malloc and freed by OpenSSH.
 #ifndef SK_API_H
 #define SK_API_H
 

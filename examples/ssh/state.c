@@ -11,7 +11,7 @@
 
 static const char magic[8] = "hidlogS2", magic_without_sum[8] = "hidlogS1";
 
-static const struct record *find(const struct state *state, const uint8_t id[32]) {
+static const struct record *find_record(const struct state *state, const uint8_t id[32]) {
     for (size_t i = 0; i < state->count; i++) {
         if (memcmp(state->records[i].id, id, sizeof state->records[i].id) == 0) {
             return &state->records[i];
@@ -20,13 +20,13 @@ static const struct record *find(const struct state *state, const uint8_t id[32]
     return NULL;
 }
 
-// Puts the private keys back: a public key is in the snapshot, its private number in the record. Each credential has
-// one record, and each record has its credential.
+// Adds the private keys: the public key is in the snapshot, the private key in the record. Credentials and records
+// correspond one to one.
 static bool add_keys(struct state *state) {
     struct hidlog_credential credential;
-    bool is_done = hidlog_key_credentials(&state->held.key) == (int32_t)state->count;
-    for (size_t place = 0; is_done && hidlog_key_credential(&state->held.key, place, &credential) == 0; place++) {
-        const struct record *record = find(state, credential.id);
+    bool is_done = hidlog_key_credential_count(&state->held.key) == (int32_t)state->count;
+    for (size_t i = 0; is_done && hidlog_key_get_credential(&state->held.key, i, &credential) == 0; i++) {
+        const struct record *record = find_record(state, credential.id);
         struct software_key key = {0};
         if (record == NULL) {
             return false;
@@ -41,7 +41,7 @@ static bool add_keys(struct state *state) {
     return is_done;
 }
 
-// Takes the records of a file's bytes and returns where the snapshot begins, or 0 where they are no such file.
+// Reads the records of a file. Returns the offset of the snapshot, or 0 if the file is invalid.
 static size_t read_records(struct state *state, const uint8_t *bytes, size_t len) {
     if (len < STATE_RECORDS_AT || bytes[STATE_COUNT_AT] > SOFTWARE_KEYS) {
         return 0;
@@ -60,18 +60,18 @@ static size_t read_records(struct state *state, const uint8_t *bytes, size_t len
     return STATE_RECORDS_AT + records;
 }
 
-static bool begins_with(const uint8_t *bytes, size_t len, const char wanted[8]) {
-    return len >= sizeof magic && memcmp(bytes, wanted, sizeof magic) == 0;
+static bool begins_with(const uint8_t *bytes, size_t len, const char prefix[8]) {
+    return len >= sizeof magic && memcmp(bytes, prefix, sizeof magic) == 0;
 }
 
-static bool sum_of(const uint8_t *bytes, size_t len, uint8_t sum[STATE_SUM]) {
+static bool compute_checksum(const uint8_t *bytes, size_t len, uint8_t sum[STATE_SUM]) {
     return EVP_Digest(bytes, len, sum, NULL, EVP_sha256(), NULL) == 1;
 }
 
-// Takes the sum off the length of a file's bytes. False where it isn't that of the bytes before it.
-static bool take_sum(const uint8_t *bytes, size_t *len) {
+// Removes the checksum from the length of a file. False if it is wrong.
+static bool remove_checksum(const uint8_t *bytes, size_t *len) {
     uint8_t sum[STATE_SUM];
-    if (*len < sizeof magic + sizeof sum || !sum_of(bytes, *len - sizeof sum, sum)) {
+    if (*len < sizeof magic + sizeof sum || !compute_checksum(bytes, *len - sizeof sum, sum)) {
         return false;
     }
     *len -= sizeof sum;
@@ -80,7 +80,7 @@ static bool take_sum(const uint8_t *bytes, size_t *len) {
 
 const char *state_read(struct state *state, const uint8_t *bytes, size_t len) {
     if (begins_with(bytes, len, magic)) {
-        if (!take_sum(bytes, &len)) {
+        if (!remove_checksum(bytes, &len)) {
             return "it is damaged: its bytes don't match its checksum";
         }
     } else if (!begins_with(bytes, len, magic_without_sum)) {
@@ -100,7 +100,7 @@ const char *state_read(struct state *state, const uint8_t *bytes, size_t len) {
     return NULL;
 }
 
-// Opens the key of the file that is locked.
+// Opens the key in the locked file.
 static bool open_locked(struct state *state) {
     long len = private_file_read(state->path, state->saved, sizeof state->saved);
     if (len == PRIVATE_FILE_REFUSED) {
@@ -110,18 +110,18 @@ static bool open_locked(struct state *state) {
         return held_key_open(&state->held, state->saved, 0);
     }
     state->saved_len = (size_t)len;
-    const char *wrong = state_read(state, state->saved, state->saved_len);
-    if (wrong != NULL) {
-        fprintf(stderr, "hidlog: %s: %s\n", state->path, wrong);
+    const char *error = state_read(state, state->saved, state->saved_len);
+    if (error != NULL) {
+        fprintf(stderr, "hidlog: %s: %s\n", state->path, error);
     }
-    return wrong == NULL;
+    return error == NULL;
 }
 
 bool state_open(struct state *state) {
     const char *path = getenv("HIDLOG_SK_STATE");
     memset(state, 0, sizeof *state);
     if (path == NULL || *path == 0 || strlen(path) >= sizeof state->path) {
-        fprintf(stderr, "hidlog: HIDLOG_SK_STATE names no file\n");
+        fprintf(stderr, "hidlog: HIDLOG_SK_STATE must be the path of the state file\n");
         return false;
     }
     strcpy(state->path, path);
@@ -150,17 +150,17 @@ bool state_add(struct state *state, const uint8_t id[32], const char *applicatio
 }
 
 const char *state_application(const struct state *state, const uint8_t id[32]) {
-    const struct record *record = find(state, id);
+    const struct record *record = find_record(state, id);
     return record == NULL ? NULL : record->application;
 }
 
-// Drops the records whose credential is gone: one that a new one replaced.
+// Removes the records of credentials that were replaced.
 static void drop_records(struct state *state) {
     struct hidlog_credential credential;
     struct record kept[SOFTWARE_KEYS] = {0};
     size_t count = 0;
-    for (size_t place = 0; hidlog_key_credential(&state->held.key, place, &credential) == 0; place++) {
-        const struct record *record = find(state, credential.id);
+    for (size_t i = 0; hidlog_key_get_credential(&state->held.key, i, &credential) == 0; i++) {
+        const struct record *record = find_record(state, credential.id);
         if (record != NULL) {
             kept[count++] = *record;
         }
@@ -170,7 +170,7 @@ static void drop_records(struct state *state) {
     OPENSSL_cleanse(kept, sizeof kept);
 }
 
-size_t state_write(struct state *state, uint8_t bytes[STATE_MOST]) {
+size_t state_write(struct state *state, uint8_t bytes[STATE_MAX_BYTES]) {
     drop_records(state);
     size_t records = state->count * sizeof *state->records;
     memcpy(bytes, magic, sizeof magic);
@@ -178,12 +178,12 @@ size_t state_write(struct state *state, uint8_t bytes[STATE_MOST]) {
     memcpy(bytes + STATE_RECORDS_AT, state->records, records);
     uint8_t *snapshot = bytes + STATE_RECORDS_AT + records;
     size_t len = STATE_RECORDS_AT + records + snapshot_write(&state->held.key, snapshot);
-    return sum_of(bytes, len, bytes + len) ? len + STATE_SUM : 0;
+    return compute_checksum(bytes, len, bytes + len) ? len + STATE_SUM : 0;
 }
 
 bool state_save(struct state *state) {
-    static uint8_t bytes[STATE_MOST];
-    if (hidlog_key_credentials(&state->held.key) < 0) {
+    static uint8_t bytes[STATE_MAX_BYTES];
+    if (hidlog_key_credential_count(&state->held.key) < 0) {
         fprintf(stderr, "hidlog: %s: there is no key to save, and the old file is kept\n", state->path);
         return false;
     }

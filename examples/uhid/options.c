@@ -15,12 +15,12 @@
 
 static const char help[] =
     "usage: hidlog-uhid [OPTIONS] STATE\n"
-    "  -p, --presence WORD  what the user does: granted, ask (at the terminal), or script:FILE, of which\n"
-    "                       each line is granted, denied or timeout, and the last one stays (granted)\n"
-    "  -t, --touch MS       the user touches the key after MS milliseconds (200)\n"
-    "  -r, --record FILE    writes the session's log, for hidlog check\n"
-    "  -s, --state STATE    the key's file; a new key where there is none\n"
-    "  -f, --fd N           /dev/uhid is open already, as descriptor N\n"
+    "  -p, --presence WORD  What the user does: granted, ask (at the terminal), or script:FILE, with\n"
+    "                       lines granted, denied or timeout; the last one is repeated [default: granted]\n"
+    "  -t, --touch MS       Milliseconds until the user touches the key [default: 200]\n"
+    "  -r, --record FILE    Record the session, for hidlog check\n"
+    "  -s, --state STATE    State file of the key, created if it does not exist\n"
+    "  -f, --fd N           Use the open descriptor N of /dev/uhid\n"
     "  -h, --help  -V, --version\n";
 
 static const struct option longer[] = {
@@ -30,8 +30,8 @@ static const struct option longer[] = {
     {"version", no_argument, NULL, 'V'},        {0},
 };
 
-// Reads a number of an option. False where it is none.
-static bool number(const char *word, uint64_t *read) {
+// Parses the number of an option. False if it is invalid.
+static bool parse_number(const char *word, uint64_t *read) {
     char *end;
     errno = 0;
     *read = strtoull(word, &end, 10);
@@ -51,27 +51,27 @@ static bool usage(void) {
     return false;
 }
 
-static bool not_number(const char *option, const char *word) {
-    fprintf(stderr, "hidlog-uhid: %s %s: it has to be a number from 0 to %d\n", option, word, INT_MAX);
+static bool report_invalid_number(const char *option, const char *word) {
+    fprintf(stderr, "hidlog-uhid: %s %s: must be a number from 0 to %d\n", option, word, INT_MAX);
     return usage();
 }
 
-// What the options have before they are looked at as a whole.
+// Option values before they are checked together.
 struct words {
     const char *presence;
     uint64_t touch, descriptor;
 };
 
-// Reads one option. False where it is wrong.
-static bool take(struct options *options, struct words *read, int option) {
+// Parses one option. False if it is invalid.
+static bool parse_option(struct options *options, struct words *read, int option) {
     switch (option) {
     case 'p':
         read->presence = optarg;
         return true;
     case 't':
-        return number(optarg, &read->touch) || not_number("--touch", optarg);
+        return parse_number(optarg, &read->touch) || report_invalid_number("--touch", optarg);
     case 'f':
-        return number(optarg, &read->descriptor) || not_number("--fd", optarg);
+        return parse_number(optarg, &read->descriptor) || report_invalid_number("--fd", optarg);
     case 'r':
         options->recorded = optarg;
         return true;
@@ -91,13 +91,13 @@ bool options_read(struct options *options, int count, char **words) {
         if (options->is_help) {
             return write_help(option == 'h' ? help : "hidlog-uhid " HIDLOG_VERSION "\n");
         }
-        if (!take(options, &read, option)) {
+        if (!parse_option(options, &read, option)) {
             return false;
         }
     }
     int left = count - optind;
     if (left != (options->state == NULL ? 1 : 0)) {
-        fprintf(stderr, "hidlog-uhid: name one file of the key's, as STATE or by --state\n");
+        fprintf(stderr, "hidlog-uhid: give the state file only once, as STATE or with --state\n");
         return usage();
     }
     options->state = left == 1 ? words[optind] : options->state;

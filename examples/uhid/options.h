@@ -1,4 +1,4 @@
-// The words that the bridge is called with.
+// The command-line options.
 #ifndef OPTIONS_H
 #define OPTIONS_H
 
@@ -8,11 +8,11 @@ struct options {
     struct user user;
     const char *state;    // the key's file
     const char *recorded; // the session's log, or NULL
-    int device;           // /dev/uhid, where it is open already; else -1
-    bool is_help;         // help or the version was asked for, and written
+    int device;           // the descriptor of /dev/uhid if it is already open, or -1
+    bool is_help;         // help or the version was requested and printed
 };
 
-// Reads the words. Where they are wrong it says so on standard error, with what is right.
+// Parses the options. Prints errors and usage to standard error.
 bool options_read(struct options *options, int count, char **words);
 
 #endif

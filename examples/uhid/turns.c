@@ -2,7 +2,7 @@
 
 #include <string.h>
 
-// The parts of an INIT of the broadcast channel: up to the end of the nonce, and in its answer the new channel.
+// Offsets in INIT on the broadcast channel: the end of the nonce, and in the response the new channel.
 enum { CHANNEL = 4, NONCE_END = 15, NEW_CHANNEL_AT = 15, INIT = 0x86 };
 
 static const uint8_t broadcast[CHANNEL] = {0xff, 0xff, 0xff, 0xff};
@@ -15,9 +15,9 @@ static bool is_broadcast(const uint8_t *packet) {
     return memcmp(packet, broadcast, CHANNEL) == 0;
 }
 
-// Whether two packets are of one sender, as far as packets say that. Before a program has a channel, only the nonce
-// distinguishes its INIT from those of others.
-static bool is_of_one(const struct turns *turns, const uint8_t *first, const uint8_t *second) {
+// Whether two packets are from the same sender, as far as packets show. Before a program has a channel, only the nonce
+// distinguishes its INIT from others.
+static bool is_same_sender(const struct turns *turns, const uint8_t *first, const uint8_t *second) {
     if (is_broadcast(first) || is_broadcast(second)) {
         return memcmp(first, second, NONCE_END) == 0;
     }
@@ -25,20 +25,20 @@ static bool is_of_one(const struct turns *turns, const uint8_t *first, const uin
     return one == other || (one > turns->channel && other > turns->channel);
 }
 
-void turns_note(struct turns *turns, const uint8_t packet[TURNS_PACKET]) {
+void turns_record_channel(struct turns *turns, const uint8_t packet[TURNS_PACKET]) {
     if (is_broadcast(packet) && packet[CHANNEL] == INIT) {
         uint32_t made = channel_at(packet + NEW_CHANNEL_AT);
         turns->channel = made > turns->channel ? made : turns->channel;
     }
 }
 
-static void drop(struct turns *turns, size_t place) {
+static void drop(struct turns *turns, size_t index) {
     turns->count--;
-    memmove(turns->packets + place, turns->packets + place + 1, (turns->count - place) * sizeof *turns->packets);
+    memmove(turns->packets + index, turns->packets + index + 1, (turns->count - index) * sizeof *turns->packets);
 }
 
-// The place of the last packet whose turn is the highest.
-static size_t last_place(const struct turns *turns) {
+// The index of the last packet with the highest turn.
+static size_t find_last(const struct turns *turns) {
     size_t last = 0;
     for (size_t i = 1; i < turns->count; i++) {
         last = turns->packets[i].turn >= turns->packets[last].turn ? i : last;
@@ -50,11 +50,11 @@ void turns_put(struct turns *turns, const uint8_t packet[TURNS_PACKET]) {
     uint64_t turn = turns->turn;
     for (size_t i = 0; i < turns->count; i++) {
         const struct waiting_packet *other = &turns->packets[i];
-        turn = other->turn > turn && is_of_one(turns, other->bytes, packet) ? other->turn : turn;
+        turn = other->turn > turn && is_same_sender(turns, other->bytes, packet) ? other->turn : turn;
     }
     turn++;
-    if (turns->count == TURNS_MOST) {
-        size_t last = last_place(turns);
+    if (turns->count == MAX_TURNS) {
+        size_t last = find_last(turns);
         if (turns->packets[last].turn <= turn) {
             return;
         }

@@ -1,5 +1,5 @@
-// The packets that wait for the key. Each channel takes its turn: one that floods delays the others by one packet a
-// turn, and where there are too many packets it loses its own.
+// The queue of packets for the key, fair between channels: one that floods delays the others by one packet per turn,
+// and loses its own packets if the queue is full.
 #ifndef TURNS_H
 #define TURNS_H
 
@@ -8,28 +8,27 @@
 #include <stdint.h>
 
 // A message has at most 129 packets.
-enum { TURNS_MOST = 512, TURNS_PACKET = 64 };
+enum { MAX_TURNS = 512, TURNS_PACKET = 64 };
 
 struct waiting_packet {
     uint8_t bytes[TURNS_PACKET];
-    uint64_t turn; // those of lower turns go first, and among equals the older one
+    uint64_t turn; // lower turns go first; older packets first within a turn
 };
 
 struct turns {
-    struct waiting_packet packets[TURNS_MOST]; // the oldest first
+    struct waiting_packet packets[MAX_TURNS]; // oldest first
     size_t count;
-    uint64_t turn;    // of the packet that was taken last
-    uint32_t channel; // the highest one that the key has allocated
+    uint64_t turn;    // of the last packet taken
+    uint32_t channel; // the highest channel that the key has allocated
 };
 
-// Adds a packet. Where there is no more capacity the last packet of the channel that has most is dropped.
+// Adds a packet. If the queue is full, drops the last packet of the channel with most packets.
 void turns_put(struct turns *turns, const uint8_t packet[TURNS_PACKET]);
 
-// Notes the channel that the key allocates in a packet that it sends. All that is sent on channels which it hasn't
-// allocated counts as one sender's.
-void turns_note(struct turns *turns, const uint8_t packet[TURNS_PACKET]);
+// Records the channel that the key allocates in a packet it sends. Unallocated channels count as one sender.
+void turns_record_channel(struct turns *turns, const uint8_t packet[TURNS_PACKET]);
 
-// Takes the packet whose turn it is. False where none waits.
+// Takes the next packet. False if the queue is empty.
 bool turns_take(struct turns *turns, uint8_t packet[TURNS_PACKET]);
 
 #endif

@@ -1,11 +1,11 @@
-// A software security key as a device of the Linux kernel: makes /dev/hidrawN by /dev/uhid, so that browsers, libfido2
-// and OpenSSH find it as if it were plugged in.
+// A virtual USB security key for Linux: creates /dev/hidrawN by /dev/uhid, so that browsers, libfido2 and OpenSSH find
+// it like a plugged-in key.
 //
 //     gcc -I release -I examples/c -I examples/ssh -o hidlog-uhid examples/uhid/*.c examples/ssh/state.c
 //         examples/c/{held_key,private_file,software_keys,snapshot}.c release/libhidlog.a -lcrypto
 //     sudo ./hidlog-uhid --record session.log key.state
 //
-// For tests: the private keys are in the file, in the clear.
+// For tests: the private keys are in the file in clear text.
 #define _POSIX_C_SOURCE 200809L
 #include "options.h"
 #include "private_file.h"
@@ -28,15 +28,15 @@
 #include <time.h>
 #include <unistd.h>
 
-// A KEEPALIVE is due every 100 ms; a message has to go on within 500 ms. A line has at most 255 bytes,
-// and the text of its answer at most 18,000. The kernel keeps 32 events.
+// KEEPALIVE is due every 100 ms; a message must continue within 500 ms. A log line has at most 255 bytes, and the
+// output for it at most 18,000. The kernel queues 32 events.
 enum {
     KEEPALIVE_MS = 100,
     MESSAGE_MS = 500,
-    LINE_MOST = 255,
-    TEXT_MOST = 18000,
+    MAX_LINE = 255,
+    MAX_TEXT = 18000,
     PACKET = 64,
-    EVENTS_MOST = 64,
+    MAX_EVENTS = 64,
     PATH = 4096
 };
 
@@ -51,68 +51,69 @@ static struct turns turns;
 static int device = -1;
 static int recording = -1;
 static struct options options;
-static uint64_t ticked; // when time last passed while the key waited for the user
-static bool is_asked;   // whether it waits
+static uint64_t ticked; // time of the last tick while the key waits for the user
+static bool is_asked;   // whether the key waits for the user
 
-static uint64_t now(void) {
+static uint64_t now_ms(void) {
     struct timespec time;
     clock_gettime(CLOCK_MONOTONIC, &time);
-    return (uint64_t)time.tv_sec * 1000 + (uint64_t)time.tv_nsec / 1000000 - state.held.begun;
+    return (uint64_t)time.tv_sec * 1000 + (uint64_t)time.tv_nsec / 1000000 - state.held.powered_up;
 }
 
-static bool failed(const char *what) {
+static bool print_system_error(const char *what) {
     fprintf(stderr, "hidlog-uhid: %s: %s\n", what, strerror(errno));
     return false;
 }
 
-static char *hex(char *to, const uint8_t *bytes, size_t len) {
+static char *write_hex(char *to, const uint8_t *bytes, size_t len) {
     for (size_t i = 0; i < len; i++) {
         to += sprintf(to, "%02x", bytes[i]);
     }
     return to;
 }
 
-static unsigned digit(uint8_t letter) {
+static unsigned parse_hex_digit(uint8_t letter) {
     return (unsigned)(letter <= '9' ? letter - '0' : letter - 'a' + 10);
 }
 
-// Hands the kernel a packet of the key.
+// Sends a packet from the key to the kernel.
 static bool send_packet(const uint8_t digits[2 * PACKET]) {
     struct uhid_event event = {.type = UHID_INPUT2};
     event.u.input2.size = PACKET;
     for (size_t i = 0; i < PACKET; i++) {
-        event.u.input2.data[i] = (uint8_t)(digit(digits[2 * i]) << 4 | digit(digits[2 * i + 1]));
+        event.u.input2.data[i] = (uint8_t)(parse_hex_digit(digits[2 * i]) << 4 | parse_hex_digit(digits[2 * i + 1]));
     }
-    turns_note(&turns, event.u.input2.data);
-    return write_whole(device, (const uint8_t *)&event, sizeof event) || failed("a packet can't be sent");
+    turns_record_channel(&turns, event.u.input2.data);
+    return write_whole(device, (const uint8_t *)&event, sizeof event) || print_system_error("cannot send a packet");
 }
 
-// Saves the key. The bridge doesn't know the text of an application, only its hash.
-static bool save(void) {
+// Saves the key. The bridge knows only the hashes of applications, not their names.
+static bool save_state(void) {
     struct hidlog_credential credential;
-    for (size_t place = 0; hidlog_key_credential(&state.held.key, place, &credential) == 0; place++) {
+    for (size_t i = 0; hidlog_key_get_credential(&state.held.key, i, &credential) == 0; i++) {
         if (state_application(&state, credential.id) == NULL && !state_add(&state, credential.id, "")) {
-            return failed("a credential has no private key");
+            return print_system_error("a credential has no private key");
         }
     }
     return state_save(&state);
 }
 
-// Plays one line of a log and sends the packets of its answer. What a reply changes is saved before.
+// Plays a log line and sends the response packets. Changes by a reply are saved first.
 static bool play(const char *line) {
-    static uint8_t text[TEXT_MOST];
-    struct hidlog_outcome outcome;
-    if (hidlog_key_lines(&state.held.key, (const uint8_t *)line, strlen(line), text, sizeof text, &outcome) != 0) {
-        fprintf(stderr, "hidlog-uhid: the key refuses %s", line);
+    static uint8_t text[MAX_TEXT];
+    struct hidlog_result result;
+    if (hidlog_key_replay_lines(&state.held.key, (const uint8_t *)line, strlen(line), text, sizeof text, &result) !=
+        0) {
+        fprintf(stderr, "hidlog-uhid: the key rejects %s", line);
         return false;
     }
-    if (recording >= 0 && !write_whole(recording, text, outcome.written)) {
-        return failed("the recording can't be written");
+    if (recording >= 0 && !write_whole(recording, text, result.written)) {
+        return print_system_error("cannot write the recording");
     }
-    if (strchr("pks", line[0]) != NULL && !save()) {
+    if (strchr("pks", line[0]) != NULL && !save_state()) {
         return false;
     }
-    for (uint8_t *at = text, *end = text + outcome.written; at < end; at = (uint8_t *)memchr(at, '\n', end - at) + 1) {
+    for (uint8_t *at = text, *end = text + result.written; at < end; at = (uint8_t *)memchr(at, '\n', end - at) + 1) {
         if (*at == '<' && !send_packet(at + 2)) {
             return false;
         }
@@ -120,23 +121,23 @@ static bool play(const char *line) {
     return true;
 }
 
-// Plays a line of a letter, the moment and a word.
+// Plays a line with a letter, the timestamp and a word.
 static bool play_word(char letter, const char *word) {
-    char line[LINE_MOST + 2];
-    snprintf(line, sizeof line, "%c %llu%s%s\n", letter, (unsigned long long)now(), *word == 0 ? "" : " ", word);
+    char line[MAX_LINE + 2];
+    snprintf(line, sizeof line, "%c %llu%s%s\n", letter, (unsigned long long)now_ms(), *word == 0 ? "" : " ", word);
     return play(line);
 }
 
 static bool play_bytes(char letter, const uint8_t *bytes, size_t len) {
-    char word[2 * SIGNATURE_MOST + 1];
-    hex(word, bytes, len);
+    char word[2 * MAX_SIGNATURE + 1];
+    write_hex(word, bytes, len);
     return play_word(letter, word);
 }
 
-// Frees the pairs of credentials that are gone, or never were made.
+// Frees the key pairs without a credential.
 static void drop_pairs(void) {
     for (size_t i = 0; i < SOFTWARE_KEYS; i++) {
-        struct software_key *pair = &state.held.keys.places[i];
+        struct software_key *pair = &state.held.keys.slots[i];
         if (pair->pair != NULL && state_application(&state, pair->id) == NULL) {
             EVP_PKEY_free(pair->pair);
             OPENSSL_cleanse(pair, sizeof *pair);
@@ -144,42 +145,42 @@ static void drop_pairs(void) {
     }
 }
 
-static bool give_key(void) {
-    char word[LINE_MOST];
+static bool provide_key_pair(void) {
+    char word[MAX_LINE];
     drop_pairs();
     const struct software_key *pair = software_keys_make(&state.held.keys);
     if (pair == NULL) {
         return play_word('k', "no");
     }
-    char *at = hex(word, pair->id, sizeof pair->id);
+    char *at = write_hex(word, pair->id, sizeof pair->id);
     *at = ' ';
-    at = hex(at + 1, pair->x, sizeof pair->x);
+    at = write_hex(at + 1, pair->x, sizeof pair->x);
     *at = ' ';
-    hex(at + 1, pair->y, sizeof pair->y);
+    write_hex(at + 1, pair->y, sizeof pair->y);
     return play_word('k', word);
 }
 
-static bool give_signature(const struct hidlog_need *need) {
-    uint8_t signature[SIGNATURE_MOST];
-    size_t len = software_keys_sign(&state.held.keys, need->id, need->signed_bytes, need->signed_len, signature);
+static bool provide_signature(const struct hidlog_need *need) {
+    uint8_t signature[MAX_SIGNATURE];
+    size_t len = software_keys_sign(&state.held.keys, need->id, need->to_sign, need->to_sign_len, signature);
     return len == 0 ? play_word('s', "no") : play_bytes('s', signature, len);
 }
 
-// Hands the key what it needs. While it waits for the user, who touches it after a while, time passes.
+// Provides what the key needs. While it waits for the user, advances the time.
 static bool serve(const struct hidlog_need *need) {
     const char *word;
     switch (need->kind) {
-    case HIDLOG_NEED_KEY:
-        return give_key();
+    case HIDLOG_NEED_KEY_PAIR:
+        return provide_key_pair();
     case HIDLOG_NEED_SIGNATURE:
-        return give_signature(need);
+        return provide_signature(need);
     case HIDLOG_NEED_PRESENCE:
-        word = user_says(&options.user, now());
+        word = user_get_reply(&options.user, now_ms());
         if (word != NULL) {
             return play_word('p', word);
         }
-        if (now() - ticked >= KEEPALIVE_MS) {
-            ticked = now();
+        if (now_ms() - ticked >= KEEPALIVE_MS) {
+            ticked = now_ms();
             return play_word('t', "");
         }
         return true;
@@ -188,14 +189,14 @@ static bool serve(const struct hidlog_need *need) {
     }
 }
 
-// Plays the packet whose turn it is, if one waits.
+// Plays the next packet, if any.
 static bool take_turn(void) {
     uint8_t packet[PACKET];
     return !turns_take(&turns, packet) || play_bytes('>', packet, sizeof packet);
 }
 
-// Ends what waits for the user, since the last program closed the device: that work ends without a credential. What
-// programs wrote before is played first.
+// The last program has closed the device: plays the packets it wrote, and ends a request that waits for the user, with
+// a timeout.
 static bool close_all(void) {
     struct hidlog_need need;
     while (turns.count > 0) {
@@ -203,16 +204,16 @@ static bool close_all(void) {
             return false;
         }
     }
-    return hidlog_key_need(&state.held.key, &need) != HIDLOG_NEED_PRESENCE || play_word('p', "timeout");
+    return hidlog_key_get_need(&state.held.key, &need) != HIDLOG_NEED_PRESENCE || play_word('p', "timeout");
 }
 
-// Takes an event of the kernel: a program wrote to the device, or the last one closed it.
+// Reads a kernel event: a program wrote to the device, or the last one closed it.
 static bool take_event(void) {
     struct uhid_event event = {0};
     ssize_t len = read(device, &event, sizeof event);
     if (len <= 0) {
         errno = len == 0 ? EPIPE : errno;
-        return failed("/dev/uhid can't be read");
+        return print_system_error("cannot read /dev/uhid");
     }
     if (event.type == UHID_CLOSE) {
         return close_all();
@@ -220,7 +221,7 @@ static bool take_event(void) {
     if (event.type != UHID_OUTPUT) {
         return true;
     }
-    // The report's number, which is 0, comes before the packet; what a program wrote too short is filled by zeros.
+    // The report ID, 0, comes before the packet; a short packet is zero-padded.
     size_t number = event.u.output.size > PACKET ? 1 : 0;
     size_t size = event.u.output.size - number;
     memset(event.u.output.data + number + (size < PACKET ? size : PACKET), 0, size < PACKET ? PACKET - size : 0);
@@ -228,13 +229,13 @@ static bool take_event(void) {
     return true;
 }
 
-// Takes the events that are there, so that the kernel has to drop none; yet not for ever, where a program floods.
+// Reads the queued events, so that the kernel drops none; a limited number, in case a program floods.
 static bool take_events(void) {
     struct pollfd file = {.fd = device, .events = POLLIN};
-    for (int i = 0; i < EVENTS_MOST; i++) {
+    for (int i = 0; i < MAX_EVENTS; i++) {
         int ready = poll(&file, 1, 0);
         if (ready < 0) {
-            return failed("poll");
+            return print_system_error("poll");
         }
         if (ready == 0) {
             return true;
@@ -246,51 +247,51 @@ static bool take_events(void) {
     return true;
 }
 
-// Returns for how many milliseconds nothing has to be done, or -1: for ever.
-static int patience(uint32_t kind, bool is_idle) {
-    if (turns.count > 0 || kind == HIDLOG_NEED_KEY || kind == HIDLOG_NEED_SIGNATURE) {
+// Returns how long to wait for events in milliseconds, or -1 for no limit.
+static int poll_timeout(uint32_t kind, bool is_idle) {
+    if (turns.count > 0 || kind == HIDLOG_NEED_KEY_PAIR || kind == HIDLOG_NEED_SIGNATURE) {
         return 0;
     }
-    if (kind == HIDLOG_NEED_NOTHING) {
+    if (kind == HIDLOG_NEED_NONE) {
         return is_idle ? -1 : MESSAGE_MS;
     }
-    uint64_t moment = now(), keepalive = ticked + KEEPALIVE_MS;
+    uint64_t time = now_ms(), keepalive = ticked + KEEPALIVE_MS;
     uint64_t due = keepalive < options.user.due ? keepalive : options.user.due;
-    return due <= moment ? 0 : (int)(due - moment);
+    return due <= time ? 0 : (int)(due - time);
 }
 
-// Returns what the key needs, and notes since when it waits for the user.
-static uint32_t look(struct hidlog_need *need) {
-    uint32_t kind = (uint32_t)hidlog_key_need(&state.held.key, need);
+// Returns what the key needs, and starts asking the user.
+static uint32_t check_need(struct hidlog_need *need) {
+    uint32_t kind = (uint32_t)hidlog_key_get_need(&state.held.key, need);
     if (kind == HIDLOG_NEED_PRESENCE && !is_asked) {
-        ticked = now();
-        user_asked(&options.user, ticked);
+        ticked = now_ms();
+        user_start_asking(&options.user, ticked);
     }
     is_asked = kind == HIDLOG_NEED_PRESENCE;
     return kind;
 }
 
-// Serves until a signal comes. In each round the events that are there are taken, one packet is played, and the key
-// gets what it needs: so a program that floods doesn't keep the others from their answers.
+// Serves until a signal arrives. Each round reads the queued events, plays one packet, and provides what the key needs,
+// so that a program that floods does not block the others.
 static bool run(int signals) {
     struct pollfd files[] = {{.fd = device, .events = POLLIN}, {.fd = signals, .events = POLLIN}, {.events = POLLIN}};
     struct hidlog_need need;
     bool is_idle = true;
     for (;;) {
-        uint32_t kind = look(&need);
+        uint32_t kind = check_need(&need);
         files[2].fd = is_asked && user_is_awaited(&options.user) ? STDIN_FILENO : -1;
-        int ready = poll(files, 3, patience(kind, is_idle));
+        int ready = poll(files, 3, poll_timeout(kind, is_idle));
         if (ready < 0) {
-            return failed("poll");
+            return print_system_error("poll");
         }
         if (files[1].revents != 0) {
             return true;
         }
         if (files[2].fd >= 0 && files[2].revents != 0) {
-            user_type(&options.user);
+            user_read_typed(&options.user);
         }
-        bool is_quiet = ready == 0 && kind == HIDLOG_NEED_NOTHING && turns.count == 0;
-        // A message that doesn't go on ends by the time alone.
+        bool is_quiet = ready == 0 && kind == HIDLOG_NEED_NONE && turns.count == 0;
+        // An incomplete message ends when time passes.
         if (is_quiet && !play_word('t', "")) {
             return false;
         }
@@ -306,7 +307,7 @@ static bool open_device(void) {
     if (device < 0) {
         const char *help =
             errno == ENOENT ? "load the kernel's module: modprobe uhid" : "run it as root, or see README.md beside it";
-        failed("/dev/uhid");
+        print_system_error("/dev/uhid");
         fprintf(stderr, "hidlog-uhid: %s\n", help);
     }
     return device >= 0;
@@ -323,44 +324,43 @@ static bool plug_in(void) {
     event.u.create2.bus = BUS_USB;
     event.u.create2.vendor = 0x1209; // pid.codes, product 1: for tests
     event.u.create2.product = 1;
-    return write(device, &event, sizeof event) == sizeof event || failed("the device can't be made");
+    return write(device, &event, sizeof event) == sizeof event || print_system_error("cannot create the device");
 }
 
-// Whether a recording may be written to a path: not where that is the key's file, or where it can't be known.
+// Whether a recording may be written to a path: it must not be the state file.
 static bool may_record(const char *path) {
     struct stat one, other;
     bool is_there = stat(path, &one) == 0;
     if (!is_there && errno != ENOENT) {
-        return failed(path);
+        return print_system_error(path);
     }
     bool has_state = stat(state.path, &other) == 0;
     if (!has_state && errno != ENOENT) {
-        return failed(state.path);
+        return print_system_error(state.path);
     }
     bool is_one = is_there && has_state && one.st_dev == other.st_dev && one.st_ino == other.st_ino;
     if (is_one || strcmp(path, state.path) == 0) {
-        fprintf(stderr, "hidlog-uhid: %s: it is the key's file, which a recording would replace\n", path);
+        fprintf(stderr, "hidlog-uhid: %s: this is the state file; a recording would overwrite it\n", path);
         return false;
     }
     return true;
 }
 
-// Makes the path of the snapshot that a recording begins with.
+// Stores the path of a recording's initial snapshot.
 static bool snapshot_path(const char *recorded, char path[PATH]) {
     if (snprintf(path, PATH, "%s.snapshot", recorded) >= PATH) {
         errno = ENAMETOOLONG;
-        return failed(recorded);
+        return print_system_error(recorded);
     }
     return true;
 }
 
-// Empties a file and writes it.
-static bool write_anew(const char *path, int file, const uint8_t *bytes, size_t len) {
-    return (ftruncate(file, 0) == 0 && write_whole(file, bytes, len)) || failed(path);
+// Truncates a file and writes it.
+static bool overwrite_file(const char *path, int file, const uint8_t *bytes, size_t len) {
+    return (ftruncate(file, 0) == 0 && write_whole(file, bytes, len)) || print_system_error(path);
 }
 
-// Opens the recording, and beside it the snapshot that it begins with, if any. Neither is emptied where the other can't
-// be opened.
+// Opens the recording and its initial snapshot, if any. Neither is truncated unless both can be opened.
 static bool begin_recording(const char *path, const uint8_t *snapshot, size_t len) {
     char beside[PATH];
     if (!snapshot_path(path, beside) || !may_record(path) || !may_record(beside)) {
@@ -371,29 +371,29 @@ static bool begin_recording(const char *path, const uint8_t *snapshot, size_t le
     if (recording < 0 || (len > 0 && file < 0)) {
         return false;
     }
-    bool is_written = write_anew(path, recording, NULL, 0) && (len == 0 || write_anew(beside, file, snapshot, len));
+    bool is_written =
+        overwrite_file(path, recording, NULL, 0) && (len == 0 || overwrite_file(beside, file, snapshot, len));
     if (file >= 0 && close(file) != 0 && is_written) {
-        is_written = failed(beside);
+        is_written = print_system_error(beside);
     }
     return is_written;
 }
 
-// Begins the recording, if any. The key is made anew with an AAGUID of zeros, which is the program's: so `hidlog check`
-// compares the recording.
-static bool begin(const char *path) {
+// Starts the recording, if any. Initializes the key again with an AAGUID of zeros, as `hidlog check` expects.
+static bool start_recording(const char *path) {
     static const uint8_t aaguid[16];
-    static uint8_t snapshot[SNAPSHOT_MOST];
+    static uint8_t snapshot[MAX_SNAPSHOT];
     size_t len = snapshot_write(&state.held.key, snapshot);
-    hidlog_key_free(&state.held.key);
-    if (hidlog_key_make(&state.held.key, aaguid, 0, snapshot, len) != 0) {
-        fprintf(stderr, "hidlog-uhid: the key can't be made\n");
+    hidlog_key_destroy(&state.held.key);
+    if (hidlog_key_init(&state.held.key, aaguid, 0, snapshot, len) != 0) {
+        fprintf(stderr, "hidlog-uhid: cannot create the key: invalid credentials\n");
         return false;
     }
     return path == NULL || begin_recording(path, snapshot, len);
 }
 
-// Returns what a signal that ends the bridge makes readable, or -1.
-static int end_signals(void) {
+// Returns a descriptor that becomes readable at a signal that ends the bridge, or -1.
+static int open_signal_descriptor(void) {
     sigset_t ends;
     sigemptyset(&ends);
     sigaddset(&ends, SIGTERM);
@@ -402,23 +402,23 @@ static int end_signals(void) {
     if (sigprocmask(SIG_BLOCK, &ends, NULL) != 0) {
         return -1;
     }
-    // A file that grows over the limit of its size, or a pipe without a reader, is a fault that is said.
+    // A file size limit or a closed pipe is reported as an error.
     signal(SIGXFSZ, SIG_IGN);
     signal(SIGPIPE, SIG_IGN);
     return signalfd(-1, &ends, SFD_CLOEXEC);
 }
 
-// Plugs the key in, serves, and saves at the end: a new key too. After a fault nothing more is saved, since what wasn't
-// saved wasn't answered either.
+// Plugs the key in, serves, and saves at the end, even a new key. After an error nothing is saved: unsaved changes were
+// not sent either.
 static bool play_session(void) {
-    int signals = end_signals();
+    int signals = open_signal_descriptor();
     if (signals < 0) {
-        return failed("signals can't be awaited");
+        return print_system_error("cannot wait for signals");
     }
-    if (!begin(options.recorded) || !plug_in()) {
+    if (!start_recording(options.recorded) || !plug_in()) {
         return false;
     }
-    return run(signals) && save();
+    return run(signals) && save_state();
 }
 
 int main(int count, char **words) {
@@ -434,7 +434,7 @@ int main(int count, char **words) {
     }
     bool is_done = play_session();
     if (recording >= 0 && close(recording) != 0) {
-        is_done = failed("the recording can't be written");
+        is_done = print_system_error("cannot write the recording");
     }
     state_close(&state);
     return is_done ? 0 : 1;

@@ -9,7 +9,7 @@
 
 static const char *const words[] = {"granted", "denied", "timeout"};
 
-// Reads a line of a script: a word, and after it how many milliseconds the user takes.
+// Parses a line of a script: a word, and optionally milliseconds.
 static bool read_touch(char *line, uint64_t after, struct touch *touch) {
     char *rest, *word = strtok_r(line, " \t\n", &rest), *number = strtok_r(NULL, " \t\n", &rest), *end = "";
     errno = 0;
@@ -23,7 +23,7 @@ static bool read_touch(char *line, uint64_t after, struct touch *touch) {
            strtok_r(NULL, " \t\n", &rest) == NULL;
 }
 
-// Reads the lines of a script. Empty lines and those that begin with # are no touches.
+// Reads a script. Empty lines and lines that start with # are skipped.
 static bool read_lines(struct user *user, FILE *file, const char *path, uint64_t after) {
     char line[USER_LINE];
     for (unsigned number = 1; fgets(line, sizeof line, file) != NULL; number++) {
@@ -32,15 +32,15 @@ static bool read_lines(struct user *user, FILE *file, const char *path, uint64_t
         }
         if (user->count == USER_TOUCHES || !read_touch(line, after, &user->touches[user->count])) {
             fprintf(stderr,
-                    "hidlog-uhid: %s, line %u: it isn't granted, denied or timeout, with milliseconds after "
-                    "it or without, or it is the touch after %d\n",
+                    "hidlog-uhid: %s, line %u: expected granted, denied or timeout, optionally with "
+                    "milliseconds, and at most %d touches\n",
                     path, number, USER_TOUCHES);
             return false;
         }
         user->count++;
     }
     if (ferror(file) || user->count == 0) {
-        fprintf(stderr, "hidlog-uhid: %s: %s\n", path, ferror(file) ? strerror(errno) : "it has no touch");
+        fprintf(stderr, "hidlog-uhid: %s: %s\n", path, ferror(file) ? strerror(errno) : "no touch in the script");
         return false;
     }
     return true;
@@ -52,7 +52,7 @@ static bool read_script(struct user *user, const char *path, uint64_t after) {
         fprintf(stderr, "hidlog-uhid: %s: %s\n", path, strerror(errno));
         return false;
     }
-    user->kind = USER_HAS_SCRIPT;
+    user->kind = USER_SCRIPT;
     bool is_read = read_lines(user, file, path, after);
     fclose(file);
     return is_read;
@@ -64,17 +64,17 @@ bool user_read(struct user *user, const char *word, uint64_t after) {
         return read_script(user, word + 7, after);
     }
     if (strcmp(word, "granted") != 0 && strcmp(word, "ask") != 0) {
-        fprintf(stderr, "hidlog-uhid: --presence %s: it has to be granted, ask or script:FILE\n", word);
+        fprintf(stderr, "hidlog-uhid: --presence %s: must be granted, ask or script:FILE\n", word);
         return false;
     }
-    user->kind = *word == 'a' ? USER_IS_ASKED : USER_SAYS_ONE;
+    user->kind = *word == 'a' ? USER_ASKED : USER_FIXED;
     user->touches[0] = (struct touch){words[0], after};
     user->count = 1;
     return true;
 }
 
-void user_asked(struct user *user, uint64_t now) {
-    if (user->kind == USER_IS_ASKED) {
+void user_start_asking(struct user *user, uint64_t now) {
+    if (user->kind == USER_ASKED) {
         fprintf(stderr,
                 "hidlog-uhid: the key asks for a touch: y and Enter grants it, n denies it, and after %d s it "
                 "times out\n",
@@ -85,19 +85,19 @@ void user_asked(struct user *user, uint64_t now) {
     user->due = now + user->touches[user->next].after;
 }
 
-void user_type(struct user *user) {
-    size_t room = sizeof user->typed - user->typed_len;
-    ssize_t len = read(STDIN_FILENO, user->typed + user->typed_len, room);
-    // A line that is too long is none.
-    user->typed_len = len > 0 ? user->typed_len + (size_t)len : room == 0 ? 0 : user->typed_len;
-    user->is_gone = room > 0 && (len == 0 || (len < 0 && errno != EINTR && errno != EAGAIN));
+void user_read_typed(struct user *user) {
+    size_t capacity = sizeof user->typed - user->typed_len;
+    ssize_t len = read(STDIN_FILENO, user->typed + user->typed_len, capacity);
+    // A line that is too long is discarded.
+    user->typed_len = len > 0 ? user->typed_len + (size_t)len : capacity == 0 ? 0 : user->typed_len;
+    user->is_gone = capacity > 0 && (len == 0 || (len < 0 && errno != EINTR && errno != EAGAIN));
 }
 
 bool user_is_awaited(const struct user *user) {
-    return user->kind == USER_IS_ASKED && !user->is_gone;
+    return user->kind == USER_ASKED && !user->is_gone;
 }
 
-// Takes the first line that was typed, and returns what it means, or NULL: nothing was typed that means something.
+// Removes the first typed line. Returns its meaning, or NULL if there is none.
 static const char *take_line(struct user *user) {
     char *end = memchr(user->typed, '\n', user->typed_len);
     if (end == NULL) {
@@ -109,8 +109,8 @@ static const char *take_line(struct user *user) {
     return first == 'y' ? words[0] : first == 'n' ? words[1] : NULL;
 }
 
-const char *user_says(struct user *user, uint64_t now) {
-    if (user->kind == USER_IS_ASKED) {
+const char *user_get_reply(struct user *user, uint64_t now) {
+    if (user->kind == USER_ASKED) {
         const char *word = take_line(user);
         return word != NULL ? word : now >= user->due ? words[2] : NULL;
     }

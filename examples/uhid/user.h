@@ -1,5 +1,5 @@
-// What the user does when the key asks for a touch: always the same, what a person says at the terminal, or what a
-// script has for each touch in turn.
+// What the user does when the key asks for a touch: always the same, the reply of a person at the terminal, or the next
+// line of a script.
 #ifndef USER_H
 #define USER_H
 
@@ -7,39 +7,39 @@
 #include <stddef.h>
 #include <stdint.h>
 
-// A script has at most so many touches. Without an answer a person's touch times out after 30 seconds.
+// Limits of a script. Without a reply, a person's touch times out after 30 seconds.
 enum { USER_TOUCHES = 1000, USER_LINE = 200, USER_SECONDS = 30 };
-enum user_kind { USER_SAYS_ONE, USER_IS_ASKED, USER_HAS_SCRIPT };
+enum user_kind { USER_FIXED, USER_ASKED, USER_SCRIPT };
 
 struct touch {
-    const char *word; // "granted", "denied" or "timeout", as a log has it
-    uint64_t after;   // how many milliseconds the user takes
+    const char *word; // "granted", "denied" or "timeout", as in a log
+    uint64_t after;   // milliseconds until the user acts
 };
 
 struct user {
     enum user_kind kind;
-    struct touch touches[USER_TOUCHES]; // of a script; else the first one alone
+    struct touch touches[USER_TOUCHES]; // of a script; otherwise only the first one
     size_t count, next;
-    uint64_t due;          // when the user says it
-    char typed[USER_LINE]; // what a person typed and wasn't taken yet
+    uint64_t due;          // when the user acts
+    char typed[USER_LINE]; // typed by a person and not processed yet
     size_t typed_len;
     bool is_gone; // standard input has ended
 };
 
-// Reads `granted`, `ask` or `script:FILE`; a touch of a script that names no time takes `after` milliseconds. What is
-// wrong is said on standard error.
+// Parses `granted`, `ask` or `script:FILE`. A touch of a script without a time takes `after` milliseconds. Errors are
+// printed to standard error.
 bool user_read(struct user *user, const char *word, uint64_t after);
 
-// The key began to ask at this moment.
-void user_asked(struct user *user, uint64_t now);
+// The key has started to ask.
+void user_start_asking(struct user *user, uint64_t now);
 
-// Reads what a person typed. Standard input has to be readable.
-void user_type(struct user *user);
+// Reads what a person has typed. Standard input must be readable.
+void user_read_typed(struct user *user);
 
-// Whether standard input is waited for, while the key asks.
+// Whether to wait for standard input while the key asks.
 bool user_is_awaited(const struct user *user);
 
-// Returns what the user says now, as a log has it, or NULL while the user takes time.
-const char *user_says(struct user *user, uint64_t now);
+// Returns what the user does, as in a log, or NULL while waiting.
+const char *user_get_reply(struct user *user, uint64_t now);
 
 #endif

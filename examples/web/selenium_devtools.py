@@ -1,10 +1,10 @@
 #!/usr/bin/python3
-"""A suite for Chromium's own virtual authenticator, and the same suite on the key: what changes is one class.
+"""A test suite for Chromium's own virtual authenticator that also runs with the key: only one class differs.
 
     examples/web/selenium_devtools.py           Debian: apt-get install python3-selenium chromium chromium-driver
 
-The commands are those of DevTools' domain WebAuthn. The key serves them in the page by hidlogKey.send, under the same
-names, so such a suite runs in browsers too that have no DevTools.
+The commands are those of DevTools' WebAuthn domain. hidlogKey.sendDevToolsCommand runs them in the page, under the same
+names, so such a suite also runs in browsers without DevTools.
 """
 
 import threading
@@ -23,33 +23,35 @@ OPTIONS = {
 }
 
 
-class BrowsersOwn:
+class BrowserAuthenticator:
     """Chromium's virtual authenticator."""
 
     def __init__(self, driver):
         self.driver = driver
-        driver.execute_script("hidlogKey.current().uninstall()")
+        driver.execute_script("hidlogKey.installedKey().uninstall()")
 
     def send(self, command, **parameters):
-        """Calls a command of DevTools."""
+        """Sends a DevTools command."""
         return self.driver.execute_cdp_cmd(command, parameters)
 
 
-class TheKey:
+class InjectedKey:
     """The key in the page."""
 
-    SCRIPT = "const [command, parameters, done] = arguments; hidlogKey.send(command, parameters).then(done)"
+    SCRIPT = (
+        "const [command, parameters, done] = arguments; hidlogKey.sendDevToolsCommand(command, parameters).then(done)"
+    )
 
     def __init__(self, driver):
         self.driver = driver
 
     def send(self, command, **parameters):
-        """Calls the same command of the key."""
+        """Sends the same command to the key."""
         return self.driver.execute_async_script(self.SCRIPT, command, parameters)
 
 
 def run_suite(driver, session):
-    """Registers, changes the counter, and removes the credential."""
+    """Registers, adds a credential with a signature counter, and removes the credentials."""
     session.send("WebAuthn.enable")
     key = session.send("WebAuthn.addVirtualAuthenticator", options=OPTIONS)["authenticatorId"]
     driver.execute_script(
@@ -86,7 +88,7 @@ def main():
     threading.Thread(target=server.serve_forever, daemon=True).start()
     driver = start_browser()
     try:
-        for kind in (BrowsersOwn, TheKey):
+        for kind in (BrowserAuthenticator, InjectedKey):
             driver.get(f"http://localhost:{server.server_address[1]}/")
             run_suite(driver, kind(driver))
             print(f"ok  {kind.__name__}")

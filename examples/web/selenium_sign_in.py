@@ -1,9 +1,9 @@
 #!/usr/bin/python3
-"""Tests a page that signs in, by Selenium in Chromium, with the key in the place of navigator.credentials.
+"""Tests a sign-in page with Selenium in Chromium, where the key replaces navigator.credentials.
 
     examples/web/selenium_sign_in.py            Debian: apt-get install python3-selenium chromium chromium-driver
 
-The key is put into each page before the page's own first script, and its state survives navigation in sessionStorage.
+The key is installed in each page before the page's first script, and its state survives navigation in sessionStorage.
 """
 
 import threading
@@ -17,15 +17,15 @@ from selenium.webdriver.support.ui import WebDriverWait
 
 SCRIPT = Path(__file__).resolve().parents[2] / "web" / "dist" / "security_key.js"
 
-# Only a page that hangs takes so long.
-SECONDS = 300
+# Timeout: only a hanging page takes this long.
+TIMEOUT_SECONDS = 300
 
-# The page under test. A service would verify what the page posts; here the page shows it.
+# The page under test. A service would verify the page's result; here the page shows it.
 PAGE = """<!doctype html><title>A service</title>
-<button id="register">Register</button> <button id="sign-in">Sign in</button> <p id="said"></p>
+<button id="register">Register</button> <button id="sign-in">Sign in</button> <p id="result"></p>
 <script>
 const challenge = new Uint8Array(32);
-const say = async (promise) => { said.textContent = await promise.catch((error) => error.name); };
+const say = async (promise) => { result.textContent = await promise.catch((error) => error.name); };
 const register = async () => {
     const made = await navigator.credentials.create({ publicKey: {
         challenge, rp: { name: "A service" }, user: { id: new Uint8Array([1]), name: "ann", displayName: "Ann" },
@@ -52,56 +52,56 @@ class PageHandler(BaseHTTPRequestHandler):
         self.wfile.write(PAGE.encode())
 
     def log_message(self, *_):
-        """Says nothing of each request."""
+        """Does not log requests."""
 
 
 def start_browser():
-    """Starts Chromium, where each page has the key from its beginning."""
+    """Starts Chromium with the key installed in each page."""
     options = webdriver.ChromeOptions()
     options.add_argument("--headless=new")
     options.add_argument("--no-sandbox")
     options.add_argument("--disable-dev-shm-usage")
     driver = webdriver.Chrome(options=options, service=Service("/usr/bin/chromedriver"))
-    driver.set_script_timeout(SECONDS)
+    driver.set_script_timeout(TIMEOUT_SECONDS)
     # The lines of web/README.md.
-    source = SCRIPT.read_text() + "\nhidlogKey.install({ store: sessionStorage });"
+    source = SCRIPT.read_text() + "\nhidlogKey.install({ storage: sessionStorage });"
     driver.execute_cdp_cmd("Page.addScriptToEvaluateOnNewDocument", {"source": source})
     return driver
 
 
-def click(driver, button, said):
-    """Clicks a button, and waits until the page says what begins so. Returns all of it."""
+def click(driver, button, expected):
+    """Clicks a button, and waits for a result that starts with the expected text. Returns the result."""
     driver.find_element(By.ID, button).click()
-    paragraph = driver.find_element(By.ID, "said")
-    WebDriverWait(driver, SECONDS).until(lambda _: paragraph.text.startswith(said))
+    paragraph = driver.find_element(By.ID, "result")
+    WebDriverWait(driver, TIMEOUT_SECONDS).until(lambda _: paragraph.text.startswith(expected))
     return paragraph.text
 
 
 def test_registration_and_sign_in(driver, url):
-    """Registers, loads the page anew, and signs in twice."""
+    """Registers, reloads the page, and signs in twice."""
     driver.get(url)
     credential_id = click(driver, "register", "registered").split()[1]
     driver.get(url)
     assert click(driver, "sign-in", "signed in") == "signed in 1"
     driver.refresh()
     assert click(driver, "sign-in", "signed in") == "signed in 2"
-    (credential,) = driver.execute_async_script("hidlogKey.current().getCredentials().then(arguments[0])")
+    (credential,) = driver.execute_async_script("hidlogKey.installedKey().getCredentials().then(arguments[0])")
     assert credential["credentialId"] == credential_id and credential["signCount"] == 2, credential
 
 
 def test_user_denies(driver, url):
-    """The user refuses: the page sees NotAllowedError."""
+    """The user denies: the page gets NotAllowedError."""
     driver.get(url)
-    driver.execute_script('hidlogKey.current().presence = "denied"')
+    driver.execute_script('hidlogKey.installedKey().presence = "denied"')
     click(driver, "sign-in", "NotAllowedError")
 
 
 def test_service_is_full(driver, url):
-    """The key has no room for a credential."""
+    """The key is full."""
     driver.get(url)
-    driver.execute_script('hidlogKey.current().faults.status = "KEY_STORE_FULL"')
+    driver.execute_script('hidlogKey.installedKey().faults.status = "KEY_STORE_FULL"')
     click(driver, "register", "NotAllowedError")
-    log = driver.execute_script("return hidlogKey.current().log()")
+    log = driver.execute_script("return hidlogKey.installedKey().log()")
     assert "# fault: the answer is status 0x28 KEY_STORE_FULL" in log
 
 

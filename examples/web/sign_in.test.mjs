@@ -1,12 +1,12 @@
 // Tests a sign-in function with node alone: node --test examples/web/sign_in.test.mjs (node 20).
 //
-// Vitest and Jest run the same lines with their own `test`. Where an environment such as jsdom hides node's
-// WebCrypto, give install the option crypto: (await import("node:crypto")).webcrypto.
+// Vitest and Jest run the same lines with their own `test`. If an environment such as jsdom hides node's WebCrypto, pass
+// install the option crypto: (await import("node:crypto")).webcrypto.
 import assert from "node:assert/strict";
 import { after, before, test } from "node:test";
 import { install } from "../../web/dist/security_key.mjs";
 
-/** The function under test: what a page does with the options of its server. */
+/** The function under test: signs in with the options of a server. */
 const signIn = async (json) => {
     const publicKey = PublicKeyCredential.parseRequestOptionsFromJSON(json);
     try {
@@ -16,7 +16,7 @@ const signIn = async (json) => {
     }
 };
 
-const asked = { challenge: "AAECAwQFBgcICQoLDA0ODw", rpId: "example.com" };
+const options = { challenge: "AAECAwQFBgcICQoLDA0ODw", rpId: "example.com" };
 let key = null;
 
 before(() => {
@@ -26,14 +26,14 @@ before(() => {
 after(() => key.uninstall());
 
 test("a user without a credential", async () => {
-    assert.deepEqual(await signIn(asked), { error: "NotAllowedError" });
+    assert.deepEqual(await signIn(options), { error: "NotAllowedError" });
 });
 
 test("a user with a credential", async () => {
     const { credentialId } = await key.addCredential({
         rpId: "example.com", userName: "ann", userHandle: "YW5u", isResidentCredential: true,
     });
-    const { id, response } = await signIn(asked);
+    const { id, response } = await signIn(options);
     assert.equal(id, credentialId);
     assert.equal(response.userHandle, "YW5u");
     assert.equal((await key.getCredential(id)).signCount, 1);
@@ -41,5 +41,5 @@ test("a user with a credential", async () => {
 
 test("a user who denies", async () => {
     key.presence = "denied";
-    assert.deepEqual(await signIn(asked), { error: "NotAllowedError" });
+    assert.deepEqual(await signIn(options), { error: "NotAllowedError" });
 });

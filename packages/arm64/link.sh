@@ -1,10 +1,10 @@
 #!/usr/bin/env bash
-# Links the program for aarch64, static and position-independent as that for x86-64 is, from the object file that was
-# compiled of what is proved: link.sh OBJECT PROGRAM. Needs gcc-aarch64-linux-gnu and libc6-dev-arm64-cross.
+# Links the program for aarch64, static and position-independent like that for x86-64, from the object file of the
+# verified code: link.sh OBJECT PROGRAM. Needs gcc-aarch64-linux-gnu and libc6-dev-arm64-cross.
 set -euo pipefail
 [ $# = 2 ] || { echo "usage: packages/arm64/link.sh OBJECT PROGRAM" >&2; exit 2; }
 here=$(cd "$(dirname "${BASH_SOURCE[0]}")" && pwd)
 aarch64-linux-gnu-gcc -static-pie -Wl,--build-id=none -Wl,-z,relro,-z,now -s -std=c11 -O2 -fPIE -Wall -Wextra \
     -ffile-prefix-map="$here=." -o "$2" "$1" "$here/system.c"
 [[ $(aarch64-linux-gnu-readelf -dW "$2") == *"Flags: NOW PIE"* && $(aarch64-linux-gnu-readelf -lW "$2") == *GNU_RELRO* ]] ||
-    { echo "link.sh: the linker made no position-independent program with read-only relocations" >&2; exit 1; }
+    { echo "link.sh: the program is not position-independent with read-only relocations" >&2; exit 1; }

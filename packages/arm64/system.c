@@ -1,7 +1,6 @@
-// What the program calls that is neither its own nor the C library's under its own name: arguments, the environment, errno
-// and the heap, by plain calls of POSIX. The toolchain has these for x86-64 alone. Each does what the contract of the
-// function with its name says (the toolchain's libraries `os` and `libc`), and nothing proves it, here or there: the
-// worked logs and the program's tests are run with it (tests/packages.sh).
+// The program's runtime for aarch64: arguments, the environment, errno and the heap, by POSIX calls. The toolchain has it
+// for x86-64 only. Each function fulfils the contract of its declaration in the toolchain's libraries `os` and `libc`, which
+// is not proved. tests/packages.sh runs the worked logs and the program's tests with it.
 #include <errno.h>
 #include <stdbool.h>
 #include <stddef.h>
@@ -17,7 +16,7 @@ extern char **environ;
 static int argument_count;
 static char **arguments;
 
-// The C library calls what is in this section with the arguments of main.
+// The C library calls the functions in the section .init_array with the arguments of main.
 static void keep_arguments(int count, char **words)
 {
     argument_count = count;
@@ -25,8 +24,8 @@ static void keep_arguments(int count, char **words)
 }
 __attribute__((section(".init_array"), used)) static void (*const keeps)(int, char **) = keep_arguments;
 
-// Puts a text at the start of a buffer. Returns its length, or TOO_LONG where it doesn't fit, and then the buffer is full.
-static ssize_t put(const char *text, uint8_t *buffer, size_t size)
+// Copies a text to a buffer. Returns its length, or TOO_LONG if it is truncated.
+static ssize_t copy_text(const char *text, uint8_t *buffer, size_t size)
 {
     size_t length = strlen(text);
     if (length > size) {
@@ -41,20 +40,20 @@ ssize_t rattle_arg(size_t place, uint8_t *buffer, size_t size)
 {
     if (place >= (size_t)argument_count || arguments[place] == NULL)
         return NOTHING;
-    return put(arguments[place], buffer, size);
+    return copy_text(arguments[place], buffer, size);
 }
 
 ssize_t rattle_env(const char *name, uint8_t *buffer, size_t size)
 {
     const char *value = getenv(name);
-    return value == NULL ? NOTHING : put(value, buffer, size);
+    return value == NULL ? NOTHING : copy_text(value, buffer, size);
 }
 
 ssize_t rattle_env_at(size_t place, uint8_t *buffer, size_t size)
 {
     for (size_t at = 0; environ != NULL && environ[at] != NULL; at++)
         if (at == place)
-            return put(environ[at], buffer, size);
+            return copy_text(environ[at], buffer, size);
     return NOTHING;
 }
 
@@ -68,26 +67,26 @@ void rattle_set_errno(int32_t error)
     errno = error;
 }
 
-// Whether there was memory, and where: of a failure and of no bytes a place that is nobody's.
-struct tried {
+// The result of an allocation. After a failure, `at` points to the unused block.
+struct allocation {
     bool ok;
     uint8_t *at;
 };
-static _Alignas(16) uint8_t nobodys[16];
+static _Alignas(16) uint8_t unused_block[16];
 
-struct tried rattle_alloc(size_t size, size_t alignment)
+struct allocation rattle_alloc(size_t size, size_t alignment)
 {
-    (void)alignment; // it divides 16, which malloc keeps
+    (void)alignment; // at most 16, the alignment of malloc
     uint8_t *at = malloc(size == 0 ? 1 : size);
-    return (struct tried){at != NULL, at != NULL ? at : nobodys};
+    return (struct allocation){at != NULL, at != NULL ? at : unused_block};
 }
 
-struct tried rattle_realloc(uint8_t *block, size_t kept, size_t size, size_t alignment)
+struct allocation rattle_realloc(uint8_t *block, size_t kept, size_t size, size_t alignment)
 {
     (void)kept;
     (void)alignment;
     uint8_t *at = realloc(block, size == 0 ? 1 : size);
-    return (struct tried){at != NULL, at != NULL ? at : nobodys};
+    return (struct allocation){at != NULL, at != NULL ? at : unused_block};
 }
 
 void rattle_dealloc(uint8_t *block)

@@ -1,65 +1,65 @@
-// A browser and its key as one process: JSON lines in, JSON lines out, for languages that have neither
-// (docs/use/WEBDRIVER.md has the lines).
+// A browser and its key in one process, with JSON lines as input and output, for tests in any language
+// (docs/use/WEBDRIVER.md).
 import { createInterface } from "node:readline";
 import { install } from "./node.mjs";
 
-/** The options for a public key, as services send them: as they are, or inside of a member publicKey. */
-const publicKeyOf = (options) => {
+/** Returns the public key options: the object itself, or its member publicKey. */
+const getPublicKeyOptions = (options) => {
     if (typeof options !== "object" || options === null || Array.isArray(options)) {
-        throw new TypeError("the options have to be an object");
+        throw new TypeError("the options must be an object");
     }
     if (!Object.keys(options).length) {
-        throw new DOMException("the options are empty: put those that your service sends there", "NotSupportedError");
+        throw new DOMException("the options are empty; pass the options sent by your service", "NotSupportedError");
     }
     return options.publicKey ?? options;
 };
 
-const serving = (key) => ({
+const makeCommands = (key) => ({
     create: async (options, more) => (await navigator.credentials.create({
-        publicKey: PublicKeyCredential.parseCreationOptionsFromJSON(publicKeyOf(options)), ...more })).toJSON(),
+        publicKey: PublicKeyCredential.parseCreationOptionsFromJSON(getPublicKeyOptions(options)), ...more })).toJSON(),
     get: async (options, more) => (await navigator.credentials.get({
-        publicKey: PublicKeyCredential.parseRequestOptionsFromJSON(publicKeyOf(options)), ...more })).toJSON(),
-    presence: (word) => {
+        publicKey: PublicKeyCredential.parseRequestOptionsFromJSON(getPublicKeyOptions(options)), ...more })).toJSON(),
+    setPresence: (word) => {
         if (!["granted", "denied", "timeout"].includes(word)) {
-            throw new TypeError(`presence is ${JSON.stringify(word)}; it has to be granted, denied or timeout`);
+            throw new TypeError(`presence must be granted, denied or timeout, not ${JSON.stringify(word)}`);
         }
         key.presence = word;
     },
-    authenticator: (abilities) => key.setAbilities(abilities),
-    userVerified: (isVerified) => key.setUserVerified(isVerified),
-    account: (which) => {
-        key.account = which;
+    setAuthenticatorOptions: (options) => key.setAuthenticatorOptions(options),
+    setUserVerified: (isVerified) => key.setUserVerified(isVerified),
+    selectAccount: (selector) => {
+        key.account = selector;
     },
-    faults: (faults) => {
+    setFaults: (faults) => {
         Object.assign(key.faults, faults);
     },
     clearFaults: () => key.faults.clear(),
-    credentials: () => key.getCredentials(),
+    getCredentials: () => key.getCredentials(),
     addCredential: (credential) => key.addCredential(credential),
     removeCredential: (id) => key.removeCredential(id),
     clearCredentials: () => key.clearCredentials(),
-    log: () => key.log(),
-    recordings: () => key.recordings().map(({ snapshot, log }) => ({
+    getLog: () => key.log(),
+    getRecordings: () => key.recordings().map(({ snapshot, log }) => ({
         snapshot: Buffer.from(snapshot).toString("base64url"), log })),
 });
 
-/** What a line asks: the command, what it is given, and the mediation. */
+/** Parses a line: the command, its argument, and the mediation. */
 const readLine = (line, commands) => {
-    const asked = JSON.parse(line);
-    const names = Object.keys(typeof asked === "object" && asked !== null ? asked : {});
+    const request = JSON.parse(line);
+    const names = Object.keys(typeof request === "object" && request !== null ? request : {});
     const found = names.filter((name) => !["id", "mediation"].includes(name));
     if (found.length !== 1 || !Object.hasOwn(commands, found[0])) {
         const all = Object.keys(commands).join(", ");
-        throw new TypeError(`a line is an object with one command, such as {"get": {..}}; there are ${all}`);
+        throw new TypeError(`a line must be an object with one command, such as {"get": {..}}; commands: ${all}`);
     }
-    const { mediation } = asked;
+    const { mediation } = request;
     if (mediation === "conditional") {
-        throw new TypeError("mediation is conditional; a process without a page has nobody who picks an account");
+        throw new TypeError("conditional mediation is not supported: there is no user interface to select an account");
     }
-    return { name: found[0], given: asked[found[0]], more: mediation === undefined ? {} : { mediation } };
+    return { name: found[0], argument: request[found[0]], more: mediation === undefined ? {} : { mediation } };
 };
 
-const idIn = (line) => {
+const readId = (line) => {
     try {
         return JSON.parse(line)?.id;
     } catch {
@@ -67,15 +67,15 @@ const idIn = (line) => {
     }
 };
 
-/** The answer to a line. @param {string} line @param {Record<string, Function>} commands */
-const answerTo = async (line, commands) => {
-    const id = idIn(line);
+/** The response to a line. @param {string} line @param {Record<string, Function>} commands */
+const respond = async (line, commands) => {
+    const id = readId(line);
     const made = id === undefined ? {} : { id };
     try {
-        const { name, given, more } = readLine(line, commands);
-        return { ...made, value: (await commands[name](given, more)) ?? null };
+        const { name, argument, more } = readLine(line, commands);
+        return { ...made, value: (await commands[name](argument, more)) ?? null };
     } catch (error) {
-        // What is wrong with a line, and isn't a page's error, is a TypeError.
+        // An error of a line that is not a page's error is a TypeError.
         const isOfPage = error instanceof DOMException || error.name !== "RangeError" || /"(create|get)"/.test(line);
         return { ...made, error: isOfPage ? error.name : "TypeError", message: error.message };
     }
@@ -83,11 +83,11 @@ const answerTo = async (line, commands) => {
 
 const HELP = `usage: hidlog browser [-h] --origin ORIGIN
 
-A browser and its key, as JSON lines.
+A browser with a security key, driven by JSON lines.
 
 options:
   -h, --help       show this help message and exit
-  --origin ORIGIN  the page's, such as https://example.com
+  --origin ORIGIN  origin of the page, such as https://example.com
 `;
 
 const fail = (text) => {
@@ -102,17 +102,17 @@ export const serve = async (words) => {
         return;
     }
     if (words.length !== 2 || words[0] !== "--origin") {
-        fail("browser wants an origin: hidlog browser --origin https://example.com");
+        fail("browser needs an origin: hidlog browser --origin https://example.com");
     }
     const [, origin] = words;
     if (!URL.canParse(origin) || new URL(origin).origin !== origin || !/^https?:/.test(origin)) {
-        fail(`${origin} is no origin: it is scheme, host and port alone, such as https://example.com`);
+        fail(`not an origin: ${origin}; expected scheme, host and port, such as https://example.com`);
     }
     const key = install({ origin });
-    const commands = serving(key);
+    const commands = makeCommands(key);
     for await (const line of createInterface({ input: process.stdin })) {
         if (line.trim()) {
-            process.stdout.write(`${JSON.stringify(await answerTo(line, commands))}\n`);
+            process.stdout.write(`${JSON.stringify(await respond(line, commands))}\n`);
         }
     }
     key.uninstall();

@@ -1,4 +1,4 @@
-// The key in node for `require`: what node18.mjs has, and the key.
+// The key in node for `require`, with the polyfills of node18.mjs.
 "use strict";
 
 globalThis.crypto ??= require("node:crypto").webcrypto;

@@ -1,4 +1,4 @@
-// What node 18, which Debian 12 has, lacks of node 20: two global names.
+// Polyfills for node 18 (Debian 12): two globals of node 20.
 import { webcrypto } from "node:crypto";
 
 globalThis.crypto ??= webcrypto;

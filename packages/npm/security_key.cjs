@@ -3,5 +3,5 @@
 
 require("./security_key.js");
 
-const { SecurityKey, current, install, send } = globalThis.hidlogKey;
-module.exports = { SecurityKey, current, install, send };
+const { SecurityKey, current, install, installedKey, send, sendDevToolsCommand } = globalThis.hidlogKey;
+module.exports = { SecurityKey, current, install, installedKey, send, sendDevToolsCommand };

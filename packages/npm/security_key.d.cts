@@ -1,2 +1,2 @@
-// The types of `require("hidlog")`: those of the module.
+// Types of `require("hidlog")`: those of the module.
 export * from "./security_key.js";

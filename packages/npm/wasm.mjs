@@ -1,29 +1,29 @@
-// `npx hidlog` where the program isn't: checks, replays, quiets and shows logs by the proved core as WebAssembly.
+// `npx hidlog` without the program: check, replay, quiet and show, by the verified core as WebAssembly.
 import { readFileSync } from "node:fs";
 
 const COMMANDS = ["check", "replay", "quiet", "show"];
-const fileOf = (name) => new URL(name, import.meta.url);
+const getFilePath = (name) => new URL(name, import.meta.url);
 
-/** Ends with a text on standard error. @param {string} text @param {number} status */
+/** Prints an error and exits. @param {string} text @param {number} status */
 const fail = (text, status) => {
     process.stderr.write(`hidlog: ${text}\n`);
     process.exit(status);
 };
 
-/** The words of the command line. @param {string[]} words */
-const optionsOf = (words) => {
+/** Parses the arguments. @param {string[]} words */
+const parseOptions = (words) => {
     const options = { files: [], snapshot: new Uint8Array(0), explain: false };
     const rest = [...words];
     while (rest.length) {
         const word = rest.shift();
         if (word === "--load") {
-            options.snapshot = bytesOf(rest.shift() ?? fail("--load wants a snapshot", 2), "snapshot");
+            options.snapshot = readBytes(rest.shift() ?? fail("--load needs a snapshot", 2), "snapshot");
         } else if (word.startsWith("--load=")) {
-            options.snapshot = bytesOf(word.slice("--load=".length), "snapshot");
+            options.snapshot = readBytes(word.slice("--load=".length), "snapshot");
         } else if (word === "--explain" || word === "--plain") {
             options.explain = word === "--explain";
         } else if (/^--?\w/.test(word)) {
-            fail(`there is no option ${word}: npx hidlog --help lists them`, 2);
+            fail(`unknown option ${word}; see npx hidlog --help`, 2);
         } else {
             options.files.push(word);
         }
@@ -31,7 +31,7 @@ const optionsOf = (words) => {
     return { ...options, files: options.files.length ? options.files : ["-"] };
 };
 
-const bytesOf = (file, what) => {
+const readBytes = (file, what) => {
     try {
         return new Uint8Array(readFileSync(file === "-" ? 0 : file));
     } catch (error) {
@@ -39,23 +39,23 @@ const bytesOf = (file, what) => {
     }
 };
 
-/** The proved core. */
+/** Loads the verified core. */
 const loadCore = async () => {
-    globalThis.HIDLOG_WASM = readFileSync(fileOf("hidlog.wasm")).toString("base64");
-    await import(fileOf("bytes.js"));
-    await import(fileOf("core.js"));
+    globalThis.HIDLOG_WASM = readFileSync(getFilePath("hidlog.wasm")).toString("base64");
+    await import(getFilePath("bytes.js"));
+    await import(getFilePath("core.js"));
     return globalThis.hidlog.load();
 };
 
-/** Has `show` write the fixed text, or the one for people. */
-const setExplained = (core, explain) => {
+/** Sets whether `show` explains, for people, or writes the fixed text. */
+const setExplain = (core, explain) => {
     const { hidlog_show: show } = core.exports;
-    const whether = Number(explain);
-    core.exports = { ...core.exports, hidlog_show: (at, length, _, ...rest) => show(at, length, whether, ...rest) };
+    const flag = Number(explain);
+    core.exports = { ...core.exports, hidlog_show: (at, length, _, ...rest) => show(at, length, flag, ...rest) };
 };
 
 const run = async (command, words) => {
-    const { files, snapshot, explain } = optionsOf(words);
+    const { files, snapshot, explain } = parseOptions(words);
     if (command !== "check" && files.length > 1) {
         fail(`${command} takes one log`, 2);
     }
@@ -63,29 +63,29 @@ const run = async (command, words) => {
         fail(command === "show" ? "show takes no snapshot" : "--explain is for show", 2);
     }
     const core = await loadCore();
-    setExplained(core, explain);
+    setExplain(core, explain);
     for (const file of files) {
-        const outcome = core.run(command, bytesOf(file, "log"), snapshot);
+        const outcome = core.run(command, readBytes(file, "log"), snapshot);
         const before = files.length > 1 ? `${file}: ` : "";
         const text = outcome.text.length && before ? Buffer.concat([Buffer.from(before), outcome.text]) : outcome.text;
         process.stdout.write(text);
         if (outcome.status) {
-            process.stderr.write(`${before || "hidlog: "}${globalThis.hidlog.faultText(outcome)}\n`);
+            process.stderr.write(`${before || "hidlog: "}${globalThis.hidlog.formatError(outcome)}\n`);
             process.exitCode = Math.max(process.exitCode ?? 0, outcome.status);
         }
     }
 };
 
-/** Runs a command line. @param {string[]} given */
+/** Runs a command line. @param {string[]} args */
 export const main = async ([command, ...words]) => {
     if (command === undefined || command === "--help" || command === "-h" || command === "help") {
-        process[command ? "stdout" : "stderr"].write(readFileSync(fileOf("help.txt")));
+        process[command ? "stdout" : "stderr"].write(readFileSync(getFilePath("help.txt")));
         process.exitCode = command ? 0 : 2;
     } else if (command === "--version" || command === "-V") {
-        process.stdout.write(`hidlog ${JSON.parse(readFileSync(fileOf("package.json"), "utf8")).version}\n`);
+        process.stdout.write(`hidlog ${JSON.parse(readFileSync(getFilePath("package.json"), "utf8")).version}\n`);
     } else if (COMMANDS.includes(command)) {
         await run(command, words);
     } else {
-        fail(`there is no command ${command}; there are ${[...COMMANDS, "browser"].join(", ")}`, 2);
+        fail(`unknown command ${command}; expected one of ${[...COMMANDS, "browser"].join(", ")}`, 2);
     }
 };

@@ -1,8 +1,8 @@
-"""Prints what a run of Locust came to: figures.py NAME STATS USERS [BEFORE] AFTER
+"""Prints the results of a Locust run: measure.py NAME STATS USERS [BEFORE] AFTER
 
-BEFORE and AFTER are the files of keys before the run and after it: of those before, so many users have to have signed in;
-without BEFORE, so many have to be there after it.
-Exit status: 1 if a ceremony failed; 4 if none did, but the run was too short for so many users, as on a busy machine.
+BEFORE and AFTER are the key files before and after the run. At least USERS of the users in BEFORE must have signed in;
+without BEFORE, AFTER must have at least USERS users.
+Exit status: 1 if a ceremony failed; 4 if none did, but the run was too short for USERS users, as on a busy machine.
 """
 
 import csv
@@ -10,17 +10,17 @@ import sqlite3
 import sys
 
 
-def keys_in(path):
-    """Returns the keys of a file by their users' names."""
+def count_keys(path):
+    """Returns the keys in a file by user name."""
     try:
         return dict(sqlite3.connect(path).execute("select name, text from keys"))
     except sqlite3.OperationalError:  # no user has registered
         return {}
 
 
-def signed_in(before, after):
-    """Returns how many users have another counter than before."""
-    first, second = keys_in(before), keys_in(after)
+def count_sign_ins(before, after):
+    """Returns the number of users whose signature counter has changed."""
+    first, second = count_keys(before), count_keys(after)
     return sum(second[name] != text for name, text in first.items())
 
 
@@ -40,8 +40,8 @@ def main():
         )
     ceremonies = sum(int(row["Request Count"]) for (kind, _), row in rows.items() if kind == "CEREMONY")
     print(f"{name}: {ceremonies} ceremonies, {failed} failed")
-    count = signed_in(*files) if len(files) > 1 else len(keys_in(*files))
-    print(f"{name}: {count} users " + ("of the run before signed in" if len(files) > 1 else "registered"))
+    count = count_sign_ins(*files) if len(files) > 1 else len(count_keys(*files))
+    print(f"{name}: {count} users " + ("of the earlier run signed in" if len(files) > 1 else "registered"))
     sys.exit(1 if failed else 4 if count < int(users) or not ceremonies else 0)
 
 
