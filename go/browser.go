@@ -63,7 +63,7 @@ func (b *Browser) call(kind ceremony, options []byte) ([]byte, error) {
 	return credential, err
 }
 
-// getNextAssertion is authenticatorGetNextAssertion (CTAP 2.1, section 6.3).
+// getNextAssertion is the command byte of authenticatorGetNextAssertion (CTAP 2.1, section 6.3).
 const getNextAssertion = 0x08
 
 // exchange sends a request, and returns the response with its status byte.
@@ -78,12 +78,12 @@ func (b *Browser) exchange(request []byte) ([]byte, error) {
 	return append([]byte{0}, data...), nil
 }
 
-// signedResponse is the authenticator data and signature of a response, and the credential that signed it.
+// signedResponse is the authenticator data and signature of a response, with the ID of the credential that signed it and
+// the clientDataHash of the request.
 type signedResponse struct {
 	id              CredentialID
 	data, signature []byte
-	// clientDataHash of the request.
-	clientDataHash []byte
+	clientDataHash  []byte
 }
 
 // applyFaults applies the enabled faults to a response, and remembers its signature counter.
@@ -132,7 +132,8 @@ func decodeMembers(from []byte) (map[any]any, error) {
 	return members, nil
 }
 
-// buildResponse returns the members of a response, in canonical order, with this authenticator data and signature.
+// buildResponse returns the members of a response with the authenticator data and signature replaced by signed's, in
+// canonical order.
 func buildResponse(kind ceremony, members map[any]any, signed signedResponse) []entry {
 	if kind == createCeremony {
 		statement := []entry{{"alg", -7}, {"sig", signed.signature}}

@@ -46,7 +46,8 @@ func readJSON(t *testing.T, name string, to any) {
 	}
 }
 
-// expand returns options with the IDs of earlier registrations and with long values inserted.
+// expand returns options with placeholders replaced: "$0" by the ID of the first registration, {"$bytes": count} by
+// zeros, and {"$repeat": count} by credential descriptors.
 func expand(value any, ids []string) any {
 	switch value := value.(type) {
 	case object:
@@ -180,7 +181,7 @@ func TestChromiumCases(t *testing.T) {
 		})
 	}
 	if count < 150 {
-		t.Errorf("only %d cases ran", count)
+		t.Errorf("expected at least 150 cases, but only %d ran", count)
 	}
 }
 

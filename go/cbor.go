@@ -56,7 +56,7 @@ func head(major byte, argument uint64) []byte {
 	}
 }
 
-// decode decodes an item, and returns the bytes after value. Maps are map[any]any.
+// decode decodes the first item, and returns it with the bytes after it. Maps are map[any]any.
 func decode(from []byte) (item any, rest []byte, err error) {
 	if len(from) == 0 {
 		return nil, nil, errCBOR

@@ -9,7 +9,7 @@ import (
 	"unsafe"
 )
 
-// ceremony is a call of navigator.credentials.
+// ceremony is the method of navigator.credentials: create or get.
 type ceremony C.uint32_t
 
 const (
@@ -17,7 +17,7 @@ const (
 	getCeremony    ceremony = C.HIDLOG_CLIENT_GET
 )
 
-// clientAbilities describes a USB key with discoverable credentials and without user verification.
+// clientAbilities are the key's: discoverable credentials, but no user verification.
 const clientAbilities = C.HIDLOG_CLIENT_RESIDENT_KEY
 
 // Maximum lengths of a request and of a credential's JSON.
@@ -37,8 +37,8 @@ var domErrorNames = map[C.int64_t]string{
 	C.HIDLOG_CLIENT_SYNTAX_ERROR:        "SyntaxError",
 }
 
-// client is a call of navigator.credentials. The C library (hidlog.h) checks the options, and writes the request and
-// the credential's JSON.
+// client makes the two calls of the C library (hidlog.h) for one call of navigator.credentials: the library checks the
+// options, and writes the request and the credential's JSON.
 type client struct {
 	ceremony          ceremony
 	options, origin   []byte

@@ -30,8 +30,8 @@ func (a *Authenticator) Credentials() []Credential {
 	return found
 }
 
-// updateCredentials changes the credentials, if no request is in progress. The authenticator is power-cycled, and a new
-// recording begins.
+// updateCredentials changes the credentials with call, which power-cycles the authenticator, and begins a new recording.
+// It fails if a request is in progress. An error message begins with what.
 func (a *Authenticator) updateCredentials(what string, call func() C.int32_t) error {
 	a.mutex.Lock()
 	defer a.mutex.Unlock()
@@ -48,7 +48,8 @@ func (a *Authenticator) updateCredentials(what string, call func() C.int32_t) er
 // Add adds a credential, and replaces one with the same ID.
 func (a *Authenticator) Add(credential Credential) error {
 	if len(credential.UserID) > 64 || len(credential.UserName) > 64 {
-		return fmt.Errorf("hidlog: UserID and UserName must have at most 64 bytes")
+		return fmt.Errorf("hidlog: UserID and UserName must have at most 64 bytes, not %d and %d",
+			len(credential.UserID), len(credential.UserName))
 	}
 	var row C.struct_hidlog_credential
 	set := func(to *C.uint8_t, from []byte) { copy(unsafe.Slice((*byte)(unsafe.Pointer(to)), len(from)), from) }

@@ -97,20 +97,20 @@ func checkRecordings(t *testing.T, key *hidlog.Authenticator) {
 }
 
 // isVerified returns whether a sign-in is valid for the registered public key.
-func isVerified(t *testing.T, made, used publicKeyCredential) bool {
+func isVerified(t *testing.T, registration, assertion publicKeyCredential) bool {
 	t.Helper()
-	public, err := x509.ParsePKIXPublicKey(decodeBase64URL(t, made.Response.PublicKey))
+	public, err := x509.ParsePKIXPublicKey(decodeBase64URL(t, registration.Response.PublicKey))
 	if err != nil {
 		t.Fatal(err)
 	}
-	hash := sha256.Sum256(decodeBase64URL(t, used.Response.ClientDataJSON))
-	digest := sha256.Sum256(append(decodeBase64URL(t, used.Response.AuthenticatorData), hash[:]...))
-	return ecdsa.VerifyASN1(public.(*ecdsa.PublicKey), digest[:], decodeBase64URL(t, used.Response.Signature))
+	hash := sha256.Sum256(decodeBase64URL(t, assertion.Response.ClientDataJSON))
+	digest := sha256.Sum256(append(decodeBase64URL(t, assertion.Response.AuthenticatorData), hash[:]...))
+	return ecdsa.VerifyASN1(public.(*ecdsa.PublicKey), digest[:], decodeBase64URL(t, assertion.Response.Signature))
 }
 
-func signCount(t *testing.T, used publicKeyCredential) uint32 {
+func signCount(t *testing.T, assertion publicKeyCredential) uint32 {
 	t.Helper()
-	return binary.BigEndian.Uint32(decodeBase64URL(t, used.Response.AuthenticatorData)[33:])
+	return binary.BigEndian.Uint32(decodeBase64URL(t, assertion.Response.AuthenticatorData)[33:])
 }
 
 func TestRegisterAndSignIn(t *testing.T) {
@@ -122,7 +122,7 @@ func TestRegisterAndSignIn(t *testing.T) {
 	if data := decodeBase64URL(t, registered.Response.AuthenticatorData); !bytes.Equal(data[:32], rp[:]) || data[32] != 0x41 {
 		t.Fatalf("authenticator data %x", data)
 	}
-	// {"fmt": "packed", "attStmt": {"alg": -7, "sig": a signature over the authenticator data and the hash}, ..}
+	// {"fmt": "packed", "attStmt": {"alg": -7, "sig": signature of authenticator data and clientDataHash}, ..}
 	front := []byte("\xa3\x63fmt\x66packed\x67attStmt\xa2\x63alg\x26\x63sig\x58")
 	attestation := decodeBase64URL(t, registered.Response.AttestationObject)
 	if !bytes.HasPrefix(attestation, front) {
@@ -132,13 +132,13 @@ func TestRegisterAndSignIn(t *testing.T) {
 	signed := registered
 	signed.Response.Signature = base64.RawURLEncoding.EncodeToString(rest[1 : 1+rest[0]])
 	if !isVerified(t, registered, signed) {
-		t.Fatal("the self attestation is wrong")
+		t.Fatal("the signature of the self attestation is invalid")
 	}
 	for expected := uint32(1); expected < 4; expected++ {
 		used, err := browser.Get(get)
 		signedIn := parseCredential(t, used, err)
 		if signedIn.ID != registered.ID || signedIn.Response.UserHandle != "YW5u" {
-			t.Fatalf("another account: %s", used)
+			t.Fatalf("expected the registered account, got %s", used)
 		}
 		if !isVerified(t, registered, signedIn) || signCount(t, signedIn) != expected {
 			t.Fatalf("sign-in %d: %s", expected, used)
@@ -174,7 +174,7 @@ func TestInvalidCallsAreRejected(t *testing.T) {
 	browser := key.Browser(origin)
 	used, err := browser.Create(create)
 	made := parseCredential(t, used, err)
-	// options returns complete registration options with these members replaced.
+	// options returns registration options: rp is a prefix of rp's members, user the user ID, rest further members.
 	options := func(rp, user, rest string) string {
 		return fmt.Sprintf(`{"rp": {%s"name": "Example"}, "challenge": "AAECAwQFBgcICQoLDA0ODw",
 			"user": {"id": "%s", "name": "a", "displayName": "A"}, "pubKeyCredParams": [{"type": "public-key", "alg": -7}]%s}`,
@@ -321,7 +321,7 @@ func TestAccounts(t *testing.T) {
 	}
 }
 
-// Errors of a rejected request end with the library's reason; that of an injected status has none.
+// The error of a request that the key rejected ends with the key's cause; the error of an injected status does not.
 func TestCauses(t *testing.T) {
 	key := newKey(t)
 	browser := key.Browser(origin)
@@ -352,14 +352,16 @@ func TestPackets(t *testing.T) {
 	if err != nil {
 		t.Fatal(err)
 	}
-	// INIT on the broadcast channel (CTAP 2.1, section 11.2.9.1.3): the nonce, a channel, version 2, capabilities.
+	// The response to INIT on the broadcast channel (CTAP 2.1, section 11.2.9.1.3): nonce, channel ID, versions and
+	// capabilities.
 	packet := hidlog.Packet{0xff, 0xff, 0xff, 0xff, 0x86, 0, 8, 1, 2, 3, 4, 5, 6, 7, 8}
 	sent, err := key.HandlePacket(0, packet)
 	expected := hidlog.Packet{0xff, 0xff, 0xff, 0xff, 0x86, 0, 17, 1, 2, 3, 4, 5, 6, 7, 8, 0, 0, 0, 1, 2, 1, 0, 0, 0x0c}
 	if err != nil || len(sent) != 1 || sent[0] != expected {
 		t.Fatal(err, sent)
 	}
-	// authenticatorSelection waits for presence, with a KEEPALIVE after 100 ms; then its status is 0x27.
+	// authenticatorSelection sends KEEPALIVEs while it waits for user presence, and returns 0x27 (OPERATION_DENIED) if
+	// the user refuses.
 	selection := hidlog.Packet{0, 0, 0, 1, 0x90, 0, 1, 0x0b}
 	if _, err = key.HandlePacket(10, selection); err != nil || key.Need().Kind != hidlog.NeedPresence {
 		t.Fatal(err, key.Need())

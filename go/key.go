@@ -88,7 +88,7 @@ type Authenticator struct {
 }
 
 // ErrClosed is returned by methods of a closed Authenticator.
-var ErrClosed = errors.New("hidlog: the key is closed")
+var ErrClosed = errors.New("hidlog: the authenticator is closed")
 
 var errorTexts = map[C.int32_t]string{
 	C.HIDLOG_KEY_ERR_NOT_INITIALIZED:  "the key is not initialized",
@@ -149,8 +149,8 @@ func (a *Authenticator) Close() {
 	}
 }
 
-// handleInput makes a call of the library with an input, records the input's log line, and returns the packets that the
-// authenticator sends.
+// handleInput passes an input to the library with call, appends its log line to the recording, and returns the packets
+// that the authenticator sends.
 func (a *Authenticator) handleInput(line string, call func() C.int32_t) ([]Packet, error) {
 	a.mutex.Lock()
 	defer a.mutex.Unlock()

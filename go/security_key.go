@@ -156,7 +156,8 @@ func sign(privateKey *ecdsa.PrivateKey, toSign []byte) ([]byte, error) {
 	return ecdsa.SignASN1(rand.Reader, privateKey, digest[:])
 }
 
-// provideNeeds provides what the authenticator needs until it needs nothing, and returns the packets it sent.
+// provideNeeds provides what the authenticator needs until it needs nothing. It takes the result of an input, and returns
+// all packets sent.
 func (k *SecurityKey) provideNeeds(sent []Packet, err error) ([]Packet, error) {
 	for err == nil {
 		var more []Packet
@@ -207,7 +208,7 @@ func fragment(channel [4]byte, command byte, data []byte) []Packet {
 	return found
 }
 
-// reassemble returns the message sent on a channel, skipping KEEPALIVE.
+// reassemble returns the command and the data of the message sent on a channel, without KEEPALIVEs.
 func reassemble(channel [4]byte, sent []Packet) (command byte, data []byte, err error) {
 	length := -1
 	for _, packet := range sent {
@@ -241,7 +242,7 @@ func (k *SecurityKey) openChannel() error {
 	return nil
 }
 
-// causeSuffix returns the text that says in an error message why the key rejected its last request.
+// causeSuffix returns what to append to an error message: a colon and why the key rejected its last request, if it did.
 func (k *SecurityKey) causeSuffix() string {
 	if cause := k.Cause(); cause != "" && k.Faults.Status == 0 {
 		return ": " + cause

@@ -50,8 +50,9 @@ func (b browser) call(command string, argument any) (r result) {
 	return r
 }
 
-func startBrowser(words ...string) (browser, func()) {
-	process := exec.Command(words[0], append(words[1:], "--origin", origin)...)
+// startBrowser starts the command, and returns the browser and a function that ends it.
+func startBrowser(command ...string) (browser, func()) {
+	process := exec.Command(command[0], append(command[1:], "--origin", origin)...)
 	in, _ := process.StdinPipe()
 	out, _ := process.StdoutPipe()
 	process.Stderr = os.Stderr
@@ -62,8 +63,8 @@ func startBrowser(words ...string) (browser, func()) {
 }
 
 func main() {
-	browser, end := startBrowser(os.Args[1:]...)
-	defer end()
+	browser, stop := startBrowser(os.Args[1:]...)
+	defer stop()
 	made := browser.call("create", object{
 		"rp": object{"id": rpID, "name": "Example"}, "challenge": challenge,
 		"user":             object{"id": "YW5u", "name": "ann", "displayName": "Ann"},

@@ -19,7 +19,7 @@ extern "C" {
 }
 
 fn main() {
-    // u128 is aligned to 16. The key and its memory do not move while it is initialized.
+    // The memory must be aligned to 16 bytes, as u128 is. Neither it nor the key moves while the key is initialized.
     let mut memory = vec![0u128; (unsafe { hidlog_key_size() } + 15) / 16];
     let mut key = Box::new(Key { memory: memory.as_mut_ptr().cast(), state: 0 });
     let aaguid = [0u8; 16];

@@ -1,4 +1,4 @@
-//! Links the static library for the target's architecture, from HIDLOG_LIBRARY_FOLDER if it is set.
+//! Links libhidlog.a for the target's architecture, from HIDLOG_LIBRARY_FOLDER if that is set.
 
 use std::env::var;
 
@@ -12,8 +12,11 @@ fn main() {
     let has_library = |folder: &&String| std::path::Path::new(folder).join("libhidlog.a").exists();
     let found = folders.iter().find(has_library).unwrap_or(&folders[0]).clone();
     let folder = var("HIDLOG_LIBRARY_FOLDER").unwrap_or(found);
-    if system != "linux" || !std::path::Path::new(&folder).join("libhidlog.a").exists() {
-        panic!("hidlog-sys has no library for {system} on {processor}; supported: Linux on x86_64 and aarch64");
+    if system != "linux" || !["x86_64", "aarch64"].contains(&&processor[..]) {
+        panic!("hidlog-sys supports Linux on x86_64 and aarch64, not {system} on {processor}");
+    }
+    if !std::path::Path::new(&folder).join("libhidlog.a").exists() {
+        panic!("libhidlog.a not found in {folder}; set HIDLOG_LIBRARY_FOLDER to the folder that contains it");
     }
     println!("cargo:rustc-link-search=native={folder}");
     println!("cargo:rustc-link-lib=static=hidlog");

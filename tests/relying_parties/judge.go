@@ -20,7 +20,7 @@ type testCase struct {
 	PublicKey  string          `json:"public_key"`
 	Counter    uint32          `json:"counter"`
 	Credential json.RawMessage `json:"credential"`
-	// User verification that the relying party requests: "required" or "discouraged".
+	// The userVerification that the relying party requests: "required" or "discouraged".
 	Verification string `json:"verification"`
 }
 

@@ -177,8 +177,8 @@ impl AuthenticationResponse {
     }
 }
 
-/// Returns the decoded value of a member of a credential's JSON. The library writes no whitespace, and base64url has no
-/// `"name":"`.
+/// Returns the decoded value of a base64url member of a credential's JSON. Searching for `"name":"` is enough: the
+/// library writes no whitespace, and no value contains quotes.
 fn read_member(json: &str, name: &str) -> Option<Vec<u8>> {
     let (_, rest) = json.split_once(&format!(r#""{name}":""#))?;
     base64url::decode(rest.split_once('"')?.0)
@@ -237,7 +237,7 @@ impl Browser {
         client.build_credential(&response).map_err(|error| self.with_cause(error, response[0]))
     }
 
-    /// Returns a page's error with why the key rejected the request, if it did.
+    /// Appends the key's cause to a page's error if the key rejected the request.
     fn with_cause(&mut self, error: Error, status: u8) -> Error {
         let is_rejected = status != 0 && self.key.faults.status.is_none();
         match (error, self.key.cause()) {
@@ -293,7 +293,7 @@ impl Browser {
         }))
     }
 
-    /// Returns the authenticator data and the signature with the enabled faults.
+    /// Returns the authenticator data and the signature with the enabled faults; signs again if needed.
     fn alter_response(
         &mut self,
         id: &Id,

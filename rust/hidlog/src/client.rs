@@ -14,7 +14,7 @@ pub(crate) enum Ceremony {
     Get,
 }
 
-/// A ceremony with its options and origin.
+/// A call of `navigator.credentials`: the method, the page's options as JSON, and its origin.
 pub(crate) struct Client<'a> {
     pub(crate) ceremony: Ceremony,
     pub(crate) options: &'a str,

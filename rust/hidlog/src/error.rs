@@ -5,7 +5,7 @@ use std::fmt;
 #[derive(Clone, Debug, PartialEq, Eq)]
 #[non_exhaustive]
 pub enum Error {
-    /// An error of the C library: its number in `hidlog.h`, and its meaning.
+    /// An error of the C library: its code (`enum hidlog_key_error` in `hidlog.h`) and a description.
     Core(i32, &'static str),
     /// An invalid argument.
     InvalidArgument(&'static str),

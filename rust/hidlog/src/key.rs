@@ -67,19 +67,19 @@ pub struct Recording {
 /// The authenticator alone: packets and replies in, packets out. Times are in milliseconds. Each input is recorded; one
 /// that fails changes nothing.
 pub struct Authenticator {
-    // The library has pointers to both while the key is initialized, so they are not moved or accessed.
+    // While the key is initialized, `key` points to `_memory`, and the library requires that neither moves.
     key: Box<sys::hidlog_key>,
     _memory: Vec<u128>,
     recordings: Vec<Recording>,
 }
 
-// SAFETY: a key is not tied to a thread, and calls on it are exclusive: each takes &mut or reads what &mut wrote.
+// SAFETY: hidlog.h allows calls from any thread if no two overlap, and every call on the key needs `&mut self`.
 unsafe impl Send for Authenticator {}
 
 impl Authenticator {
     /// Returns an authenticator with the credentials of a snapshot, or without any if it is empty.
     pub fn new(snapshot: &[u8]) -> Result<Authenticator, Error> {
-        // SAFETY: it takes no argument.
+        // SAFETY: the function has no arguments and no state.
         let size = unsafe { sys::hidlog_key_size() };
         let mut memory = vec![0u128; (size + 15) / 16];
         let mut key = Box::new(sys::hidlog_key { memory: memory.as_mut_ptr().cast(), state: 0 });
@@ -94,7 +94,7 @@ impl Authenticator {
         Ok(Authenticator { key, _memory: memory, recordings })
     }
 
-    /// Makes a call of the library with an input, records the input's log line, and returns the packets sent.
+    /// Passes an input to the library with `call`, appends its log line to the recording, and returns the packets sent.
     fn handle_input(
         &mut self,
         line: fmt::Arguments<'_>,
@@ -210,14 +210,14 @@ impl Authenticator {
 
     /// Returns the credentials, oldest first.
     pub fn credentials(&mut self) -> Vec<Credential> {
-        let mut row = to_row(&Credential::default());
+        let mut row = to_c_credential(&Credential::default());
         // SAFETY: the key is initialized.
         let mut next =
             |index| unsafe { sys::hidlog_key_get_credential(&mut *self.key, index, &mut row) == 0 }.then_some(row);
-        (0..).map_while(&mut next).map(|row| from_row(&row)).collect()
+        (0..).map_while(&mut next).map(|row| from_c_credential(&row)).collect()
     }
 
-    /// Begins a new recording after a change of the credentials, which power-cycles the key.
+    /// Begins a new recording if the change of the credentials, which power-cycles the key, returned no error.
     fn restart_recording(&mut self, status: i32) -> Result<(), Error> {
         if status < 0 {
             return Err(Error::from_code(status));
@@ -233,7 +233,7 @@ impl Authenticator {
             return Err(Error::InvalidArgument("user_id and user_name must have at most 64 bytes"));
         }
         // SAFETY: the key is initialized.
-        let status = unsafe { sys::hidlog_key_add_credential(&mut *self.key, 0, &to_row(credential)) };
+        let status = unsafe { sys::hidlog_key_add_credential(&mut *self.key, 0, &to_c_credential(credential)) };
         self.restart_recording(status)
     }
 
@@ -280,7 +280,7 @@ fn to_hex(bytes: &[u8]) -> String {
     })
 }
 
-fn to_row(credential: &Credential) -> sys::hidlog_credential {
+fn to_c_credential(credential: &Credential) -> sys::hidlog_credential {
     let (mut user_id, mut user_name) = ([0; 64], [0; 64]);
     user_id[..credential.user_id.len()].copy_from_slice(&credential.user_id);
     user_name[..credential.user_name.len()].copy_from_slice(credential.user_name.as_bytes());
@@ -298,7 +298,7 @@ fn to_row(credential: &Credential) -> sys::hidlog_credential {
     }
 }
 
-fn from_row(row: &sys::hidlog_credential) -> Credential {
+fn from_c_credential(row: &sys::hidlog_credential) -> Credential {
     Credential {
         rp_id_hash: row.rp_id_hash,
         id: row.id,

@@ -4,7 +4,7 @@ use std::os::raw::{c_char, c_int, c_uchar, c_void};
 use std::ptr::{null, null_mut};
 
 extern "C" {
-    fn EVP_PKEY_Q_keygen(library: *mut c_void, query: *const c_char, kind: *const c_char, ...) -> *mut c_void;
+    fn EVP_PKEY_Q_keygen(libctx: *mut c_void, propq: *const c_char, kind: *const c_char, ...) -> *mut c_void;
     fn EVP_PKEY_get_octet_string_param(
         key: *const c_void,
         name: *const c_char,
@@ -39,7 +39,7 @@ extern "C" {
 /// Returns the SHA-256 hash.
 pub fn sha256(text: &[u8]) -> [u8; 32] {
     let mut out = [0; 32];
-    // SAFETY: it reads `text.len()` bytes and writes 32.
+    // SAFETY: SHA256 reads `text.len()` bytes and writes 32.
     unsafe { SHA256(text.as_ptr(), text.len(), out.as_mut_ptr()) };
     out
 }
@@ -47,7 +47,7 @@ pub fn sha256(text: &[u8]) -> [u8; 32] {
 /// Returns random bytes.
 pub(crate) fn random_bytes<const N: usize>() -> Result<[u8; N], Error> {
     let mut out = [0; N];
-    // SAFETY: it writes N bytes.
+    // SAFETY: RAND_bytes writes N bytes.
     match unsafe { RAND_bytes(out.as_mut_ptr(), N as c_int) } {
         1 => Ok(out),
         _ => Err(Error::OpenSsl),

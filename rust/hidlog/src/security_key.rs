@@ -13,7 +13,7 @@ const COMMAND_KEEPALIVE: u8 = 0x80 | standard::KEEPALIVE;
 /// that its recordings still replay.
 #[derive(Clone, Debug, Default, PartialEq, Eq)]
 pub struct Faults {
-    /// The response to every request.
+    /// The status of every response.
     pub status: Option<u8>,
     /// Signs with a different private key.
     pub bad_signature: bool,
@@ -112,8 +112,8 @@ impl SecurityKey {
         }
     }
 
-    /// Sends a packet, and provides what the authenticator needs until it needs nothing. Returns the packets it sent.
-    fn serve_packet(&mut self, packet: &Packet) -> Result<Vec<Packet>, Error> {
+    /// Sends a packet to the authenticator, provides what it needs until it needs nothing, and returns its packets.
+    fn exchange_packet(&mut self, packet: &Packet) -> Result<Vec<Packet>, Error> {
         let mut sent = self.authenticator.handle_packet(self.now_ms(), packet)?;
         loop {
             let more = match self.authenticator.need() {
@@ -133,7 +133,7 @@ impl SecurityKey {
     fn transact(&mut self, channel: [u8; 4], command: u8, data: &[u8]) -> Result<(u8, Vec<u8>), Error> {
         let mut sent = Vec::new();
         for packet in fragment(channel, command, data) {
-            sent.extend(self.serve_packet(&packet)?);
+            sent.extend(self.exchange_packet(&packet)?);
         }
         reassemble(channel, &sent).ok_or(Error::InvalidResponse)
     }
@@ -186,7 +186,7 @@ fn fragment(channel: [u8; 4], command: u8, data: &[u8]) -> Vec<Packet> {
         .collect()
 }
 
-/// Returns the message sent on a channel, skipping KEEPALIVE.
+/// Returns the command and the data of the message sent on a channel, without KEEPALIVEs.
 fn reassemble(channel: [u8; 4], sent: &[Packet]) -> Option<(u8, Vec<u8>)> {
     let (mut command, mut length, mut data) = (None, 0, Vec::new());
     for packet in sent.iter().filter(|packet| packet[..4] == channel && packet[4] != COMMAND_KEEPALIVE) {

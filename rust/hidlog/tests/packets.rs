@@ -7,7 +7,8 @@ fn build_packet(front: &[u8]) -> Packet {
     packet
 }
 
-/// INIT on the broadcast channel (CTAP 2.1, section 11.2.9.1.3): the nonce, a channel, version 2, capabilities.
+/// The response to INIT on the broadcast channel (CTAP 2.1, section 11.2.9.1.3): nonce, channel ID, versions and
+/// capabilities.
 #[test]
 fn responds_to_init() {
     let mut key = Authenticator::new(&[]).unwrap();
@@ -17,7 +18,8 @@ fn responds_to_init() {
     assert_eq!(sent, [build_packet(&[&nonce[..], &[0, 0, 0, 1, 2, 1, 0, 0, 0x0c]].concat())]);
 }
 
-/// authenticatorSelection waits for presence, with a KEEPALIVE after 100 ms; then its status is 0x27.
+/// authenticatorSelection sends KEEPALIVEs while it waits for user presence, and returns 0x27 (OPERATION_DENIED) if the
+/// user refuses.
 #[test]
 fn waits_for_user_presence() {
     let mut key = Authenticator::new(&[]).unwrap();

@@ -1,4 +1,5 @@
-//! Registrations and sign-ins, verified by OpenSSL, and recordings, compared by `hidlog check` if it is found.
+//! Registers and signs in, verifies the signatures with OpenSSL, and runs `hidlog check` on the recordings if the program
+//! is found.
 #![cfg(feature = "openssl")]
 
 use hidlog::{
@@ -22,13 +23,13 @@ fn request_options() -> RequestOptions {
     RequestOptions { rp_id: Some("example.com".into()), ..RequestOptions::new(b"a challenge") }
 }
 
-fn sign_count(used: &AuthenticationResponse) -> u32 {
-    u32::from_be_bytes(used.authenticator_data[33..37].try_into().unwrap())
+fn sign_count(assertion: &AuthenticationResponse) -> u32 {
+    u32::from_be_bytes(assertion.authenticator_data[33..37].try_into().unwrap())
 }
 
-fn is_verified(browser: &Browser, used: &AuthenticationResponse) -> bool {
-    let signed = [&used.authenticator_data[..], &sha256(&used.client_data)].concat();
-    browser.key.private_key(&used.id).unwrap().verify(&signed, &used.signature)
+fn is_verified(browser: &Browser, assertion: &AuthenticationResponse) -> bool {
+    let signed = [&assertion.authenticator_data[..], &sha256(&assertion.client_data)].concat();
+    browser.key.private_key(&assertion.id).unwrap().verify(&signed, &assertion.signature)
 }
 
 /// Runs `hidlog check` on each recording.
@@ -60,7 +61,7 @@ fn registers_and_signs_in() {
     let made = browser.create(&creation_options()).unwrap();
     assert_eq!(made.authenticator_data[..32], sha256(b"example.com"));
     assert_eq!(made.authenticator_data[32], 0x41);
-    // {"fmt": "packed", "attStmt": {"alg": -7, "sig": a signature over the authenticator data and the hash}, ..}
+    // {"fmt": "packed", "attStmt": {"alg": -7, "sig": signature of authenticator data and clientDataHash}, ..}
     let (front, rest) = made.attestation_object.split_at(31);
     assert_eq!(front, b"\xa3\x63fmt\x66packed\x67attStmt\xa2\x63alg\x26\x63sig\x58");
     let signed = [&made.authenticator_data[..], &sha256(&made.client_data)].concat();
@@ -78,7 +79,7 @@ fn registers_and_signs_in() {
     check_recordings(browser.key.recordings());
 }
 
-/// Options and responses as JSON, with a name that needs escapes.
+/// Options and responses as JSON, with a user name that needs escapes.
 #[test]
 fn exchanges_json() {
     let mut browser = new_browser();
@@ -105,7 +106,7 @@ fn follows_presence_sequence() {
     check_recordings(browser.key.recordings());
 }
 
-/// Errors of a rejected request end with the library's reason; that of an injected status has none.
+/// The error of a request that the key rejected ends with the key's cause; the error of an injected status does not.
 #[test]
 fn errors_say_why() {
     let mut browser = new_browser();
