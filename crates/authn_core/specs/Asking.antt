@@ -6,7 +6,7 @@ use Rattle.authn_core.specs.{declared.replies.Presence.Presence, State.AwaitRese
 use Rattle.authn_core.specs.declared.refusal.Refusal.TheVariants as because
 use Rattle.authn_core.specs.declared.replies.Presence.TheVariants.{Granted, Denied, TimedOut}
 
--- The time for a reset after power-up, in milliseconds (CTAP 2.1, section 6.6).
+-- The time limit for a reset after power-up, in milliseconds (CTAP 2.1, section 6.6).
 abbrev pub RESET_LIMIT : ℕ
 RESET_LIMIT = 10000
 

@@ -51,7 +51,7 @@ abbrev pub user_handle_in : Option Row → Option (List ℕ)
 user_handle_in None = None
 user_handle_in (Some row) = if row.discoverable then Some row.user.items else None
 
--- Responds, and restarts the time for the pending assertions.
+-- Responds, and restarts the time limit for the pending assertions.
 abbrev pub assertion_after_signature : List Row → Option PendingAssertions → (now : ℕ) → AssertState → (counter : ℕ) → Option (List ℕ) → TurnResult
 assertion_after_signature rows pending now a counter None = respond_refusal rows None because.SignatureRefused
 assertion_after_signature rows pending now a counter (Some sig) =
@@ -60,11 +60,12 @@ assertion_after_signature rows pending now a counter (Some sig) =
 
 -- ---- the next one
 
--- The time for the next assertion after a response, in milliseconds (CTAP 2.1, section 6.3).
+-- The time limit for the next assertion after a response, in milliseconds (CTAP 2.1, section 6.3).
 abbrev pub NEXT_LIMIT : ℕ
 NEXT_LIMIT = 30000
 
--- The credential signs with the first request's client data hash and presence. Each pending ID exists.
+-- The credential signs with the first request's client data hash and its option `up`. Each pending ID is that of a
+-- credential.
 abbrev pub sign_pending_row : List Row → Option PendingAssertions → (cid : ℕ) (hash : List ℕ) → Bool → List ℕ → Option Row → TurnResult
 sign_pending_row rows pending cid hash presence id None = respond_refusal rows None because.NothingPending
 sign_pending_row rows pending cid hash presence id (Some row) =

@@ -42,13 +42,13 @@ with_increments later r = record r { counter = r.counter + length (filter (λ m.
 abbrev pub row_if_kept : List CredentialChange → Row → List Row
 row_if_kept later r = if is_kept later r then with_increments later r ∷ [] else []
 
--- The credentials after a history, in order, given the changes already passed (`later`). The history is newest first.
+-- The credentials after a history, in order. The history is newest first; `later` has the changes after it.
 unfoldable pub rows_among : List Row → List CredentialChange → List CredentialChange → List Row
 rows_among start later [] = flat_map (row_if_kept later) start
 rows_among start later (m ∷ past) =
     rows_among start (m ∷ later) past ++ flat_map (row_if_kept later) (option_to_list m.made)
 
--- The credentials after these changes, newest first.
+-- The credentials after a history of changes, newest first.
 abbrev pub rows_after_changes : List Row → List CredentialChange → List Row
 rows_after_changes start h = rows_among start [] h
 

@@ -104,7 +104,7 @@ pub struct Core<T: Table<C>, const C: usize> {
     pub(crate) table: T,
     pub(crate) pending: Pending<C>,
     pub(crate) work: Option<PendingTask>,
-    /// The IDs of the credentials that may sign the last getAssertion. Stored here, since a new list would be cleared
+    /// The IDs of the credentials that may sign the last getAssertion. Stored here because a new list would be zeroed
     /// each time.
     pub(crate) applicable: ArrayVec<[u8; 32], C>,
 }
@@ -149,8 +149,8 @@ impl<T: Table<C>, const C: usize> Core<T, C> {
         }
     }
 
-    /// Starts again with this configuration at time `start`, in milliseconds, with the credentials of a snapshot in
-    /// place of its own and no pending request. A refused snapshot leaves everything as it was.
+    /// Restarts with this configuration at time `start`, in milliseconds, with the credentials of a snapshot in place
+    /// of its own and no pending request. If the snapshot is rejected, nothing changes.
     pub fn load(&mut self, config: Config, snapshot: &[u8], start: u64) -> Result<(), SnapshotFault>
         ensures { MatchResult result
             (λ _. (rows : List AnyRow) × Loads C snapshot.now (Ok tt) rows
@@ -182,14 +182,14 @@ impl<T: Table<C>, const C: usize> Core<T, C> {
         self.take(at, &Event::Presence(reply), answer)
     }
 
-    /// Handles a new key; `None` refuses one.
+    /// Handles the reply to a key request: a new key pair, or `None` if the caller refuses.
     pub fn key(&mut self, at: u64, key: Option<NewKey>, answer: &mut Answer) -> Turn
         ensures { IsTurn self.old self.new (answer_of result answer.new.items) at (KeyIs key) }
     {
         self.take(at, &Event::Key(&key), answer)
     }
 
-    /// Handles a signature; `None` refuses one.
+    /// Handles the reply to a signature request: a signature, or `None` if the caller refuses.
     pub fn signature(&mut self, at: u64, signature: Option<Signature>, answer: &mut Answer) -> Turn
         ensures { IsTurn self.old self.new (answer_of result answer.new.items) at (SignatureIs signature) }
     {
@@ -236,7 +236,7 @@ impl<T: Table<C>, const C: usize> Core<T, C> {
         }
     }
 
-    /// Returns what the pending request needs, if there is one. At most 196 bytes are to sign.
+    /// Returns what the pending request needs, or [`Need::None`]. A signature is over at most 196 bytes.
     pub fn need(&self) -> Need<'_>
         ensures value { needed_reply result ≡ needs self.now.core.state.work }
         ensures sized { IsNeed (needed_reply result) }
@@ -255,7 +255,7 @@ impl<T: Table<C>, const C: usize> Core<T, C> {
         }
     }
 
-    /// Returns the pending request.
+    /// Returns the pending request, if any.
     pub fn work(&self) -> Option<Work>
         ensures { waiting self.now.core ≡ option_map work_of result }
     {
@@ -291,7 +291,7 @@ impl<T: Table<C>, const C: usize> Core<T, C> {
         self.pending.len()
     }
 
-    /// Returns the number of steps that parsing the last request took, 0 before one.
+    /// Returns the number of steps that parsing the last request took, or 0 before the first request.
     pub fn last_steps(&self) -> u64
         ensures { result ≡ self.now.last_steps }
     {

@@ -53,7 +53,7 @@ impl<T: Table<C>, const C: usize> Core<T, C> {
         Turn::Refuses(why)
     }
 
-    /// Ends the request with the status of a refusal, and no assertion is pending.
+    /// Ends the request with the status of a refusal, and clears the pending assertions.
     pub(crate) fn refuse_all(&mut self, why: Refusal, answer: &mut Answer) -> Turn
         ensures { TakesTurn self.old self.new result answer.new.items (respond_refusal self.old.core.state.rows None why) }
     {
@@ -61,7 +61,7 @@ impl<T: Table<C>, const C: usize> Core<T, C> {
         self.refuse(why, answer)
     }
 
-    /// Begins or continues a request, and returns the status that it is pending with.
+    /// Begins or continues a request, and returns its KEEPALIVE status.
     pub(crate) fn wait(&mut self, cid: u32, task: Task) -> KeepaliveStatus
         requires ready { TaskReady self.old.core.setup.capacity self.old.core.state.rows (task_of task) }
         requires signs { SignsItsAnswer self.old.core.setup.aaguid (task_of task) }

@@ -9,9 +9,9 @@ pub enum Event<'a> {
     Request { cid: u32, message: &'a [u8] },
     /// A user presence reply.
     Presence(Presence),
-    /// A new key; `None` refuses one.
+    /// A new key pair, or `None` if the caller refuses.
     Key(&'a Option<NewKey>),
-    /// A signature; `None` refuses one.
+    /// A signature, or `None` if the caller refuses.
     Signature(&'a Option<Signature>),
     /// The pending request is cancelled.
     Cancel,

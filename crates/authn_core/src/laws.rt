@@ -1,4 +1,4 @@
-//! Laws stated over the definitions. Each is the contract of a function that does nothing.
+//! Laws about the definitions. Each function has an empty body: its contract is the law.
 
 ghost use Rattle.std.specs.Prelude.{◌≡◌, ◌≤◌, ℕ, List, ◌∷◌, length, true, Some, None};
 ghost use Rattle.ctap_cbor.specs.Head.{AreBytes};

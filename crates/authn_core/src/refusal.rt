@@ -8,7 +8,7 @@ use ctap_message::Status;
 /// An error of a command, with the values compared.
 #[derive(Clone, Copy, Debug, PartialEq, Eq)]
 pub enum Refusal {
-    /// The request fails a check: the status of the first one.
+    /// The request fails a check; `status` is that of the first check that fails.
     BadRequest { status: u8 },
     /// The host cancelled the command.
     Cancelled,
@@ -36,9 +36,9 @@ pub enum Refusal {
     NothingPending,
     /// The pending assertions belong to another channel.
     PendingElsewhere { channel: u32 },
-    /// The time for the next assertion, which began at `since`, is over at `at`.
+    /// The time limit for the next assertion, counted from `since`, has passed at `at`.
     NextTooLate { since: u64, at: u64 },
-    /// The time for a reset, which began at `since`, is over at `at`.
+    /// The time limit for a reset, counted from `since`, has passed at `at`.
     ResetTooLate { since: u64, at: u64 },
 }
 

@@ -50,7 +50,7 @@ impl Model for Signature {
         (length-kept a.len a.bytes h.1 h.2) };
 }
 
-/// Copies the bytes to the start.
+/// Copies the bytes to the beginning of the buffer.
 fn put_front(out: &mut [u8], bytes: &[u8])
     requires { length bytes.now ≤ length out.old }
     ensures { out.new ≡ bytes.now ++ drop (length bytes.now) out.old }

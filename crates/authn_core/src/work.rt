@@ -1,4 +1,4 @@
-//! A pending request, as its channel sees it.
+//! The channel and the KEEPALIVE status of a pending request.
 
 ghost use Rattle.std.specs.Prelude.{◌≡◌};
 ghost use Rattle.authn_core.specs.Views.{status_number};

@@ -82,7 +82,8 @@ abbrev pub and_then : {V W : Type 0} → (V → Option W) → Option V → Optio
 and_then f None = None
 and_then f (Some v) = f v
 
--- The result of reading a member.
+-- The result of reading the map member with this key, as in `Reads`. `Is` is the property of valid values, and `shown`
+-- converts a value to its CBOR item.
 abbrev pub ReadsMember : {W : Type 0} → (Is : W → Type 0) (shown : W → Part) → ℕ → Reading → Reading → Option W → Type 0
 ReadsMember {W} Is shown key old new result = Reads {V = W} Is (λ w. member_text key (shown w)) old new result
 
@@ -107,7 +108,7 @@ heads_text h = head 5 2 ++ (member_text 1 (One (Int (pos (version h.0)))) ++ mem
 abbrev pub rows_text : (named : Bool) → List Row → List ℕ
 rows_text named rows = texts (rows_then named rows no_trees)
 
--- These bytes don't begin with the encoding of a row that may follow these rows.
+-- These bytes don't begin with the encoding of a row that may come after these rows.
 abbrev pub NoRowFollows : (named : Bool) → List Row → List ℕ → Type 0
 NoRowFollows named rows here = (row : Row) (rest : List ℕ) → IsRow named row → here ≡ row_text named row ++ rest
     → IsTrue (clashes row rows)

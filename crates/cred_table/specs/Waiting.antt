@@ -21,7 +21,7 @@ abbrev pub pending_count : Option PendingAssertions → ℕ
 pending_count None = 0
 pending_count (Some w) = length w.ids
 
--- The pending assertions with this time.
+-- The pending assertions, with the time of the last response replaced.
 abbrev pub with_time : ℕ → Option PendingAssertions → Option PendingAssertions
 with_time at None = None
 with_time at (Some w) = Some (record w { moment = at })

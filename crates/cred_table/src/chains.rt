@@ -75,7 +75,7 @@ impl<const C: usize> Chains<C> {
         self.like(id).find(|item| item.1.row.id == *id).unwrap().0
     }
 
-    /// Increments the counter of the row in a slot, and returns it.
+    /// Increments the signature counter of the row in a slot, and returns the new value.
     pub(crate) fn raise(&mut self, number: u16) -> u32
         requires linked { Linked [] self.old }
         requires held { is_among number (age self.old) ≡ true }

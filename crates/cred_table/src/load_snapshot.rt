@@ -104,8 +104,8 @@ fn load_rows<T: Table<C>, const C: usize>(rows: &Listed<C>, table: &mut T)
 
 /// Loads a snapshot into a table, replacing its rows. Allocates nothing.
 ///
-/// Refuses, in this order, bytes that aren't a snapshot, more entries than the table has capacity for, and an entry
-/// that isn't a row or conflicts with one before it. After an error the table is unchanged.
+/// Rejects, checked in this order: bytes that aren't a snapshot, more entries than the table has capacity for, and an
+/// entry that isn't a row or conflicts with an earlier one. After an error the table is unchanged.
 #[inline(never)]
 pub fn load<T: Table<C>, const C: usize>(bytes: &[u8], table: &mut T) -> Result<(), SnapshotFault>
     ensures loads { Loads C bytes.now result (T.rows table.new) }

@@ -40,7 +40,7 @@ impl<const C: usize> Pending<C> {
         }
     }
 
-    /// Stores these IDs, at most `C`, in place of the previous ones. Without IDs nothing is pending.
+    /// Stores these IDs, at most `C`, in place of the previous ones. Without IDs, no assertion is pending.
     pub fn fill(&mut self, cid: u32, hash: &[u8; 32], presence: bool, moment: u64, ids: &[[u8; 32]])
         requires { length ids.now ≤ C }
         ensures { self.new ≡ pending_of cid hash.now presence moment ids.now }
@@ -64,7 +64,7 @@ impl<const C: usize> Pending<C> {
         Some(self.ids.remove(0))
     }
 
-    /// Sets the time from which the next request's limit counts. If nothing is pending, does nothing.
+    /// Restarts the time limit for the next request at `at`, in milliseconds, if an assertion is pending.
     pub fn stamp(&mut self, at: u64)
         ensures { self.new ≡ with_time at self.old }
     {
@@ -87,7 +87,7 @@ impl<const C: usize> Pending<C> {
         self.ids.len()
     }
 
-    /// Returns the channel of the request. Something is pending.
+    /// Returns the channel of the request. An assertion must be pending.
     pub fn cid(&self) -> u32
         requires { IsSome self.now }
         ensures { result ≡ cid_of self.now }
@@ -95,7 +95,7 @@ impl<const C: usize> Pending<C> {
         self.cid
     }
 
-    /// Returns the hash of the client data. Something is pending.
+    /// Returns the client data hash of the request. An assertion must be pending.
     pub fn hash(&self) -> [u8; 32]
         requires { IsSome self.now }
         ensures { result ≡ hash_of self.now }
@@ -103,7 +103,7 @@ impl<const C: usize> Pending<C> {
         self.hash
     }
 
-    /// Returns whether user presence was requested. Something is pending.
+    /// Returns whether user presence was requested. An assertion must be pending.
     pub fn presence(&self) -> bool
         requires { IsSome self.now }
         ensures { result ≡ presence_of self.now }
@@ -111,7 +111,7 @@ impl<const C: usize> Pending<C> {
         self.presence
     }
 
-    /// Returns the time from which the next request's limit counts. Something is pending.
+    /// Returns the time in milliseconds from which the limit for the next request counts. An assertion must be pending.
     pub fn moment(&self) -> u64
         requires { IsSome self.now }
         ensures { result ≡ moment_of self.now }

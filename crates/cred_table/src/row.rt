@@ -9,13 +9,13 @@ use arrayvec::ArrayVec;
 /// its private key.
 #[derive(Clone, Debug, Default, Drop)]
 pub struct Row {
-    /// The SHA-256 hash of the RP id.
+    /// The SHA-256 hash of the RP ID.
     pub rp: [u8; 32],
     /// The credential ID.
     pub id: [u8; 32],
     /// The x coordinate of the public key on P-256.
     pub x: [u8; 32],
-    /// The y coordinate.
+    /// The y coordinate of the public key on P-256.
     pub y: [u8; 32],
     /// The user handle, 0 to 64 bytes.
     pub user: ArrayVec<u8, 64>,

@@ -198,7 +198,8 @@ fn snapshot_into<T: Table<C>, const C: usize>(buffer: &mut [u8], table: &T) -> u
 
 /// Writes a snapshot of a table's rows to the beginning of `out`, and returns its length.
 ///
-/// Returns None, and writes nothing, if `out` has fewer than 13 bytes and 283 for each row of the table's capacity.
+/// Returns `None` and writes nothing if `out` is shorter than 13 bytes plus 283 bytes for each row of the table's
+/// capacity.
 pub fn save_into<T: Table<C>, const C: usize>(table: &T, out: &mut [u8]) -> Option<usize>
     ensures { SavesInto C (T.rows table.now) out.old out.new result }
 {
@@ -232,7 +233,7 @@ fn write_heads(count: u64, out: &mut Vec<u8>) -> Result<(), AllocError>
     out.extend_from_slice(&buffer[..len])
 }
 
-/// Appends the beginning and the rows.
+/// Appends a snapshot: its beginning, and then its rows.
 fn write_rows<T: Table<C>, const C: usize>(
     table: &T,
     out: &mut Vec<u8>,

@@ -64,7 +64,7 @@ impl Slot {
 impl Slot {
     ghost use Rattle.cred_table.specs.Slots.{slot_incremented};
 
-    /// Increments the row's counter, and returns it.
+    /// Increments the row's signature counter, and returns the new value.
     fn raise(&mut self) -> u32
         requires { self.old.row.counter < 2 ^ 32 - 1 }
         ensures raised { self.new ≡ slot_incremented self.old }
@@ -78,7 +78,7 @@ impl Slot {
 impl Slot {
     ghost use Rattle.cred_table.specs.Slots.{is_to};
 
-    /// Returns whether this slot's chain link points to a slot.
+    /// Returns whether this slot's chain link points to the slot `number`.
     fn leads_to(&self, number: u16) -> bool
         ensures { result ≡ is_to number self.now.next }
     {
@@ -110,7 +110,7 @@ pub(crate) fn lead(
     }
 }
 
-/// Increments the counter of the row in a slot, and returns it.
+/// Increments the signature counter of the row in a slot, and returns the new value.
 pub(crate) fn raise(slots: &mut [Slot], number: u16) -> u32
     requires there { number < length slots.old }
     requires below { (slot_at slots.old number).row.counter < 2 ^ 32 - 1 }
@@ -171,7 +171,7 @@ impl<'a> ChainWalk<'a> {
     ghost use Rattle.std.specs.List.{find};
     ghost use Rattle.cred_table.specs.Slots.{leads_to};
 
-    /// Returns the first slot whose chain link points to a slot.
+    /// Returns the first slot whose chain link points to the slot `number`.
     pub(crate) fn leader(mut self, number: u16) -> Link
         ensures { result ≡ option_map (λ found. found.0) (find (leads_to number) self.entry) }
     {

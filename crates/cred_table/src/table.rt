@@ -36,8 +36,8 @@ pub trait Table<const C: usize> {
     fn find(&self, id: &[u8; 32]) -> Option<&Row>
         ensures { option_map (λ row. row.now) result ≡ find (has_id id.now) (rows self.now) };
 
-    /// Returns the RP's row with a credential ID as a host sent it, of any length, if any; another RP's row doesn't
-    /// count.
+    /// Returns the RP's row with a credential ID from a host, which may have any length, or `None`, also if another RP
+    /// has a row with this ID.
     fn named(&self, rp: &[u8; 32], id: &[u8]) -> Option<&Row>
         ensures { option_map (λ row. row.now) result ≡ find (is_named rp.now id.now) (rows self.now) };
 
@@ -67,7 +67,8 @@ pub trait Table<const C: usize> {
         ensures appended { rows self.new ≡ without old.now (rows self.old) ++ new ∷ [] }
         ensures stored { IsTrue new.discoverable → rows self.new ≡ rows_with new (rows self.old) };
 
-    /// Increments the counter of the row with the ID, and returns it. The row must exist, with a counter below 2^32-1.
+    /// Increments the signature counter of the row with the ID, and returns the new value. The row must exist, with a
+    /// counter below 2^32-1.
     fn raise(&mut self, id: &[u8; 32]) -> u32
         requires there { IsSome (find (has_id id.now) (rows self.old)) }
         requires below { counter_of id.now (rows self.old) < 2 ^ 32 - 1 }

@@ -5,12 +5,14 @@ use Rattle.ctap_cbor.specs.Tree.{Scalar, Tree, Plain, Array, Map, Trees, no_tree
 use Rattle.ctap_cbor.specs.Parts.{Part, One}
 use Rattle.ctap_cbor.specs.Reading.{Reading, Passes, PassesAll, PassesPairs}
 
--- The value of a map after its pairs were collected, or unchanged for an item that isn't a map.
+-- Collecting the pairs of this item takes the collector from `before` to `after`. An item that isn't a map leaves it
+-- unchanged.
 abbrev pub InMap : {M : Type 0} → (M → Bool → Pairs → Type 0) → Option Bool → M → M → Tree → Type 0
 InMap H result before after (Map ps) = (ok : Bool) × (result ≡ Some ok) × (H before true no_pairs → H after ok ps)
 InMap H result before after _ = (result ≡ None) × (after ≡ before)
 
--- The value of an array after its entries were collected, or unchanged for an item that isn't an array.
+-- Collecting the entries of this item takes the collector from `before` to `after`. An item that isn't an array leaves
+-- it unchanged.
 abbrev pub InArray : {M : Type 0} → (M → Bool → Trees → Type 0) → Option Bool → M → M → Tree → Type 0
 InArray H result before after (Array ts) = (ok : Bool) × (result ≡ Some ok) × (H before true no_trees → H after ok ts)
 InArray H result before after _ = (result ≡ None) × (after ≡ before)

@@ -49,8 +49,8 @@ abbrev pub first_of : List (Bool × Kind) → Option Kind
 first_of [] = None
 first_of (t ∷ ts) = if t.0 then Some t.1 else first_of ts
 
--- The errors that the initial byte of a head shows, each with its test, in order. `levels` is how many arrays and maps
--- may still be opened.
+-- The errors that the initial byte of a head determines, each with its test, in order. `levels` is how many arrays and
+-- maps may still be opened.
 unfoldable pub first_faults : ℕ → Expected → ℕ → List (Bool × Kind)
 first_faults levels due first =
     let m = major first in
@@ -73,7 +73,7 @@ body_faults first rest =
     ∷ (nat_eq (major first) 3 && not (is_utf8 (take (string_len first rest) content)), NotUtf8)
     ∷ []
 
--- These, and the error of a key out of order.
+-- The errors of `body_faults`, and the error of a key out of order.
 abbrev pub later_faults : Expected → ℕ → List ℕ → List (Bool × Kind)
 later_faults due first rest = body_faults first rest ++
     (not (is_above due (take (item_len first rest) (first ∷ rest))), KeyOrder) ∷ []

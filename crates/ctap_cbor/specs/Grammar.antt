@@ -47,7 +47,7 @@ IsKey (Plain (Bytes s)) = Unit {0}
 IsKey (Plain (Text s)) = Unit {0}
 IsKey _ = ⊥
 
--- The key's encoding is above that of the previous key.
+-- The key's encoding is greater than that of the previous key, if any.
 abbrev pub IsAbove : Option (List ℕ) → List ℕ → Type 0
 IsAbove None key = Unit {0}
 IsAbove (Some before) key = slice_cmp nat_cmp before key ≡ Less

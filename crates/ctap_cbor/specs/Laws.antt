@@ -70,8 +70,8 @@ pub record ReadsNoTree (b : List ℕ) (s : ℕ) (new : Reading) (at : ℕ) (kind
   pub bytes_stay : new.bytes ≡ b
   pub steps_are : new.steps ≡ counted s (check_steps b)
 
--- Reading these bytes whole returns their tree or first error, and takes the steps that `check_steps` computes,
--- whatever was counted before.
+-- Reading all of these bytes returns their tree or first error, and takes the steps that `check_steps` computes,
+-- whatever the step count was before.
 pub record WholeReadings (b : List ℕ) : Type 0 where
   pub passed : (t : Tree) (s : ℕ) (middle new : Reading) → Passes 4 t (at_front b s) middle → Ends middle new
       → ReadsTree b s t new

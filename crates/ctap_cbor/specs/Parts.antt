@@ -8,7 +8,7 @@ use Rattle.ctap_cbor.specs.Head.{head, major, info, argument_len, argument}
 use Rattle.ctap_cbor.specs.Grammar.{scalar_text, Fits, IsKey, IsAbove}
 use Rattle.ctap_cbor.specs.Faults.{Expected, AnItem, AKey, fault, item_len}
 
--- An item without its content, if it is an array or a map.
+-- An item, without the content of an array or map.
 pub data Part : Type 0 where
   One : Scalar → Part
   OpensArray : ℕ → Part

@@ -23,7 +23,7 @@ at_front b s = record { bytes = b; place = 0; steps = s }
 abbrev pub rest_of : Reading → List ℕ
 rest_of r = drop r.place r.bytes
 
--- A step count that saturates at 2^64-1.
+-- The step count `n` plus `more`, saturating at 2^64-1.
 abbrev pub counted : ℕ → ℕ → ℕ
 counted n more = max n (min (n + more) 18446744073709551615)
 
@@ -102,7 +102,7 @@ pub record FailsInArray (levels n : ℕ) (old new : Reading) (at : ℕ) (kind : 
   pub passes : PassesAll levels before done old between
   pub halts : Fails levels between new at kind
 
--- The cursor read this many pairs of a map, of which this is the last key.
+-- The cursor read this many pairs of a map; `last` is the encoding of the last key, if any.
 pub record PassesPairs (levels n : ℕ) (done : Pairs) (last : Option (List ℕ)) (old new : Reading) : Type 0 where
   pub rises : Rises None done
   pub lawful : AreLawfulPairs done
@@ -135,11 +135,11 @@ pub record FailsAtValue (levels n : ℕ) (old new : Reading) (at : ℕ) (kind : 
   pub takes : TakesKey last between at_value key
   pub halts : Fails levels at_value new at kind
 
--- The cursor read some pairs of this number.
+-- The cursor read `n` pairs of a map.
 abbrev pub PassesSomePairs : ℕ → ℕ → Reading → Reading → Type 0
 PassesSomePairs levels n old new = (ps : Pairs) × (last : Option (List ℕ)) × PassesPairs levels n ps last old new
 
--- The cursor read some item.
+-- The cursor read a whole item.
 abbrev pub PassesOne : ℕ → Reading → Reading → Type 0
 PassesOne levels old new = (t : Tree) × Passes levels t old new
 
@@ -149,11 +149,11 @@ part_of_tree (Plain s) = One s
 part_of_tree (Array ts) = OpensArray (count ts)
 part_of_tree (Map ps) = OpensMap (count_pairs ps)
 
--- The cursor read some item with this head.
+-- The cursor read a whole item with this head.
 abbrev pub PassesAs : ℕ → Part → Reading → Reading → Type 0
 PassesAs levels part old new = (t : Tree) × Passes levels t old new × (part ≡ part_of_tree t)
 
--- The cursor read some items of this number.
+-- The cursor read `n` whole items.
 abbrev pub PassesSome : ℕ → ℕ → Reading → Reading → Type 0
 PassesSome levels n old new = (ts : Trees) × PassesAll levels n ts old new
 
@@ -168,7 +168,7 @@ pub record Only (levels : ℕ) (old new : Reading) (result : Result (Unit {0}) F
   pub halted : (at : ℕ) (kind : Kind) (r : Reading) → Fails levels old r at kind
       → (result ≡ Err record { at = at; kind = kind }) × (new ≡ r)
 
--- No byte is left. Finding that takes one step.
+-- No byte is left. Detecting this takes one step.
 pub record Ends (old new : Reading) : Type 0 where
   pub at_end : rest_of old ≡ []
   pub moved : new ≡ advance old 0 1

@@ -7,12 +7,12 @@ use Rattle.ctap_cbor.specs.Tree as tree
 use Rattle.ctap_cbor.specs.{Grammar.Fits, Parts.Part, Parts.One}
 use Rattle.ctap_cbor.specs.Tree.{Scalar, Tree, Plain, Array, Map, Trees, no_trees, Pairs, no_pairs, pair}
 
--- The trees of a list.
+-- Converts a list of trees to `Trees`.
 abbrev pub trees : List Tree → Trees
 trees [] = no_trees
 trees (t ∷ ts) = tree.tree t (trees ts)
 
--- The pairs of a list.
+-- Converts a list of pairs of trees to `Pairs`.
 abbrev pub pairs : List (Tree × Tree) → Pairs
 pairs [] = no_pairs
 pairs (p ∷ ps) = pair p.0 p.1 (pairs ps)
@@ -47,6 +47,6 @@ pairs_of vs = pairs (map pair_of vs)
 abbrev pub IsScalarOf : Part → Tree → Type 0
 IsScalarOf part t = (s : Scalar) → part ≡ One s → Fits s → t ≡ Plain s
 
--- A decoder's error: it is the first error of the input, or `Memory` at position 0.
+-- The error satisfies `p`, unless it is `Memory`, which is reported at position 0.
 abbrev pub UnlessMemory : Fault → Type 0 → Type 0
 UnlessMemory f p = (f.kind ≢ Memory → p) × (f.kind ≡ Memory → f.at ≡ 0)

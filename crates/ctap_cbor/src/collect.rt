@@ -13,7 +13,7 @@ use crate::item::Item;
 pub trait Members<'a> {
     ghost use Rattle.ctap_cbor.specs.Tree.{Pairs as AllPairs};
 
-    /// The collector's content for these pairs, and whether all were accepted.
+    /// Relates the collector, whether all pairs were accepted, and the pairs read so far.
     ghost Holds: { Self → Bool → AllPairs → Type 0 };
 
     /// Reads the value of a key, one whole item at this nesting level. Returns false if the value has the wrong type.
@@ -29,7 +29,7 @@ pub trait Members<'a> {
 pub trait Entries<'a> {
     ghost use Rattle.ctap_cbor.specs.Tree.{Trees as AllTrees};
 
-    /// The collector's content for these entries, and whether all were accepted.
+    /// Relates the collector, whether all entries were accepted, and the entries read so far.
     ghost HoldsAll: { Self → Bool → AllTrees → Type 0 };
 
     /// Reads an entry, one whole item at this nesting level. Returns false if it has the wrong type.
@@ -44,7 +44,7 @@ pub trait Entries<'a> {
 /// Reads a whole item at this nesting level (1 to 5), and passes the pairs of a map to `members`. Returns None if it
 /// isn't a map, or else whether all members were accepted.
 ///
-/// The first fault that is met ends the reading; the cursor then is as [`Cursor::skip`] leaves it.
+/// Stops at the first error; the cursor is then where [`Cursor::skip`] leaves it.
 pub fn read_map<'a, M: Members<'a>>(
     members: &mut M,
     cursor: &mut Cursor<'a>,
@@ -77,7 +77,7 @@ pub fn read_map<'a, M: Members<'a>>(
 /// Reads a whole item at this nesting level (1 to 5), and passes the entries of an array to `entries`. Returns None if
 /// it isn't an array, or else whether all entries were accepted.
 ///
-/// The first fault that is met ends the reading; the cursor then is as [`Cursor::skip`] leaves it.
+/// Stops at the first error; the cursor is then where [`Cursor::skip`] leaves it.
 pub fn read_array<'a, M: Entries<'a>>(
     entries: &mut M,
     cursor: &mut Cursor<'a>,

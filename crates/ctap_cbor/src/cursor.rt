@@ -23,8 +23,8 @@ use std::marker::Model;
 /// Nesting levels count from 1, the message's one item. The content of an array or map of level n is at level n + 1.
 /// Level 5 allows no array or map.
 ///
-/// After an error, the cursor is after the bytes that count as read: all of them if the input is truncated, or else the
-/// invalid initial byte, the head that isn't the shortest, the text that isn't UTF-8, or the key out of order.
+/// After an error, the cursor is positioned after the bytes that count as read: all bytes if the input is truncated, or
+/// else an invalid initial byte, a head that isn't the shortest, a text that isn't UTF-8, or a key out of order.
 #[derive(Drop)]
 pub struct Cursor<'a> {
     bytes: &'a [u8],
@@ -229,7 +229,7 @@ impl<'a> Cursor<'a> {
         self.place = 0;
     }
 
-    /// Returns the bytes from this position to the cursor: the encoding of a whole list.
+    /// Returns the bytes from `place` to the cursor, such as the encoding of an array that was just read.
     pub fn since(&self, place: usize) -> &'a [u8]
         requires { place ≤ self.now.place }
         ensures { result.now ≡ take (self.now.place - place) (drop place self.now.bytes) }
@@ -272,7 +272,7 @@ fn compare(previous: Option<&[u8]>, key: &[u8]) -> (bool, usize)
     }
 }
 
-/// Returns 1 if the error is that the input ends, which takes one step, or else 0.
+/// Returns the steps that an error itself takes: 1 for the end of the input, or else 0.
 fn end_steps(kind: Kind) -> usize
     ensures { result ≡ end_steps_of kind }
 {

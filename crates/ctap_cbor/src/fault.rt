@@ -17,7 +17,7 @@ pub enum Kind {
     /// A head that isn't in its shortest form.
     #[error("not the shortest head")]
     NotShortest = 3,
-    /// An array or map nested within four others.
+    /// An array or map inside four others.
     #[error("more than four levels deep")]
     TooDeep = 4,
     /// A map key that isn't an integer, a byte string or a text string.

@@ -30,7 +30,7 @@ pub(crate) fn find<'a>(
     }
 }
 
-/// Returns the error that the initial byte of a head shows, if any.
+/// Returns the first error that an initial byte alone determines, if any.
 #[tactic(auto, unfolding(crate::specs::Faults::first_faults))]
 fn first_fault(first: u8, levels: u8, is_key: bool) -> Option<Kind>
     ensures { result ≡ first_of (first_faults levels (due_of is_key) first) }
@@ -119,7 +119,7 @@ fn argument_of(first: u8, rest: &[u8]) -> u64
     }
 }
 
-/// Returns the item of a head with this major type and additional information, unless it is a string.
+/// Returns the item of a head that isn't the head of a string.
 fn without_string<'a>(major: u8, info: u8, argument: u64) -> Item<'a>
     requires { major ≢ 2 × major ≢ 3 }
     ensures { part_of result ≡ item_with_head major info argument }

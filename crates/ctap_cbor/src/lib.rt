@@ -1,13 +1,14 @@
 //! CTAP2 canonical CBOR: decoding in place, and encoding into a borrowed buffer.
 //!
-//! - [`check`] says whether bytes are the canonical encoding of one data item, and if not, where the first
-//!   faulty item begins and which [`Kind`] of fault it has. It also counts the steps that reading took.
-//! - [`Cursor`] reads item by item: heads with the bytes of strings, map keys with their order, whole items. It
-//!   lends strings from the message, and keeps the count of steps. [`read_map`] and [`read_array`] hand the members
-//!   of a map and the entries of an array to what collects them.
-//! - [`Sink`] writes heads and items in their shortest form into a lent buffer, and [`head_into`] a head alone.
+//! - [`check`] checks that bytes are the canonical encoding of one data item, or returns the position and the [`Kind`]
+//!   of the first error. It also counts the steps.
+//! - [`Cursor`] reads item by item: heads with the content of strings, map keys in order, whole items. It borrows
+//!   strings from the message, and counts the steps. [`read_map`] and [`read_array`] pass the members of a map and the
+//!   entries of an array to a collector.
+//! - [`Sink`] writes heads and items in their shortest form to a borrowed buffer, and [`head_into`] writes a single
+//!   head.
 //! - [`decode_value`] and [`encode_value`] read and write a [`Value`], an owned tree.
-//! - [`laws`] has what holds of the encoding itself, as that no encoding begins another.
+//! - [`laws`] states properties of the encoding itself, such as that no encoding is a prefix of another.
 //!
 //! An example, which the gate runs (`crates/page_tests/src/ctap_cbor_page.rt`):
 //!

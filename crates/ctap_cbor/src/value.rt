@@ -20,7 +20,7 @@ pub enum Value {
 ghost use Rattle.ctap_cbor.specs.Tree as tree;
 ghost use Rattle.ctap_cbor.specs.Values.{tree_of, trees_of, pairs_of};
 
-// One function for each variant: in a larger function, contracts don't see through a constructor.
+// One function for each variant, since in a larger function the prover doesn't evaluate `tree_of` of a constructor.
 
 pub(crate) fn int_of(i: i128) -> Value
     ensures { tree_of result ≡ tree.Plain (tree.Int i) }

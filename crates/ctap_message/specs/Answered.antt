@@ -4,7 +4,7 @@ use Rattle.ctap_cbor.specs.Tree.{Tree, Array, Map, no_trees, tree, no_pairs, pai
 use Rattle.ctap_cbor.specs.Head.{AreBytes}
 use Rattle.ctap_message.specs.Answers.{name, byte_string, es256}
 
--- Bytes, fewer than 2^64.
+-- A byte string shorter than 2^64 bytes.
 abbrev pub AreShort : List ℕ → Type 0
 AreShort s = (length s < 2 ^ 64) × AreBytes s
 

@@ -1,4 +1,4 @@
--- Answers: a status byte, and after status 0x00 a map in canonical CBOR (CTAP 2.1, section 8, "Message Encoding").
+-- Responses: a status byte, and after status 0x00 a map in canonical CBOR (CTAP 2.1, section 8, "Message Encoding").
 use Rattle.std.specs.Prelude.{ℕ, pos, negsuc, Bool, true, false, List, ◌∷◌, [], Option, Some, None, codes}
 use Rattle.ctap_cbor.specs.Tree.{Int, Bytes, Text, Flag, Tree, Plain, Array, Map, no_trees, tree, no_pairs, pair, Pairs}
 use Rattle.ctap_cbor.specs.Grammar.{text}
@@ -78,7 +78,7 @@ created_answer auth sig = success (created_tree auth sig)
 
 -- ---- authenticatorGetAssertion and authenticatorGetNextAssertion
 
--- the credential's descriptor
+-- A credential descriptor.
 abbrev pub credential : List ℕ → Tree
 credential id =
     Map (pair (name (codes "id")) (byte_string id)

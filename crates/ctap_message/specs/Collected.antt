@@ -88,7 +88,7 @@ IsPlainName k = is_key (Name "transports") k ≡ false
 abbrev pub listing_in : Option Tree → Bool × Bool
 listing_in t = ((descriptors_in t).is_whole, has_entries (entries_of t))
 
--- Converts the code's value to this one.
+-- Converts the code's summary of a list of descriptors to that of the definitions.
 abbrev pub shown_listing : Listing → Bool × Bool
 shown_listing x = (x.is_whole, x.given)
 
@@ -96,6 +96,6 @@ shown_listing x = (x.is_whole, x.given)
 abbrev pub list_in : Option Tree → DescriptorList × Trees
 list_in t = (descriptors_in t, entries_of t)
 
--- Converts the code's value to this one.
+-- Converts the code's summary of a list of descriptors, with its iterator, to that of the definitions.
 abbrev pub shown_list : ListFields → DescriptorList × Trees
 shown_list x = (record { is_whole = x.is_whole; entries = left_of x.list }, list_of x.list)

@@ -26,8 +26,8 @@ left_of w = items_at 3 w.count (rest_of w.cursor)
 abbrev pub IsWhole : DescriptorWalk → Trees → Type 0
 IsWhole w ts = (list_of w ≡ ts) × (left_of w ≡ ts)
 
--- The steps of iterating over a whole list: as many as checking its bytes takes, less the one that finds the end of
--- the input; 0 for an empty list.
+-- The steps of iterating over a whole list: one less than checking its bytes takes, because the end of the input isn't
+-- checked; 0 for an empty list.
 abbrev pub list_steps : Trees → ℕ
 list_steps no_trees = 0
 list_steps (tree t ts) = steps (text (Array (tree t ts))) (Whole (Array (tree t ts))) - 1
@@ -54,7 +54,7 @@ pub record NextId (old : DescriptorWalk) (id : Option (Bor (List ℕ))) (new : D
 
 -- ---- the cursor of an iterator
 
--- These are the `n` entries that the cursor has still to read.
+-- These are the `n` entries that the cursor still has to read.
 pub record Left (r : Reading) (n : ℕ) (ts : Trees) : Type 0 where
   pub spelled : rest_of r ≡ texts ts
   pub number : count ts ≡ n

@@ -39,7 +39,7 @@ HasFreshList (request.Make m) = list_of m.exclude ≡ left_of m.exclude
 HasFreshList (request.Assert a) = list_of a.allow ≡ left_of a.allow
 HasFreshList _ = Unit {0}
 
--- The same for a result.
+-- The iterator over the request's list is at its beginning, if the result is a request.
 abbrev pub IsFresh : {E : Type 0} → Result Request E → Type 0
 IsFresh (Ok request) = HasFreshList request
 IsFresh (Err refused) = Unit {0}
@@ -50,7 +50,7 @@ HasTheLengths (request.Make m) = (length m.hash.now ≡ 32) × (length m.user_id
 HasTheLengths (request.Assert a) = length a.hash.now ≡ 32
 HasTheLengths _ = Unit {0}
 
--- The same for a result.
+-- The parameters have the lengths that the checks require, if the result is a request.
 abbrev pub HasLengths : {E : Type 0} → Result Request E → Type 0
 HasLengths (Ok request) = HasTheLengths request
 HasLengths (Err refused) = Unit {0}

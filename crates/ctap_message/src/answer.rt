@@ -1,6 +1,6 @@
 //! Responses: a status alone, or status 0x00 and a map in canonical CBOR (CTAP 2.1, section 8, "Message Encoding").
 //!
-//! The constant bytes of a command's response are literals, up to the next variable part.
+//! The constant parts of a response are byte literals.
 
 ghost use Rattle.std.specs.Prelude.{◌≡◌, ◌+◌, ◌<◌, ◌≤◌, ◌++◌, ◌∷◌, [], length};
 ghost use Rattle.std.specs.Option.{ForSome, option_copied};
@@ -27,7 +27,7 @@ pub fn write_status(status: Status, answer: &mut Answer)
 /// Writes the response of authenticatorGetInfo (CTAP 2.1, section 6.4), 81 bytes: status 0x00 and the map `{1:
 /// ["FIDO_2_0"], 3: aaguid, 4: {"rk": true, "up": true, "plat": false}, 5: 7609, 9: ["usb"], 10: [{"alg": -7, "type":
 /// "public-key"}]}` in canonical CBOR.
-// Not inlined, so that other turns don't pay for its stack.
+// Not inlined, so that its stack frame isn't part of its callers'.
 #[inline(never)]
 #[tactic(auto, unfolding(ctap_cbor::specs::Head::head, crate::specs::Answers::info_tree, crate::specs::Answers::info_answer))]
 pub fn write_info(aaguid: &[u8; 16], answer: &mut Answer)

@@ -14,7 +14,7 @@ use crate::descriptors::Descriptors;
 use crate::item::{is_public_key, read_members};
 use ctap_cbor::{Cursor, Entries, Fault, Item, Members, read_array};
 
-/// Entries that must be texts.
+/// A collector that accepts only text strings.
 #[derive(Drop)]
 struct Texts;
 
@@ -27,7 +27,7 @@ impl<'a> Entries<'a> for Texts {
     }
 }
 
-/// Returns whether the next item is an array of texts.
+/// Reads an item, and returns whether it is an array of text strings.
 fn read_texts(cursor: &mut Cursor<'_>, level: u8) -> Result<bool, Fault>
     requires low { 1 ≤ level }
     requires high { level ≤ 5 }
@@ -64,7 +64,7 @@ impl<'a> Descriptor<'a> {
         self.id.is_some() && self.kind.is_some()
     }
 
-    /// Takes a member other than the list of transports, and returns whether it has its type.
+    /// Stores the ID or the type. Returns false if the value has the wrong type.
     fn put(&mut self, key: Item<'a>, value: Item<'a>) -> bool
         requires plain { IsPlainName (head_of (part_of key)) }
         ensures plain { IsPlainName (head_of (part_of key.entry)) }
@@ -101,7 +101,7 @@ impl<'a> Members<'a> for Descriptor<'a> {
     }
 }
 
-/// Reads a descriptor, and returns whether it has its type.
+/// Reads a descriptor, and whether it is a map whose members have the required types.
 pub(crate) fn read_descriptor<'a>(
     cursor: &mut Cursor<'a>,
     level: u8,
@@ -146,7 +146,7 @@ pub(crate) struct DescriptorList<'a> {
     pub list: Descriptors<'a>,
 }
 
-/// Reads a list of descriptors, and returns whether it has its type.
+/// Reads a list of descriptors. Returns whether it is an array of maps whose members have the required types.
 pub(crate) fn read_list<'a>(
     list: &mut DescriptorList<'a>,
     cursor: &mut Cursor<'a>,

@@ -45,7 +45,8 @@ impl<'a> ListEntry<'a> {
 
 /// The IDs of a list's entries of type `public-key`, in order, borrowed from the message.
 ///
-/// Reads the list's bytes a second time, with a count of its own: [`Descriptors::steps`]. A missing list has no entry.
+/// Iterating reads the list's bytes a second time, and counts these steps separately: [`Descriptors::steps`]. An absent
+/// list has no entries.
 #[derive(Drop)]
 pub struct Descriptors<'a> {
     entry: ListEntry<'a>,
@@ -64,7 +65,7 @@ impl<'a> Model for Descriptors<'a> {
 }
 
 impl<'a> Descriptors<'a> {
-    /// Returns the iterator of a missing list.
+    /// Returns the iterator of an absent list.
     pub(crate) fn none() -> Self
         ensures { IsWhole result no_trees }
     {
@@ -98,15 +99,15 @@ impl<'a> Descriptors<'a> {
         }
     }
 
-    /// Returns whether the list has an entry of any type; the same at any time.
+    /// Returns whether the whole list has an entry, of any type, wherever the iterator is.
     pub fn is_given(&self) -> bool
         ensures { result ≡ has_entries (list_of self.now) }
     {
         self.given
     }
 
-    /// Returns the number of steps so far. At the end of the list it is that of checking its bytes, without the step
-    /// that finds their end.
+    /// Returns the number of steps so far. At the end of the list, it is one less than the steps of checking the list's
+    /// bytes, because the end of the input isn't checked.
     pub fn steps(&self) -> u64
         ensures { result ≡ walked_steps self.now }
     {

@@ -1,5 +1,4 @@
-//! Laws stated over the definitions. Each is the contract of a function that does nothing but call the laws that it
-//! needs.
+//! Laws about the definitions. Each function only calls the laws that it needs: its contract is the law.
 
 ghost use Rattle.std.specs.Prelude.{◌≡◌, ℕ, ◌+◌, ◌-◌, ◌*◌, ◌≤◌, List, length, drop, min, Option};
 ghost use Rattle.ctap_cbor.specs.Tree.{Array, Trees, no_trees};

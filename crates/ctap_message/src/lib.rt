@@ -15,12 +15,12 @@
 //! assert!(rt; info && refused && steps == 0 && answer.len() == 81);
 //! ```
 //!
-//! - [`read_request`] returns what a message asks, or the status of the first check that it fails, and how many
-//!   steps reading took.
-//! - [`Descriptors`] walks a request's list of credentials, in place.
-//! - [`write_status`], [`write_info`], [`write_created`] and [`write_assertion`] write answers: a status alone, or
-//! status 0x00 and a map in canonical CBOR.
-//! - [`laws`] has what holds of the definitions themselves.
+//! - [`read_request`] returns the request in a message, or the status of the first check that it fails, and the number
+//!   of parsing steps.
+//! - [`Descriptors`] iterates over a request's list of credentials, in place.
+//! - [`write_status`], [`write_info`], [`write_created`] and [`write_assertion`] write responses: a status alone, or
+//!   status 0x00 and a map in canonical CBOR.
+//! - [`laws`] states properties of the definitions themselves.
 //!
 //! Supported are authenticatorMakeCredential (0x01), GetAssertion (0x02), GetInfo (0x04), Reset (0x07),
 //! GetNextAssertion (0x08) and Selection (0x0b). Nothing here allocates.

@@ -16,7 +16,7 @@ pub(crate) struct Options {
 }
 
 impl Options {
-    /// No option is given.
+    /// No option is present.
     pub const NONE: Options = Options {
         rk: None,
         up: None,

@@ -47,7 +47,7 @@ pub(crate) struct Parameters {
 }
 
 impl Parameters {
-    /// No parameter is given.
+    /// No entry is present.
     pub const NONE: Parameters = Parameters {
         is_whole: true,
         has_es256: false,

@@ -69,15 +69,15 @@ pub enum Request<'a> {
 /// | Message | Result | Steps |
 /// |---|---|---|
 /// | empty | 0x03 | 0 |
-/// | a command that isn't served | 0x01 | 0 |
+/// | a command that isn't supported | 0x01 | 0 |
 /// | 0x04, 0x07, 0x08 or 0x0b alone | `Info`, `Reset`, `Next` or `Select` | 0 |
-/// | one of these and bytes after it | 0x03 | 0 |
-/// | 0x01 or 0x02, canonical parameters | `Make`, `Assert`, or the first failing check's status | twice those of a check |
-/// | 0x01 or 0x02, other parameters | 0x12 | those of a check |
+/// | one of these, followed by further bytes | 0x03 | 0 |
+/// | 0x01 or 0x02, canonical parameters | `Make`, `Assert`, or a failed check's status | twice those of `check` |
+/// | 0x01 or 0x02, other parameters | 0x12 | those of `check` |
 pub fn read_request<'a>(message: &'a [u8]) -> (Result<Request<'a>, Status>, u64)
     ensures request { request_result result.0 ≡ read_of message.now }
     ensures steps { result.1 ≡ min (steps_of message.now) LARGEST }
-    // The count of steps is exact for messages that the transport delivers.
+    // The number of steps is exact for messages that the transport delivers.
     ensures exact { length message.now ≤ LONGEST_MESSAGE → result.1 ≡ steps_of message.now }
     // Each iterator over a list is at its start.
     ensures fresh { IsFresh result.0 }
@@ -90,7 +90,7 @@ pub fn read_request<'a>(message: &'a [u8]) -> (Result<Request<'a>, Status>, u64)
     }
 }
 
-/// Returns why a message isn't a supported request, with what was compared: the first check that it fails; or `None`.
+/// Returns the first check that a message fails, with the values compared, or `None` for a supported request.
 pub fn request_fault(message: &[u8]) -> Option<RequestFault>
     ensures fault { result ≡ fault_in message.now }
     // Its status is the one that [`read_request`] returns.
@@ -102,8 +102,8 @@ pub fn request_fault(message: &[u8]) -> Option<RequestFault>
     }
 }
 
-/// Parses a message as [`read_request`] does. Returns the request, or the first check that it fails with what was
-/// compared, and the number of steps.
+/// Parses a message as [`read_request`] does. Returns the request, or the first check that it fails with the values
+/// compared; and the number of steps.
 #[tactic(auto, unfolding(crate::specs::Requests::read_of, crate::specs::Requests::steps_of, crate::specs::RequestFaults::fault_in))]
 #[inline(always)]
 pub fn parse_request<'a>(message: &'a [u8]) -> (Result<Request<'a>, RequestFault>, u64)
@@ -147,7 +147,8 @@ fn alone<'a>(parameters: &[u8], request: Request<'a>) -> Result<Request<'a>, Req
     }
 }
 
-/// Parses authenticatorMakeCredential: checks the parameters whole, then reads them with the same cursor.
+/// Parses authenticatorMakeCredential: checks that the parameters are canonical CBOR, then reads them with the same
+/// cursor.
 fn read_make_credential<'a>(parameters: &'a [u8]) -> (Result<Request<'a>, RequestFault>, u64)
     ensures request { examined_result result.0 ≡ make_request (canonical_tree parameters.now) }
     ensures fault { fault_at result.0 ≡ fault_of (outcome_of parameters.now) checked_make }
@@ -167,7 +168,8 @@ fn read_make_credential<'a>(parameters: &'a [u8]) -> (Result<Request<'a>, Reques
     }
 }
 
-/// Parses authenticatorGetAssertion: checks the parameters whole, then reads them with the same cursor.
+/// Parses authenticatorGetAssertion: checks that the parameters are canonical CBOR, then reads them with the same
+/// cursor.
 fn read_get_assertion<'a>(parameters: &'a [u8]) -> (Result<Request<'a>, RequestFault>, u64)
     ensures request { examined_result result.0 ≡ assertion_request (canonical_tree parameters.now) }
     ensures fault { fault_at result.0 ≡ fault_of (outcome_of parameters.now) checked_assertion }

@@ -1,4 +1,4 @@
-//! The checks of a request's parameters, in their order.
+//! The checks of a request's parameters, in order.
 
 ghost use Rattle.std.specs.Prelude.{◌≡◌, true, Err};
 ghost use Rattle.ctap_message.specs.Judged.{validated_make};
@@ -17,14 +17,14 @@ const MAKE_CREDENTIAL: u8 = 0x01;
 
 const GET_ASSERTION: u8 = 0x02;
 
-/// Returns the fault of an incomplete list entry.
+/// Returns the error of an incomplete list entry.
 fn entry_not_whole(command: u8, parameter: u8) -> RequestFault
     ensures { result ≡ RequestFault.EntryNotWhole command parameter }
 {
     RequestFault::EntryNotWhole { command, parameter }
 }
 
-/// Returns the fault of a missing required parameter.
+/// Returns the error of a missing required parameter.
 fn missing<'a>(command: u8, parameter: u8) -> Result<Request<'a>, RequestFault>
     ensures { result ≡ Err (RequestFault.Missing command parameter) }
 {

@@ -31,12 +31,12 @@ MAX_CHANNEL = 0xffff_fffe
 abbrev pub is_allocated : ℕ → ℕ → Bool
 is_allocated given cid = nat_le 1 cid && nat_le cid given
 
--- There is a busy channel, and it is this one.
+-- A channel is busy, and it is this one.
 abbrev pub is_on : Option ℕ → ℕ → Bool
 is_on None cid = false
 is_on (Some busy) cid = busy == cid
 
--- There is a busy channel, and it is another one.
+-- A channel is busy, and it is another one.
 abbrev pub is_on_other : Option ℕ → ℕ → Bool
 is_on_other None cid = false
 is_on_other (Some busy) cid = not (busy == cid)
@@ -67,8 +67,8 @@ init_packet_row given current work cid cmd len =
     ∷ (nat_le len INIT_PACKET_DATA, Short)
     ∷ []) Long
 
--- The kind of a continuation packet, given an incomplete message of `len` bytes on channel `on`, of which `kept`
--- continuation packets were received.
+-- The kind of a continuation packet, given an incomplete message of `len` bytes on channel `on` with `kept`
+-- continuation packets so far.
 abbrev pub continues : (on len kept cid number : ℕ) → Continuation
 continues on len kept cid number =
     if not (on == cid) then Stray

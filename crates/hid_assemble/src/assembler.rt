@@ -161,8 +161,8 @@ impl Assembler {
         channel
     }
 
-    /// Handles a packet at time `at`, while a request is pending on the channel `working`, or none. Returns the verdict
-    /// of the first row of the reply table that applies, and stores or drops data accordingly. `CancelWork` and
+    /// Handles a packet at time `at`. `working` is the channel of the pending request, if any. Returns the verdict of
+    /// the first row of the reply table that applies, and stores or drops data accordingly. `CancelWork` and
     /// `GreetAndDrop` only occur if a request is pending on the packet's channel.
     #[tactic(auto, unfolding(crate::specs::Assembly::accepted, crate::specs::Verdicts::verdict))]
     pub fn accept(&mut self, at: u64, packet: &Packet, working: Option<u32>) -> Verdict
@@ -182,9 +182,9 @@ impl Assembler {
         }
     }
 
-    /// Returns whether a packet at time `at` is ignored ("noise" in the theorem), while a request is pending on the
-    /// channel `working` or none: after [`pass`](Self::pass) it would change nothing, and only an ERROR or nothing
-    /// would be sent for it.
+    /// Returns whether a packet at time `at` is ignored ("noise" in the theorem): after [`pass`](Self::pass) it would
+    /// change nothing, and only an ERROR or nothing would be sent for it. `working` is the channel of the pending
+    /// request, if any.
     pub fn is_noise(&self, at: u64, packet: &Packet, working: Option<u32>) -> bool
         ensures { result ≡ is_noise (ruling_of self.now.given (still_open self.now.current at) working
             (fields packet.now.0)) }
@@ -199,7 +199,7 @@ impl Assembler {
         }
     }
 
-    /// Forgets the complete message of the packet before.
+    /// Clears the complete message of the previous packet.
     fn forget_finished(&mut self)
         ensures forgotten { self.new ≡ record self.old { finished = [] } }
         ensures lawful { IsValidAssembly self.new }
@@ -315,7 +315,7 @@ impl Assembler {
         }
     }
 
-    /// Returns the message that the last [`accept`](Self::accept) completed; empty if none.
+    /// Returns the message that the last [`accept`](Self::accept) completed, or no bytes.
     pub fn message(&self) -> &[u8]
         ensures bytes { result.now ≡ self.now.finished }
         ensures limit { length self.now.finished ≤ MAX_MESSAGE_LEN }
@@ -326,7 +326,7 @@ impl Assembler {
         }
     }
 
-    /// Returns the number of data bytes of the open message, 0 without one.
+    /// Returns the number of data bytes of the open message, or 0.
     pub fn held(&self) -> u16
         ensures lawful { IsValidAssembly self.now }
         ensures bytes { result ≡ held_bytes self.now.current }
@@ -340,7 +340,7 @@ impl Assembler {
         }
     }
 
-    /// Returns the channel of the open message.
+    /// Returns the channel of the open message, if any.
     pub fn open_on(&self) -> Option<u32>
         ensures { result ≡ option_map (λ m. m.cid) self.now.current }
     {
@@ -350,7 +350,7 @@ impl Assembler {
         }
     }
 
-    /// Returns the expected sequence number, 0 without an open message.
+    /// Returns the sequence number that the open message expects, or 0.
     fn due(&self) -> u8
         ensures { result ≡ due_number self.now.current }
     {
@@ -360,7 +360,7 @@ impl Assembler {
         }
     }
 
-    /// Returns the timestamp of the open message's last packet, 0 without one.
+    /// Returns the timestamp of the open message's last packet, or 0.
     pub fn last(&self) -> u64
         ensures { result ≡ last_of self.now.current }
     {

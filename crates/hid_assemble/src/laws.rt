@@ -1,4 +1,4 @@
-//! Laws stated over the definitions. Each is the contract of a function that does nothing.
+//! Laws about the definitions. Each function has an empty body: its contract is the law.
 
 ghost use Rattle.std.specs.Prelude.{◌≡◌, ℕ, ◌≤◌, true, [], List, Option, None, Some};
 ghost use Rattle.hid_packet.specs.Commands.{CANCEL};

@@ -2,7 +2,7 @@
 ghost use Rattle.std.specs.Prelude.{◌≡◌};
 ghost use Rattle.hid_assemble.specs.Refusals.{code_number};
 
-/// Why a packet is refused or a message dropped, with what was compared.
+/// Why a packet is refused or a message dropped, with the values compared.
 #[derive(Clone, Copy, Debug, PartialEq, Eq)]
 pub enum Refusal {
     /// The command isn't supported.
@@ -21,7 +21,7 @@ pub enum Refusal {
     BusyElsewhere { channel: u32 },
     /// A request is pending on this channel.
     BusyHere,
-    /// The channel isn't allocated: these are 1 to `given`.
+    /// The channel isn't allocated; the allocated channels are 1 to `given`.
     NoSuchChannel { given: u32 },
     /// No channel is left to allocate.
     NoChannelLeft,

@@ -9,14 +9,14 @@ use hid_packet::{BROADCAST, CONT_PACKET_DATA, INIT_PACKET_DATA, MAX_MESSAGE_LEN}
 /// The last channel to be allocated.
 pub const MAX_CHANNEL: u32 = 0xffff_fffe;
 
-/// The rows of the reply table for an initialization packet. The first that applies decides.
+/// The rows of the reply table for an initialization packet. The first row that applies determines the verdict.
 #[derive(Clone, Copy, Debug, PartialEq, Eq)]
 pub enum ReplyRow {
     /// CANCEL with a pending request on its channel: the request ends.
     CancelsWork,
     /// Any other CANCEL: nothing changes or is sent.
     CancelsNothing,
-    /// The channel isn't allocated, and the packet doesn't ask for one.
+    /// The channel isn't allocated, and the packet isn't an INIT on the broadcast channel.
     NoSuchChannel,
     /// INIT with a wrong length: its channel's open message is dropped.
     InitLength,
@@ -43,7 +43,8 @@ pub enum ReplyRow {
 }
 
 impl ReplyRow {
-    /// Returns whether a packet under this row is noise, which changes nothing. Other rows may change nothing, too.
+    /// Returns whether a packet of this row is noise, which leaves the state unchanged. Packets of other rows may leave
+    /// it unchanged, too.
     pub(crate) fn is_noise(self) -> bool
         ensures { result ≡ spec.is_noise (Begins self) }
     {

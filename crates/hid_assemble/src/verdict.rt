@@ -23,7 +23,7 @@ pub enum Verdict {
         channel: u32,
         nonce: [u8; 8],
     },
-    /// The same, and the pending request on this channel must be dropped.
+    /// Like `Greet`, and the pending request on the channel must be dropped.
     GreetAndDrop {
         on: u32,
         channel: u32,

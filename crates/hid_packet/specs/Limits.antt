@@ -1,5 +1,5 @@
--- The limits of CTAPHID in the standard, and limits that follow from them. The code has constants of its own;
--- contracts state that they have these values.
+-- The limits of CTAPHID in the standard, and limits that follow from them. The code has its own constants; contracts
+-- state that they have these values.
 use Rattle.std.specs.Prelude.{ℕ, ◌+◌, ◌*◌}
 
 -- The data bytes in an initialization packet: 64 less channel, command and length (CTAP 2.1, section 11.2.4).
@@ -14,7 +14,8 @@ CONT_PACKET_DATA = 59
 abbrev pub MAX_MESSAGE_LEN : ℕ
 MAX_MESSAGE_LEN = 7609
 
--- The most packets that one input can send: one because of a time-out or KEEPALIVE, and the 129 of the longest message.
+-- The maximum number of packets that one input can send: one because of a time-out or KEEPALIVE, and the 129 of the
+-- longest message.
 abbrev pub OUTBOX_CAPACITY : ℕ
 OUTBOX_CAPACITY = 130
 
@@ -22,7 +23,7 @@ OUTBOX_CAPACITY = 130
 abbrev pub RING_SIZE : ℕ
 RING_SIZE = 64 * OUTBOX_CAPACITY
 
--- The most data bytes that are stored of an incomplete message: those of 128 packets.
+-- The maximum number of data bytes stored for an incomplete message: those of 128 packets.
 abbrev pub LONGEST_HELD : ℕ
 LONGEST_HELD = 7550
 

@@ -75,7 +75,7 @@ abbrev pub FillsPacket : Fields → Type 0
 FillsPacket (initialization cid cmd len part) = length part ≡ INIT_PACKET_DATA
 FillsPacket (continuation cid number part) = length part ≡ CONT_PACKET_DATA
 
--- The fields of the code's type `View`.
+-- Converts the code's type `View` to fields.
 abbrev pub shown : View → Fields
 shown (Start cid cmd len part) = initialization cid cmd len part.now
 shown (More cid seq part) = continuation cid seq part.now

@@ -74,7 +74,7 @@ fn continuation(cid: u32, number: u8, part: &[u8]) -> Packet
     Packet(packet)
 }
 
-/// The next packet.
+/// The next packet of a message.
 #[derive(Clone, Copy)]
 pub(crate) enum NextPacket {
     /// The initialization packet, with this command.
@@ -105,8 +105,8 @@ impl<'a> Model for Fragments<'a> {
 }
 
 impl<'a> Fragments<'a> {
-    /// Returns the packets of the message `bytes` with the command `cmd` on the channel `cid`: those that
-    /// [`packets_for`] counts.
+    /// Returns the packets of the message `bytes` with the command `cmd` on the channel `cid`. Their number is that of
+    /// [`packets_for`].
     pub fn new(cid: u32, cmd: u8, bytes: &'a [u8]) -> Self
         requires short { length bytes.now ≤ MAX_MESSAGE_LEN }
         requires command { cmd < 128 }

@@ -1,5 +1,5 @@
-//! Laws stated over the definitions: which packets carry a message, and which are written for it. Each is the contract
-//! of a function that does nothing.
+//! Laws about the definitions: which packets carry a message, and which are written for it. Each function has an empty
+//! body: its contract is the law.
 
 ghost use Rattle.std.specs.Prelude.{◌≡◌, ℕ, ◌-◌, ◌^◌, ◌<◌, ◌≤◌, List, length};
 ghost use Rattle.hid_packet.specs.Message.{message_packets};

@@ -40,8 +40,8 @@ pub enum View<'a> {
 }
 
 impl Packet {
-    /// Reads the packet's fields. Every 64 bytes have them: bit 7 of byte 4 marks an initialization
-    /// packet from a continuation packet.
+    /// Reads the packet's fields. Any 64 bytes are valid: bit 7 of byte 4 distinguishes initialization packets from
+    /// continuation packets.
     #[tactic(auto, unfolding(crate::specs::Packet::channel, crate::specs::Packet::is_initialization, crate::specs::Packet::command, crate::specs::Packet::message_length, crate::specs::Packet::initialization_data, crate::specs::Packet::sequence, crate::specs::Packet::continuation_data))]
     pub fn view(&self) -> View<'_>
         ensures fields { shown result ≡ fields self.now.0 }

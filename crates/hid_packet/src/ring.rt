@@ -1,4 +1,4 @@
-//! A queue of bytes in a ring.
+//! A ring buffer of bytes, used as a queue.
 ghost use Rattle.std.specs.Prelude.{◌≡◌, ◌+◌, ◌-◌, ◌*◌, ◌%◌, ◌<◌, ◌≤◌, ◌++◌, [], length, min, take, drop};
 ghost use Rattle.hid_packet.specs.Limits.{RING_SIZE};
 
@@ -30,7 +30,7 @@ impl Model for Ring {
     ghost invariant = { λ r. (r.first < RING_SIZE) × (r.len ≤ RING_SIZE) × (length r.bytes ≡ RING_SIZE) };
 }
 
-/// Returns the index in the ring, wrapping around at its end.
+/// Reduces an index that may be past the ring's end to an index in the ring.
 fn wrapped(place: usize) -> usize
     requires { place < 2 * RING_SIZE }
     ensures { result ≡ place % RING_SIZE }

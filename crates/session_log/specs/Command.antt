@@ -16,14 +16,14 @@ use Rattle.session_log.specs.Streams.{Counts, IsAtEndOfInput, Moves}
 abbrev pub program_start : Start
 program_start = record { aaguid = replicate 16 0; moment = 0; capacity = 64; rows = [] }
 
--- The same, with these credentials.
+-- The start of the program's session with these credentials.
 abbrev pub start_with : List Row → Start
 start_with rows = record program_start { rows = rows }
 
 abbrev pub Status : Type 0
 Status = Result (Unit {0}) ℕ
 
--- The exit status: 1 for a fault of the log.
+-- The exit status: 1 for an error in the log.
 abbrev pub status_of : {A : Type 0} → Result A LogFault → Status
 status_of (Ok x) = Ok tt
 status_of (Err fault) = Err 1
@@ -33,8 +33,8 @@ abbrev pub without_meters : Result Meters LogFault → Result (Unit {0}) LogFaul
 without_meters (Ok meters) = Ok tt
 without_meters (Err fault) = Err fault
 
--- A failure of the source or the target was counted exactly if the fault is a failed read or write, and without a
--- fault the whole source was read. A pair is a source or a target before and after the call.
+-- A failure of the source or the target was counted if and only if the error is a failed read or write, and without an
+-- error the whole source was read. A pair is a source or a target before and after the call.
 abbrev pub IsCounted : {A I O : Type 0} → (left : I → Option (List ℕ)) → (unread : I → ℕ) → (ended : I → Bool)
     → (unwritten : O → ℕ) → Result A LogFault → (I × I) → (O × O) → Type 0
 IsCounted left unread ended unwritten answer input output =
@@ -42,8 +42,8 @@ IsCounted left unread ended unwritten answer input output =
     × Counts unwritten output (write_fails (ending_of answer))
     × OnOk answer (IsAtEndOfInput left ended input.1)
 
--- A log was played from state s: the statement holds of the bytes that were read and of the text that was written. A
--- fault does not depend on the bytes after the faulty line.
+-- A log was played from state s, and `Says` holds for the bytes that were read and the text that was written. An error
+-- doesn't depend on the bytes after the invalid line.
 abbrev pub PlaysThrough : {S A I O : Type 0} → World S → S → (List ℕ → List ℕ → Type 0)
     → (left : I → Option (List ℕ)) → (unread : I → ℕ) → (ended : I → Bool) → (taken : O → Option (List ℕ))
     → (unwritten : O → ℕ) → Result A LogFault → (I × I) → (O × O) → Type 0
@@ -52,8 +52,8 @@ PlaysThrough world s Says left unread ended taken unwritten answer input output 
     × ReadsTo world s (left input.0) (left input.1) (IsAtEndOfInput left ended input.1) (ending_of answer)
     × IsCounted left unread ended unwritten answer input output
 
--- A log was played from state x, which has this history of the session; the session is now at s. The text is the one
--- that the world defines for the log.
+-- A log was played from state x, whose history of inputs is that of the session, and the session is now in state s. The
+-- text is the one that the world defines for the log.
 abbrev pub PlaysIn : {S A I O : Type 0} → World S → (S → List Timed) → S → Start
     → (left : I → Option (List ℕ)) → (unread : I → ℕ) → (ended : I → Bool) → (taken : O → Option (List ℕ))
     → (unwritten : O → ℕ)
@@ -65,7 +65,7 @@ PlaysIn {S} world history_in x start left unread ended taken unwritten answer s 
     × ReadsTo world x (left input.0) (left input.1) (IsAtEndOfInput left ended input.1) (ending_of answer)
     × IsCounted left unread ended unwritten answer input output
 
--- A command played a log on a session that was after this history of this start: replay, live, check or quiet.
+-- A command (replay, live, check or quiet) played a log on a session with this start and history.
 abbrev pub PlaysLog : {A I O : Type 0} → ReplayMode → Start → List Timed
     → (left : I → Option (List ℕ)) → (unread : I → ℕ) → (ended : I → Bool) → (taken : O → Option (List ℕ))
     → (unwritten : O → ℕ)

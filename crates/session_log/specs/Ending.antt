@@ -3,7 +3,7 @@ use Rattle.std.specs.Prelude.{ℕ, Bool, true, false, Result, Ok, Err}
 use Rattle.session_log.specs.declared.fault.LogFault.{LogFault, TheVariants.Memory}
 use Rattle.session_log.specs.declared.fault.LogFault.TheVariants.{BadLine, TooLong, Differs, Read, Write, TooManyLines}
 
--- At the end of the log, at a faulty line, at a read that failed in this line, or at a failed write.
+-- At the end of the log, at an invalid line, at a failed read in this line, or at a failed write.
 pub data Ending : Type 0 where
   Done : Ending
   Refused : (fault : LogFault) → Ending

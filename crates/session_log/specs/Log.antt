@@ -13,7 +13,7 @@ text_by world s line (Some l) = world.writes s line l
 abbrev pub text_of : {S : Type 0} → World S → S → List ℕ → List ℕ
 text_of world s line = text_by world s line (parsed line)
 
--- where a line leads
+-- The state after a parsed line.
 abbrev pub state_after_parsed : {S : Type 0} → World S → S → Option Line → S
 state_after_parsed world s None = s
 state_after_parsed world s (Some l) = world.moves s l
@@ -21,19 +21,19 @@ state_after_parsed world s (Some l) = world.moves s l
 abbrev pub state_after : {S : Type 0} → World S → S → List ℕ → S
 state_after world s line = state_after_parsed world s (parsed line)
 
--- The fault of line n by its content: it is not a log line, or the world refuses it.
+-- The error of line n by its content: it is not a log line, or the world rejects it.
 abbrev pub fault_by : {S : Type 0} → World S → ℕ → S → Option Line → Option LogFault
 fault_by world n s None = Some (BadLine n)
 fault_by world n s (Some l) = world.stops s l
 
--- The fault of line n: a log has at most 2^32-1 lines, and a line at most 255 bytes.
+-- The error of line n: a log has at most 2^32-1 lines, and a line at most 255 bytes.
 abbrev pub fault_at : {S : Type 0} → World S → ℕ → S → List ℕ → Option LogFault
 fault_at world n s line =
     if nat_le (2 ^ 32) n then Some TooManyLines
     else if nat_lt 255 (length line) then Some (TooLong n)
     else fault_by world n s (parsed line)
 
--- The result of playing lines: the texts of those before the first faulty one, its fault, and the state after them.
+-- The result of playing lines: the texts of those before the first invalid one, its error, and the state after them.
 pub record Played (S : Type 0) : Type 0 where
   pub text : List ℕ
   pub fault : Option LogFault
@@ -57,11 +57,11 @@ play_all world s bytes = played world 1 s (lines bytes)
 abbrev pub last_text : {S : Type 0} → World S → S → List ℕ
 last_text world s = if is_none (world.lacks s) then world.ending s else []
 
--- The texts of the lines and, if no line is faulty, the text after the last line.
+-- The texts of the lines and, if no line is invalid, the text after the last line.
 abbrev pub log_of : {S : Type 0} → World S → Played S → List ℕ
 log_of world p = p.text ++ (if is_none p.fault then last_text world p.state else [])
 
--- The first fault: if no line is faulty, the fault at the end.
+-- The first error: if no line is invalid, the error at the end.
 abbrev pub first_fault : (last line : Option LogFault) → Option LogFault
 first_fault None line = line
 first_fault (Some fault) None = Some fault

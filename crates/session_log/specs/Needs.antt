@@ -8,22 +8,22 @@ use Rattle.authn_core.specs.Views.{Needed, nothing, presence, key, sign}
 abbrev pub pieces_of : List ℕ → List (List ℕ)
 pieces_of bytes = first_chunks 96 ((length bytes + 95) / 96) bytes
 
--- The line of a piece of the bytes to sign, and the line of the credential that signs.
+-- The line of a piece of the bytes to sign, and the line of the signing credential.
 abbrev pub signed_line : List ℕ → List ℕ
 signed_line bytes = codes "# signed " ++ encode_lower bytes
 
 abbrev pub signature_line : List ℕ → List ℕ
 signature_line id = codes "# need signature " ++ encode_lower id
 
--- The lines for a need: one line names it. For a signature, lines with the bytes to sign come before it, 96 bytes per
--- line.
+-- The lines for a need. For a signature, lines with the bytes to sign, 96 bytes per line, come before the line that
+-- names the need.
 abbrev pub need_lines : Needed → List (List ℕ)
 need_lines nothing = codes "# need nothing" ∷ []
 need_lines presence = codes "# need presence" ∷ []
 need_lines key = codes "# need key" ∷ []
 need_lines (sign id signed) = map signed_line (pieces_of signed) ++ signature_line id ∷ []
 
--- Whether a comment names a need; and whether it is such a line or a line with bytes to sign.
+-- Whether a comment is the line that names a need, and whether it is any of the lines that report one.
 abbrev pub reports_need : List ℕ → Bool
 reports_need line = starts_with ◌==◌ line (codes "# need ")
 

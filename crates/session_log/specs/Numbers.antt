@@ -1,4 +1,4 @@
--- The numbers of the faults.
+-- The numbers of the log errors.
 use Rattle.std.specs.Prelude.{ℕ}
 use Rattle.session_log.specs.declared.fault.LogFault.{LogFault, TheVariants.Memory}
 use Rattle.session_log.specs.declared.fault.LogFault.TheVariants.{BadLine, TooLong, Differs, Read, Write, TooManyLines}

@@ -15,7 +15,7 @@ use Rattle.session_log.specs.Letters.{host_letter, key_letter, tick_letter, pres
 use Rattle.session_log.specs.Letters.{signature_letter, comment_letter, count_letter, space}
 use Rattle.session_log.specs.Words.{refusal_word}
 
--- The second step, if the first has a value.
+-- Applies the second function to the first value, if any.
 infixl 10 ◌>>=◌
 abbrev pub ◌>>=◌ : {A B : Type 0} → Option A → (A → Option B) → Option B
 o >>= f = option_and_then f o
@@ -51,7 +51,7 @@ parsed_presence field =
     else if is_word (codes "timeout") field then Some (Presence TimedOut)
     else None
 
--- `ID X Y`
+-- A credential ID and coordinates, `ID X Y`.
 abbrev pub key_of : List ℕ → Option NewKey
 key_of field = do
   first ← first_field field

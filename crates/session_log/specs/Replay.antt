@@ -9,32 +9,32 @@ use Rattle.session_log.specs.{Lines.lines, Lines.whole_lines, Lines.last_piece, 
 use Rattle.session_log.specs.Log.{played, play_all, log, text_of, last_text, state_after, fault_by, fault_of}
 use Rattle.session_log.specs.{Parsed.parsed, World.World, Sent.SendsPackets, Sent.AllSend}
 
--- There is no fault, and the whole log was written.
+-- There is no error, and the whole log was written.
 pub record IsDone {S : Type 0} (world : World S) (s t : S) (bytes text : List ℕ) : Type 0 where
   pub faultless : fault_of world (play_all world s bytes) ≡ None
   pub written : text ≡ log world s bytes
   pub stands : t ≡ (play_all world s bytes).state
 
--- No line is faulty, and all texts were written.
+-- No line is invalid, all texts were written, and the statement about the packets that are sent holds for each line.
 pub record IsPlayed {S : Type 0} (world : World S) (s t : S) (bytes text : List ℕ) : Type 0 where
   pub sends : AllSend world s (lines bytes)
   pub faultless : (play_all world s bytes).fault ≡ None
   pub written : text ≡ (play_all world s bytes).text
   pub stands : t ≡ (play_all world s bytes).state
 
--- The same, without a statement about the packets that were sent.
+-- No line is invalid, and all texts were written. Nothing is stated about the packets that are sent.
 pub record AreWritten {S : Type 0} (world : World S) (s t : S) (bytes text : List ℕ) : Type 0 where
   pub faultless : (play_all world s bytes).fault ≡ None
   pub written : text ≡ (play_all world s bytes).text
   pub stands : t ≡ (play_all world s bytes).state
 
--- This is the first fault, and the texts of the lines before it were written.
+-- This is the first error, and the texts of the lines before it were written.
 pub record IsRefused {S : Type 0} (world : World S) (s t : S) (bytes text : List ℕ) (f : LogFault) : Type 0 where
   pub faulty : fault_of world (play_all world s bytes) ≡ Some f
   pub written : text ≡ (play_all world s bytes).text
   pub stands : t ≡ (play_all world s bytes).state
 
--- Reading failed in line n; no line before it is faulty, and their texts were written.
+-- Reading failed in line n. No line before it is invalid, and the texts of these lines were written.
 pub record IsUnread {S : Type 0} (world : World S) (s t : S) (bytes text : List ℕ) (n : ℕ) : Type 0 where
   pub faultless : (played world 1 s (whole_lines bytes)).fault ≡ None
   pub written : text ≡ (played world 1 s (whole_lines bytes)).text
@@ -52,7 +52,8 @@ abbrev pub next_state : {S : Type 0} → World S → S → List (List ℕ) → S
 next_state world s [] = s
 next_state world s (line ∷ more) = state_after world s line
 
--- The texts of the first lines were written, and writing the next text failed: the state is that after its line.
+-- The texts of the first lines were written, and writing the next text failed. The state is that after the line of this
+-- text.
 pub record IsUnwritten {S : Type 0} (world : World S) (s t : S) (bytes text : List ℕ) : Type 0 where
   pub first : List (List ℕ)
   pub others : List (List ℕ)
@@ -74,27 +75,28 @@ EndingMeans world s t bytes text AtEnd (Refused fault) = IsRefused world s t byt
 EndingMeans world s t bytes text AtEnd (Unread n) = IsUnread world s t bytes text n
 EndingMeans world s t bytes text AtEnd Unwritten = IsUnwritten world s t bytes text
 
--- The same for lines.
+-- The meaning of an ending for lines, without the text after the last line.
 abbrev pub Plays : {S : Type 0} → World S → S → S → List ℕ → List ℕ → Ending → Type 0
 Plays world s t bytes text ending = EndingMeans world s t bytes text (IsPlayed world s t bytes text) ending
 
--- The same, without a statement about the packets that were sent.
+-- As `Plays`, without a statement about the packets that are sent.
 abbrev pub Writes : {S : Type 0} → World S → S → S → List ℕ → List ℕ → Ending → Type 0
 Writes world s t bytes text ending = EndingMeans world s t bytes text (AreWritten world s t bytes text) ending
 
--- of a whole log
+-- The meaning of an ending for a whole log.
 abbrev pub PlaysWholeLog : {S : Type 0} → World S → S → S → List ℕ → List ℕ → Ending → Type 0
 PlaysWholeLog world s t bytes text ending = EndingMeans world s t bytes text (IsDone world s t bytes text) ending
 
--- The same, and at the end of the log the packets that were sent are well-formed.
+-- As `PlaysWholeLog`, and at the end of the log the packets that were sent are well-formed.
 abbrev pub PlaysWholeLogWithMeters : {S A : Type 0} → World S → S → S → List ℕ → List ℕ → Result A LogFault → Type 0
 PlaysWholeLogWithMeters world s t bytes text r = PlaysWholeLog world s t bytes text (ending_of r) × OnOk r (AllSend world s (lines bytes))
 
--- The same for a whole log, which returns the meters at its end.
+-- As `PlaysWholeLog`, and the meters at the end of the log are returned.
 abbrev pub Logs : {S : Type 0} → World S → S → S → List ℕ → List ℕ → Result Meters LogFault → Type 0
 Logs world s t bytes text r = PlaysWholeLog world s t bytes text (ending_of r) × IfOk r (λ m. m ≡ world.counts t)
 
--- The meaning of playing one line: its text was written; or it is faulty, and nothing was written; or writing failed.
+-- The meaning of playing one line: its text was written; or the line is invalid, and nothing was written; or writing
+-- failed.
 abbrev pub PlaysLine : {S F : Type 0} → World S → (F → Option (List ℕ)) → (F → ℕ) → ℕ → S → S → List ℕ → (F × F)
     → Ending → Type 0
 PlaysLine world taken failed n s t line target Done =
@@ -108,7 +110,7 @@ PlaysLine world taken failed n s t line target Unwritten =
     (fault_by world n s (parsed line) ≡ None) × (t ≡ state_after world s line)
     × WriteFails taken failed target (text_of world s line)
 
--- The meaning of the end of the lines: the text after them was written; or there is a fault at the end, and nothing
+-- The meaning of the end of the lines: the text after them was written; or there is an error at the end, and nothing
 -- was written; or writing failed.
 abbrev pub Closes : {S F : Type 0} → World S → (F → Option (List ℕ)) → (F → ℕ) → S → (F × F) → Ending → Type 0
 Closes world taken failed s target Done = (world.lacks s ≡ None) × WritesAll taken failed target (world.ending s)
@@ -117,7 +119,8 @@ Closes world taken failed s target (Refused fault) =
 Closes world taken failed s target (Unread n) = ⊥
 Closes world taken failed s target Unwritten = (world.lacks s ≡ None) × WriteFails taken failed target (world.ending s)
 
--- The faults of line n other than those of its length and number, and a failed write of its text.
+-- The errors that processing line n can return: an invalid line, a difference, or a failed write. Its length and number
+-- were checked before.
 abbrev pub IsOfLine : ℕ → LogFault → Type 0
 IsOfLine n (BadLine m) = m ≡ n
 IsOfLine n (TooLong m) = ⊥
@@ -127,7 +130,7 @@ IsOfLine n Write = Unit {0}
 IsOfLine n TooManyLines = ⊥
 IsOfLine n (Memory m) = ⊥
 
--- n - 1 complete lines were read, none of which is faulty, and at most 256 bytes after them.
+-- n - 1 complete and valid lines were read, and at most 256 bytes after them.
 pub record IsWithinLine {S : Type 0} (world : World S) (s : S) (bytes : List ℕ) (n : ℕ) : Type 0 where
   pub before : List ℕ
   pub front : List ℕ
@@ -137,13 +140,13 @@ pub record IsWithinLine {S : Type 0} (world : World S) (s : S) (bytes : List ℕ
   pub count : n ≡ length (whole_lines before) + 1
   pub near : length front ≤ 256
 
--- Line n was read completely, and this is the fault of the lines up to it; or everything was read.
+-- Line n was read completely, and this is the error of the lines up to it; or everything was read.
 abbrev pub IsShown : {S : Type 0} → World S → S → List ℕ → Type 0 → ℕ → LogFault → Type 0
 IsShown world s bytes all n fault =
     ((n ≤ length (whole_lines bytes)) × ((played world 1 s (take n (whole_lines bytes))).fault ≡ Some fault)) ⊎ all
 
--- How far was read to find a fault: a bad line was read completely, or everything was read; of a line that is too
--- long exactly 256 bytes were read; a difference is found at a line, like a bad line, or at the end of the log.
+-- How far was read to find an error: an invalid line was read completely, or everything was read; of a line that is too
+-- long, exactly 256 bytes were read; a difference is found at a line, like an invalid line, or at the end of the log.
 abbrev pub Reaches : {S : Type 0} → World S → S → List ℕ → Type 0 → LogFault → Type 0
 Reaches world s bytes all (BadLine n) = IsWithinLine world s bytes n × IsShown world s bytes all n (BadLine n)
 Reaches world s bytes all (TooLong n) = IsWithinLine world s bytes n × (n ≡ length (whole_lines bytes) + 1)
@@ -156,7 +159,7 @@ Reaches world s bytes all (Read n) = ⊥
 Reaches world s bytes all Write = ⊥
 Reaches world s bytes all (Memory n) = ⊥
 
--- The same for an ending.
+-- How far was read at this ending; nothing is stated unless it is an error in the log.
 abbrev pub Finds : {S : Type 0} → World S → S → List ℕ → Type 0 → Ending → Type 0
 Finds world s bytes all (Refused fault) = Reaches world s bytes all fault
 Finds world s bytes all _ = Unit {0}
@@ -166,7 +169,7 @@ ReadsTo world s left left' all (Refused fault) = (bytes : List ℕ) × Consumes 
     × Reaches world s bytes all fault
 ReadsTo world s left left' all _ = Unit {0}
 
--- The faults at the end of the lines, and a failed write of the text there.
+-- The errors at the end of the lines: a missing packet, or a failed write of the text there.
 abbrev pub IsOfEnd : LogFault → Type 0
 IsOfEnd (Differs line packet) = Unit {0}
 IsOfEnd Write = Unit {0}

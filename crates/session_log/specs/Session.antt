@@ -60,11 +60,11 @@ live_machine = live_world session_course session_needs
 abbrev pub live_history : Start → World (List Timed)
 live_history start = live_world (history_course start) (history_needs start)
 
--- Playing the output again from s gives the same output, unless it has too many lines.
+-- Playing the output again from state s gives the same output, unless it has too many lines.
 abbrev pub RepeatsIn : World SessionState → Option (List ℕ) → Option (List ℕ) → SessionState → Type 0
 RepeatsIn world taken taken' s = (text : List ℕ) × Appends taken taken' text
     × (length (lines text) < 2 ^ 32 → log world s text ≡ text)
 
--- replayed
+-- As `RepeatsIn`, for a replay on a session's state.
 abbrev pub Repeats : Option (List ℕ) → Option (List ℕ) → SessionState → Type 0
 Repeats = RepeatsIn machine

@@ -13,7 +13,7 @@ gave_nothing (Err e) space = false
 abbrev pub IsAtEndOfInput : {I : Type 0} → (I → Option (List ℕ)) → (I → Bool) → I → Type 0
 IsAtEndOfInput left ended source = (ended source ≡ true) × IsAtEnd (left source)
 
--- The number of failures increases by one if there is a failure.
+-- The count of failures increases by one if the call fails.
 abbrev pub Counts : {F : Type 0} → (F → ℕ) → (F × F) → Bool → Type 0
 Counts failed stream fails = failed stream.1 ≡ (if fails then failed stream.0 + 1 else failed stream.0)
 
@@ -35,12 +35,12 @@ abbrev pub Puts : {F A E : Type 0} → (F → Option (List ℕ)) → (F → ℕ)
 Puts taken failed target text r = MatchResult r (λ x. WritesAll taken failed target text)
     (λ e. WriteFails taken failed target text)
 
--- The same, and the error is `Write`.
+-- As `Puts`, and the error is `Write`.
 abbrev pub PutsLine : {F A : Type 0} → (F → Option (List ℕ)) → (F → ℕ) → (F × F) → List ℕ → Result A LogFault → Type 0
 PutsLine taken failed target text r = MatchResult r (λ x. WritesAll taken failed target text)
     (λ e. (e ≡ Write) × WriteFails taken failed target text)
 
--- The bytes that were read and the text that was written satisfy P.
+-- P holds for the bytes that were read from a source and the text that was appended to a target.
 abbrev pub Moves : Option (List ℕ) → Option (List ℕ) → Option (List ℕ) → Option (List ℕ) → (List ℕ → List ℕ → Type 0)
     → Type 0
 Moves left left' taken taken' P = (bytes : List ℕ) × (text : List ℕ) × Consumes left left' bytes

@@ -1,4 +1,4 @@
--- The words of the caller's replies.
+-- The words in lines of the caller's replies.
 use Rattle.std.specs.Prelude.{ℕ, List, codes}
 use Rattle.authn_core.specs.declared.replies.Presence.{Presence}
 use Rattle.authn_core.specs.declared.replies.Presence.TheVariants.{Granted, Denied, TimedOut}

@@ -7,14 +7,14 @@ use Rattle.authn_core.specs.{Views.Needed, Needs.IsNeed}
 use Rattle.session_log.specs.Needs.{need_lines, is_need_line}
 use Rattle.session_log.specs.Text.{ArePackets, ended, sent_text, tick_text, meters_line}
 
--- How an input changes a state, the packets that are sent for it, and the meters.
+-- How an input changes a state, the packets that are sent for it, and the meters of a state.
 pub record Course (S : Type 0) : Type 0 where
   pub turned : S → Timed → S
   pub sends : S → Timed → List (List ℕ)
   pub counts : S → Meters
 
--- For a parsed line and a state: its fault, if any; the next state; a statement about the packets that are sent; and
--- the text that is written. At the end: the fault, if any; the text that is written; and the meters.
+-- For a parsed line and a state: the error, if any; the next state; a statement about the packets that are sent; and
+-- the text that is written. At the end: the error, if any; the text that is written; and the meters.
 pub record World (S : Type 0) : Type 1 where
   pub stops : S → Line → Option LogFault
   pub moves : S → Line → S
@@ -24,8 +24,8 @@ pub record World (S : Type 0) : Type 1 where
   pub ending : S → List ℕ
   pub counts : S → Meters
 
--- Replaying writes each input line and each comment again, after an input line the packets that are sent for it, and
--- at the end the meters. A line is faulty only if it is not a log line.
+-- Replaying writes each input line and each comment again, after an input line the packets that are sent for it, and at
+-- the end the meters. Only a line that is not a log line is an error.
 
 abbrev pub moves_input : {S : Type 0} → Course S → S → Line → S
 moves_input course s (Input timed) = course.turned s timed

@@ -57,7 +57,7 @@ impl CheckPlayer {
         }
     }
 
-    /// Returns the error for a packet that differs, is missing or is superfluous.
+    /// Returns the error for a packet that differs, is missing or is one too many.
     fn difference(&self) -> LogFault
         requires { self.now.found < 2 ^ 64 - 1 }
         ensures { result ≡ LogFault.Differs self.now.input (self.now.found + 1) }
@@ -157,13 +157,13 @@ impl<const C: usize> Player<C> for CheckPlayer {
 
 /// Compares a log with what a session sends for its inputs (docs/use/LOG_FORMAT.md). Each input line must be followed
 /// by exactly the packets sent for it, in order; comments and count lines may be between them. Hexadecimal digits are
-/// compared by value. Only at the reader's end the number of equal inputs and packets is written. Allocates nothing.
+/// compared by value. Writes only the number of equal inputs and packets, at the reader's end. Allocates nothing.
 ///
 /// Fails with [`LogFault::Differs`] at the first packet that differs, is missing or is one too many; a missing one is
 /// found at the next input line or at the reader's end. [`LogFault::BadLine`], [`LogFault::TooLong`],
 /// [`LogFault::TooManyLines`] and [`LogFault::Read`] are as for [`crate::replay`]; the first of these and of a
-/// difference is returned. After [`LogFault::Write`], which occurs only at the reader's end, the text is a beginning.
-/// The session is after the last input line that was stepped.
+/// difference is returned. [`LogFault::Write`] occurs only at the reader's end; then only a part of the text was
+/// written. The session has stepped all inputs up to the error.
 pub fn check<S: Source, T: Target, const C: usize>(
     reader: &mut S,
     writer: &mut T,
@@ -171,9 +171,9 @@ pub fn check<S: Source, T: Target, const C: usize>(
 ) -> Result<(), LogFault>
     requires read { S.failed reader.old < 2 ^ 64 - 1 }
     requires write { T.failed writer.old < 2 ^ 64 - 1 }
-    // At Ok no line is faulty, no packet differs, is missing or is one too many, and the counts were written. A line
-    // fault or a difference is the first one. A failed read names its line, and nothing before it differs. At a line
-    // fault or a difference at most 256 bytes were read after the lines before it.
+    // On success, no line is invalid, no packet differs, is missing or is one too many, and the counts were written. An
+    // invalid line or a difference is the first one in the log. A failed read names its line, and nothing before it
+    // differs. For an invalid line or a difference, at most 256 bytes were read after the lines before it.
     ensures checked { (later : Compared SessionState) × (later.session ≡ session.new)
         × PlaysThrough check_machine (first_comparison session.old)
         (λ bytes text. PlaysWholeLog check_machine (first_comparison session.old) later bytes text (ending_of result)) S.left S.failed

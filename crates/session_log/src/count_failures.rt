@@ -5,9 +5,8 @@ ghost use Rattle.std.specs.Io.KnownBytes.{ReadConsumes, WriteAppends};
 use crate::fault::Failed;
 use std::io::{Read, Write};
 
-/// A reader or writer with a count of its failed calls.
-// A clause cannot tell one failed call of a std reader or writer from two. That `read` and `write` here call it once is
-// reviewed and tested; everything above is proved.
+/// A contract can't distinguish one failed call of a std reader or writer from two. So it isn't proved, but reviewed
+/// and tested, that `read` and `write` here call it once.
 #[derive(Drop)]
 pub(crate) struct CountFailures<S> {
     inner: S,

@@ -10,7 +10,7 @@ fn are_all(piece: &[u8; 8], byte: u8) -> bool
     u64::from_be_bytes(*piece) == u64::from_be_bytes([byte; 8])
 }
 
-/// Returns the bytes without trailing groups of eight equal to this one.
+/// Returns the bytes without trailing groups of eight bytes that all equal `byte`.
 fn trim_zero_words(bytes: &[u8], byte: u8) -> &[u8]
     ensures { (n : ℕ) × (bytes.now ≡ result.now ++ replicate (8 * n) byte) }
 {
@@ -36,7 +36,7 @@ fn trim_zeros(bytes: &[u8]) -> &[u8]
     used
 }
 
-/// Returns the digits without trailing pairs of zeros.
+/// Returns the digits without trailing pairs of `0`.
 fn trim_zero_pairs(digits: &[u8]) -> &[u8]
     ensures { (n : ℕ) × (digits.now ≡ result.now ++ encode_lower (replicate n 0)) }
 {
@@ -51,7 +51,7 @@ fn trim_zero_pairs(digits: &[u8]) -> &[u8]
 }
 
 /// Returns the value of a hexadecimal digit, in either case.
-// `hex` tests for letters first, and most digits of a log are decimal.
+// The crate `hex` tests for letters first, but most digits of a log are decimal.
 fn digit_value(digit: u8) -> Option<u8>
     ensures { result ≡ hex_digit_value digit }
 {
@@ -63,7 +63,8 @@ fn digit_value(digit: u8) -> Option<u8>
     }
 }
 
-/// Decodes twice as many hexadecimal digits as bytes, in either case. After `None` the bytes are unspecified.
+/// Decodes hexadecimal digits in either case, two for each byte of `bytes`. After `None`, `bytes` has unspecified
+/// content.
 pub fn decode_digits(digits: &[u8], bytes: &mut [u8]) -> Option<()>
     ensures { MatchOption result (bytes_of (length bytes.old) digits.now ≡ None)
         (λ _. bytes_of (length bytes.old) digits.now ≡ Some bytes.new) }
@@ -79,7 +80,7 @@ pub fn decode_digits(digits: &[u8], bytes: &mut [u8]) -> Option<()>
     Some(())
 }
 
-/// Returns the bytes of twice as many hexadecimal digits, in either case.
+/// Decodes `2 * N` hexadecimal digits, in either case.
 pub fn read_bytes<const N: usize>(digits: &[u8]) -> Option<[u8; N]>
     ensures { result ≡ bytes_of N digits.now }
 {
@@ -92,7 +93,7 @@ pub fn read_bytes<const N: usize>(digits: &[u8]) -> Option<[u8; N]>
     Some(bytes)
 }
 
-/// Writes the digits of some bytes over as many zeros.
+/// Encodes bytes as lowercase hexadecimal digits, into a buffer of twice their length that is filled with `0` digits.
 pub fn write_digits(bytes: &[u8], digits: &mut [u8])
     requires { digits.old ≡ replicate (2 * length bytes.now) 48 }
     ensures { digits.new ≡ encode_lower bytes.now }

@@ -1,4 +1,4 @@
-//! Laws over the definitions alone: each is the contract of a function with an empty body.
+//! Laws about the definitions. Each function has an empty body: its contract is the law.
 ghost use Rattle.std.specs.Prelude.{◌≡◌, ◌≤◌, ◌↔◌, ℕ, List, [], ◌∷◌, ◌++◌, length, flat_map, sum_by, All, true, false, Some, None};
 ghost use Rattle.session_log.specs.declared.line.Line.{Line as AnyLine};
 ghost use Rattle.authn_core.specs.Turn.{Start};
@@ -24,7 +24,7 @@ pub fn the_grammar_is_read()
     ensures refused { (line : List ℕ) → (parsed line ≡ None) ↔ ((l : AnyLine) → ¬ Spells line l) }
 {}
 
-/// States that a quiet log has the inputs of its original, with ticks in place of ignored inputs: after two histories
+/// States that a quiet log has the inputs of its original, with ticks in place of ignored inputs: if two histories are
 /// related in this way, so are the histories extended by the two logs.
 pub fn a_log_made_quiet_is_quiet()
     ensures { (start : Start) (h g : List OneInput) (bytes : List ℕ)
@@ -61,8 +61,8 @@ pub fn a_checked_log_has_what_is_sent()
         → (play_all (check_history start) (first_comparison h) bytes).text ≡ [] }
 {}
 
-/// States that a reported difference is the first place at which the log's packets differ from those that are defined
-/// for the history.
+/// States that a reported difference is the first position at which the log's packets differ from those that are
+/// defined for the history.
 pub fn a_difference_is_the_first()
     ensures { (start : Start) (h : List OneInput) (bytes : List ℕ) (line packet : ℕ)
         → fault_of (check_history start) (play_all (check_history start) (first_comparison h) bytes) ≡ Some (Differs line packet)
@@ -70,8 +70,8 @@ pub fn a_difference_is_the_first()
         ([] ∷ sent_groups (history_course start) h (inputs (lines bytes))) (0 ∷ input_lines 1 (lines bytes)) line packet }
 {}
 
-/// States that of the lines about a need, exactly the last begins with `# need `. The bytes to sign are split into
-/// pieces of at most 96 bytes, which concatenate to them.
+/// States that exactly the last of the lines that report a need begins with `# need `. The bytes to sign are split into
+/// pieces of at most 96 bytes; concatenated, these are the bytes to sign.
 pub fn what_is_needed_is_said_once()
     ensures last { (n : Needed) → (before : List (List ℕ)) × (last : List ℕ) × (need_lines n ≡ before ++ last ∷ [])
         × (reports_need last ≡ true) × All (λ line. reports_need line ≡ false) before }

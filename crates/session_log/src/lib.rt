@@ -1,18 +1,5 @@
-//! Text logs of CTAPHID sessions: reads lines, steps their inputs on a session, and writes each line with the packets
-//! that the session sent for it (docs/use/LOG_FORMAT.md).
-//!
-//! An example, which the gate runs (`crates/page_tests/src/session_log_page.rt`):
-//!
-//! ```text
-//! let mut session = Session::<8>::bare([0; 16], 0);
-//! let mut reader = SliceIn::new(b"# 5 ms pass\nt 5\n");
-//! let mut text = [0; 256];
-//! let mut writer = SliceOut::new(&mut text);
-//! let meters = replay(&mut reader, &mut writer, &mut session);
-//! assert!(rt; meters.is_ok_and(|meters| meters.requests == 0));
-//! let log = b"# 5 ms pass\nt 5\n= held 0 rows 0 pending 0 requests 0 bytes 0 steps 0\n";
-//! assert!(rt; writer.written() == log.as_slice());
-//! ```
+//! Text logs of CTAPHID sessions: reads lines, steps a session through their inputs, and writes each line with the
+//! packets that the session sent for it (docs/use/LOG_FORMAT.md).
 #![tactic(auto)]
 
 mod check_player;

@@ -23,7 +23,7 @@ pub enum Line {
     Count,
 }
 
-/// A line by its first byte. The fields of an input, and of a packet, are not parsed yet.
+/// A line by its first byte, with its fields not parsed yet.
 #[derive(Clone, Copy)]
 enum LineKind<'a> {
     /// An input: its letter, and the fields after it.
@@ -36,7 +36,7 @@ enum LineKind<'a> {
     Count,
 }
 
-/// Returns the number below 2^64 of decimal digits, with any leading zeros.
+/// Parses decimal digits, with any leading zeros, as a number below 2^64.
 fn read_digits(digits: &[u8]) -> Option<u64>
     ensures { SomeIff result (AllDigits 10 digits.now × (digits_value 10 digits.now ≤ 2 ^ 64 - 1))
         (digits_value 10 digits.now) }
@@ -56,7 +56,7 @@ fn is_padded(digits: &[u8]) -> bool
     digits.len() > 1 && digits[0] == b'0'
 }
 
-/// Returns the number of a decimal text without leading zeros.
+/// Parses a decimal number below 2^64 without leading zeros.
 fn read_moment(digits: &[u8]) -> Option<u64>
     ensures { result ≡ moment digits.now }
 {
@@ -83,7 +83,7 @@ fn split_field(fields: &[u8]) -> Option<(&[u8], &[u8])>
     Some((fields.split_at(end).0, fields.split_at(end + 1).1))
 }
 
-/// Returns the user presence reply of a word.
+/// Parses a user presence reply.
 fn read_presence(word: &[u8]) -> Option<Input>
     ensures { result ≡ parsed_presence word.now }
 {
@@ -98,7 +98,7 @@ fn read_presence(word: &[u8]) -> Option<Input>
     }
 }
 
-/// Returns the key pair of the fields with its ID and coordinates.
+/// Parses a new key pair: credential ID, x and y coordinates.
 fn read_new_key(fields: &[u8]) -> Option<NewKey>
     ensures { result ≡ key_of fields.now }
 {
@@ -111,7 +111,7 @@ fn read_new_key(fields: &[u8]) -> Option<NewKey>
     })
 }
 
-/// Returns the key pair, or the refusal.
+/// Parses the reply to a key request: a new key pair or a refusal.
 fn read_key(field: &[u8]) -> Option<Input>
     ensures { result ≡ parsed_new_key field.now }
 {
@@ -122,7 +122,7 @@ fn read_key(field: &[u8]) -> Option<Input>
     Some(Input::Key(Some(key)))
 }
 
-/// Returns the signature in a buffer of its length.
+/// Parses the digits of a signature. `out` has the signature's length.
 fn read_into(digits: &[u8], out: &mut [u8]) -> Option<Signature>
     requires { length out.old ≡ length digits.now / 2 }
     ensures { result ≡ signature_of digits.now }
@@ -131,7 +131,7 @@ fn read_into(digits: &[u8], out: &mut [u8]) -> Option<Signature>
     Signature::new(out)
 }
 
-/// Returns the signature of hexadecimal digits.
+/// Parses the digits of a signature.
 fn read_signature_bytes(digits: &[u8]) -> Option<Signature>
     ensures { result ≡ signature_of digits.now }
 {
@@ -143,7 +143,7 @@ fn read_signature_bytes(digits: &[u8]) -> Option<Signature>
     read_into(digits, &mut bytes[..len])
 }
 
-/// Returns the signature, or the refusal.
+/// Parses the reply to a signature request: a signature or a refusal.
 fn read_signature(field: &[u8]) -> Option<Input>
     ensures { result ≡ parsed_signature field.now }
 {
@@ -154,7 +154,7 @@ fn read_signature(field: &[u8]) -> Option<Input>
     Some(Input::Signature(Some(signature)))
 }
 
-/// Returns the input in the fields after the timestamp, by the line's letter.
+/// Parses the field after the timestamp, by the line's letter.
 fn read_input(letter: u8, field: &[u8]) -> Option<Input>
     ensures { result ≡ input_by letter field.now }
 {
@@ -167,14 +167,14 @@ fn read_input(letter: u8, field: &[u8]) -> Option<Input>
     }
 }
 
-/// Returns the packet of a `<` line.
+/// Parses the packet of a `<` line.
 fn read_packet(field: &[u8]) -> Option<Packet>
     ensures { MatchOption result (sent_line field.now ≡ None) (λ packet. sent_line field.now ≡ Some (Line.Sent packet)) }
 {
     Some(Packet(read_bytes(field)?))
 }
 
-/// Returns the timestamp of a `t` line.
+/// Parses the timestamp of a `t` line.
 fn read_tick(field: &[u8]) -> Option<Timed>
     ensures { MatchOption result (tick_line field.now ≡ None) (λ timed. tick_line field.now ≡ Some (Line.Input timed)) }
 {
@@ -185,8 +185,8 @@ fn read_tick(field: &[u8]) -> Option<Timed>
     })
 }
 
-/// Returns the input and timestamp of the fields of another line.
-// Not inlined, so that ticks and comments don't pay for the stack of other lines.
+/// Parses the timestamp and the input of a line other than a tick.
+// Not inlined, so that parsing ticks and comments needs little stack.
 #[inline(never)]
 fn read_other(letter: u8, fields: &[u8]) -> Option<Timed>
     ensures { MatchOption result (input_line letter fields.now ≡ None)
@@ -198,7 +198,7 @@ fn read_other(letter: u8, fields: &[u8]) -> Option<Timed>
     Some(Timed { at, input })
 }
 
-/// Returns the input and timestamp of the fields of a line with this letter.
+/// Parses the fields of an input line with this letter.
 fn read_timed(letter: u8, fields: &[u8]) -> Option<Timed>
     ensures { MatchOption result (timed_line letter fields.now ≡ None)
         (λ timed. timed_line letter fields.now ≡ Some (Line.Input timed)) }
@@ -209,7 +209,7 @@ fn read_timed(letter: u8, fields: &[u8]) -> Option<Timed>
     }
 }
 
-/// Returns the kind of a line, without its line feed, if it begins as a log line does.
+/// Returns the kind of a line, given without its line feed, if it begins like a log line.
 fn kind_of(line: &[u8]) -> Option<LineKind<'_>>
     ensures { MatchOption result (parsed line.now ≡ None) (λ kind. parsed line.now ≡ line_of_kind kind) }
 {
@@ -222,7 +222,7 @@ fn kind_of(line: &[u8]) -> Option<LineKind<'_>>
     }
 }
 
-/// Parses a line, without its line feed, if it is a log line.
+/// Parses a line, given without its line feed. Returns `None` if it isn't a log line.
 pub fn read_line(line: &[u8]) -> Option<Line>
     ensures { result ≡ parsed line.now }
 {

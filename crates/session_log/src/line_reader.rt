@@ -12,7 +12,7 @@ use crate::window::Window;
 /// Maximum number of lines of a log.
 const MOST_LINES: u64 = 0xFFFF_FFFF;
 
-/// Returns whether the window has the beginning of a line too many.
+/// Returns whether a line beyond the maximum number begins in the window.
 fn is_too_many(window: &Window, number: u64) -> bool
     ensures value { MatchBool result
         ((2 ^ 32 ≤ number) × (0 < length window.now))
@@ -23,13 +23,13 @@ fn is_too_many(window: &Window, number: u64) -> bool
     number > MOST_LINES && held > 0
 }
 
-/// Reads until the window begins with a complete line, which is line `number`, and returns its length without the line
-/// feed, or `None` at the reader's end, where the window has the last line without a line feed, or nothing. Reads only
-/// as much as the window has capacity for, and nothing if it has a complete line. Allocates nothing.
+/// Reads until the window begins with a complete line, line `number`, and returns its length without the line feed. At
+/// the reader's end it returns `None`, and the window is empty or has the last line, which ends without a line feed.
+/// Reads nothing if the window has a complete line, or else at most as much as fits into it. Allocates nothing.
 ///
 /// Fails with [`LogFault::TooManyLines`] where line 2^32 begins, with [`LogFault::TooLong`] at the 256th byte of a
-/// line, and with [`LogFault::Read`] if the reader failed; that isn't retried. What was read is in the window.
-// Inlined, since most lines are in the window already, and then this costs less than its call.
+/// line, and with [`LogFault::Read`] if the reader fails, without retrying. What was read is in the window.
+// Inlined, because most lines are in the window already, and then a call costs more than its work.
 #[inline(always)]
 pub fn next_line<S: Source>(
     window: &mut Window,

@@ -1,4 +1,4 @@
-//! Writing lines: the text of a line is assembled, and written to the target at once.
+//! Writing lines: the text of a line is assembled in memory, and then written to the target.
 ghost use Rattle.std.specs.Prelude.{◌≡◌, ◌<◌, ◌≤◌, ◌+◌, ◌*◌, ◌-◌, ◌^◌, [], ◌∷◌, ◌++◌, length, flat_map, map, decimal, ◌/◌, OnOk, OnErr, IfErr};
 ghost use Rattle.std.specs.Io.KnownBytes.{Appends};
 ghost use Rattle.hex.specs.Hex.{encode_lower};
@@ -23,13 +23,13 @@ use token_session::Meters;
 const SENT_LINE: usize = 131;
 
 /// Maximum number of bytes that are written for one line: the line with its line feed, the lines of 130 packets, and
-/// those of a need, which are longest for 196 bytes to sign: three lines, and that of the credential.
+/// the lines of a need. The longest need has 196 bytes to sign: three lines, and the line of the credential.
 const LONGEST: usize = 255 + 1 + 130 * SENT_LINE + 504;
 
 /// Maximum number of bytes to sign on one line.
 const PIECE: usize = 96;
 
-/// The text for a line.
+/// The text written for one line of the log.
 pub type Text = ArrayVec<u8, LONGEST>;
 
 /// Appends a line and its line feed.
@@ -108,7 +108,7 @@ fn push_signed(text: &mut Text, signed: &[u8])
     }
 }
 
-/// Appends the line of the signing credential.
+/// Appends the line that names the signing credential.
 fn push_signature(text: &mut Text, id: &[u8; 32])
     requires { length text.old.items + 82 ≤ LONGEST }
     ensures { text.new.items ≡ text.old.items ++ ended (signature_line id.now) }
@@ -147,7 +147,7 @@ fn push_count(text: &mut Text, word: &[u8], count: u64)
     let _ = text.try_extend_from_slice(digits);
 }
 
-/// Assembles the last line of a log.
+/// Assembles the last line of a log, which has the meters.
 fn gather_meters(text: &mut Text, meters: Meters)
     ensures text { text.new.items ≡ meters_line meters }
     ensures fits { FitsMeters meters }
@@ -181,7 +181,7 @@ pub fn put_tick<T: Target>(writer: &mut T, text: &mut Text, at: u64) -> Result<(
     put_text(writer, text.as_slice())
 }
 
-/// Writes an input line, with its line feed, and the packets in the outbox, and empties it.
+/// Writes an input line, with its line feed, and the packets in the outbox, which it empties.
 pub fn put_input<T: Target>(
     writer: &mut T,
     text: &mut Text,
@@ -196,7 +196,7 @@ pub fn put_input<T: Target>(
     ensures empty { outbox.new ≡ [] }
     ensures packets { ArePackets outbox.old }
 {
-    // Most lines send nothing, and need no assembly.
+    // Most lines send nothing, and are written without being copied.
     if outbox.is_empty() {
         return put_text(writer, line);
     }
@@ -206,7 +206,8 @@ pub fn put_input<T: Target>(
     put_text(writer, text.as_slice())
 }
 
-/// Writes an input line, with its line feed, the packets in the outbox, which it empties, and what is needed then.
+/// Writes an input line, with its line feed, the packets in the outbox, which it empties, and the lines of the current
+/// need.
 pub fn put_response<T: Target>(
     writer: &mut T,
     text: &mut Text,
@@ -244,7 +245,7 @@ pub fn put_meters<T: Target>(
     put_text(writer, text.as_slice())
 }
 
-/// Writes the number of equal inputs and packets.
+/// Writes the numbers of equal inputs and packets.
 pub fn put_check_result<T: Target>(
     writer: &mut T,
     text: &mut Text,

@@ -92,8 +92,9 @@ impl<const C: usize> Player<C> for LivePlayer {
     }
 }
 
-/// Plays lines of a log on a session and writes what [`live`] writes for each, without the line of the meters: so a log
-/// can be played in parts, as it is recorded. The text for a line is written to the target at once. Allocates nothing.
+/// Plays lines of a log on a session and writes what [`live`] writes for each, without the last line, which has the
+/// meters. So a log can be played in parts while it is recorded. The text for a line is written before more is read.
+/// Allocates nothing.
 ///
 /// Fails like [`live`], with line numbers from 1 in these lines.
 pub fn play_live_lines<S: Source, T: Target, const C: usize>(
@@ -123,9 +124,9 @@ pub fn play_live_lines<S: Source, T: Target, const C: usize>(
 }
 
 /// Replays a log on a session like [`crate::replay`], and writes after the packets of each input line what the session
-/// needs ([`Session::need`]; docs/use/LOG_FORMAT.md): comments of which exactly the last begins with `# need `.
-/// Comments that begin with `# need ` or `# signed ` are dropped, so the output is its own log, for this and for
-/// replay. The text for a line is written at once, before more is read. Allocates nothing.
+/// needs ([`Session::need`]; docs/use/LOG_FORMAT.md), as comments, exactly the last of which begins with `# need `.
+/// Comments that begin with `# need ` or `# signed ` are dropped, so that playing the output gives the output again.
+/// The text for a line is written before more is read. Allocates nothing.
 ///
 /// Fails like [`crate::replay`].
 pub fn live<S: Source, T: Target, const C: usize>(
@@ -135,13 +136,13 @@ pub fn live<S: Source, T: Target, const C: usize>(
 ) -> Result<Meters, LogFault>
     requires read { S.failed reader.old < 2 ^ 64 - 1 }
     requires write { T.failed writer.old < 2 ^ 64 - 1 }
-    // At Ok no line is faulty, and the whole log was written with the needs. Faults are those of a replay.
+    // On success, no line is invalid, and the whole log was written with the needs. Errors are those of a replay.
     ensures lived { PlaysThrough live_machine session.old
         (λ bytes text. Logs live_machine session.old session.new bytes text result) S.left S.failed S.ended T.taken
         T.failed result (reader.old, reader.new) (writer.old, writer.new) }
-    // Played again on an equal session, the output gives the same bytes.
+    // Playing the output on an equal session gives the same output.
     ensures again { OnOk result (RepeatsIn live_machine (T.taken writer.old) (T.taken writer.new) session.old) }
-    // Replayed on an equal session, it gives the same bytes, too.
+    // So does replaying it on an equal session.
     ensures replays { OnOk result (Repeats (T.taken writer.old) (T.taken writer.new) session.old) }
     // The same after any history, in terms of the history instead of the session's state.
     ensures history { (start : Start) (h : List OneInput) → StandsAfter session.old start h

@@ -13,7 +13,7 @@ use crate::target::Target;
 use crate::window::Window;
 use token_session::Session;
 
-/// A command's processing of each line.
+/// What a command does with each line of a log.
 pub trait Player<const C: usize> {
     ghost use Rattle.std.specs.Prelude.{◌≡◌, ◌<◌, ◌≤◌, ◌+◌, ◌-◌, ◌^◌, ℕ, length, Some, OnOk, IfErr};
     ghost use Rattle.session_log.specs.Ending.{ending_of};
@@ -57,7 +57,7 @@ pub trait Player<const C: usize> {
         ensures own { IfErr result (IsOfLine number) }
         ensures next { OnOk result (IsReady self.new (number + 1)) };
 
-    /// Writes what follows the last line.
+    /// Writes the text after the last line.
     fn finish<T: Target>(&mut self, writer: &mut T, session: &Session<C>) -> Result<(), LogFault>
         requires write { T.failed writer.old < 2 ^ 64 - 1 }
         requires ready { (n : ℕ) × (n ≤ 2 ^ 32) × IsReady self.old n }
@@ -151,7 +151,7 @@ pub fn play_lines<P: Player<C>, S: Source, T: Target, const C: usize>(
     play_first(player, &mut window, end, number, writer, session)
 }
 
-/// Processes all lines of a reader, and writes what follows them.
+/// Processes all lines of a reader, and writes the text after the last line.
 pub fn play_log<P: Player<C>, S: Source, T: Target, const C: usize>(
     player: &mut P,
     reader: &mut S,

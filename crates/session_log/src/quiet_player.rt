@@ -88,9 +88,9 @@ impl<const C: usize> Player<C> for QuietPlayer {
 }
 
 /// Makes a log quiet (docs/use/LOG_FORMAT.md): copies each input line and comment, with a tick at the same time in
-/// place of an input that is ignored ([`Session::noise`]). The session steps the inputs as they are read; its packets
-/// and meters aren't written. Replayed on an equal session, the output sends what the log sends, without the responses
-/// to ignored inputs, and ends with equal meters. Allocates nothing.
+/// place of an input that is ignored ([`Session::noise`]). The session is stepped through the inputs of the original
+/// log; its packets and meters aren't written. Replayed on an equal session, the output sends what the log sends,
+/// without the responses to ignored inputs, and ends with equal meters. Allocates nothing.
 ///
 /// Fails like [`crate::replay`].
 pub fn quiet<S: Source, T: Target, const C: usize>(
@@ -100,7 +100,7 @@ pub fn quiet<S: Source, T: Target, const C: usize>(
 ) -> Result<(), LogFault>
     requires read { S.failed reader.old < 2 ^ 64 - 1 }
     requires write { T.failed writer.old < 2 ^ 64 - 1 }
-    // At Ok all lines are valid, and the whole quiet log was written. Errors are those of a replay.
+    // On success, all lines are valid, and the whole quiet log was written. Errors are those of a replay.
     ensures made { PlaysThrough quiet_machine session.old
         (λ bytes text. PlaysWholeLog quiet_machine session.old session.new bytes text (ending_of result)) S.left S.failed S.ended
         T.taken T.failed result (reader.old, reader.new) (writer.old, writer.new) }

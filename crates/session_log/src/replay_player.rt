@@ -79,12 +79,12 @@ impl<const C: usize> Player<C> for ReplayPlayer {
 
 /// Replays a log on a session (docs/use/LOG_FORMAT.md): writes each input line and comment again, after an input line
 /// the packets that the session sends for it, and at the end the session's meters, which it also returns. The text for
-/// a line is written at once, before more is read. Allocates nothing.
+/// a line is written before more is read. Allocates nothing.
 ///
 /// After [`LogFault::BadLine`], [`LogFault::TooLong`] and [`LogFault::TooManyLines`] the texts of the lines before the
-/// faulty one were written; after [`LogFault::Read`] those of the complete lines that were read; after
-/// [`LogFault::Write`] a beginning of the text. The session is after the last input line that was stepped. A failed
-/// read or write is not retried. There are no other failures.
+/// invalid one were written; after [`LogFault::Read`] those of the complete lines that were read; after
+/// [`LogFault::Write`] only a part of the text. The session has stepped all inputs up to the error. A failed read or
+/// write is not retried. There are no other errors.
 pub fn replay<S: Source, T: Target, const C: usize>(
     reader: &mut S,
     writer: &mut T,
@@ -92,11 +92,11 @@ pub fn replay<S: Source, T: Target, const C: usize>(
 ) -> Result<Meters, LogFault>
     requires read { S.failed reader.old < 2 ^ 64 - 1 }
     requires write { T.failed writer.old < 2 ^ 64 - 1 }
-    // At Ok no line is faulty, and the whole log was written. A line fault is that of the first faulty line, and
-    // the lines before it were written. A read that failed names its line, and the lines before it were written.
-    // After a write that failed a beginning of the log was written. At a line fault at most 256 bytes were read after
-    // the lines before the faulty one; at Ok all that the reader held. A failure was counted exactly at Read, and
-    // exactly at Write.
+    // On success, no line is invalid, and the whole log was written. An error in a line is that of the first invalid
+    // line, and the lines before it were written. A failed read names its line, and the lines before it were written.
+    // After a failed write, only a part of the log was written. For an invalid line, at most 256 bytes were read after
+    // the lines before it; on success, everything was read. The reader's count of failures increases only for `Read`,
+    // the writer's only for `Write`.
     ensures replayed { PlaysThrough machine session.old
         (λ bytes text. Logs machine session.old session.new bytes text result) S.left S.failed S.ended T.taken T.failed
         result (reader.old, reader.new) (writer.old, writer.new) }

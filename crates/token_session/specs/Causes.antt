@@ -15,7 +15,7 @@ use Rattle.token_session.specs.declared.input.{Input.Input, Timed.Timed}
 use Rattle.token_session.specs.Effects.{assembly_after, input_event, input_verdict}
 use Rattle.token_session.specs.{Machine.MachineState, Machine.time_passed, Law.state_of, History.received}
 
--- The cause of dropping a message that timed out, if there is one.
+-- The cause of dropping a message that timed out, if any.
 unfoldable pub time_cause : Option Open → ℕ → Option TransportRefusal
 time_cause current at = if is_overdue current at then Some (Overdue (last_of current) at) else None
 

@@ -23,7 +23,7 @@ abbrev pub packets_of_inputs : ℕ → SessionState → List Timed → List (ℕ
 packets_of_inputs n s [] = []
 packets_of_inputs n s (x ∷ xs) = with_input_number n (sent_by s x) ++ packets_of_inputs (n + 1) (stepped s x) xs
 
--- The numbers of the faults.
+-- The numbers of the errors.
 abbrev pub drive_number : DriveFault → ℕ
 drive_number (Full done) = 1
 

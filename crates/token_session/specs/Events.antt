@@ -26,7 +26,7 @@ event_packets k at None = []
 event_packets k at (Some e) = answer_packets (response_channel (waiting k) e) (status_of (waiting k))
     (turn k.setup k.state at e).answer
 
--- KEEPALIVE_PERIOD after the last one, while a request is pending (CTAP 2.1, section 11.2.9.1.7).
+-- A KEEPALIVE is due `KEEPALIVE_PERIOD` after the last one, while a request is pending (CTAP 2.1, section 11.2.9.1.7).
 unfoldable pub keepalive_due : Option Work → ℕ → ℕ → Bool
 keepalive_due None keepalive_at at = false
 keepalive_due (Some w) keepalive_at at = nat_le (keepalive_at + KEEPALIVE_PERIOD) at

@@ -61,7 +61,7 @@ received start (x ∷ past) = receive start x (received start past) ∷ received
 abbrev pub received_after : Start → List Timed → Timed → ReceivedInput
 received_after start past x = receive start x (received start past)
 
--- ERROR 0x05 on its channel
+-- ERROR 0x05 on the channel of a message that timed out.
 abbrev pub timeout_packets : Option MessageStart → List (List ℕ)
 timeout_packets None = []
 timeout_packets (Some b) = error (channel b.packet) 0x05

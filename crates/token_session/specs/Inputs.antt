@@ -42,6 +42,6 @@ channels_allocated h = min (count_by (λ e. is_packet requests_channel e.input) 
 unfoldable pub is_channel_input : ℕ → ReceivedInput → Bool
 is_channel_input cid e = is_packet (λ p. (cid == channel p) && not (is_command CANCEL p)) e.input
 
--- a channel's own packets
+-- The channel's own packets among these inputs.
 unfoldable pub channel_inputs : ℕ → List ReceivedInput → List ReceivedInput
 channel_inputs cid later = filter (is_channel_input cid) later

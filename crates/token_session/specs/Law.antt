@@ -45,7 +45,7 @@ abbrev pub sent_from : ℕ → Start → List Timed → List Timed → List (ℕ
 sent_from n start h [] = []
 sent_from n start h (x ∷ xs) = with_input_number n (sent_now start h x) ++ sent_from (n + 1) start (x ∷ h) xs
 
--- The same, by the composed machine.
+-- The composed machine's state after the inputs of a list, and the packets that it sends for them.
 abbrev pub run_state : MachineState → List Timed → MachineState
 run_state s [] = s
 run_state s (x ∷ xs) = run_state (turn s x).state xs

@@ -40,7 +40,7 @@ meters_of start h = record {
   steps = min (sum_by steps_of (requests start h)) LARGEST;
 }
 
--- The totals with a completed request, if there is one: one more, its bytes after the command byte, and the steps of
+-- The totals after a completed request, if any: one more request, its bytes after the command byte, and the steps of
 -- parsing it.
 unfoldable pub counted : Meters → Option (List ℕ) → Meters
 counted m None = m
@@ -89,7 +89,7 @@ session_of start h = record { machine = state_of start h; meters = meters_of sta
 abbrev pub StandsAfter : SessionState → Start → List Timed → Type 0
 StandsAfter s start h = s ≡ session_of start (received start h)
 
--- The same, for a start with valid credentials, as in every table.
+-- The session's state is the one after this history, whose start has valid credentials, as every table has.
 pub record FollowsFrom (s : SessionState) (start : Start) (h : List Timed) : Type 0 where
   pub lawful : ValidRows start.capacity start.rows
   pub stands : StandsAfter s start h

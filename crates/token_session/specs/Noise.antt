@@ -1,5 +1,5 @@
--- Noise: an input that changes nothing except the time, so that a tick could replace it. It is judged after time has
--- passed to its time.
+-- Noise: an input that changes nothing except the time, so that a tick could replace it. Whether it is noise depends on
+-- the state once time has passed to its timestamp.
 use Rattle.std.specs.Prelude.{◌≡◌, ℕ, ◌+◌, ◌⊎◌, Bool, true, false, not, List, [], ◌∷◌, ◌++◌, max, Option, option_map}
 use Rattle.std.specs.Prelude.{if◌then◌else◌}
 use Rattle.hid_packet.specs.Packet.{fields}
@@ -31,7 +31,7 @@ is_noise_in s i = is_noise_among s.given s.current s.core i
 unfoldable pub is_noise_at : MachineState → Timed → Bool
 is_noise_at s x = is_noise_in (time_passed s (max s.now x.at)).state x.input
 
--- after a history
+-- Whether an input is noise after a history.
 unfoldable pub is_noise_after : Start → ReceivedInput → List ReceivedInput → Bool
 is_noise_after start e past = is_noise_among (channels_allocated past) (option_map as_open (open_at past e.at))
     (core start past) e.input

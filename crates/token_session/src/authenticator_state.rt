@@ -54,8 +54,8 @@ pub(crate) struct AuthenticatorState<const C: usize> {
 }
 
 impl<const C: usize> AuthenticatorState<C> {
-    /// Handles an event, and counts a request. The result is sent on the channel of the request, or of the request that
-    /// was pending. Returns the cause of a refusal.
+    /// Handles an event, and updates the meters if it is a request. The result is sent on the channel of the request,
+    /// or of the request that was pending. Returns the cause of a refusal, if any.
     pub(crate) fn take(&mut self, now: u64, event: &Event<'_>, outbox: &mut Outbox) -> Option<Cause>
         requires later { self.old.core.latest ≤ now }
         requires bounded { AreBounded self.old.meters }

@@ -24,7 +24,7 @@ pub struct Causes {
     pub input: Option<Cause>,
 }
 
-/// Returns the cause if the turn of an event refuses.
+/// Returns the cause of an event's refusal, if it was refused.
 pub(crate) fn cause_of(turn: Turn, event: &Event<'_>) -> Option<Cause>
     ensures { result ≡ command_cause (event_of event.now) (refusal_of turn) }
 {

@@ -31,7 +31,7 @@ pub enum DriveFault {
 }
 
 impl DriveFault {
-    /// Returns the number of the fault.
+    /// Returns the number of the error.
     pub fn number(&self) -> u8
         ensures { result ≡ drive_number self.now }
     {
@@ -44,13 +44,13 @@ impl DriveFault {
 /// The error of [`drive_both`].
 #[derive(Clone, Copy, Debug, Error, PartialEq, Eq)]
 pub enum BothFault {
-    /// 1: one of the lists was full. This many inputs were stepped of each.
+    /// 1: one of the lists was full. `first` and `second` are the numbers of inputs that each session has stepped.
     #[error("a list of packets is full after {first} and {second} inputs")]
     Full { first: usize, second: usize },
 }
 
 impl BothFault {
-    /// Returns the number of the fault.
+    /// Returns the number of the error.
     pub fn number(&self) -> u8
         ensures { result ≡ both_number self.now }
     {
@@ -97,13 +97,13 @@ pub fn drive<const C: usize, const N: usize>(
     inputs: &[Timed],
     sent: &mut ArrayVec<Sent, N>,
 ) -> Result<Meters, DriveFault>
-    // The session and the list are as after the stepped inputs.
+    // The session and the list are those after the stepped inputs.
     ensures run { IsDriven N session.old session.new (map numbered_packet sent.old.items) (map numbered_packet sent.new.items)
         inputs.now (done_of (length inputs.now) result) }
     ensures meters { IfOk result (λ meters. meters ≡ session.new.meters) }
     // Each packet of the stepped inputs has 64 bytes.
     ensures whole { ArriveWhole (take (done_of (length inputs.now) result) inputs.now) }
-    // It fails exactly if there is too little capacity.
+    // It fails if and only if there is too little capacity.
     ensures full { IfErr result (λ e. (done_of 0 result < length inputs.now)
         × (N < array_vec_len sent.new + OUTBOX_CAPACITY)) }
     // After any history.
@@ -152,7 +152,7 @@ pub fn drive_new<const C: usize, const N: usize>(
     ensures meters { IfOk result (λ meters. meters
         ≡ meters_of (start_of config.aaguid start C (⟦<Store<C> as Table<C>>⟧.rows rows.entry))
         (received (start_of config.aaguid start C (⟦<Store<C> as Table<C>>⟧.rows rows.entry)) (reverse inputs.now))) }
-    // It fails exactly if there is too little capacity.
+    // It fails if and only if there is too little capacity.
     ensures full { IfErr result (λ e. (done_of 0 result < length inputs.now)
         × (N < array_vec_len sent.new + OUTBOX_CAPACITY)) }
     // Before each input that was stepped there was capacity for 130 packets.
@@ -189,8 +189,8 @@ pub fn drive_both<const C: usize, const N: usize>(
         × (second_done 0 result ≡ 0))
         ⊎ ((first_done 0 result ≡ length inputs.now) × (second_done 0 result < length quiet.now)
         × (N < array_vec_len quiet_sent.new + OUTBOX_CAPACITY))) }
-    // After two histories with the same start, of which the second has ticks in place of ignored inputs, before and
-    // after.
+    // After two histories with the same start, if the second one has ticks in place of ignored inputs before the run,
+    // it has them after the run.
     ensures alike { (start : Start) (h g : List OneInput) → StandsAfter first.old start h
         → StandsAfter second.old start g → HasTicksForNoise start h g → HasTicksForNoise start (append_inputs inputs.now h) (append_inputs quiet.now g)
         → IfOk result (λ meters. (first.new ≡ second.new) × (meters.0 ≡ meters.1)

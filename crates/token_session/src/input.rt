@@ -45,9 +45,9 @@ pub struct Meters {
     pub pending: u16,
     /// Number of complete CBOR requests, at most 2^64-1.
     pub requests: u64,
-    /// Their bytes after the command byte, at most 2^64-1.
+    /// Bytes of these requests after the command byte, at most 2^64-1.
     pub bytes: u64,
-    /// Number of steps that parsing them took, at most 2^64-1.
+    /// Number of steps of parsing these requests, at most 2^64-1.
     pub steps: u64,
 }
 

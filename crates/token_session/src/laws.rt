@@ -1,5 +1,5 @@
-//! Laws stated over the definitions: transport and authenticator together, as one state machine, send over any history
-//! exactly the packets that the history's definition gives. Each law is the contract of a function that does nothing.
+//! Laws about the definitions: transport and authenticator together, as one state machine, send over any history
+//! exactly the packets that the history's definition gives. Each function has an empty body: its contract is the law.
 
 ghost use Rattle.std.specs.Prelude.{◌≡◌, ◌≤◌, ◌⊎◌, ◌+◌, ◌*◌, ℕ, List, [], ◌∷◌, length, max, true, Some, None, option_to_list, if◌then◌else◌};
 ghost use Rattle.token_session.specs.declared.input.Timed.{Timed as OneInput};
@@ -57,7 +57,7 @@ pub fn runs_follow_history()
         → run_sent n s xs ≡ sent_from n start h xs }
 {}
 
-/// States that the time from which the next KEEPALIVE is due is that of the last input that sent one.
+/// States that the next KEEPALIVE is due relative to the time of the last input that sent one.
 pub fn keepalives_count_from_the_last()
     ensures { (start : Start) (h : List OneInput) (x : OneInput) → last_keepalive start (received start (x ∷ h))
         ≡ (if has_keepalive (sent_now start h x) then (received_after start h x).at

@@ -34,7 +34,7 @@ use std::marker::Model;
 /// A session of a FIDO2 key, from power-up to power-down, with capacity for `C` credentials. Allocates nothing.
 #[derive(Drop)]
 pub struct Session<const C: usize> {
-    /// The latest timestamp of its start and inputs.
+    /// The latest timestamp of the start and the inputs.
     latest: u64,
     assembler: Assembler,
     authenticator: AuthenticatorState<C>,
@@ -136,7 +136,7 @@ impl<const C: usize> Session<C> {
     }
 
     /// Starts again at time `start`, in milliseconds, with the credentials of a snapshot in place of its own. No
-    /// channel is allocated, and no request is pending. A refused snapshot leaves the session as it was.
+    /// channel is allocated, and no request is pending. If the snapshot is rejected, the session is unchanged.
     pub fn load(&mut self, config: Config, snapshot: &[u8], start: u64) -> Result<(), SnapshotFault>
         ensures value { MatchResult result
             (λ _. (rows : List AnyRow) × Loads C snapshot.now (Ok tt) rows
@@ -153,8 +153,8 @@ impl<const C: usize> Session<C> {
         Ok(())
     }
 
-    /// Processes one input at time `at`, in milliseconds, and puts the packets to send into the outbox: at most 130.
-    /// A time earlier than the latest counts as the latest. Always succeeds. Returns the causes of what was refused.
+    /// Processes one input at time `at`, in milliseconds, and puts the packets to send into the outbox: at most 130. A
+    /// time earlier than the latest counts as the latest. Always succeeds. Returns the causes of refusals, if any.
     pub fn step(&mut self, at: u64, input: Input, outbox: &mut Outbox) -> Causes
         requires { outbox.old ≡ [] }
         // The new state and the packets are those of the composed machine.
@@ -199,7 +199,7 @@ impl<const C: usize> Session<C> {
     /// Noise is a CANCEL without a pending request; a packet on a channel that was never allocated, except INIT on the
     /// broadcast channel; an initialization packet, except INIT and CANCEL, while another channel has an open message
     /// or any channel has a pending request; a continuation packet without an open message on its channel; and a reply
-    /// of the caller that isn't needed. A tick never is. The session stays as it is.
+    /// of the caller that isn't needed. A tick never is. The session is unchanged.
     pub fn noise(&self, at: u64, input: &Input) -> bool
         ensures state { result ≡ is_noise_at self.now.machine (record { at = at; input = input.now }) }
         // The input is noise after each history that leads to the session's state.
@@ -289,7 +289,7 @@ impl<const C: usize> Session<C> {
         }
     }
 
-    /// Processes an input after the packets due by time.
+    /// Processes an input, after the packets due by time were sent.
     fn serve(&mut self, input: &Input, outbox: &mut Outbox) -> Option<Cause>
         requires { length outbox.old ≤ 1 }
         ensures state { self.new.machine ≡ (served self.old.machine outbox.old input.now).state }
@@ -312,7 +312,7 @@ impl<const C: usize> Session<C> {
         }
     }
 
-    /// Processes a packet after the packets due by time.
+    /// Processes a packet, after the packets due by time were sent.
     #[tactic(auto, using(hid_packet::proofs::Carrying::few_written))]
     fn serve_packet(&mut self, packet: &Packet, outbox: &mut Outbox) -> Option<Cause>
         requires { length outbox.old ≤ 1 }

@@ -139,7 +139,7 @@ impl<T: Table<C>, const C: usize> Core<T, C> {
         Turn::Waits(self.wait(cid, Task::AwaitAssertPresence(a)))
     }
 
-    /// Continues an assertion: raises the credential's counter, and waits for the signature.
+    /// Continues an assertion: increments the credential's signature counter, and waits for the signature.
     pub(crate) fn sign(&mut self, cid: u32, a: &AssertState) -> KeepaliveStatus
         requires there { is_some (find (has_id a.now.id) self.old.core.state.rows) ≡ true }
         requires below { counter_of a.now.id self.old.core.state.rows < 2 ^ 32 - 1 }
@@ -174,7 +174,7 @@ impl<T: Table<C>, const C: usize> Core<T, C> {
         }
     }
 
-    /// Responds with the signature and the authenticator data that were signed, and starts the time for the next
+    /// Responds with the signature and the signed authenticator data, and restarts the time limit for the next
     /// assertion.
     pub(crate) fn on_assert_signature(
         &mut self,

@@ -21,7 +21,7 @@ use ctap_message::{Answer, Descriptors, MakeRequest, write_created};
 use fido_authdata::{AuthData, CREATED_LEN, to_sign};
 use sha2::{Digest, Sha256};
 
-/// Returns whether one of the IDs names a credential of the RP.
+/// Returns whether one of the IDs is that of a credential of the RP.
 fn names_one<T: Table<C>, const C: usize>(table: &T, rp: &[u8; 32], ids: Descriptors<'_>) -> bool
     ensures { result ≡ make.names_one rp.now (T.rows table.now) (ids_of (left_of ids.entry)) }
 {
@@ -70,7 +70,7 @@ fn store<T: Table<C>, const C: usize>(table: &mut T, making: MakeState, key: New
 }
 
 impl<T: Table<C>, const C: usize> Core<T, C> {
-    /// Asks for user presence, even if a credential is excluded.
+    /// Requests user presence, even if a credential is excluded.
     pub(crate) fn begin_make(&mut self, cid: u32, asked: MakeRequest<'_>) -> KeepaliveStatus
         requires hash { length asked.hash.now ≡ 32 }
         requires user { length asked.user_id.now ≤ 64 }
@@ -92,7 +92,7 @@ impl<T: Table<C>, const C: usize> Core<T, C> {
         self.wait(cid, Task::AwaitMakePresence(making, excluded))
     }
 
-    /// Asks for a key pair if the user consents and there is capacity.
+    /// Requests a key pair if the user consents, no credential is excluded and there is capacity.
     pub(crate) fn on_make_presence(
         &mut self,
         cid: u32,
@@ -118,7 +118,7 @@ impl<T: Table<C>, const C: usize> Core<T, C> {
         Turn::Waits(self.wait(cid, Task::AwaitKeyPair(making)))
     }
 
-    /// Asks for a signature by a key with a new ID.
+    /// Requests a signature by the new key, unless its credential ID exists already.
     pub(crate) fn on_make_key_pair(
         &mut self,
         cid: u32,
@@ -141,7 +141,7 @@ impl<T: Table<C>, const C: usize> Core<T, C> {
         Turn::Waits(self.wait(cid, Task::AwaitMakeSignature(making, *key, signed)))
     }
 
-    /// Stores the credential once it is signed. The response has the authenticator data that were signed.
+    /// Stores the credential once it is signed, and responds with the signed authenticator data.
     pub(crate) fn on_make_signature(
         &mut self,
         making: MakeState,
